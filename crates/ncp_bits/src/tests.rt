@@ -1,0 +1,144 @@
+//! What no clause says: that the calls succeed, that memory is asked for where it is needed, and
+//! that the definitions mean what the worked rows mean.
+use crate::{BitStore, Bits, BitsFault, NoRoom, PlainStore};
+use std::alloc::Global;
+use std::process::Abort;
+use std::test::Fail;
+
+// One 36-bit byte, 123456789, to host 2 on link 2: 108 bits.
+const LONG_BYTE: [u8; 14] = [
+    0x00, 0x02, 0x02, 0x00, 0x00, 0x24, 0x00, 0x01, 0x00, 0x12, 0x34, 0x56, 0x78, 0x90,
+];
+
+// The bits that a text of zeros and ones spells.
+fn bits_in(rt: &impl Abort, text: &str) -> Bits {
+    let mut bits = Bits::new();
+    for digit in text.as_bytes() {
+        assert!(rt; bits.push_number(u64::from(*digit == b'1'), 1).is_ok());
+    }
+    bits
+}
+
+// Whether a bit string is spelled by a text of zeros and ones.
+fn is_spelled(bits: &Bits, text: &str) -> bool {
+    let digits = text.as_bytes();
+    if bits.len() != digits.len() {
+        return false;
+    }
+    for place in 0..bits.len() {
+        if bits.bit(place) != (digits[place] == b'1') {
+            return false;
+        }
+    }
+    true
+}
+
+#[test]
+fn reads_and_writes_bytes(rt: HostRuntime) -> Result<(), Fail> {
+    let bits = Bits::from_bytes(&LONG_BYTE, 108)?;
+    assert_eq!(rt; bits.len(), 108);
+    assert_eq!(rt; bits.number(40, 8), 36);
+    assert_eq!(rt; bits.number(72, 36), 0x123456789);
+    let mut out = [0xffu8; 15];
+    assert_eq!(rt; bits.to_bytes(&mut out), 14);
+    assert!(rt; out[..14] == LONG_BYTE[..]);
+    assert_eq!(rt; out[14], 0xff);
+    Ok(())
+}
+
+#[test]
+fn names_faults_in_order(rt: HostRuntime) {
+    let mut spare = LONG_BYTE;
+    spare[13] = 0x91;
+    assert!(rt; matches!(Bits::from_bytes(&spare, 108), Err(BitsFault::SpareNotZero)));
+    assert!(rt; matches!(Bits::from_bytes(&spare, 113), Err(BitsFault::ShortBytes)));
+    assert!(rt; matches!(Bits::from_bytes(&spare, 8193), Err(BitsFault::TooLong)));
+    assert!(rt; Bits::from_bytes(&[0u8; 1024], 8192).is_ok());
+    assert_eq!(rt; BitsFault::TooLong as u8, 1);
+    assert_eq!(rt; BitsFault::ShortBytes as u8, 2);
+    assert_eq!(rt; BitsFault::SpareNotZero as u8, 3);
+}
+
+#[test]
+fn tells_faults(rt: HostRuntime) -> Result<(), Fail> {
+    let told = [
+        (BitsFault::TooLong, "more than 8192 bits"),
+        (BitsFault::ShortBytes, "fewer bytes than the bits take"),
+        (
+            BitsFault::SpareNotZero,
+            "a spare bit of the last byte is set",
+        ),
+    ];
+    for (fault, text) in told {
+        assert_eq!(rt; format!(in rt.alloc(); "{fault}")?.as_str(), text);
+    }
+    assert_eq!(rt;
+        format!(in rt.alloc(); "{NoRoom}")?.as_str(),
+        "no room for these bits"
+    );
+    Ok(())
+}
+
+#[test]
+fn appends_parts(rt: HostRuntime) -> Result<(), Fail> {
+    let row = Bits::from_bytes(&LONG_BYTE, 108)?;
+    let mut bits = Bits::default();
+    assert!(rt; bits.is_empty());
+    assert!(rt; bits.whole().is_empty());
+    assert_eq!(rt; row.len(), 108);
+    bits.append(row.slice(72, 36))?;
+    bits.push_number(0b101, 3)?;
+    assert_eq!(rt; bits.len(), 39);
+    assert_eq!(rt; bits.number(0, 39), 0x123456789 * 8 + 5);
+    let text = row.slice(72, 36);
+    assert_eq!(rt; text.len(), 36);
+    assert!(rt; text.bit(3) && !text.bit(4));
+    assert_eq!(rt; text.slice(4, 8).number(0, 8), 0x23);
+    assert_eq!(rt; text.slice(4, 8).to_bits().number(0, 8), 0x23);
+    let mut out = [0u8; 5];
+    assert_eq!(rt; text.to_bytes(&mut out), 5);
+    assert!(rt; out == [0x12, 0x34, 0x56, 0x78, 0x90]);
+    Ok(())
+}
+
+#[test]
+fn refuses_what_does_not_fit(rt: HostRuntime) -> Result<(), Fail> {
+    let mut bits = Bits::from_bytes(&[0u8; 1024], 8190)?;
+    assert!(rt; bits.push_number(7, 3) == Err(BitsFault::TooLong));
+    bits.push_number(3, 2)?;
+    let more = bits_in(&rt, "1");
+    assert!(rt; bits.append(more.whole()) == Err(BitsFault::TooLong));
+    assert_eq!(rt; bits.len(), 8192);
+    Ok(())
+}
+
+// Thirteen bits of room, filled, emptied in part and filled again, across every byte's end.
+fn keeps_thirteen_bits<S: BitStore>(rt: &impl Abort, alloc: Global) -> Result<(), Fail> {
+    let mut store = S::with_room(alloc, 13)?;
+    store.put(bits_in(rt, "1010101").whole())?;
+    store.put(bits_in(rt, "110011").whole())?;
+    assert_eq!(rt; store.room(), 0);
+    assert!(rt; store.put(bits_in(rt, "1").whole()) == Err(NoRoom));
+    assert_eq!(rt; store.len(), 13);
+    assert!(rt; 3 <= store.len());
+    let front = store.take(3);
+    assert!(rt; is_spelled(&front, "101"));
+    store.put(bits_in(rt, "111").whole())?;
+    assert!(rt; 13 <= store.len());
+    let all = store.take(13);
+    assert!(rt; is_spelled(&all, "0101110011111"));
+    store.put(bits_in(rt, "01").whole())?;
+    store.clear();
+    assert_eq!(rt; store.room(), 13);
+    Ok(())
+}
+
+#[test]
+fn plain_store_keeps_bits(rt: HostRuntime) -> Result<(), Fail> {
+    keeps_thirteen_bits::<PlainStore>(&rt, rt.alloc())
+}
+
+#[test]
+fn has_memory_for_a_store(rt: HostRuntime) {
+    assert!(rt; PlainStore::with_room(rt.alloc(), 65536).is_ok());
+}
