@@ -1,0 +1,78 @@
+-- What bytes behind a header hold.
+use Rattle.std.proofs.Common.{◌≡◌, ℕ, suc, zero, ◌+◌, ◌<◌, ◌≤◌, Bool, true, false, cond, ltb, List, [], ◌∷◌, ◌++◌, length, take, drop, slice_range, Option, Some, None, Result, Ok, Err, refl, sym, ap, ◌∙◌, arith}
+use Rattle.std.proofs.lemmas.List.{length-append, length-drop, drop-drop, take-append-drop, length-take-le}
+use Rattle.std.proofs.lemmas.Bool.{ltb-false}
+use Rattle.std.proofs.Math.ListN.{drop_of_length-le}
+use Rattle.byteorder.specs.Endian.{big_number}
+use Rattle.byteorder.specs.Numbers.{big_from-append}
+use Rattle.ncp_bits.specs.Bits.{read_bytes, bytes_for, spare_bits, bits_of_bytes}
+use Rattle.ncp_bits.specs.declared.bits.BitsFault.{BitsFault}
+use Rattle.ncp_bits.specs.declared.bits.BitsFault.TheVariants as bits
+use Rattle.ncp_player.specs.declared.file.FileFault.{FileFault}
+use Rattle.ncp_player.specs.File.{next_record, record_of, ending, Holds}
+use Rattle.ncp_player.proofs.Files.{next_none, next_read, next_whole, behind_record}
+
+-- ---- a record at the front
+
+two_at_least : (bytes rest : List ℕ) (message : List Bool) → next_record bytes ≡ Ok (Some (message, rest)) → 2 ≤ length bytes
+two_at_least [] rest message h = let e : ⊥ = cc in absurd e
+two_at_least (a ∷ []) rest message h = let e : ⊥ = cc in absurd e
+two_at_least (a ∷ b ∷ bytes) rest message h = omega arith
+
+not_short : {A : Type 0} (b c d : Bool) (x m : A) → cond b (Err bits.TooLong) (cond c (Err bits.ShortBytes) (cond d (Err bits.SpareNotZero) (Ok x))) ≡ Ok m → c ≡ false
+not_short b false d x m h = refl
+not_short true true d x m h = let e : ⊥ = cc in absurd e
+not_short false true d x m h = let e : ⊥ = cc in absurd e
+
+read_fits : (bytes : List ℕ) (len : ℕ) (message : List Bool) → read_bytes bytes len ≡ Ok message → bytes_for len ≤ length bytes
+read_fits bytes len message h = ltb-false _ _ (not_short (ltb 8192 len) (ltb (length bytes) (bytes_for len)) _ _ message h)
+
+record_read : (len : ℕ) (bytes rest : List ℕ) (message : List Bool) (r : Result (List Bool) BitsFault) → record_of len bytes r ≡ Ok (Some (message, rest)) → (r ≡ Ok message) × (rest ≡ drop (bytes_for len) bytes)
+record_read len bytes rest message (Ok m) h =
+    let pair : ◌≡◌ {A = List Bool × List ℕ} (m, drop (bytes_for len) bytes) (message, rest) = cc in
+    (ap (λ p. Ok p.0) pair, sym (ap (λ p. p.1) pair))
+record_read len bytes rest message (Err fault) h = let e : ⊥ = cc in absurd e
+
+-- a record is its own bytes, whatever follows
+pub next_record-front : (bytes rest : List ℕ) (message : List Bool) → next_record bytes ≡ Ok (Some (message, rest))
+    → (front : List ℕ) × (bytes ≡ front ++ rest) × ((tail : List ℕ) → next_record (front ++ tail) ≡ Ok (Some (message, tail))) × (2 ≤ length front)
+next_record-front bytes rest message h =
+    let two = two_at_least bytes rest message h in
+    let len = big_number 2 bytes in
+    let read = record_read len (drop 2 bytes) rest message (read_bytes (drop 2 bytes) len) (sym (next_read bytes two) ∙ h) in
+    let fits = read_fits (drop 2 bytes) len message read.0 in
+    let inside : 2 + bytes_for len ≤ length bytes = omega (arith, simp length-drop at fits) in
+    let front = take (2 + bytes_for len) bytes in
+    let long : length front ≡ 2 + bytes_for len = length-take-le (2 + bytes_for len) bytes inside in
+    let behind : rest ≡ drop (2 + bytes_for len) bytes = read.1 ∙ drop-drop (bytes_for len) 2 bytes ∙ ap (λ n. drop n bytes) (omega arith) in
+    let whole : bytes ≡ front ++ rest = sym (take-append-drop (2 + bytes_for len) bytes) ∙ ap (λ xs. front ++ xs) (sym behind) in
+    let number : len ≡ big_number 2 front = ap (big_number 2) whole ∙ big_from-append 2 front rest (omega arith) in
+    let again = record_read len (drop 2 (front ++ rest)) rest message (read_bytes (slice_range front 2 (2 + bytes_for len)) len)
+    (sym (next_whole front rest len (omega arith) number (omega arith)) ∙ ap next_record (sym whole) ∙ h) in (
+      front,
+      whole,
+      (λ tail.
+          next_whole front tail len (omega arith) number (omega arith) ∙ ap (record_of len (drop 2 (front ++ tail))) again.0
+          ∙ ap (λ xs. Ok (Some (message, xs))) (behind_record front tail len (omega arith) ∙ ap (λ xs. xs ++ tail) (drop_of_length-le front (omega arith)))),
+      omega arith,
+    )
+
+-- ---- all records
+
+some_next : (n : ℕ) (bytes : List ℕ) → length bytes ≤ suc n → (r : Result (Option (List Bool × List ℕ)) FileFault) → next_record bytes ≡ r
+    → ((rest : List ℕ) → length rest ≤ n → (messages : List (List Bool)) × (fault : Option FileFault) × Holds rest messages fault)
+    → (messages : List (List Bool)) × (fault : Option FileFault) × Holds bytes messages fault
+some_next n bytes h (Ok None) e more = ([], None, e)
+some_next n bytes h (Ok (Some (message, rest))) e more =
+    let front = next_record-front bytes rest message e in
+    let behind = more rest (omega (arith, front.3, simp length-append at (ap length front.1))) in
+    (message ∷ behind.0, behind.1, (rest, e, behind.2))
+some_next n bytes h (Err fault) e more = ([], Some fault, e)
+
+some_within : (n : ℕ) (bytes : List ℕ) → length bytes ≤ n → (messages : List (List Bool)) × (fault : Option FileFault) × Holds bytes messages fault
+some_within zero bytes h = ([], None, next_none bytes (omega arith))
+some_within (suc n) bytes h = some_next n bytes h (next_record bytes) refl (some_within n)
+
+-- bytes hold some records, and end or have a fault behind them
+pub holds_some : (bytes : List ℕ) → (messages : List (List Bool)) × (fault : Option FileFault) × Holds bytes messages fault
+holds_some bytes = some_within (length bytes) bytes (omega arith)

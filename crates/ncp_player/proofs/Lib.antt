@@ -1,0 +1,9 @@
+pub mod Decimal
+pub mod Streaming
+pub mod Contents
+pub mod Progress
+pub mod Files
+pub mod Lines
+pub mod Outcomes
+pub mod Saying
+pub mod Windows

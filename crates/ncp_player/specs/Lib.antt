@@ -1,0 +1,9 @@
+pub mod Memory
+pub mod Streams
+pub mod File
+pub mod Leader
+pub mod Results
+pub mod Lines
+pub mod Shown
+pub mod Steps
+pub mod CommandLine

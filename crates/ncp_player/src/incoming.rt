@@ -1,0 +1,108 @@
+//! `Incoming`: the bytes of a source, read ahead in pieces.
+ghost use Rattle.std.specs.Prelude.{◌≡◌, ℕ, List, ◌++◌, ◌+◌, ◌-◌, ◌<◌, ◌≤◌, ◌||◌, true, false, [], length, take, drop, slice_range, is_err, IfOk, OnOk, OnErr};
+ghost use Rattle.std.specs.Io.KnownBytes.{IsAtEnd};
+ghost use Rattle.ncp_player.specs.Streams.{Moves, effort};
+
+use crate::source::{Failed, Source};
+use std::marker::Model;
+
+/// How many bytes a window has room for.
+pub(crate) const WINDOW: usize = 16384;
+
+/// How many bytes a read has room for at least.
+pub(crate) const LEAST_READ: usize = 4096;
+
+/// A window on the bytes of a source: those that were read and are not used up.
+#[derive(Drop)]
+pub(crate) struct Incoming {
+    bytes: [u8; WINDOW],
+    from: usize,
+    to: usize,
+}
+
+impl Model for Incoming {
+    ghost use Rattle.std.specs.Prelude.{ℕ, List, ◌≤◌, slice_range};
+    ghost use Rattle.ncp_player.specs.declared.incoming.TheConstants.{WINDOW};
+
+    ghost Value = { List ℕ };
+
+    ghost view = { λ window. slice_range window.bytes window.from window.to };
+
+    ghost invariant = { λ window. (window.from ≤ window.to) × (window.to ≤ WINDOW) };
+}
+
+// Moves the bytes from `from` to `to` to the front.
+fn move_to_front(bytes: &mut [u8], from: usize, to: usize)
+    requires inside { from ≤ to }
+    requires fits { to ≤ length bytes.old }
+    ensures { take (to - from) bytes.new ≡ slice_range bytes.old from to }
+{
+    bytes.copy_within(from..to, 0);
+}
+
+impl Incoming {
+    /// A window that no byte has come into.
+    pub(crate) fn new() -> Self
+        ensures { result ≡ [] }
+    {
+        Incoming {
+            bytes: [0; WINDOW],
+            from: 0,
+            to: 0,
+        }
+    }
+
+    /// The bytes that are not used up.
+    pub(crate) fn unread(&self) -> &[u8]
+        ensures bytes { result.now ≡ self.now }
+        ensures fits { length result.now ≤ WINDOW }
+    {
+        &self.bytes[self.from..self.to]
+    }
+
+    /// Uses up the first bytes.
+    pub(crate) fn skip(&mut self, count: usize)
+        requires { count ≤ length self.old }
+        ensures { self.new ≡ drop count self.old }
+    {
+        self.from += count;
+    }
+
+    // Reads once behind what is there, and answers whether a byte came.
+    fn refill<S: Source>(&mut self, source: &mut S) -> Result<bool, Failed>
+        requires { length self.old + LEAST_READ ≤ WINDOW }
+        ensures moved { Moves self.old (S.left source.old) self.new (S.left source.new) }
+        ensures grows { (piece : List ℕ) × (self.new ≡ self.old ++ piece) }
+        ensures more { IfOk result (λ more. more ≡ true → length self.old < length self.new) }
+        ensures none { IfOk result (λ more. more ≡ false → (self.new ≡ self.old) × IsAtEnd (S.left source.new)) }
+        ensures err { OnErr result (self.new ≡ self.old) }
+        ensures effort { effort (S.reads source.new) self.new ≤ effort (S.reads source.old) self.old }
+        ensures mark { S.has_failed source.new ≡ (S.has_failed source.old || is_err result) }
+    {
+        move_to_front(&mut self.bytes, self.from, self.to);
+        self.to -= self.from;
+        self.from = 0;
+        let count = source.read(&mut self.bytes[self.to..])?;
+        self.to += count;
+        Ok(count > 0)
+    }
+
+    /// Reads until the window has `count` bytes, and answers whether it has.
+    pub(crate) fn need<S: Source>(&mut self, source: &mut S, count: usize) -> Result<bool, Failed>
+        requires { count + LEAST_READ ≤ WINDOW }
+        ensures moved { Moves self.old (S.left source.old) self.new (S.left source.new) }
+        ensures grows { (piece : List ℕ) × (self.new ≡ self.old ++ piece) }
+        ensures there { IfOk result (λ there. there ≡ true → count ≤ length self.new) }
+        ensures short { IfOk result (λ there. there ≡ false → (length self.new < count) × IsAtEnd (S.left source.new)) }
+        ensures err { OnErr result (length self.new < count) }
+        ensures effort { effort (S.reads source.new) self.new ≤ effort (S.reads source.old) self.old }
+        ensures mark { S.has_failed source.new ≡ (S.has_failed source.old || is_err result) }
+    {
+        while self.unread().len() < count {
+            if !self.refill(source)? {
+                return Ok(false);
+            }
+        }
+        Ok(true)
+    }
+}

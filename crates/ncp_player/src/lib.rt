@@ -1,0 +1,24 @@
+//! Message files: what is shown of them, and the command line of the program `ncp`.
+#![tactic(auto)]
+
+mod command_line;
+mod file;
+mod incoming;
+mod leader;
+mod line;
+mod memory;
+mod orders;
+mod outgoing;
+mod showing;
+mod sink;
+mod source;
+#[cfg(test)]
+mod tests;
+
+pub use command_line::{order, status};
+pub use file::{Direction, FileFault};
+pub use memory::{MemorySink, MemorySource};
+pub use orders::Order;
+pub use showing::show;
+pub use sink::{Sink, ToWrite};
+pub use source::{Failed, FromRead, Source};

@@ -1,0 +1,141 @@
+//! `MemorySource` and `MemorySink`: bytes in memory, with a call that can be made to fail.
+ghost use Rattle.std.specs.Prelude.{◌≡◌, IfOk, [], false};
+
+use crate::sink::Sink;
+use crate::source::{Failed, Source};
+use std::alloc::{AllocError, Global};
+use std::marker::Model;
+
+/// Reads bytes in memory. The n-th read into a piece that is not empty can be made to fail, counted
+/// from 1.
+#[derive(Drop)]
+pub struct MemorySource<'a> {
+    bytes: &'a [u8],
+    fails_at: Option<u32>,
+    reads: u32,
+    failed: bool,
+}
+
+impl<'a> Model for MemorySource<'a> {
+    ghost use Rattle.ncp_player.specs.Memory.{Reading};
+
+    ghost Value = { Reading };
+
+    ghost view = { λ source. record { left = source.bytes.now; reads = source.reads; failed = source.failed } };
+}
+
+impl<'a> MemorySource<'a> {
+    /// A source of these bytes, with 4,294,967,295 reads.
+    pub fn new(bytes: &'a [u8], fails_at: Option<u32>) -> Self
+        ensures { result ≡ record { left = bytes.now; reads = u32.MAX; failed = false } }
+    {
+        MemorySource {
+            bytes,
+            fails_at,
+            reads: u32::MAX,
+            failed: false,
+        }
+    }
+}
+
+impl Source for MemorySource<'_> {
+    ghost use Rattle.std.specs.Prelude.{Some};
+
+    ghost left = { λ source. Some source.left };
+
+    ghost reads = { λ source. source.reads };
+
+    ghost has_failed = { λ source. source.failed };
+
+    fn read(&mut self, piece: &mut [u8]) -> Result<usize, Failed> {
+        if piece.is_empty() {
+            return Ok(0);
+        }
+        if self.reads == 0 {
+            self.failed = true;
+            return Err(Failed);
+        }
+        self.reads -= 1;
+        if self.fails_at == Some(u32::MAX - self.reads) {
+            self.failed = true;
+            return Err(Failed);
+        }
+        let count = piece.len().min(self.bytes.len());
+        let (front, rest) = self.bytes.split_at(count);
+        piece[..count].copy_from_slice(front);
+        self.bytes = rest;
+        Ok(count)
+    }
+
+    fn failed(&self) -> bool {
+        self.failed
+    }
+}
+
+/// Keeps bytes in memory, as far as there is room. The n-th write can be made to fail, counted from
+/// 1.
+#[derive(Drop)]
+pub struct MemorySink {
+    bytes: Vec<u8>,
+    fails_at: Option<u32>,
+    writes: u32,
+    failed: bool,
+}
+
+impl Model for MemorySink {
+    ghost use Rattle.ncp_player.specs.Memory.{Writing};
+
+    ghost Value = { Writing };
+
+    ghost view = { λ sink. record { written = sink.bytes.items; failed = sink.failed } };
+}
+
+impl MemorySink {
+    /// An empty sink with room for so many bytes. No write allocates.
+    pub fn new(alloc: Global, room: usize, fails_at: Option<u32>) -> Result<Self, AllocError>
+        ensures { IfOk result (λ sink. sink ≡ record { written = []; failed = false }) }
+    {
+        Ok(MemorySink {
+            bytes: Vec::with_capacity(alloc, room)?,
+            fails_at,
+            writes: 0,
+            failed: false,
+        })
+    }
+
+    /// The bytes that were written.
+    pub fn bytes(&self) -> &[u8]
+        ensures { result.now ≡ self.now.written }
+    {
+        self.bytes.as_slice()
+    }
+}
+
+impl Sink for MemorySink {
+    ghost use Rattle.std.specs.Prelude.{Some};
+
+    ghost written = { λ sink. Some sink.written };
+
+    ghost has_failed = { λ sink. sink.failed };
+
+    fn write(&mut self, piece: &[u8]) -> Result<usize, Failed> {
+        self.writes = self.writes.saturating_add(1);
+        let room = self.bytes.capacity() - self.bytes.len();
+        if self.fails_at == Some(self.writes) || (room == 0 && !piece.is_empty()) {
+            self.failed = true;
+            return Err(Failed);
+        }
+        let count = piece.len().min(room);
+        match self.bytes.extend_from_slice(&piece[..count]) {
+            Ok(()) => Ok(count),
+            Err(_) => {
+                self.failed = true;
+                Err(Failed)
+            }
+        }
+    }
+
+    fn failed(&self) -> bool {
+        self.failed
+    }
+}

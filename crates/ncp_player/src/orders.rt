@@ -1,0 +1,8 @@
+//! `Order`.
+
+/// What the program is told to do: a variant for each subcommand.
+#[derive(Clone, Copy, Debug, Drop, PartialEq, Eq)]
+pub enum Order {
+    /// Show the messages of a file.
+    Show,
+}

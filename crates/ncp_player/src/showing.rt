@@ -1,0 +1,109 @@
+//! `show`: what a message file holds, line by line.
+ghost use Rattle.std.specs.Prelude.{◌≡◌, ℕ, ◌<◌, ◌||◌, [], List, Some, true, false, IfOk};
+ghost use Rattle.ncp_player.specs.Results.{is_read_failed, is_write_failed};
+ghost use Rattle.ncp_player.specs.Streams.{Ahead, Said, effort};
+ghost use Rattle.ncp_player.specs.Steps.{ShowsNext, ShowsFrom, ShowsFile};
+ghost use Rattle.ncp_player.specs.Shown.{Shown};
+
+use crate::file::{Direction, FileFault, read_header, read_record};
+use crate::incoming::Incoming;
+use crate::line::say_record;
+use crate::outgoing::Outgoing;
+use crate::sink::Sink;
+use crate::source::Source;
+
+// Shows the next record, and answers whether there was one.
+fn show_next<S: Source, W: Sink>(
+    window: &mut Incoming,
+    source: &mut S,
+    page: &mut Outgoing,
+    sink: &mut W,
+    direction: Direction,
+    number: u32,
+) -> Result<bool, FileFault>
+    ensures told { (bytes : List ℕ) (was : List ℕ) (said : List ℕ)
+        → Ahead window.old (S.left source.old) bytes → Said was page.old (W.written sink.old) said
+        → ShowsNext direction number bytes was said result window.new (S.left source.new) page.new (W.written sink.new) }
+    ensures source_mark { S.has_failed source.new ≡ (S.has_failed source.old || is_read_failed result) }
+    ensures sink_mark { W.has_failed sink.new ≡ (W.has_failed sink.old || is_write_failed result) }
+    ensures effort { IfOk result (λ more. more ≡ true → effort (S.reads source.new) window.new < effort (S.reads source.old) window.old) }
+{
+    let Some(message) = read_record(window, source)? else {
+        return Ok(false);
+    };
+    match say_record(page, sink, direction, number, &message) {
+        Ok(()) => Ok(true),
+        Err(_) => Err(FileFault::WriteFailed),
+    }
+}
+
+// Shows the records behind the header.
+fn show_records<S: Source, W: Sink>(
+    window: &mut Incoming,
+    source: &mut S,
+    page: &mut Outgoing,
+    sink: &mut W,
+    direction: Direction,
+) -> Result<(), FileFault>
+    ensures told { (bytes : List ℕ) (was : List ℕ) (said : List ℕ)
+        → Ahead window.old (S.left source.old) bytes → Said was page.old (W.written sink.old) said
+        → ShowsFrom direction 1 bytes was said result (S.left source.new) page.new (W.written sink.new) }
+    ensures source_mark { S.has_failed source.new ≡ (S.has_failed source.old || is_read_failed result) }
+    ensures sink_mark { W.has_failed sink.new ≡ (W.has_failed sink.old || is_write_failed result) }
+{
+    let mut number = 1u32;
+    while show_next(window, source, page, sink, direction, number)? {
+        number = number.saturating_add(1);
+    }
+    Ok(())
+}
+
+// Shows a file, but for what stays on the page.
+fn show_file<S: Source, W: Sink>(
+    source: &mut S,
+    page: &mut Outgoing,
+    sink: &mut W,
+) -> Result<(), FileFault>
+    requires { page.old ≡ [] }
+    ensures told { (bytes : List ℕ) (was : List ℕ)
+        → S.left source.old ≡ Some bytes → W.written sink.old ≡ Some was
+        → ShowsFile bytes was result (S.left source.new) page.new (W.written sink.new) }
+    ensures source_mark { S.has_failed source.new ≡ (S.has_failed source.old || is_read_failed result) }
+    ensures sink_mark { W.has_failed sink.new ≡ (W.has_failed sink.old || is_write_failed result) }
+{
+    let mut window = Incoming::new();
+    let direction = read_header(&mut window, source)?;
+    show_records(&mut window, source, page, sink, direction)
+}
+
+/// Writes the lines of each record of a message file, up to its first fault, and answers that
+/// fault.
+///
+/// It allocates nothing, and reads and writes in pieces of at least 4 KiB. After a failed read the
+/// lines of the records that were read whole are written; after a failed write a beginning of the
+/// lines is.
+pub fn show<S: Source, W: Sink>(source: &mut S, sink: &mut W) -> Result<(), FileFault>
+    requires source_clean { S.has_failed source.old ≡ false }
+    requires sink_clean { W.has_failed sink.old ≡ false }
+
+    // Of bytes that are told, the lines of the records before the first fault are written, and
+    // nothing else.
+    ensures told { (bytes : List ℕ) (was : List ℕ)
+        → S.left source.old ≡ Some bytes → W.written sink.old ≡ Some was
+        → Shown bytes was (S.left source.new) (W.written sink.new) result }
+
+    // Reading and writing are blamed only where they failed.
+    ensures read_failed { is_read_failed result ≡ true → S.has_failed source.new ≡ true }
+    ensures write_failed { W.has_failed sink.new ≡ is_write_failed result }
+    ensures blamed { S.has_failed source.new ≡ true → (is_read_failed result || is_write_failed result) ≡ true }
+{
+    let mut page = Outgoing::new();
+    let shown = show_file(source, &mut page, sink);
+    if sink.failed() {
+        return shown;
+    }
+    match page.flush(sink) {
+        Ok(()) => shown,
+        Err(_) => Err(FileFault::WriteFailed),
+    }
+}

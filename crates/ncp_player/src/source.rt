@@ -1,0 +1,87 @@
+//! `Source`: where bytes come from.
+ghost use Rattle.std.specs.Prelude.{◌≡◌, ℕ, ◌-◌, ◌<◌, ◌≤◌, ◌||◌, Bool, List, Option, false, length, is_err, IsErr, IfOk};
+ghost use Rattle.std.specs.Io.KnownBytes.{ReadConsumes};
+
+use std::io::Read;
+use thiserror::Error;
+
+/// A read or a write failed.
+#[derive(Clone, Copy, Debug, Drop, PartialEq, Eq, Error)]
+#[error("a read or a write failed")]
+pub struct Failed;
+
+/// Where bytes come from.
+pub trait Source {
+    /// The bytes that are left, where they are told.
+    ghost left: { Self → Option (List ℕ) };
+
+    /// How many reads are left. It bounds what reads to the end.
+    ghost reads: { Self → ℕ };
+
+    /// Whether a read has failed.
+    ghost has_failed: { Self → Bool };
+
+    /// Reads some bytes into the front of a piece, and gives their number: 0 only where the piece
+    /// is empty or no byte is left.
+    fn read(&mut self, piece: &mut [u8]) -> Result<usize, Failed>
+        ensures count { IfOk result (λ count. count ≤ length piece.new) }
+        ensures bytes { ReadConsumes (left self.old) (left self.new) result piece.new }
+        ensures lowers { 0 < length piece.old → reads self.new ≡ reads self.old - 1 }
+        ensures stays { length piece.old ≡ 0 → reads self.new ≡ reads self.old }
+        ensures spent { 0 < length piece.old → reads self.old ≡ 0 → IsErr result }
+        ensures mark { has_failed self.new ≡ (has_failed self.old || is_err result) };
+
+    /// Whether a read has failed.
+    fn failed(&self) -> bool
+        ensures { result ≡ has_failed self.now };
+}
+
+/// Reads from a [`Read`], at most 4,294,967,295 times.
+#[derive(Drop)]
+pub struct FromRead<R> {
+    reader: R,
+    reads: u32,
+    failed: bool,
+}
+
+impl<R: Read> FromRead<R> {
+    /// A source of the reader's bytes.
+    pub fn new(reader: R) -> Self
+        ensures { result ≡ record { reader = reader; reads = u32.MAX; failed = false } }
+    {
+        FromRead {
+            reader,
+            reads: u32::MAX,
+            failed: false,
+        }
+    }
+}
+
+impl<R: Read> Source for FromRead<R> {
+    ghost left = { λ source. R.remaining source.reader };
+
+    ghost reads = { λ source. source.reads };
+
+    ghost has_failed = { λ source. source.failed };
+
+    fn read(&mut self, piece: &mut [u8]) -> Result<usize, Failed> {
+        if !piece.is_empty() {
+            if self.reads == 0 {
+                self.failed = true;
+                return Err(Failed);
+            }
+            self.reads -= 1;
+        }
+        match self.reader.read(piece) {
+            Ok(count) => Ok(count),
+            Err(_) => {
+                self.failed = true;
+                Err(Failed)
+            }
+        }
+    }
+
+    fn failed(&self) -> bool {
+        self.failed
+    }
+}
