@@ -5,12 +5,13 @@ ghost use Rattle.ncp_player.specs.CommandLine.{order_in, status_of};
 use crate::orders::Order;
 use clap::{Command, Error};
 use std::alloc::Global;
+use std::convert::AsStr;
 
 /// Reads the words of a command line, the program's name first. Without a subcommand it is `show`.
 ///
 /// The error is clap's: a command-line fault, help that was asked for, or want of memory.
-pub fn order<'a>(alloc: Global, words: &'a [&'a str]) -> Result<Order, Error>
-    ensures { IfOk result (λ order. order ≡ order_in (map (λ word. word.now) words.entry.now)) }
+pub fn order<'a, S: AsStr>(alloc: Global, words: &'a [S]) -> Result<Order, Error>
+    ensures { IfOk result (λ order. order ≡ order_in (map S.text words.entry.now)) }
 {
     let show = Command::new(alloc, "show").about(
         "Shows each message of a message file, read from standard input",

@@ -1,12 +1,327 @@
-//! What no clause says: the worked rows, the texts, and that the calls succeed.
-use crate::{FileFault, MemorySink, MemorySource, Source, show};
+//! What no clause says: the worked rows, the printed texts, that the calls succeed, and reads and
+//! writes that fail.
+ghost use Rattle.std.specs.Prelude.{◌≡◌, false};
+
+use crate::{
+    Failed, FileFault, MemorySink, MemorySource, Order, Sink, Source, order, show, status,
+};
+use std::alloc::Global;
+use std::process::Abort;
 use std::test::Fail;
 
-#[test]
-fn shows_an_answer(rt: HostRuntime) -> Result<(), Fail> {
-    let mut source = MemorySource::new(b"NCPI\x00\x20\x05\x02\x00\x00", None);
-    let mut sink = MemorySink::new(rt.alloc(), 200, None)?;
-    assert!(rt; show(&mut source, &mut sink).is_ok());
-    assert!(rt; sink.bytes() == b"1 rfnm host=2 link=0\n".as_slice());
+// Room for the lines of the files below.
+const ROOM: usize = 65536;
+
+// An answer, behind the header of a file to a host.
+const ANSWER: &[u8] = b"NCPI\x00\x20\x05\x02\x00\x00";
+
+// A type without a name with flags and low field, and a message of no bits.
+const NAMELESS: &[u8] = b"NCPI\x00\x20\x13\x02\x0a\x05\x00\x00";
+
+const NAMELESS_LINES: &[u8] = b"1 type-3 host=2 link=10 flags=1 low=5\n2 short\n";
+
+// Reads a byte at a time.
+#[derive(Drop)]
+struct Bytewise<'a> {
+    source: MemorySource<'a>,
+}
+
+impl Source for Bytewise<'_> {
+    ghost use Rattle.std.specs.Prelude.{Some};
+
+    ghost left = { λ slow. Some slow.source.left };
+
+    ghost reads = { λ slow. slow.source.reads };
+
+    ghost has_failed = { λ slow. slow.source.failed };
+
+    fn read(&mut self, piece: &mut [u8]) -> Result<usize, Failed> {
+        let end = piece.len().min(1);
+        self.source.read(&mut piece[..end])
+    }
+
+    fn failed(&self) -> bool {
+        self.source.failed()
+    }
+}
+
+// Writes a byte at a time.
+#[derive(Drop)]
+struct Piecemeal {
+    sink: MemorySink,
+}
+
+impl Sink for Piecemeal {
+    ghost use Rattle.std.specs.Prelude.{Some};
+
+    ghost written = { λ slow. Some slow.sink.written };
+
+    ghost has_failed = { λ slow. slow.sink.failed };
+
+    fn write(&mut self, piece: &[u8]) -> Result<usize, Failed> {
+        self.sink.write(&piece[..piece.len().min(1)])
+    }
+
+    fn failed(&self) -> bool {
+        self.sink.failed()
+    }
+}
+
+// Shows a file, and compares what is written and answered.
+fn expect_shown(
+    rt: &impl Abort,
+    alloc: Global,
+    file: &[u8],
+    text: &[u8],
+    fault: Option<FileFault>,
+) -> Result<(), Fail> {
+    let mut source = MemorySource::new(file, None);
+    let mut sink = MemorySink::new(alloc, ROOM, None)?;
+    assert_eq!(rt; show(&mut source, &mut sink).err(), fault);
+    assert!(rt; sink.bytes() == text);
     Ok(())
+}
+
+#[test]
+fn shows_first_lines(rt: HostRuntime) -> Result<(), Fail> {
+    expect_shown(&rt, rt.alloc(), ANSWER, b"1 rfnm host=2 link=0\n", None)?;
+    expect_shown(&rt, rt.alloc(), NAMELESS, NAMELESS_LINES, None)?;
+    expect_shown(
+        &rt,
+        rt.alloc(),
+        b"NCPH\x00\x20\x05\x02\x00\x00",
+        b"1 type-5 host=2 link=0\n",
+        None,
+    )?;
+    expect_shown(&rt, rt.alloc(), b"NCPI", b"", None)
+}
+
+#[test]
+fn names_types_to_the_imp(rt: HostRuntime) -> Result<(), Fail> {
+    let names = [
+        "regular", "type-1", "type-2", "type-3", "nop", "type-5", "type-6", "type-7", "type-8",
+        "type-9", "type-10", "type-11", "type-12", "type-13", "type-14", "type-15",
+    ];
+    for kind in 0..16u8 {
+        let file = [b'N', b'C', b'P', b'H', 0, 32, kind, 3, 4, 0];
+        let name = names[usize::from(kind)];
+        let text = format!(in rt.alloc(); "1 {name} host=3 link=4\n")?;
+        expect_first_line(&rt, rt.alloc(), &file, text.as_str().as_bytes())?;
+    }
+    Ok(())
+}
+
+#[test]
+fn names_types_from_the_imp(rt: HostRuntime) -> Result<(), Fail> {
+    let names = [
+        "regular",
+        "type-1",
+        "going-down",
+        "type-3",
+        "nop",
+        "rfnm",
+        "type-6",
+        "dead",
+        "type-8",
+        "incomplete",
+        "type-10",
+        "type-11",
+        "type-12",
+        "type-13",
+        "type-14",
+        "type-15",
+    ];
+    for kind in 0..16u8 {
+        let file = [b'N', b'C', b'P', b'I', 0, 32, kind, 255, 255, 0];
+        let name = names[usize::from(kind)];
+        let text = format!(in rt.alloc(); "1 {name} host=255 link=255\n")?;
+        expect_first_line(&rt, rt.alloc(), &file, text.as_str().as_bytes())?;
+    }
+    Ok(())
+}
+
+// Compares the first line that is shown of a file.
+fn expect_first_line(rt: &impl Abort, alloc: Global, file: &[u8], line: &[u8]) -> Result<(), Fail> {
+    let mut source = MemorySource::new(file, None);
+    let mut sink = MemorySink::new(alloc, ROOM, None)?;
+    assert!(rt; show(&mut source, &mut sink).is_ok());
+    assert!(rt; sink.bytes().starts_with(line));
+    Ok(())
+}
+
+#[test]
+fn keeps_what_stands_before_a_fault(rt: HostRuntime) -> Result<(), Fail> {
+    let faults = [
+        (b"NCP".as_slice(), b"".as_slice(), FileFault::BadHeader),
+        (b"".as_slice(), b"".as_slice(), FileFault::BadHeader),
+        (
+            b"NCPJ\x00\x20".as_slice(),
+            b"".as_slice(),
+            FileFault::BadHeader,
+        ),
+        (
+            b"NCPI\x00\x20\x05\x02".as_slice(),
+            b"".as_slice(),
+            FileFault::Truncated,
+        ),
+        (b"NCPI\x00".as_slice(), b"".as_slice(), FileFault::Truncated),
+        (
+            b"NCPI\x20\x01".as_slice(),
+            b"".as_slice(),
+            FileFault::TooLong,
+        ),
+        (
+            b"NCPI\x00\x00\x00\x04\x08".as_slice(),
+            b"1 short\n".as_slice(),
+            FileFault::SpareNotZero,
+        ),
+        (
+            b"NCPI\x00\x00\xff\xff".as_slice(),
+            b"1 short\n".as_slice(),
+            FileFault::TooLong,
+        ),
+    ];
+    for (file, text, fault) in faults {
+        expect_shown(&rt, rt.alloc(), file, text, Some(fault))?;
+    }
+    Ok(())
+}
+
+#[test]
+fn shows_the_longest_record(rt: HostRuntime) -> Result<(), Fail> {
+    let mut file = [0u8; 1030];
+    file[..8].copy_from_slice(b"NCPI\x20\x00\x04\x07");
+    expect_shown(&rt, rt.alloc(), &file, b"1 nop host=7 link=0\n", None)
+}
+
+#[test]
+fn reads_and_writes_bytewise(rt: HostRuntime) -> Result<(), Fail> {
+    let mut source = Bytewise {
+        source: MemorySource::new(NAMELESS, None),
+    };
+    let mut sink = Piecemeal {
+        sink: MemorySink::new(rt.alloc(), ROOM, None)?,
+    };
+    assert!(rt; show(&mut source, &mut sink).is_ok());
+    assert!(rt; sink.sink.bytes() == NAMELESS_LINES);
+    Ok(())
+}
+
+// How many of the first bytes hold the header, then each record whole.
+fn lines_of_front(len: usize) -> usize {
+    match len {
+        0..10 => 0,
+        10 | 11 => 38,
+        _ => NAMELESS_LINES.len(),
+    }
+}
+
+#[test]
+fn tells_each_failed_read(rt: HostRuntime) -> Result<(), Fail> {
+    for count in 1..14u32 {
+        let mut source = Bytewise {
+            source: MemorySource::new(NAMELESS, Some(count)),
+        };
+        let mut sink = MemorySink::new(rt.alloc(), ROOM, None)?;
+        assert_eq!(rt; show(&mut source, &mut sink), Err(FileFault::ReadFailed));
+        assert!(rt; source.failed() && !sink.failed());
+        let lines = lines_of_front(count as usize - 1);
+        assert!(rt; lines <= NAMELESS_LINES.len());
+        assert!(rt; sink.bytes() == &NAMELESS_LINES[..lines]);
+    }
+    let mut source = Bytewise {
+        source: MemorySource::new(NAMELESS, Some(14)),
+    };
+    let mut sink = MemorySink::new(rt.alloc(), ROOM, None)?;
+    assert!(rt; show(&mut source, &mut sink).is_ok());
+    Ok(())
+}
+
+#[test]
+fn tells_each_failed_write(rt: HostRuntime) -> Result<(), Fail> {
+    for count in 1..47u32 {
+        let mut source = MemorySource::new(NAMELESS, None);
+        let mut sink = Piecemeal {
+            sink: MemorySink::new(rt.alloc(), ROOM, Some(count))?,
+        };
+        assert_eq!(rt; show(&mut source, &mut sink), Err(FileFault::WriteFailed));
+        assert!(rt; sink.failed() && !source.failed());
+        let written = count as usize - 1;
+        assert!(rt; written <= NAMELESS_LINES.len());
+        assert!(rt; sink.sink.bytes() == &NAMELESS_LINES[..written]);
+    }
+    Ok(())
+}
+
+#[test]
+fn tells_a_sink_that_is_full(rt: HostRuntime) -> Result<(), Fail> {
+    let mut source = MemorySource::new(NAMELESS, None);
+    let mut sink = MemorySink::new(rt.alloc(), 10, None)?;
+    assert_eq!(rt; show(&mut source, &mut sink), Err(FileFault::WriteFailed));
+    assert!(rt; sink.bytes() == &NAMELESS_LINES[..10]);
+    Ok(())
+}
+
+#[test]
+fn tells_faults(rt: HostRuntime) -> Result<(), Fail> {
+    let faults = [
+        (
+            FileFault::BadHeader,
+            "BadHeader",
+            "not the header of a message file",
+        ),
+        (
+            FileFault::Truncated,
+            "Truncated",
+            "the file ends inside a record",
+        ),
+        (
+            FileFault::TooLong,
+            "TooLong",
+            "a record of more than 8192 bits",
+        ),
+        (
+            FileFault::SpareNotZero,
+            "SpareNotZero",
+            "a spare bit behind a message is set",
+        ),
+        (FileFault::ReadFailed, "ReadFailed", "a read failed"),
+        (FileFault::WriteFailed, "WriteFailed", "a write failed"),
+    ];
+    let mut number = 0u8;
+    for (fault, name, text) in faults {
+        number = number.saturating_add(1);
+        assert_eq!(rt; fault as u8, number);
+        assert_eq!(rt; fault.name(), name);
+        assert_eq!(rt; format!(in rt.alloc(); "{fault}")?.as_str(), text);
+    }
+    assert_eq!(rt;
+        format!(in rt.alloc(); "{Failed}")?.as_str(),
+        "a read or a write failed"
+    );
+    Ok(())
+}
+
+#[test]
+fn reads_the_command_line(rt: HostRuntime) -> Result<(), Fail> {
+    assert!(rt; matches!(order(rt.alloc(), &["ncp"]), Ok(Order::Show)));
+    assert!(rt; matches!(order(rt.alloc(), &["ncp", "show"]), Ok(Order::Show)));
+    let Err(help) = order(rt.alloc(), &["ncp", "--help"]) else {
+        return Err("help is no order".into());
+    };
+    assert_eq!(rt; help.exit_code(), 0);
+    for words in [["ncp", "play"], ["ncp", "--loud"]] {
+        let Err(fault) = order(rt.alloc(), &words) else {
+            return Err("no such word".into());
+        };
+        assert_eq!(rt; fault.exit_code(), 2);
+    }
+    Ok(())
+}
+
+#[test]
+fn gives_exit_statuses(rt: HostRuntime) {
+    assert_eq!(rt; status(Ok(true)), 0);
+    assert_eq!(rt; status(Ok(false)), 1);
+    assert_eq!(rt; status(Err(())), 2);
 }

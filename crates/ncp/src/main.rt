@@ -1,0 +1,32 @@
+//! The program `ncp`: message files of an ARPANET host, read from standard input.
+#![tactic(auto)]
+
+use anyhow::Result;
+use ncp_player::{FromRead, Order, ToWrite, order, show, status};
+use std::env;
+use std::process::ExitCode;
+
+fn main(rt: HostRuntime) -> Result<ExitCode> {
+    let alloc = rt.alloc();
+    let words: Vec<String> = env::args(&rt)?.collect(alloc)?;
+    let order = match order(alloc, words.as_slice()) {
+        Ok(order) => order,
+        Err(error) => {
+            error.print(&rt)?;
+            return Ok(ExitCode::from(error.exit_code() as u8));
+        }
+    };
+    let mut source = FromRead::new(rt.stdin());
+    let mut sink = ToWrite::new(rt.stdout());
+    let outcome = match order {
+        Order::Show => show(&mut source, &mut sink).map(|()| true),
+    };
+    let outcome = match outcome {
+        Ok(good) => Ok(good),
+        Err(fault) => {
+            eprintln!(rt; "ncp: {}", fault.name())?;
+            Err(())
+        }
+    };
+    Ok(ExitCode::from(status(outcome)))
+}
