@@ -1,4 +1,5 @@
--- A leader and its bits (BBN 1822, section 3: the 32-bit leader).
+-- A leader and its bits (BBN 1822, section 3: the 32-bit leader). Places are counted from 0, where the
+-- standard counts bits from 1.
 use Rattle.std.specs.Prelude.{◌≡◌, ◌<◌, ◌≤◌, ℕ, ◌+◌, ◌^◌, Bool, List, ◌++◌, length, slice_range, nat_lt, Result, Ok, Err, if◌then◌else◌}
 use Rattle.ncp_bits.specs.Numbers.{number_of, bits_of}
 use Rattle.ncp_leader.specs.declared.leader.Leader.{Leader}

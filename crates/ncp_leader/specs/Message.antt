@@ -1,4 +1,6 @@
--- A regular message and its bits (NIC 8246, message form; BBN 1822, section 3).
+-- A regular message and its bits (NIC 8246, message form; BBN 1822, section 3). Places are counted from
+-- 0, where the standard counts bits from 1. The order of the faults and the longest text that is made are
+-- this profile's.
 use Rattle.std.specs.Prelude.{◌≡◌, ◌<◌, ℕ, ◌+◌, ◌*◌, ◌/◌, ◌%◌, ◌^◌, ◌==◌, Bool, false, not, List, ◌++◌, length, replicate, slice_range, nat_lt, Result, Ok, Err, if◌then◌else◌}
 use Rattle.ncp_bits.specs.Numbers.{bits_of}
 use Rattle.ncp_leader.specs.declared.leader.Leader.{Leader}

@@ -6,18 +6,24 @@ ghost use Rattle.ncp_leader.specs.declared.leader.Leader.{Leader};
 
 /// No list of bits begins with two leaders, or stands for two messages.
 pub fn bits_stand_for_one()
-    ensures leader { (bits : List Bool) (one other : Leader) → BeginsWith bits one → BeginsWith bits other → one ≡ other }
-    ensures message { (bits : List Bool) (one other : Message) → StandsFor bits one → StandsFor bits other → one ≡ other }
+    ensures leader { (bits : List Bool) (one other : Leader) →
+        BeginsWith bits one → BeginsWith bits other → one ≡ other }
+    ensures message { (bits : List Bool) (one other : Message) →
+        StandsFor bits one → StandsFor bits other → one ≡ other }
 {}
 
 /// What is written is read as the same, whatever follows in the message.
 pub fn written_is_read()
-    ensures leader { (leader : Leader) (rest : List Bool) → IsLeader leader → leader_in (leader_bits leader ++ rest) ≡ Ok leader }
-    ensures message { (message : Message) (rest : List Bool) → IsMessage message → message_in (message_bits message ++ rest) ≡ Ok message }
+    ensures leader { (leader : Leader) (rest : List Bool) →
+        IsLeader leader → leader_in (leader_bits leader ++ rest) ≡ Ok leader }
+    ensures message { (message : Message) (rest : List Bool) →
+        IsMessage message → message_in (message_bits message ++ rest) ≡ Ok message }
 {}
 
-/// What is read is what the bits stand for, and the leader of a message that is read is the leader in front of it.
+/// A message is read exactly where the bits stand for it, and its leader is the one in front.
 pub fn read_stands()
-    ensures message { (bits : List Bool) (message : Message) → (message_in bits ≡ Ok message) ↔ StandsFor bits message }
-    ensures leader { (bits : List Bool) (message : Message) → message_in bits ≡ Ok message → leader_in bits ≡ Ok message.leader }
+    ensures message { (bits : List Bool) (message : Message) →
+        (message_in bits ≡ Ok message) ↔ StandsFor bits message }
+    ensures leader { (bits : List Bool) (message : Message) →
+        message_in bits ≡ Ok message → leader_in bits ≡ Ok message.leader }
 {}

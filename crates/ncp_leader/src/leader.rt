@@ -34,7 +34,7 @@ pub struct Leader {
 #[error("shorter than a leader")]
 pub struct Short;
 
-/// The leader of a message that is long enough.
+/// The leader of a message that is long enough. Places count from 0.
 pub(crate) fn leader_of(bits: &Bits) -> Leader
     requires { LEADER_BITS ≤ length bits.now }
     ensures { result ≡ leader_at bits.now }

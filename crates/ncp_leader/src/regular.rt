@@ -32,9 +32,19 @@ impl<'a> Model for Regular<'a> {
 
     ghost Value = { Message };
 
-    ghost view = { λ regular. record { leader = regular.leader; size = regular.size; count = regular.count; text = regular.text } };
+    ghost view = { λ regular. record {
+      leader = regular.leader;
+      size = regular.size;
+      count = regular.count;
+      text = regular.text;
+    } };
 
-    ghost invariant = { λ regular. IsMessage (record { leader = regular.leader; size = regular.size; count = regular.count; text = regular.text }) };
+    ghost invariant = { λ regular. IsMessage (record {
+      leader = regular.leader;
+      size = regular.size;
+      count = regular.count;
+      text = regular.text;
+    }) };
 }
 
 impl<'a> Regular<'a> {
@@ -75,12 +85,12 @@ impl<'a> Regular<'a> {
         ensures bits { result ≡ byte_at self.now place }
         ensures len { length result ≡ self.now.size }
     {
-        let size = usize::from(self.size);
-        self.text.slice(size * usize::from(place), size)
+        let width = usize::from(self.size);
+        self.text.slice(width * usize::from(place), width)
     }
 }
 
-// The message in front of bits, or the first fault.
+// The message in front of bits, or the first fault. Places count from 0.
 fn message_of(bits: &Bits) -> Result<Regular<'_>, MessageFault>
     ensures { result ≡ message_in bits.now }
 {
@@ -143,14 +153,14 @@ pub fn put_regular(leader: &Leader, size: u8, text: Part<'_>) -> Result<Bits, Me
     if len > MAX_TEXT_BITS {
         return Err(MessageFault::TextTooLong);
     }
-    let byte = usize::from(size);
-    if len % byte != 0 {
+    let width = usize::from(size);
+    if len % width != 0 {
         return Err(MessageFault::NotWhole);
     }
     let mut bits = put_leader(leader);
     bits.push_number(0, 8).unwrap();
     bits.push_number(u64::from(size), 8).unwrap();
-    bits.push_number((len / byte) as u64, 16).unwrap();
+    bits.push_number((len / width) as u64, 16).unwrap();
     bits.push_number(0, 8).unwrap();
     bits.append(text).unwrap();
     Ok(bits)
