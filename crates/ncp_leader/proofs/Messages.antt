@@ -1,7 +1,7 @@
 -- Reading and writing a regular message.
-use Rattle.std.proofs.Common.{◌≡◌, ℕ, ◌+◌, ◌*◌, ◌/◌, ◌%◌, ◌^◌, ◌<◌, ◌≤◌, Bool, true, false, cond, not, eqb, ltb, List, [], ◌++◌, length, take, drop, slice_range, Result, Ok, Err, IfOk, sym, ap, subst, ◌∙◌, arith, refl}
+use Rattle.std.proofs.Common.{◌≡◌, ℕ, ◌+◌, ◌*◌, ◌/◌, ◌%◌, ◌^◌, ◌<◌, ◌≤◌, Bool, true, false, cond, not, eqb, ltb, List, ◌++◌, length, take, drop, slice_range, Result, Ok, Err, IfOk, sym, ap, subst, ◌∙◌, arith, refl}
 use Rattle.std.specs.Prelude.{◌↔◌}
-use Rattle.std.proofs.lemmas.List.{append_assoc, append-nil, length-append, length-take-le, length-drop, take_at, drop-drop, take-append-drop}
+use Rattle.std.proofs.lemmas.List.{append_assoc, length-append, length-take-le, length-drop, take_at, drop-drop, take-append-drop}
 use Rattle.std.proofs.lemmas.Bool.{le-ltb, ltb-false, ne_eqb, eqb-false}
 use Rattle.std.proofs.lemmas.Map.Views.{exact_unsigned_eq}
 use Rattle.std.proofs.Math.Nat.{div-le_self, div-add-mod}
@@ -176,7 +176,7 @@ message_leader bits m e =
 pub reads_or_stands : (bits : List Bool) (m : Message) → (message_in bits ≡ Ok m) ↔ StandsFor bits m
 reads_or_stands bits m = (λ e. found_law bits m (sym e), λ stands. stands_read bits m stands)
 
--- ---- what is written stands there
+-- ---- what is written is a message
 
 pub IsMessage-with : (leader : Leader) (size : ℕ) (text : List Bool) → IsLeader leader → 0 < size → size < 2 ^ 8 → length text ≤ 7928 → length text % size ≡ 0
     → IsMessage (message_with leader size text)
@@ -190,8 +190,3 @@ IsMessage-with leader size text fits some small short whole =
       count = omega arith;
       whole = omega (arith, parts, whole);
     }
-
-pub StandsFor-with : (bits : List Bool) (leader : Leader) (size : ℕ) (text : List Bool) → IsLeader leader → 0 < size → size < 2 ^ 8 → length text ≤ 7928 → length text % size ≡ 0
-    → bits ≡ message_bits (message_with leader size text) → StandsFor bits (message_with leader size text)
-StandsFor-with bits leader size text fits some small short whole form =
-    record { fits = IsMessage-with leader size text fits some small short whole; rest = []; form = form ∙ sym (append-nil _) }

@@ -1,7 +1,8 @@
 //! Laws about leaders, messages and their bits, each the contract of a function that does nothing.
-ghost use Rattle.std.specs.Prelude.{◌≡◌, ◌↔◌, ◌++◌, List, Bool};
+ghost use Rattle.std.specs.Prelude.{◌≡◌, ◌↔◌, ◌<◌, ◌≤◌, ◌%◌, ◌^◌, ◌++◌, ℕ, List, Bool, length};
 ghost use Rattle.ncp_leader.specs.Leader.{IsLeader, BeginsWith, leader_bits, leader_in};
-ghost use Rattle.ncp_leader.specs.Message.{Message, IsMessage, StandsFor, message_bits, message_in};
+ghost use Rattle.ncp_leader.specs.Message.{Message, IsMessage, StandsFor, message_bits, message_in, message_with};
+ghost use Rattle.ncp_leader.specs.declared.regular.TheConstants.{MAX_TEXT_BITS};
 ghost use Rattle.ncp_leader.specs.declared.leader.Leader.{Leader};
 
 /// No list of bits begins with two leaders, or stands for two messages.
@@ -26,4 +27,12 @@ pub fn read_stands()
         (message_in bits ≡ Ok message) ↔ StandsFor bits message }
     ensures leader { (bits : List Bool) (message : Message) →
         message_in bits ≡ Ok message → leader_in bits ≡ Ok message.leader }
+{}
+
+/// A leader, a byte size and a text of whole bytes that is not too long make a message.
+pub fn whole_bytes_make_a_message()
+    ensures { (leader : Leader) (size : ℕ) (text : List Bool) →
+        IsLeader leader → 0 < size → size < 2 ^ 8 →
+        length text ≤ MAX_TEXT_BITS → length text % size ≡ 0 →
+        IsMessage (message_with leader size text) }
 {}

@@ -1,8 +1,8 @@
 //! `Regular`.
-ghost use Rattle.std.specs.Prelude.{◌≡◌, ◌<◌, ◌≤◌, ◌*◌, length, IfOk};
+ghost use Rattle.std.specs.Prelude.{◌≡◌, ◌<◌, ◌≤◌, ◌+◌, ◌*◌, length, IfOk};
 ghost use Rattle.ncp_leader.specs.Leader.{IsLeader};
 ghost use Rattle.ncp_leader.specs.declared.leader.TheConstants.{MAX_FLAGS, MAX_KIND};
-ghost use Rattle.ncp_leader.specs.Message.{Message, StandsFor, message_in, byte_at, message_with, written};
+ghost use Rattle.ncp_leader.specs.Message.{Message, StandsFor, message_bits, message_in, byte_at, message_with, written};
 
 use crate::fault::MessageFault;
 use crate::leader::{Leader, leader_of, put_leader};
@@ -134,11 +134,31 @@ pub fn read_regular(bits: &Bits) -> Result<Regular<'_>, MessageFault>
     message_of(bits)
 }
 
+// The bits of the message that a leader, a byte size and a text of whole bytes make.
+#[tactic(auto, using(crate::proofs::Messages::zeros))]
+fn put_message(leader: &Leader, size: u8, text: Part<'_>) -> Bits
+    requires flags { leader.now.flags ≤ MAX_FLAGS }
+    requires kind { leader.now.kind ≤ MAX_KIND }
+    requires some { 0 < size }
+    requires text { length text ≤ MAX_TEXT_BITS }
+    ensures bits { result ≡ message_bits (message_with leader.now size text.entry) }
+    ensures len { length result ≡ FRONT_BITS + length text.entry }
+    ensures fits { IsLeader leader.now }
+{
+    let count = text.len() / usize::from(size);
+    let mut bits = put_leader(leader);
+    bits.push_number(0, 8).unwrap();
+    bits.push_number(u64::from(size), 8).unwrap();
+    bits.push_number(count as u64, 16).unwrap();
+    bits.push_number(0, 8).unwrap();
+    bits.append(text).unwrap();
+    bits
+}
+
 /// The bits of a regular message, without padding.
 ///
 /// Refused, in this order: `SizeZero`, `TextTooLong` (over [`MAX_TEXT_BITS`]), `NotWhole` (the text
 /// is no multiple of the byte size).
-#[tactic(auto, using(crate::proofs::Messages::zeros))]
 pub fn put_regular(leader: &Leader, size: u8, text: Part<'_>) -> Result<Bits, MessageFault>
     requires flags { leader.now.flags ≤ MAX_FLAGS }
     requires kind { leader.now.kind ≤ MAX_KIND }
@@ -153,15 +173,8 @@ pub fn put_regular(leader: &Leader, size: u8, text: Part<'_>) -> Result<Bits, Me
     if len > MAX_TEXT_BITS {
         return Err(MessageFault::TextTooLong);
     }
-    let width = usize::from(size);
-    if len % width != 0 {
+    if len % usize::from(size) != 0 {
         return Err(MessageFault::NotWhole);
     }
-    let mut bits = put_leader(leader);
-    bits.push_number(0, 8).unwrap();
-    bits.push_number(u64::from(size), 8).unwrap();
-    bits.push_number((len / width) as u64, 16).unwrap();
-    bits.push_number(0, 8).unwrap();
-    bits.append(text).unwrap();
-    Ok(bits)
+    Ok(put_message(leader, size, text))
 }
