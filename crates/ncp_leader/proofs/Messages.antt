@@ -11,7 +11,7 @@ use Rattle.ncp_bits.proofs.Fields.{field_rest, number_of-fitting}
 use Rattle.ncp_leader.specs.declared.leader.Leader.{Leader}
 use Rattle.ncp_leader.specs.declared.fault.MessageFault.{MessageFault}
 use Rattle.ncp_leader.specs.Leader.{IsLeader, leader_bits, leader_at, leader_in, number_at}
-use Rattle.ncp_leader.specs.Message.{Message, IsMessage, StandsFor, message_bits, message_in, message_with, eight_zeros, size_at, count_at, text_end}
+use Rattle.ncp_leader.specs.Message.{Message, IsMessage, StandsFor, message_bits, message_in, message_at, message_with, eight_zeros, size_at, count_at, text_end}
 use Rattle.ncp_leader.proofs.Leaders.{IsLeader-at, leader_first, leader_at-bits, leader_in-bits, unless_false, one_value}
 
 -- ---- what stands there is read
@@ -96,7 +96,7 @@ length-text bits there =
     ap (λ (k : ℕ). length (take k (drop 72 bits))) (omega arith) ∙ length-take-le (size_at bits * count_at bits) (drop 72 bits) (simp length-drop (omega arith))
 
 pub IsMessage-at : (bits : List Bool) → 0 < size_at bits → text_end bits ≤ length bits
-    → IsMessage (record { leader = leader_at bits; size = size_at bits; count = count_at bits; text = slice_range bits 72 (text_end bits) })
+    → IsMessage (message_at bits)
 IsMessage-at bits some there =
     record {
       leader = IsLeader-at bits;
@@ -111,7 +111,7 @@ unfolding bits_of
 zeros = refl
 
 StandsFor-at : (bits : List Bool) → 72 ≤ length bits → number_at bits 32 8 ≡ 0 → 0 < size_at bits → number_at bits 64 8 ≡ 0 → text_end bits ≤ length bits
-    → StandsFor bits (record { leader = leader_at bits; size = size_at bits; count = count_at bits; text = slice_range bits 72 (text_end bits) })
+    → StandsFor bits (message_at bits)
 StandsFor-at bits long m1 some m2 there =
     let n : ℕ = size_at bits * count_at bits in
     let text : List Bool = slice_range bits 72 (72 + n) in

@@ -49,6 +49,15 @@ count_at bits = number_at bits 48 16
 abbrev pub text_end : List Bool → ℕ
 text_end bits = FRONT_BITS + size_at bits * count_at bits
 
+-- what stands where the parts of a message stand
+abbrev pub message_at : List Bool → Message
+message_at bits = record {
+  leader = leader_at bits;
+  size = size_at bits;
+  count = count_at bits;
+  text = slice_range bits FRONT_BITS (text_end bits);
+}
+
 -- the message in front of a list of bits, or the first fault
 abbrev pub message_in : List Bool → Result Message MessageFault
 message_in bits =
@@ -57,12 +66,7 @@ message_in bits =
     else if size_at bits == 0 then Err SizeZero
     else if not (number_at bits 64 8 == 0) then Err M2NotZero
     else if nat_lt (length bits) (text_end bits) then Err TextMissing
-    else Ok (record {
-      leader = leader_at bits;
-      size = size_at bits;
-      count = count_at bits;
-      text = slice_range bits FRONT_BITS (text_end bits);
-    })
+    else Ok (message_at bits)
 
 -- a byte of a message's text, counted from 0: a run of the byte size
 abbrev pub byte_at : Message → ℕ → List Bool
