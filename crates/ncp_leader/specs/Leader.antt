@@ -1,0 +1,44 @@
+-- A leader and its bits (BBN 1822, section 3: the 32-bit leader). Places are counted from 0, where the
+-- standard counts bits from 1.
+use Rattle.std.specs.Prelude.{◌≡◌, ◌<◌, ◌≤◌, ℕ, ◌+◌, ◌^◌, Bool, List, ◌++◌, length, slice_range, nat_lt, Result, Ok, Err, if◌then◌else◌}
+use Rattle.ncp_bits.specs.Numbers.{number_of, bits_of}
+use Rattle.ncp_leader.specs.declared.leader.Leader.{Leader}
+use Rattle.ncp_leader.specs.declared.leader.Short.{Short}
+use Rattle.ncp_leader.specs.declared.leader.TheConstants.{LEADER_BITS, MAX_FLAGS, MAX_KIND}
+
+-- each field fits its place
+pub record IsLeader (leader : Leader) : Type 0 where
+  pub flags : leader.flags ≤ MAX_FLAGS
+  pub kind : leader.kind ≤ MAX_KIND
+  pub host : leader.host < 2 ^ 8
+  pub link : leader.link < 2 ^ 8
+  pub low : leader.low < 2 ^ 8
+
+-- flags, type, host, link, low field
+abbrev pub leader_bits : Leader → List Bool
+leader_bits leader =
+    bits_of 4 leader.flags ++ bits_of 4 leader.kind ++ bits_of 8 leader.host ++ bits_of 8 leader.link ++ bits_of 8 leader.low
+
+-- a list of bits is the bits of a leader, and any rest
+pub record BeginsWith (bits : List Bool) (leader : Leader) : Type 0 where
+  pub fits : IsLeader leader
+  pub rest : List Bool
+  pub form : bits ≡ leader_bits leader ++ rest
+
+-- the number that so many bits from a place on spell
+abbrev pub number_at : List Bool → ℕ → ℕ → ℕ
+number_at bits at width = number_of (slice_range bits at (at + width))
+
+-- what stands where the fields of a leader stand
+abbrev pub leader_at : List Bool → Leader
+leader_at bits = record {
+  flags = number_at bits 0 4;
+  kind = number_at bits 4 4;
+  host = number_at bits 8 8;
+  link = number_at bits 16 8;
+  low = number_at bits 24 8;
+}
+
+-- the leader in front of a list of bits
+abbrev pub leader_in : List Bool → Result Leader Short
+leader_in bits = if nat_lt (length bits) LEADER_BITS then Err (record {}) else Ok (leader_at bits)

@@ -1,0 +1,3 @@
+pub mod Leader
+pub mod Fault
+pub mod Message

@@ -1,0 +1,85 @@
+-- A regular message and its bits (NIC 8246, message form; BBN 1822, section 3). Places are counted from
+-- 0, where the standard counts bits from 1. The order of the faults and the longest text that is made are
+-- this profile's.
+use Rattle.std.specs.Prelude.{◌≡◌, ◌<◌, ℕ, ◌+◌, ◌*◌, ◌/◌, ◌%◌, ◌^◌, ◌==◌, Bool, false, not, List, ◌++◌, length, replicate, slice_range, nat_lt, Result, Ok, Err, if◌then◌else◌}
+use Rattle.ncp_bits.specs.Numbers.{bits_of}
+use Rattle.ncp_leader.specs.declared.leader.Leader.{Leader}
+use Rattle.ncp_leader.specs.declared.fault.MessageFault.{MessageFault}
+use Rattle.ncp_leader.specs.declared.fault.MessageFault.TheVariants.{ShortPrefix, M1NotZero, SizeZero, M2NotZero, TextMissing, TextTooLong, NotWhole}
+use Rattle.ncp_leader.specs.declared.regular.TheConstants.{FRONT_BITS, MAX_TEXT_BITS}
+use Rattle.ncp_leader.specs.Leader.{IsLeader, leader_bits, leader_at, number_at}
+
+-- what a list of bits stands for: a leader, a byte size, a byte count and a text
+pub record Message : Type 0 where
+  pub leader : Leader
+  pub size : ℕ
+  pub count : ℕ
+  pub text : List Bool
+
+-- each field fits its place, no byte is empty, and the text is so many bytes of that size
+pub record IsMessage (message : Message) : Type 0 where
+  pub leader : IsLeader message.leader
+  pub some : 0 < message.size
+  pub size : message.size < 2 ^ 8
+  pub count : message.count < 2 ^ 16
+  pub whole : length message.text ≡ message.size * message.count
+
+-- M1 and M2, the bits that have to be zero
+abbrev pub eight_zeros : List Bool
+eight_zeros = replicate 8 false
+
+-- the written form: the leader, eight zeros, the byte size, the byte count, eight zeros, the text
+abbrev pub message_bits : Message → List Bool
+message_bits message =
+    leader_bits message.leader ++ eight_zeros ++ bits_of 8 message.size ++ bits_of 16 message.count ++ eight_zeros ++ message.text
+
+-- a list of bits is the written form of a message, and any rest (padding, which is not looked at)
+pub record StandsFor (bits : List Bool) (message : Message) : Type 0 where
+  pub fits : IsMessage message
+  pub rest : List Bool
+  pub form : bits ≡ message_bits message ++ rest
+
+abbrev pub size_at : List Bool → ℕ
+size_at bits = number_at bits 40 8
+
+abbrev pub count_at : List Bool → ℕ
+count_at bits = number_at bits 48 16
+
+-- where the text that the byte size and count promise would end
+abbrev pub text_end : List Bool → ℕ
+text_end bits = FRONT_BITS + size_at bits * count_at bits
+
+-- what stands where the parts of a message stand
+abbrev pub message_at : List Bool → Message
+message_at bits = record {
+  leader = leader_at bits;
+  size = size_at bits;
+  count = count_at bits;
+  text = slice_range bits FRONT_BITS (text_end bits);
+}
+
+-- the message in front of a list of bits, or the first fault
+abbrev pub message_in : List Bool → Result Message MessageFault
+message_in bits =
+    if nat_lt (length bits) FRONT_BITS then Err ShortPrefix
+    else if not (number_at bits 32 8 == 0) then Err M1NotZero
+    else if size_at bits == 0 then Err SizeZero
+    else if not (number_at bits 64 8 == 0) then Err M2NotZero
+    else if nat_lt (length bits) (text_end bits) then Err TextMissing
+    else Ok (message_at bits)
+
+-- a byte of a message's text, counted from 0: a run of the byte size
+abbrev pub byte_at : Message → ℕ → List Bool
+byte_at message place = slice_range message.text (message.size * place) (message.size * place + message.size)
+
+-- the message that a leader, a byte size and a text of whole bytes make
+abbrev pub message_with : Leader → ℕ → List Bool → Message
+message_with leader size text = record { leader = leader; size = size; count = length text / size; text = text }
+
+-- the written form of that message, which has no padding, or the first fault
+abbrev pub written : Leader → ℕ → List Bool → Result (List Bool) MessageFault
+written leader size text =
+    if size == 0 then Err SizeZero
+    else if nat_lt MAX_TEXT_BITS (length text) then Err TextTooLong
+    else if not (length text % size == 0) then Err NotWhole
+    else Ok (message_bits (message_with leader size text))

@@ -1,0 +1,79 @@
+//! `Leader`.
+ghost use Rattle.std.specs.Prelude.{◌≡◌, ◌<◌, ◌≤◌, ◌++◌, ◌↔◌, length, IfOk, IsErr, List, Bool};
+ghost use Rattle.ncp_leader.specs.Leader.{leader_bits, leader_at, leader_in, BeginsWith};
+
+use ncp_bits::Bits;
+use thiserror::Error;
+
+/// How many bits a leader has.
+pub const LEADER_BITS: usize = 32;
+
+/// The largest value of the flags, which have four bits.
+pub const MAX_FLAGS: u8 = 15;
+
+/// The largest value of the type, which has four bits.
+pub const MAX_KIND: u8 = 15;
+
+/// The 32 bits in front of a message (BBN Report 1822, section 3).
+#[derive(Clone, Copy, Debug, Drop, PartialEq, Eq)]
+pub struct Leader {
+    /// Bits 1 to 4, at most [`MAX_FLAGS`].
+    pub flags: u8,
+    /// Bits 5 to 8, the type, at most [`MAX_KIND`].
+    pub kind: u8,
+    /// Bits 9 to 16: where a message goes, or where it comes from.
+    pub host: u8,
+    /// Bits 17 to 24.
+    pub link: u8,
+    /// Bits 25 to 32.
+    pub low: u8,
+}
+
+/// A message is shorter than a leader.
+#[derive(Clone, Copy, Debug, Drop, PartialEq, Eq, Error)]
+#[error("shorter than a leader")]
+pub struct Short;
+
+/// The leader of a message that is long enough. Places count from 0.
+pub(crate) fn leader_of(bits: &Bits) -> Leader
+    requires { LEADER_BITS ≤ length bits.now }
+    ensures { result ≡ leader_at bits.now }
+{
+    Leader {
+        flags: bits.number(0, 4) as u8,
+        kind: bits.number(4, 4) as u8,
+        host: bits.number(8, 8) as u8,
+        link: bits.number(16, 8) as u8,
+        low: bits.number(24, 8) as u8,
+    }
+}
+
+/// The leader in front of a message, whatever follows. `Short` where there are fewer than
+/// [`LEADER_BITS`].
+pub fn read_leader(bits: &Bits) -> Result<Leader, Short>
+    ensures exact { result ≡ leader_in bits.now }
+    ensures short { IsErr result ↔ (length bits.now < LEADER_BITS) }
+    ensures found { IfOk result (λ leader. BeginsWith bits.now leader) }
+{
+    if bits.len() < LEADER_BITS {
+        return Err(Short);
+    }
+    Ok(leader_of(bits))
+}
+
+/// The bits of a leader.
+pub fn put_leader(leader: &Leader) -> Bits
+    requires flags { leader.now.flags ≤ MAX_FLAGS }
+    requires kind { leader.now.kind ≤ MAX_KIND }
+    ensures bits { result ≡ leader_bits leader.now }
+    ensures len { length result ≡ LEADER_BITS }
+    ensures begins { BeginsWith result leader.now }
+{
+    let mut bits = Bits::new();
+    bits.push_number(u64::from(leader.flags), 4).unwrap();
+    bits.push_number(u64::from(leader.kind), 4).unwrap();
+    bits.push_number(u64::from(leader.host), 8).unwrap();
+    bits.push_number(u64::from(leader.link), 8).unwrap();
+    bits.push_number(u64::from(leader.low), 8).unwrap();
+    bits
+}

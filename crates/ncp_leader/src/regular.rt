@@ -1,0 +1,180 @@
+//! `Regular`.
+ghost use Rattle.std.specs.Prelude.{◌≡◌, ◌<◌, ◌≤◌, ◌+◌, ◌*◌, length, IfOk};
+ghost use Rattle.ncp_leader.specs.Leader.{IsLeader};
+ghost use Rattle.ncp_leader.specs.declared.leader.TheConstants.{MAX_FLAGS, MAX_KIND};
+ghost use Rattle.ncp_leader.specs.Message.{Message, StandsFor, message_bits, message_in, byte_at, message_with, written};
+
+use crate::fault::MessageFault;
+use crate::leader::{Leader, leader_of, put_leader};
+use ncp_bits::{Bits, Part};
+use std::marker::Model;
+
+/// How many bits stand before the text of a regular message: leader and prefix.
+pub const FRONT_BITS: usize = 72;
+
+/// How many bits a message that is made has at most.
+pub const MAX_MADE_BITS: usize = 8000;
+
+/// How many bits of text a message that is made has at most.
+pub const MAX_TEXT_BITS: usize = MAX_MADE_BITS - FRONT_BITS;
+
+/// A regular message that was read. Its text is borrowed from the bits that it was read from.
+#[derive(Drop)]
+pub struct Regular<'a> {
+    leader: Leader,
+    size: u8,
+    count: u16,
+    text: Part<'a>,
+}
+
+impl<'a> Model for Regular<'a> {
+    ghost use Rattle.ncp_leader.specs.Message.{Message, IsMessage};
+
+    ghost Value = { Message };
+
+    ghost view = { λ regular. record {
+      leader = regular.leader;
+      size = regular.size;
+      count = regular.count;
+      text = regular.text;
+    } };
+
+    ghost invariant = { λ regular. IsMessage (record {
+      leader = regular.leader;
+      size = regular.size;
+      count = regular.count;
+      text = regular.text;
+    }) };
+}
+
+impl<'a> Regular<'a> {
+    /// The leader.
+    pub fn leader(&self) -> Leader
+        ensures leader { result ≡ self.now.leader }
+        ensures fits { IsLeader result }
+    {
+        self.leader
+    }
+
+    /// How many bits a byte has, 1 to 255.
+    pub fn size(&self) -> u8
+        ensures size { result ≡ self.now.size }
+        ensures some { 0 < result }
+    {
+        self.size
+    }
+
+    /// How many bytes the text has.
+    pub fn count(&self) -> u16
+        ensures { result ≡ self.now.count }
+    {
+        self.count
+    }
+
+    /// The text, `size * count` bits.
+    pub fn text(&self) -> Part<'a>
+        ensures text { result ≡ self.now.text }
+        ensures whole { length result ≡ self.now.size * self.now.count }
+    {
+        self.text.slice(0, self.text.len())
+    }
+
+    /// A byte of the text, counted from 0.
+    pub fn byte(&self, place: u16) -> Part<'a>
+        requires { place < self.now.count }
+        ensures bits { result ≡ byte_at self.now place }
+        ensures len { length result ≡ self.now.size }
+    {
+        let width = usize::from(self.size);
+        self.text.slice(width * usize::from(place), width)
+    }
+}
+
+// The message in front of bits, or the first fault. Places count from 0.
+fn message_of(bits: &Bits) -> Result<Regular<'_>, MessageFault>
+    ensures { result ≡ message_in bits.now }
+{
+    if bits.len() < FRONT_BITS {
+        return Err(MessageFault::ShortPrefix);
+    }
+    if bits.number(32, 8) != 0 {
+        return Err(MessageFault::M1NotZero);
+    }
+    let size = bits.number(40, 8) as u8;
+    if size == 0 {
+        return Err(MessageFault::SizeZero);
+    }
+    if bits.number(64, 8) != 0 {
+        return Err(MessageFault::M2NotZero);
+    }
+    let count = bits.number(48, 16) as u16;
+    let len = usize::from(size) * usize::from(count);
+    if bits.len() - FRONT_BITS < len {
+        return Err(MessageFault::TextMissing);
+    }
+    Ok(Regular {
+        leader: leader_of(bits),
+        size,
+        count,
+        text: bits.slice(FRONT_BITS, len),
+    })
+}
+
+/// The regular message in front of bits, whatever follows its text and whatever its type.
+///
+/// Refused, in this order: `ShortPrefix` (under [`FRONT_BITS`]), `M1NotZero`, `SizeZero`,
+/// `M2NotZero`, `TextMissing`.
+pub fn read_regular(bits: &Bits) -> Result<Regular<'_>, MessageFault>
+    ensures exact { result ≡ message_in bits.now }
+    // What is read stands there.
+    ensures found { IfOk result (λ message. StandsFor bits.now message) }
+    // What stands there is read.
+    ensures only { (message : Message) → StandsFor bits.now message → result ≡ Ok message }
+{
+    message_of(bits)
+}
+
+// The bits of the message that a leader, a byte size and a text of whole bytes make.
+#[tactic(auto, using(crate::proofs::Messages::zeros))]
+fn put_message(leader: &Leader, size: u8, text: Part<'_>) -> Bits
+    requires flags { leader.now.flags ≤ MAX_FLAGS }
+    requires kind { leader.now.kind ≤ MAX_KIND }
+    requires some { 0 < size }
+    requires text { length text ≤ MAX_TEXT_BITS }
+    ensures bits { result ≡ message_bits (message_with leader.now size text.entry) }
+    ensures len { length result ≡ FRONT_BITS + length text.entry }
+    ensures fits { IsLeader leader.now }
+{
+    let count = text.len() / usize::from(size);
+    let mut bits = put_leader(leader);
+    bits.push_number(0, 8).unwrap();
+    bits.push_number(u64::from(size), 8).unwrap();
+    bits.push_number(count as u64, 16).unwrap();
+    bits.push_number(0, 8).unwrap();
+    bits.append(text).unwrap();
+    bits
+}
+
+/// The bits of a regular message, without padding.
+///
+/// Refused, in this order: `SizeZero`, `TextTooLong` (over [`MAX_TEXT_BITS`]), `NotWhole` (the text
+/// is no multiple of the byte size).
+pub fn put_regular(leader: &Leader, size: u8, text: Part<'_>) -> Result<Bits, MessageFault>
+    requires flags { leader.now.flags ≤ MAX_FLAGS }
+    requires kind { leader.now.kind ≤ MAX_KIND }
+    ensures exact { result ≡ written leader.now size text.entry }
+    ensures stands { IfOk result (λ bits. StandsFor bits (message_with leader.now size text.entry)) }
+    ensures fits { IfOk result (λ bits. length bits ≤ MAX_MADE_BITS) }
+{
+    if size == 0 {
+        return Err(MessageFault::SizeZero);
+    }
+    let len = text.len();
+    if len > MAX_TEXT_BITS {
+        return Err(MessageFault::TextTooLong);
+    }
+    if len % usize::from(size) != 0 {
+        return Err(MessageFault::NotWhole);
+    }
+    Ok(put_message(leader, size, text))
+}
