@@ -57,32 +57,53 @@ module _ (bytes : List ℕ) (small : All IsByte bytes) where
   read_each : (opcode : ℕ) → opcode < 14 → IsRead opcode
   unfolding IsRead command_with
   read_each = each_opcode IsRead
-    (λ is h. record { fits = tt; takes = refl; front = opened 0 _ is (omega arith) refl })
-    (λ is h. record { fits = (word 1, word 5, fits 9); takes = refl;
-      front = opened 1 _ is (omega arith) (then_word 1 _ (omega arith) (then_word 5 _ (omega arith) (then_byte 9 _ (omega arith) refl))) })
-    (λ is h. record { fits = (word 1, word 5, fits 9); takes = refl;
-      front = opened 2 _ is (omega arith) (then_word 1 _ (omega arith) (then_word 5 _ (omega arith) (then_byte 9 _ (omega arith) refl))) })
-    (λ is h. record { fits = (word 1, word 5); takes = refl;
-      front = opened 3 _ is (omega arith) (then_word 1 _ (omega arith) (then_word 5 _ (omega arith) refl)) })
-    (λ is h. record { fits = (fits 1, short_fits bytes small 2, word 4); takes = refl;
-      front = opened 4 _ is (omega arith) (then_byte 1 _ (omega arith) (then_short 2 _ (omega arith) (then_word 4 _ (omega arith) refl))) })
-    (λ is h. record { fits = (fits 1, fits 2, fits 3); takes = refl;
-      front = opened 5 _ is (omega arith) (then_byte 1 _ (omega arith) (then_byte 2 _ (omega arith) (then_byte 3 _ (omega arith) refl))) })
-    (λ is h. record { fits = (fits 1, short_fits bytes small 2, word 4); takes = refl;
-      front = opened 6 _ is (omega arith) (then_byte 1 _ (omega arith) (then_short 2 _ (omega arith) (then_word 4 _ (omega arith) refl))) })
-    (λ is h. record { fits = fits 1; takes = refl; front = opened 7 _ is (omega arith) (then_byte 1 _ (omega arith) refl) })
-    (λ is h. record { fits = fits 1; takes = refl; front = opened 8 _ is (omega arith) (then_byte 1 _ (omega arith) refl) })
-    (λ is h. record { fits = fits 1; takes = refl; front = opened 9 _ is (omega arith) (then_byte 1 _ (omega arith) refl) })
-    (λ is h. record { fits = fits 1; takes = refl; front = opened 10 _ is (omega arith) (then_byte 1 _ (omega arith) refl) })
-    (λ is h. let ten : length (slice_range bytes 2 12) ≡ 10 = length-take-le 10 (drop 2 bytes) (simp length-drop (omega arith)) in
-      record { fits = (fits 1, ten, All-take IsByte 10 (drop 2 bytes) (All-drop IsByte 2 bytes small)); takes = ap (λ n. suc (suc n)) ten;
-      front = opened 11 _ is (omega arith) (then_byte 1 _ (omega arith) (then_ten h)) })
-    (λ is h. record { fits = tt; takes = refl; front = opened 12 _ is (omega arith) refl })
-    (λ is h. record { fits = tt; takes = refl; front = opened 13 _ is (omega arith) refl })
+      (λ is h. record { fits = tt; takes = refl; front = opened 0 _ is (omega arith) refl })
+      (λ is h. record {
+        fits = (word 1, word 5, fits 9);
+        takes = refl;
+        front = opened 1 _ is (omega arith) (then_word 1 _ (omega arith) (then_word 5 _ (omega arith) (then_byte 9 _ (omega arith) refl)));
+      })
+      (λ is h. record {
+        fits = (word 1, word 5, fits 9);
+        takes = refl;
+        front = opened 2 _ is (omega arith) (then_word 1 _ (omega arith) (then_word 5 _ (omega arith) (then_byte 9 _ (omega arith) refl)));
+      })
+      (λ is h. record {
+        fits = (word 1, word 5);
+        takes = refl;
+        front = opened 3 _ is (omega arith) (then_word 1 _ (omega arith) (then_word 5 _ (omega arith) refl));
+      })
+      (λ is h. record {
+        fits = (fits 1, short_fits bytes small 2, word 4);
+        takes = refl;
+        front = opened 4 _ is (omega arith) (then_byte 1 _ (omega arith) (then_short 2 _ (omega arith) (then_word 4 _ (omega arith) refl)));
+      })
+      (λ is h. record {
+        fits = (fits 1, fits 2, fits 3);
+        takes = refl;
+        front = opened 5 _ is (omega arith) (then_byte 1 _ (omega arith) (then_byte 2 _ (omega arith) (then_byte 3 _ (omega arith) refl)));
+      })
+      (λ is h. record {
+        fits = (fits 1, short_fits bytes small 2, word 4);
+        takes = refl;
+        front = opened 6 _ is (omega arith) (then_byte 1 _ (omega arith) (then_short 2 _ (omega arith) (then_word 4 _ (omega arith) refl)));
+      })
+      (λ is h. record { fits = fits 1; takes = refl; front = opened 7 _ is (omega arith) (then_byte 1 _ (omega arith) refl) })
+      (λ is h. record { fits = fits 1; takes = refl; front = opened 8 _ is (omega arith) (then_byte 1 _ (omega arith) refl) })
+      (λ is h. record { fits = fits 1; takes = refl; front = opened 9 _ is (omega arith) (then_byte 1 _ (omega arith) refl) })
+      (λ is h. record { fits = fits 1; takes = refl; front = opened 10 _ is (omega arith) (then_byte 1 _ (omega arith) refl) })
+      (λ is h. let ten : length (slice_range bytes 2 12) ≡ 10 = length-take-le 10 (drop 2 bytes) (simp length-drop (omega arith)) in
+      record {
+        fits = (fits 1, ten, All-take IsByte 10 (drop 2 bytes) (All-drop IsByte 2 bytes small));
+        takes = ap (λ n. suc (suc n)) ten;
+        front = opened 11 _ is (omega arith) (then_byte 1 _ (omega arith) (then_ten h));
+      })
+      (λ is h. record { fits = tt; takes = refl; front = opened 12 _ is (omega arith) refl })
+      (λ is h. record { fits = tt; takes = refl; front = opened 13 _ is (omega arith) refl })
 
   -- where an opcode's command is there, it is what is read
   pub read_begins : (size : ℕ) → size_of (byte_at bytes 0) ≡ Some size → size ≤ length bytes → Begins (command_with (byte_at bytes 0) bytes) size bytes
   unfolding IsRead
   read_begins size e h =
-    MatchOption-at_some (Unit {0}) (λ size. size ≤ length bytes → Begins (command_with (byte_at bytes 0) bytes) size bytes) size e
+      MatchOption-at_some (Unit {0}) (λ size. size ≤ length bytes → Begins (command_with (byte_at bytes 0) bytes) size bytes) size e
       (read_each (byte_at bytes 0) (slice_get_within sizes (byte_at bytes 0) size e) refl) h

@@ -23,7 +23,7 @@ behind bits command whole e =
     omega arith
 
 pub command_met : (bits rest : List Bool) (command : Command) → length bits % 8 ≡ 0 → command_at (bytes_of bits) ≡ Some command → rest ≡ drop (8 * length (spelling command)) bits
-  → items_in (bytes_of bits) ≡ Ok command ∷ items_in (bytes_of rest)
+    → items_in (bytes_of bits) ≡ Ok command ∷ items_in (bytes_of rest)
 command_met bits rest command whole e is_rest =
     items_next (bytes_of bits) command e
     ∙ ap (λ bytes. Ok command ∷ items_in bytes) (sym (bytes_of-drop bits (length (spelling command)) whole (behind bits command whole e)) ∙ ap bytes_of (sym is_rest))

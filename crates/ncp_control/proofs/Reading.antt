@@ -1,16 +1,16 @@
 -- The one reading of a text.
-use Rattle.std.proofs.Common.{◌≡◌, ℕ, zero, suc, ◌+◌, ◌-◌, ◌*◌, ◌/◌, ◌^◌, ◌<◌, ◌≤◌, List, [], ◌∷◌, ◌++◌, length, map, drop, leb, cond, true, Option, Some, None, Result, Ok, refl, sym, ap, subst, ◌∙◌, arith, append_assoc, append-nil, length-append}
+use Rattle.std.proofs.Common.{◌≡◌, ℕ, zero, suc, ◌+◌, ◌-◌, ◌*◌, ◌/◌, ◌^◌, ◌<◌, ◌≤◌, List, [], ◌∷◌, ◌++◌, length, map, drop, replicate, leb, ltb, cond, true, Option, Some, None, Result, Ok, refl, sym, ap, subst, ◌∙◌, arith, append_assoc, append-nil, length-append}
 use Rattle.std.specs.List.{All, AllByRecursion, flat_map}
 use Rattle.std.specs.Option.{option_map_or, option_and_then, option_to_list}
 use Rattle.std.specs.declared.result.Result.TheVariants.{Err as Fault}
-use Rattle.std.proofs.lemmas.Bool.{leb-true, le-leb, lt-leb, cond-true, cond-false}
-use Rattle.std.proofs.lemmas.List.{length-drop, drop-drop, drop_at, append_cancel_left}
-use Rattle.std.proofs.lemmas.List.Elements.{All-nil, All-cons, All-head, All-tail, All-drop, All-append, All-from_recursion, recursion_from_All}
+use Rattle.std.proofs.lemmas.Bool.{leb-true, le-leb, lt-leb, cond-true, cond-false, cond_both}
+use Rattle.std.proofs.lemmas.List.{length-drop, length-take-le, drop-drop, drop_at, append_cancel_left}
+use Rattle.std.proofs.lemmas.List.Elements.{All-nil, All-cons, All-head, All-tail, All-drop, All-take, All-append, All-replicate, All-from_recursion, recursion_from_All}
 use Rattle.std.proofs.lemmas.Nat.{mod_below}
 use Rattle.std.specs.Int.{byte_at as digit}
 use Rattle.std.proofs.lemmas.Option.{none-some, same_Some, cond_some, option_and_then_some}
-use Rattle.ncp_control.specs.Spelling.{spelling, spellings, IsByte, IsCommand}
-use Rattle.ncp_control.specs.Reading.{Reads, NoneBegins, fault_of, items_of, size_of, byte_at, command_with, command_at, commands_within, commands_in, rest_in, fault_in, items_in}
+use Rattle.ncp_control.specs.Spelling.{spelling, spellings, IsByte, IsCommand, padded, error_of}
+use Rattle.ncp_control.specs.Reading.{Reads, NoneBegins, fault_of, items_of, commands_of, fault_among, size_of, byte_at, command_with, command_at, commands_within, commands_in, rest_in, fault_in, items_in}
 use Rattle.ncp_control.specs.declared.command.Command.{Command}
 use Rattle.ncp_control.specs.declared.command.Command.TheVariants.{Nop, Rts, Str, Cls, All as Allocate, Gvb, Ret, Inr, Ins, Eco, Erp, Err, Rst, Rrp}
 use Rattle.ncp_control.specs.declared.fault.CommandFault.{CommandFault}
@@ -86,8 +86,8 @@ spellings_small : (commands : List Command) → All IsCommand commands → All I
 spellings_small [] each = All-nil IsByte
 spellings_small (command ∷ commands) each =
     All-append IsByte (spelling command) (spellings commands)
-      (spelling_small command (All-head IsCommand command commands each))
-      (spellings_small commands (All-tail IsCommand command commands each))
+    (spelling_small command (All-head IsCommand command commands each))
+    (spellings_small commands (All-tail IsCommand command commands each))
 
 -- no spelling begins another
 pub one_spelling : (one other : Command) (x y : List ℕ) → IsCommand one → IsCommand other → spelling one ++ x ≡ spelling other ++ y → (one ≡ other) × (x ≡ y)
@@ -157,7 +157,7 @@ enough (suc n) zero (byte ∷ bytes) h k = absurd (omega arith)
 enough (suc n) (suc m) (byte ∷ bytes) h k =
     map_or_same (command_at (byte ∷ bytes)) _ _ (λ command.
     ap (λ commands. command ∷ commands)
-      (enough n m (drop (length (spelling command)) (byte ∷ bytes)) (shorter command byte bytes n (omega arith)) (shorter command byte bytes m (omega arith))))
+    (enough n m (drop (length (spelling command)) (byte ∷ bytes)) (shorter command byte bytes n (omega arith)) (shorter command byte bytes m (omega arith))))
 
 pub commands_next : (bytes : List ℕ) (command : Command) → command_at bytes ≡ Some command → commands_in bytes ≡ command ∷ commands_in (drop (length (spelling command)) bytes)
 unfolding commands_within command_at
@@ -203,17 +203,17 @@ read_shortens bytes command begins =
     omega arith
 
 reads_found : (bytes : List ℕ) (found : Option Command) → All IsByte bytes → command_at bytes ≡ found
-  → ((rest : List ℕ) → length rest < length bytes → All IsByte rest → Reads rest (commands_in rest) (rest_in rest))
-  → Reads bytes (commands_in bytes) (rest_in bytes)
+    → ((rest : List ℕ) → length rest < length bytes → All IsByte rest → Reads rest (commands_in rest) (rest_in rest))
+    → Reads bytes (commands_in bytes) (rest_in bytes)
 reads_found bytes None small e behind =
     reads_as bytes [] (commands_in bytes) bytes (rest_in bytes) (sym (commands_none bytes e)) (sym (rest_none bytes e))
-      (record { joined = refl; each = All-nil IsCommand; longest = none_at bytes e })
+    (record { joined = refl; each = All-nil IsCommand; longest = none_at bytes e })
 reads_found bytes (Some command) small e behind =
     let rest = drop (length (spelling command)) bytes in
     let begins : Begins command (length (spelling command)) bytes = read_at bytes command small e in
     reads_as bytes (command ∷ commands_in rest) (commands_in bytes) (rest_in rest) (rest_in bytes) (sym (commands_next bytes command e)) (sym (rest_next bytes command e))
-      (reads_next bytes command (commands_in rest) (rest_in rest) begins
-      (behind rest (read_shortens bytes command begins) (All-drop IsByte (length (spelling command)) bytes small)))
+    (reads_next bytes command (commands_in rest) (rest_in rest) begins
+    (behind rest (read_shortens bytes command begins) (All-drop IsByte (length (spelling command)) bytes small)))
 
 reads_within : (n : ℕ) (bytes : List ℕ) → length bytes < n → All IsByte bytes → Reads bytes (commands_in bytes) (rest_in bytes)
 reads_within zero bytes h small = absurd (omega arith)
@@ -232,7 +232,7 @@ none_read bytes (Some command) small none e =
 
 -- a command and what is behind it
 front_read : (bytes : List ℕ) (command : Command) (more : List ℕ) → IsCommand command → bytes ≡ spelling command ++ more
-  → (command_at bytes ≡ Some command) × (drop (length (spelling command)) bytes ≡ more)
+    → (command_at bytes ≡ Some command) × (drop (length (spelling command)) bytes ≡ more)
 front_read bytes command more fits e =
     (ap command_at e ∙ command_again command more fits, ap (drop (length (spelling command))) e ∙ drop_at (spelling command) more (length (spelling command)) refl)
 
@@ -244,9 +244,10 @@ only (command ∷ commands) bytes rest small reads =
     let behind = spellings commands ++ rest in
     let front = front_read bytes command behind (All-head IsCommand command commands reads.each) (reads.joined ∙ append_assoc (spelling command) (spellings commands) rest) in
     let small_behind : All IsByte behind = subst (All IsByte) front.1 (All-drop IsByte (length (spelling command)) bytes small) in
-    let others = only commands behind rest small_behind (record { joined = refl; each = All-tail IsCommand command commands reads.each; longest = reads.longest }) in
-    (commands_next bytes command front.0 ∙ ap (λ xs. command ∷ commands_in xs) front.1 ∙ ap (λ xs. command ∷ xs) others.0,
-     rest_next bytes command front.0 ∙ ap rest_in front.1 ∙ others.1)
+    let others = only commands behind rest small_behind (record { joined = refl; each = All-tail IsCommand command commands reads.each; longest = reads.longest }) in (
+      commands_next bytes command front.0 ∙ ap (λ xs. command ∷ commands_in xs) front.1 ∙ ap (λ xs. command ∷ xs) others.0,
+      rest_next bytes command front.0 ∙ ap rest_in front.1 ∙ others.1,
+    )
 
 -- commands whose joined spellings begin a text are the first that are read
 pub first_ones : (others : List Command) (bytes more : List ℕ) → All IsCommand others → bytes ≡ spellings others ++ more → (further : List Command) × (commands_in bytes ≡ others ++ further)
@@ -259,7 +260,7 @@ first_ones (other ∷ others) bytes more each e =
 
 -- what was spelled is read, and what follows is left
 pub spelled : (commands : List Command) (tail : List ℕ) → All IsCommand commands → All IsByte tail → NoneBegins tail
-  → (commands_in (spellings commands ++ tail) ≡ commands) × (fault_in (spellings commands ++ tail) ≡ fault_of tail)
+    → (commands_in (spellings commands ++ tail) ≡ commands) × (fault_in (spellings commands ++ tail) ≡ fault_of tail)
 spelled commands tail each small none =
     let one = only commands (spellings commands ++ tail) tail (All-append IsByte (spellings commands) tail (spellings_small commands each) small) (record { joined = refl; each = each; longest = none }) in
     (one.0, ap fault_of one.1)
@@ -294,10 +295,28 @@ items_fault bytes fault e is =
     ∙ ap (λ rest. items_of [] (fault_of rest)) (rest_none bytes e)
     ∙ ap (items_of []) is
 
+commands_of-items_of : (commands : List Command) (fault : Option CommandFault) → commands_of (items_of commands fault) ≡ commands
+commands_of-items_of [] None = refl
+commands_of-items_of [] (Some fault) = refl
+commands_of-items_of (command ∷ commands) fault = ap (λ xs. command ∷ xs) (commands_of-items_of commands fault)
+
+fault_among-items_of : (commands : List Command) (fault : Option CommandFault) → fault_among (items_of commands fault) ≡ fault
+fault_among-items_of [] None = refl
+fault_among-items_of [] (Some fault) = refl
+fault_among-items_of (command ∷ commands) fault = fault_among-items_of commands fault
+
+pub commands_met : (bytes : List ℕ) → commands_of (items_in bytes) ≡ commands_in bytes
+unfolding items_in
+commands_met bytes = commands_of-items_of (commands_in bytes) (fault_in bytes)
+
+pub fault_met : (bytes : List ℕ) → fault_among (items_in bytes) ≡ fault_in bytes
+unfolding items_in
+fault_met bytes = fault_among-items_of (commands_in bytes) (fault_in bytes)
+
 -- each item takes a byte at least
 items_found : (bytes : List ℕ) (found : Option Command) → All IsByte bytes → command_at bytes ≡ found
-  → ((rest : List ℕ) → length rest < length bytes → All IsByte rest → length (items_in rest) ≤ length rest)
-  → length (items_in bytes) ≤ length bytes
+    → ((rest : List ℕ) → length rest < length bytes → All IsByte rest → length (items_in rest) ≤ length rest)
+    → length (items_in bytes) ≤ length bytes
 items_found [] found small e behind = let l : length (items_in []) ≡ 0 = ap length items_nil in omega arith
 items_found (opcode ∷ bytes) None small e behind =
     let l : length (items_in (opcode ∷ bytes)) ≡ 1 = ap length (items_fault (opcode ∷ bytes) _ e refl) in omega arith
@@ -315,3 +334,24 @@ items_within (suc n) bytes h small =
 
 pub items_are_few : (bytes : List ℕ) → All IsByte bytes → length (items_in bytes) ≤ length bytes
 items_are_few bytes small = items_within (suc (length bytes)) bytes (omega arith) small
+
+-- ---- errors
+
+padded_ten : (bytes : List ℕ) → All IsByte bytes → (length (padded 10 bytes) ≡ 10) × All IsByte (padded 10 bytes)
+padded_ten bytes small = (
+  length-take-le 10 (bytes ++ replicate 10 0) (simp length-append (omega arith)),
+  All-take IsByte 10 (bytes ++ replicate 10 0) (All-append IsByte bytes (replicate 10 0) small (All-replicate IsByte 10 0 (omega arith))),
+)
+
+pub error_about : (code : ℕ) (command : Command) → IsByte code → IsCommand command → IsCommand (error_of code command)
+error_about code command h fits = let ten = padded_ten (spelling command) (spelling_small command fits) in (h, ten.0, ten.1)
+
+fault_small : (rest : List ℕ) (fault : CommandFault) → All IsByte rest → fault_of rest ≡ Some fault → IsCommand (Err fault.code fault.bytes)
+fault_small [] fault small e = absurd (none-some fault e)
+fault_small (opcode ∷ bytes) fault small e =
+    let ten = padded_ten (opcode ∷ bytes) small in
+    subst (λ read. IsCommand (Err read.code read.bytes)) (same_Some _ fault e)
+    (cond_both (ltb 13 opcode) 1 2 (λ n. n < 256) (λ t. omega arith) (λ t. omega arith), ten.0, ten.1)
+
+pub error_at_fault : (bytes : List ℕ) (fault : CommandFault) → All IsByte bytes → fault_in bytes ≡ Some fault → IsCommand (Err fault.code fault.bytes)
+error_at_fault bytes fault small e = fault_small (rest_in bytes) fault (All-drop IsByte (length (spellings (commands_in bytes))) bytes small) e

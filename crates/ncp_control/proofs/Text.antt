@@ -140,7 +140,7 @@ written count bytes = written_over count count bytes (omega arith)
 
 -- the next bytes from a place, zeros after the end
 pub data_of : (bits : List Bool) (place count shown used : ℕ) → length bits % 8 ≡ 0 → 8 * place ≤ length bits → shown ≡ min (length bits - 8 * place) (8 * count) → used ≡ bytes_for shown
-  → bytes_of (slice_range bits (8 * place) (8 * place + shown)) ++ drop used (replicate count 0) ≡ padded count (drop place (bytes_of bits))
+    → bytes_of (slice_range bits (8 * place) (8 * place + shown)) ++ drop used (replicate count 0) ≡ padded count (drop place (bytes_of bits))
 data_of bits place count shown used whole h is_shown is_used =
     let bytes = drop place (bytes_of bits) in
     let rest = drop (8 * place) bits in

@@ -29,6 +29,17 @@ fault_of (opcode ∷ bytes) = Some (record { code = if nat_lt 13 opcode then 1 e
 abbrev pub items_of : List Command → Option CommandFault → List (Result Command CommandFault)
 items_of commands fault = map Ok commands ++ map Fault (option_to_list fault)
 
+-- the commands among items, and the fault behind them
+abbrev pub commands_of : List (Result Command CommandFault) → List Command
+commands_of [] = []
+commands_of (Ok command ∷ items) = command ∷ commands_of items
+commands_of (Fault fault ∷ items) = commands_of items
+
+abbrev pub fault_among : List (Result Command CommandFault) → Option CommandFault
+fault_among [] = None
+fault_among (Ok command ∷ items) = fault_among items
+fault_among (Fault fault ∷ items) = Some fault
+
 -- The same as functions of the bytes: the laws of this crate say that they are the one reading.
 
 -- how many bytes a command has, by its opcode, from 0 to 13

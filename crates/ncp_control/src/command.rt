@@ -1,7 +1,7 @@
 //! Commands and their spelling.
-ghost use Rattle.std.specs.Prelude.{◌≡◌, ◌+◌, ◌<◌, ◌≤◌, ◌++◌, ◌∷◌, [], length, take, drop, replicate};
+ghost use Rattle.std.specs.Prelude.{◌≡◌, ◌+◌, ◌<◌, ◌≤◌, ◌++◌, ◌∷◌, [], length, take, drop, replicate, All};
 ghost use Rattle.std.specs.Int.{to_be_bytes, w16, w32};
-ghost use Rattle.ncp_control.specs.Spelling.{spelling, error_of};
+ghost use Rattle.ncp_control.specs.Spelling.{spelling, IsByte, IsCommand, error_of};
 
 use crate::opcodes::*;
 use arrayvec::ArrayVec;
@@ -54,6 +54,7 @@ fn push_bytes(text: &mut CommandBytes, bytes: &[u8])
     requires { length text.old.items + length bytes.now ≤ LONGEST_COMMAND }
     ensures items { text.new.items ≡ text.old.items ++ bytes.now }
     ensures len { length text.new.items ≡ length text.old.items + length bytes.now }
+    ensures small { All IsByte bytes.now }
 {
     text.try_extend_from_slice(bytes).unwrap();
 }
@@ -123,7 +124,8 @@ fn amounts(opcode: u8, link: u8, messages: u16, bits: u32) -> CommandBytes
 
 // The opcode of ERR, its code and its data.
 fn error_bytes(code: u8, bytes: [u8; ERROR_DATA]) -> CommandBytes
-    ensures { result.items ≡ 11 ∷ code ∷ bytes }
+    ensures items { result.items ≡ 11 ∷ code ∷ bytes }
+    ensures command { IsCommand (Command.Err code bytes) }
 {
     let mut text = bytes_only(&[ERR, code]);
     push_bytes(&mut text, &bytes);
@@ -134,6 +136,8 @@ fn error_bytes(code: u8, bytes: [u8; ERROR_DATA]) -> CommandBytes
 /// byte first (NIC 8246).
 pub fn put_command(command: &Command) -> CommandBytes
     ensures spelling { result.items ≡ spelling command.now }
+    // Each value of the type is a command, its fields within their widths.
+    ensures command { IsCommand command.now }
     ensures some { 0 < length result.items }
     ensures fits { length result.items ≤ LONGEST_COMMAND }
 {

@@ -2,7 +2,7 @@
 ghost use Rattle.std.specs.Prelude.{◌≡◌, ◌+◌, ◌*◌, ◌≤◌, ◌%◌, length};
 ghost use Rattle.std.specs.Iterator.{YieldsFirst, item_count};
 ghost use Rattle.ncp_bits.specs.Bits.{bytes_of};
-ghost use Rattle.ncp_control.specs.Reading.{Reads, commands_in, rest_in, items_in};
+ghost use Rattle.ncp_control.specs.Reading.{Reads, commands_of, fault_among, commands_in, rest_in, fault_in, items_in};
 
 use crate::command::Command;
 use crate::fault::CommandFault;
@@ -37,6 +37,8 @@ impl<'a> Commands<'a> {
     pub fn new(text: Part<'a>) -> Commands<'a>
         requires { length text % 8 ≡ 0 }
         ensures items { result ≡ items_in (bytes_of text.entry) }
+        ensures commands { commands_of result ≡ commands_in (bytes_of text.entry) }
+        ensures fault { fault_among result ≡ fault_in (bytes_of text.entry) }
         // The commands are the longest list whose joined spellings begin the text.
         ensures reads { Reads (bytes_of text.entry) (commands_in (bytes_of text.entry)) (rest_in (bytes_of text.entry)) }
         // Each item costs a byte at least.

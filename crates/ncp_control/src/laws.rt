@@ -1,10 +1,12 @@
 //! Laws about commands and control texts, each the contract of a function that does nothing. In
 //! them a variable of bytes ranges over all numbers, so what is a byte is said.
-ghost use Rattle.std.specs.Prelude.{◌≡◌, ℕ, ◌<◌, ◌≤◌, List, ◌++◌, length, All, None};
-ghost use Rattle.ncp_control.specs.Spelling.{spelling, spellings, IsByte, IsCommand};
+ghost use Rattle.std.specs.Prelude.{◌≡◌, ℕ, ◌<◌, ◌≤◌, List, ◌++◌, length, All, Some, None};
+ghost use Rattle.ncp_control.specs.Spelling.{spelling, spellings, IsByte, IsCommand, error_of};
 ghost use Rattle.ncp_control.specs.Reading.{Reads, NoneBegins, commands_in, rest_in, fault_in, fault_of};
 ghost use Rattle.ncp_control.specs.declared.command.Command.{Command};
+ghost use Rattle.ncp_control.specs.declared.command.Command.TheVariants.{Err};
 ghost use Rattle.ncp_control.specs.declared.command.TheConstants.{LONGEST_COMMAND};
+ghost use Rattle.ncp_control.specs.declared.fault.CommandFault.{CommandFault};
 
 /// No spelling begins another, each is bytes, and none is empty or longer than
 /// [`crate::LONGEST_COMMAND`].
@@ -28,4 +30,10 @@ pub fn texts_have_one_reading()
 pub fn spelled_commands_are_read()
     ensures commands { (commands : List Command) → All IsCommand commands → (commands_in (spellings commands) ≡ commands) × (fault_in (spellings commands) ≡ None) }
     ensures tail { (commands : List Command) (tail : List ℕ) → All IsCommand commands → All IsByte tail → NoneBegins tail → (commands_in (spellings commands ++ tail) ≡ commands) × (fault_in (spellings commands ++ tail) ≡ fault_of tail) }
+{}
+
+/// An ERR about a command, and one that answers a fault, is a command.
+pub fn errors_are_commands()
+    ensures about { (code : ℕ) (command : Command) → IsByte code → IsCommand command → IsCommand (error_of code command) }
+    ensures fault { (bytes : List ℕ) (fault : CommandFault) → All IsByte bytes → fault_in bytes ≡ Some fault → IsCommand (Err fault.code fault.bytes) }
 {}

@@ -9,7 +9,7 @@ use Rattle.ncp_control.proofs.front.command_in.Goals as goal
 
 pub returns-in-11 : goal.returns-in-11
 unfolding command_with
-returns-in-11 c = 
+returns-in-11 c =
     let bytes = bytes_of c.args.text.now in
     let l : 8 * length bytes ≡ length c.args.text.now = length_whole c.args.text.now c.requires.whole in
     let long : 96 ≤ length c.args.text.now = rw c.in-11.is at c.requires.long in
