@@ -144,7 +144,8 @@ pub(crate) fn read_front<'a>(text: &Part<'a>) -> Result<(Command, Part<'a>), Com
 
 // A fault at the front of a text.
 fn fault_at_front(text: &Part<'_>, code: u8) -> CommandFault
-    requires { length text.now % 8 ≡ 0 }
+    requires whole { length text.now % 8 ≡ 0 }
+    requires some { 0 < length text.now }
     ensures code { result.code ≡ code }
     ensures bytes { result.bytes ≡ padded ERROR_DATA (bytes_of text.now) }
 {
