@@ -10,7 +10,8 @@ use Rattle.std.proofs.lemmas.Nat.{mod_below}
 use Rattle.std.specs.Int.{byte_at as digit}
 use Rattle.std.proofs.lemmas.Option.{none-some, same_Some, cond_some, option_and_then_some}
 use Rattle.ncp_control.specs.Spelling.{spelling, spellings, IsByte, IsCommand, padded, error_of}
-use Rattle.ncp_control.specs.Reading.{Reads, NoneBegins, fault_of, items_of, commands_of, fault_among, size_of, byte_at, command_with, command_at, commands_within, commands_in, rest_in, fault_in, items_in}
+use Rattle.ncp_control.specs.Texts.{Reads, NoneBegins, fault_of, items_of, commands_of, fault_among}
+use Rattle.ncp_control.specs.Reading.{size_of, byte_at, command_with, command_at, commands_within, commands_in, rest_in, fault_in, items_in}
 use Rattle.ncp_control.specs.declared.command.Command.{Command}
 use Rattle.ncp_control.specs.declared.command.Command.TheVariants.{Nop, Rts, Str, Cls, All as Allocate, Gvb, Ret, Inr, Ins, Eco, Erp, Err, Rst, Rrp}
 use Rattle.ncp_control.specs.declared.fault.CommandFault.{CommandFault}

@@ -1,5 +1,5 @@
--- The commands of the Host/Host Protocol as bytes (NIC 8246, "Host-to-host commands"). The length of
--- ERR's data is this profile's.
+-- The commands of the Host/Host Protocol as bytes (NIC 8246, control commands).
+-- That ERR carries ten bytes of data is this profile's.
 use Rattle.std.specs.Prelude.{ℕ, ◌≡◌, ◌<◌, ◌^◌, ⊤, List, [], ◌∷◌, ◌++◌, length, take, replicate, All}
 use Rattle.std.specs.List.{flat_map}
 use Rattle.std.specs.Int.{to_be_bytes, w16, w32}

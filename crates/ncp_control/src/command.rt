@@ -21,15 +21,15 @@ pub type CommandBytes = ArrayVec<u8, LONGEST_COMMAND>;
 pub enum Command {
     /// No operation.
     Nop,
-    /// Receiver to sender: a request for connection, with the link chosen by the receiver.
+    /// Request for connection, receiver to sender. The receiver chooses the link.
     Rts { receive: u32, send: u32, link: u8 },
-    /// Sender to receiver: a request for connection, with the byte size chosen by the sender.
+    /// Request for connection, sender to receiver. The sender chooses the byte size.
     Str { send: u32, receive: u32, size: u8 },
-    /// Close: refuses a request or ends a connection.
+    /// Close: refuses a request, or closes a connection.
     Cls { my: u32, your: u32 },
     /// Allocate: so many messages and bits more may be sent on a link.
     All { link: u8, messages: u16, bits: u32 },
-    /// Give back: asks for parts of the allocation, in 128ths of its messages and bits.
+    /// Give back: asks for parts of the allocation, in 128ths of its messages and of its bits.
     Gvb { link: u8, fm: u8, fb: u8 },
     /// Return: so much of the allocation is given back.
     Ret { link: u8, messages: u16, bits: u32 },
@@ -41,7 +41,7 @@ pub enum Command {
     Eco { byte: u8 },
     /// Echo reply.
     Erp { byte: u8 },
-    /// Error, with the bytes that it is about.
+    /// Error detected, with the bytes that it is about.
     Err { code: u8, bytes: [u8; ERROR_DATA] },
     /// Reset.
     Rst,

@@ -2,7 +2,8 @@
 ghost use Rattle.std.specs.Prelude.{◌≡◌, ◌+◌, ◌*◌, ◌≤◌, ◌%◌, length};
 ghost use Rattle.std.specs.Iterator.{YieldsFirst, item_count};
 ghost use Rattle.ncp_bits.specs.Bits.{bytes_of};
-ghost use Rattle.ncp_control.specs.Reading.{Reads, commands_of, fault_among, commands_in, rest_in, fault_in, items_in};
+ghost use Rattle.ncp_control.specs.Texts.{Reads, items_of, commands_of, fault_among};
+ghost use Rattle.ncp_control.specs.Reading.{commands_in, rest_in, fault_in};
 
 use crate::command::Command;
 use crate::fault::CommandFault;
@@ -36,11 +37,12 @@ impl<'a> Commands<'a> {
     /// Reads a control text of whole bytes, in place.
     pub fn new(text: Part<'a>) -> Commands<'a>
         requires { length text % 8 ≡ 0 }
-        ensures items { result ≡ items_in (bytes_of text.entry) }
+        // The commands in order, and behind them the fault, if there is one.
+        ensures items { let bytes = bytes_of text.entry in result ≡ items_of (commands_in bytes) (fault_in bytes) }
         ensures commands { commands_of result ≡ commands_in (bytes_of text.entry) }
         ensures fault { fault_among result ≡ fault_in (bytes_of text.entry) }
         // The commands are the longest list whose joined spellings begin the text.
-        ensures reads { Reads (bytes_of text.entry) (commands_in (bytes_of text.entry)) (rest_in (bytes_of text.entry)) }
+        ensures reads { let bytes = bytes_of text.entry in Reads bytes (commands_in bytes) (rest_in bytes) }
         // Each item costs a byte at least.
         ensures count { 8 * length result ≤ length text.entry }
     {

@@ -2,7 +2,8 @@
 ghost use Rattle.std.specs.Prelude.{◌≡◌, ◌+◌, ◌*◌, ◌≤◌, ◌<◌, ◌%◌, length, drop, Some, None, IfSome, MatchResult};
 ghost use Rattle.ncp_bits.specs.Bits.{bytes_of};
 ghost use Rattle.ncp_control.specs.Spelling.{spelling, padded};
-ghost use Rattle.ncp_control.specs.Reading.{size_of, byte_at, short_at, word_at, command_with, command_at, fault_of};
+ghost use Rattle.ncp_control.specs.Texts.{fault_of};
+ghost use Rattle.ncp_control.specs.Reading.{size_of, byte_at, short_at, word_at, command_with, command_at};
 
 use crate::command::{Command, ERROR_DATA, LONGEST_COMMAND};
 use crate::fault::{CommandFault, ILLEGAL_OPCODE, SHORT_PARAMETER_SPACE};

@@ -2,7 +2,8 @@
 //! them a variable of bytes ranges over all numbers, so what is a byte is said.
 ghost use Rattle.std.specs.Prelude.{◌≡◌, ℕ, ◌<◌, ◌≤◌, List, ◌++◌, length, All, Some, None};
 ghost use Rattle.ncp_control.specs.Spelling.{spelling, spellings, IsByte, IsCommand, error_of};
-ghost use Rattle.ncp_control.specs.Reading.{Reads, NoneBegins, commands_in, rest_in, fault_in, fault_of};
+ghost use Rattle.ncp_control.specs.Texts.{Reads, NoneBegins, fault_of};
+ghost use Rattle.ncp_control.specs.Reading.{commands_in, rest_in, fault_in};
 ghost use Rattle.ncp_control.specs.declared.command.Command.{Command};
 ghost use Rattle.ncp_control.specs.declared.command.Command.TheVariants.{Err};
 ghost use Rattle.ncp_control.specs.declared.command.TheConstants.{LONGEST_COMMAND};

@@ -1,6 +1,7 @@
 use Rattle.std.proofs.Common.{◌≡◌}
 use Rattle.ncp_bits.specs.Bits.{bytes_of}
-use Rattle.ncp_control.specs.Reading.{fault_among, fault_in}
+use Rattle.ncp_control.specs.Texts.{fault_among}
+use Rattle.ncp_control.specs.Reading.{fault_in}
 use Rattle.ncp_control.proofs.tests.fault_of_text.Given as goal
 
 -- the fault is still to come

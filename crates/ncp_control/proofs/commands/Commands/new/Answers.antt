@@ -1,4 +1,4 @@
-use Rattle.std.proofs.Common.{◌≡◌, ◌*◌, ◌≤◌, length, arith}
+use Rattle.std.proofs.Common.{◌≡◌, ◌*◌, ◌≤◌, length, refl, arith}
 use Rattle.ncp_bits.specs.Bits.{bytes_of}
 use Rattle.ncp_control.specs.Reading.{items_in}
 use Rattle.ncp_control.proofs.Text.{length_whole, bytes_are_small}
@@ -19,3 +19,7 @@ returns-clause-commands c = commands_met (bytes_of c.args.text)
 
 pub returns-clause-fault : goal.returns-clause-fault
 returns-clause-fault c = fault_met (bytes_of c.args.text)
+
+pub returns-clause-items : goal.returns-clause-items
+unfolding items_in
+returns-clause-items c = refl
