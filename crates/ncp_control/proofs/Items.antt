@@ -1,6 +1,5 @@
 -- What is met in the bits of a text.
-use Rattle.std.proofs.Common.{◌≡◌, ℕ, ◌+◌, ◌*◌, ◌%◌, ◌≤◌, Bool, List, [], ◌∷◌, ◌++◌, length, drop, Option, Some, Ok, sym, ap, ◌∙◌, arith, length-append}
-use Rattle.std.specs.List.{All}
+use Rattle.std.proofs.Common.{◌≡◌, ◌+◌, ◌*◌, ◌%◌, ◌≤◌, Bool, List, [], ◌∷◌, length, drop, Some, Ok, sym, ap, ◌∙◌, arith, length-append}
 use Rattle.std.proofs.lemmas.List.{nil_from_length}
 use Rattle.ncp_bits.specs.Bits.{bytes_of}
 use Rattle.ncp_control.specs.Spelling.{spelling}

@@ -4,3 +4,4 @@ pub mod Begins
 pub mod Again
 pub mod Reading
 pub mod Items
+pub mod Faults

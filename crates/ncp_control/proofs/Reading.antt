@@ -1,7 +1,7 @@
 -- The one reading of a text.
-use Rattle.std.proofs.Common.{◌≡◌, ℕ, zero, suc, ◌+◌, ◌-◌, ◌*◌, ◌/◌, ◌^◌, ◌<◌, ◌≤◌, List, [], ◌∷◌, ◌++◌, length, map, drop, replicate, leb, ltb, cond, true, Option, Some, None, Result, Ok, refl, sym, ap, subst, ◌∙◌, arith, append_assoc, append-nil, length-append}
-use Rattle.std.specs.List.{All, AllByRecursion, flat_map}
-use Rattle.std.specs.Option.{option_map_or, option_and_then, option_to_list}
+use Rattle.std.proofs.Common.{◌≡◌, ℕ, zero, suc, ◌+◌, ◌-◌, ◌/◌, ◌^◌, ◌<◌, ◌≤◌, List, [], ◌∷◌, ◌++◌, length, drop, replicate, leb, ltb, cond, Option, Some, None, Ok, refl, sym, ap, subst, ◌∙◌, arith, append_assoc, append-nil, length-append}
+use Rattle.std.specs.List.{All, AllByRecursion}
+use Rattle.std.specs.Option.{option_map_or, option_and_then}
 use Rattle.std.specs.declared.result.Result.TheVariants.{Err as Fault}
 use Rattle.std.proofs.lemmas.Bool.{leb-true, le-leb, lt-leb, cond-true, cond-false, cond_both}
 use Rattle.std.proofs.lemmas.List.{length-drop, length-take-le, drop-drop, drop_at, append_cancel_left}
@@ -83,7 +83,7 @@ each_small Rrp h = (omega arith, tt)
 pub spelling_small : (command : Command) → IsCommand command → All IsByte (spelling command)
 spelling_small command h = All-from_recursion IsByte (spelling command) (each_small command h)
 
-spellings_small : (commands : List Command) → All IsCommand commands → All IsByte (spellings commands)
+pub spellings_small : (commands : List Command) → All IsCommand commands → All IsByte (spellings commands)
 spellings_small [] each = All-nil IsByte
 spellings_small (command ∷ commands) each =
     All-append IsByte (spelling command) (spellings commands)

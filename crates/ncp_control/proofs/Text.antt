@@ -1,11 +1,10 @@
 -- The bytes of a text, read from its bits.
-use Rattle.std.proofs.Common.{◌≡◌, ℕ, suc, zero, ◌+◌, ◌*◌, ◌-◌, ◌/◌, ◌%◌, ◌^◌, ◌<◌, ◌≤◌, min, Bool, true, false, cond, List, [], ◌∷◌, ◌++◌, length, take, drop, get_or, replicate, slice_range, refl, sym, ap, ◌∙◌, arith}
-use Rattle.std.specs.List.{All, range_with_len}
-use Rattle.std.proofs.lemmas.List.{append-nil, length-append, length-take-le, length-drop, length-take, take-append-le, take-append-drop, take_all, take-take, drop-drop, drop_at, drop-take, take-replicate, get_or-take, get_or-drop, take_min}
+use Rattle.std.proofs.Common.{◌≡◌, ℕ, suc, zero, ◌+◌, ◌*◌, ◌-◌, ◌%◌, ◌^◌, ◌<◌, ◌≤◌, min, Bool, true, false, List, [], ◌∷◌, ◌++◌, length, take, drop, get_or, replicate, slice_range, refl, sym, ap, ◌∙◌, arith}
+use Rattle.std.specs.List.{All}
+use Rattle.std.proofs.lemmas.List.{append-nil, length-append, length-take-le, length-drop, length-take, take-append-drop, take_all, take-take, drop-drop, drop-take, take-replicate, get_or-take, get_or-drop, take_min}
 use Rattle.std.proofs.lemmas.List.Elements.{All-from_get_or, All-drop, All-take}
 use Rattle.std.proofs.lemmas.List.FromFn.{get_or-map-range_with_len, length-map-range_with_len}
 use Rattle.std.proofs.lemmas.Nat.{pow-add}
-use Rattle.std.specs.Int.{from_be_bytes, w16, w32}
 use Rattle.ncp_bits.specs.Numbers.{number_of}
 use Rattle.ncp_bits.specs.Bits.{bits_of_bytes, bytes_for, byte_of, bytes_of}
 use Rattle.ncp_bits.proofs.Bytes.{byte_of-fits, byte_of-long, length-bits_of_bytes, take-bits_of_bytes}

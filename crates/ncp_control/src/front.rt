@@ -66,15 +66,15 @@ fn data_in(text: &Part<'_>, place: usize) -> [u8; ERROR_DATA]
     bytes
 }
 
-// The command with an opcode, whose bytes are there.
+// The RTS, STR or CLS whose bytes are there.
 #[tactic(auto, unfolding(crate::specs::Reading::command_with))]
-fn command_in(text: &Part<'_>, opcode: u8) -> Command
-    requires whole { length text.now % 8 ≡ 0 }
+fn sockets_in(text: &Part<'_>, opcode: u8) -> Command
+    requires some { 1 ≤ opcode }
+    requires few { opcode ≤ 3 }
     requires long { IfSome (size_of opcode) (λ size. 8 * size ≤ length text.now) }
     ensures { result ≡ command_with opcode (bytes_of text.now) }
 {
     match opcode {
-        NOP => Command::Nop,
         RTS => Command::Rts {
             receive: word_in(text, 1),
             send: word_in(text, 5),
@@ -85,10 +85,22 @@ fn command_in(text: &Part<'_>, opcode: u8) -> Command
             receive: word_in(text, 5),
             size: byte_in(text, 9),
         },
-        CLS => Command::Cls {
+        _ => Command::Cls {
             my: word_in(text, 1),
             your: word_in(text, 5),
         },
+    }
+}
+
+// The ALL, GVB or RET whose bytes are there.
+#[tactic(auto, unfolding(crate::specs::Reading::command_with))]
+fn allocation_in(text: &Part<'_>, opcode: u8) -> Command
+    requires some { 4 ≤ opcode }
+    requires few { opcode ≤ 6 }
+    requires long { IfSome (size_of opcode) (λ size. 8 * size ≤ length text.now) }
+    ensures { result ≡ command_with opcode (bytes_of text.now) }
+{
+    match opcode {
         ALL => Command::All {
             link: byte_in(text, 1),
             messages: short_in(text, 2),
@@ -99,11 +111,25 @@ fn command_in(text: &Part<'_>, opcode: u8) -> Command
             fm: byte_in(text, 2),
             fb: byte_in(text, 3),
         },
-        RET => Command::Ret {
+        _ => Command::Ret {
             link: byte_in(text, 1),
             messages: short_in(text, 2),
             bits: word_in(text, 4),
         },
+    }
+}
+
+// The command with an opcode, whose bytes are there.
+#[tactic(auto, unfolding(crate::specs::Reading::command_with))]
+fn command_in(text: &Part<'_>, opcode: u8) -> Command
+    requires whole { length text.now % 8 ≡ 0 }
+    requires long { IfSome (size_of opcode) (λ size. 8 * size ≤ length text.now) }
+    ensures { result ≡ command_with opcode (bytes_of text.now) }
+{
+    match opcode {
+        NOP => Command::Nop,
+        RTS | STR | CLS => sockets_in(text, opcode),
+        ALL | GVB | RET => allocation_in(text, opcode),
         INR => Command::Inr {
             link: byte_in(text, 1),
         },
@@ -125,6 +151,19 @@ fn command_in(text: &Part<'_>, opcode: u8) -> Command
     }
 }
 
+// A fault at the front of a text.
+fn fault_at_front(text: &Part<'_>, code: u8) -> CommandFault
+    requires whole { length text.now % 8 ≡ 0 }
+    requires some { 0 < length text.now }
+    ensures code { result.code ≡ code }
+    ensures bytes { result.bytes ≡ padded ERROR_DATA (bytes_of text.now) }
+{
+    CommandFault {
+        code,
+        bytes: data_in(text, 0),
+    }
+}
+
 /// The command that begins a text, and the text behind it; else the fault at its front.
 pub(crate) fn read_front<'a>(text: &Part<'a>) -> Result<(Command, Part<'a>), CommandFault>
     requires whole { length text.now % 8 ≡ 0 }
@@ -141,17 +180,4 @@ pub(crate) fn read_front<'a>(text: &Part<'a>) -> Result<(Command, Part<'a>), Com
     }
     let rest = text.slice(8 * size, text.len() - 8 * size);
     Ok((command_in(text, opcode), rest))
-}
-
-// A fault at the front of a text.
-fn fault_at_front(text: &Part<'_>, code: u8) -> CommandFault
-    requires whole { length text.now % 8 ≡ 0 }
-    requires some { 0 < length text.now }
-    ensures code { result.code ≡ code }
-    ensures bytes { result.bytes ≡ padded ERROR_DATA (bytes_of text.now) }
-{
-    CommandFault {
-        code,
-        bytes: data_in(text, 0),
-    }
 }

@@ -1,6 +1,6 @@
 //! Laws about commands and control texts, each the contract of a function that does nothing. In
 //! them a variable of bytes ranges over all numbers, so what is a byte is said.
-ghost use Rattle.std.specs.Prelude.{◌≡◌, ℕ, ◌<◌, ◌≤◌, List, ◌++◌, length, All, Some, None};
+ghost use Rattle.std.specs.Prelude.{◌≡◌, ◌≢◌, ℕ, ◌<◌, ◌≤◌, List, ◌∷◌, ◌++◌, length, All, Some, None};
 ghost use Rattle.ncp_control.specs.Spelling.{spelling, spellings, IsByte, IsCommand, error_of};
 ghost use Rattle.ncp_control.specs.Texts.{Reads, NoneBegins, fault_of};
 ghost use Rattle.ncp_control.specs.Reading.{commands_in, rest_in, fault_in};
@@ -16,6 +16,7 @@ pub fn spellings_are_apart()
     ensures some { (command : Command) → 0 < length (spelling command) }
     ensures short { (command : Command) → IsCommand command → length (spelling command) ≤ LONGEST_COMMAND }
     ensures bytes { (command : Command) → IsCommand command → All IsByte (spelling command) }
+    ensures joined { (commands : List Command) → All IsCommand commands → All IsByte (spellings commands) }
 {}
 
 /// Each text of bytes has one reading. No longer list of commands begins it: each list whose joined
@@ -37,4 +38,11 @@ pub fn spelled_commands_are_read()
 pub fn errors_are_commands()
     ensures about { (code : ℕ) (command : Command) → IsByte code → IsCommand command → IsCommand (error_of code command) }
     ensures fault { (bytes : List ℕ) (fault : CommandFault) → All IsByte bytes → fault_in bytes ≡ Some fault → IsCommand (Err fault.code fault.bytes) }
+{}
+
+/// What the codes of a fault mean: no command has an opcode over 13, and behind any other opcode there
+/// are bytes that would make a command of what is left.
+pub fn faults_are_told_apart()
+    ensures illegal { (command : Command) (opcode : ℕ) (more : List ℕ) → 13 < opcode → spelling command ≢ opcode ∷ more }
+    ensures early { (opcode : ℕ) (left : List ℕ) → All IsByte (opcode ∷ left) → NoneBegins (opcode ∷ left) → opcode ≤ 13 → (command : Command) × (more : List ℕ) × IsCommand command × (spelling command ≡ (opcode ∷ left) ++ more) }
 {}

@@ -12,7 +12,7 @@ use ncp_bits::{Bits, Part};
 use std::process::Abort;
 use std::test::Fail;
 
-// RTS(receive 2, send 3, link 2), the matching STR of size 8, and the CLS of each side.
+// RTS(receive 2, send 3, link 2) and the matching STR of size 8.
 const RTS_ROW: [u8; 10] = [0x01, 0x00, 0x00, 0x00, 0x02, 0x00, 0x00, 0x00, 0x03, 0x02];
 
 const STR_ROW: [u8; 10] = [0x02, 0x00, 0x00, 0x00, 0x03, 0x00, 0x00, 0x00, 0x02, 0x08];
@@ -223,6 +223,16 @@ fn makes_errors(rt: HostRuntime) {
         bytes: [4, 2, 0, 1, 0, 0, 0, 0, 0, 0],
     };
     assert!(rt; error_for(ERRONEOUS_PARAMETERS, &all) == answer);
+    let ret = Command::Ret {
+        link: 9,
+        messages: 0,
+        bits: 0,
+    };
+    let not_connected = Command::Err {
+        code: 5,
+        bytes: [6, 9, 0, 0, 0, 0, 0, 0, 0, 0],
+    };
+    assert!(rt; error_for(SOCKET_NOT_CONNECTED, &ret) == not_connected);
     let nested = Command::Err {
         code: SOCKET_NOT_CONNECTED,
         bytes: [11, 3, 4, 2, 0, 1, 0, 0, 0, 0],
@@ -252,4 +262,5 @@ fn states_laws(_rt: HostRuntime) {
     laws::texts_have_one_reading();
     laws::spelled_commands_are_read();
     laws::errors_are_commands();
+    laws::faults_are_told_apart();
 }

@@ -1,4 +1,4 @@
-use Rattle.std.proofs.Common.{◌≡◌, ◌<◌, ◌^◌, length, arith, rules}
+use Rattle.std.proofs.Common.{◌≡◌, length, arith, rules}
 use Rattle.ncp_control.proofs.command.error_bytes.Goals as goal
 
 pub returns-clause-command : goal.returns-clause-command

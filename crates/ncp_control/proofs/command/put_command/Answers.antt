@@ -1,4 +1,3 @@
-use Rattle.ncp_control.specs.Spelling.{IsCommand}
 use Rattle.ncp_control.proofs.command.put_command.Goals as goal
 
 pub returns-in-Err-clause-command : goal.returns-in-Err-clause-command

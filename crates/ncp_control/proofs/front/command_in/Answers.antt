@@ -1,8 +1,7 @@
-use Rattle.std.proofs.Common.{◌≡◌, ◌*◌, ◌≤◌, length, drop, take, sym, ◌∙◌, ap, arith}
-use Rattle.std.specs.Option.{IfSome}
+use Rattle.std.proofs.Common.{◌≡◌, ◌*◌, ◌≤◌, length, drop, take, ◌∙◌, ap, arith}
 use Rattle.std.proofs.lemmas.List.{take-append-le, length-drop}
 use Rattle.ncp_bits.specs.Bits.{bytes_of}
-use Rattle.ncp_control.specs.Reading.{size_of, byte_at, command_with}
+use Rattle.ncp_control.specs.Reading.{byte_at, command_with}
 use Rattle.ncp_control.proofs.Text.{length_whole}
 use Rattle.ncp_control.specs.declared.command.Command.TheVariants.{Err}
 use Rattle.ncp_control.proofs.front.command_in.Goals as goal
