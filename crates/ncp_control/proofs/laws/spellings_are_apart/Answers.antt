@@ -1,0 +1,17 @@
+use Rattle.ncp_control.proofs.Reading.{one_spelling, spelling_takes, spelling_short, spelling_small, spellings_small}
+use Rattle.ncp_control.proofs.laws.spellings_are_apart.Goals as goal
+
+pub returns-clause-apart : goal.returns-clause-apart
+returns-clause-apart c = one_spelling
+
+pub returns-clause-some : goal.returns-clause-some
+returns-clause-some c = spelling_takes
+
+pub returns-clause-short : goal.returns-clause-short
+returns-clause-short c = spelling_short
+
+pub returns-clause-bytes : goal.returns-clause-bytes
+returns-clause-bytes c = spelling_small
+
+pub returns-clause-joined : goal.returns-clause-joined
+returns-clause-joined c = spellings_small

@@ -1,0 +1,77 @@
+//! `Commands`.
+ghost use Rattle.std.specs.Prelude.{◌≡◌, ◌+◌, ◌*◌, ◌≤◌, ◌%◌, length};
+ghost use Rattle.std.specs.Iterator.{YieldsFirst, item_count};
+ghost use Rattle.ncp_bits.specs.Bits.{bytes_of};
+ghost use Rattle.ncp_control.specs.Texts.{Reads, items_of, commands_of, fault_among};
+ghost use Rattle.ncp_control.specs.Reading.{commands_in, rest_in, fault_in};
+
+use crate::command::Command;
+use crate::fault::CommandFault;
+use crate::front::read_front;
+use ncp_bits::Part;
+use std::iter::FusedIterator;
+use std::marker::Model;
+
+/// The commands of a control text in order, then its fault, if it has one. It is seen as the list of
+/// the items that are still to come.
+#[derive(Drop)]
+pub struct Commands<'a> {
+    text: Part<'a>,
+}
+
+impl<'a> Model for Commands<'a> {
+    ghost use Rattle.std.specs.Prelude.{◌≡◌, ◌%◌, List, Result, length};
+    ghost use Rattle.ncp_bits.specs.Bits.{bytes_of};
+    ghost use Rattle.ncp_control.specs.Reading.{items_in};
+    ghost use Rattle.ncp_control.specs.declared.command.Command.{Command};
+    ghost use Rattle.ncp_control.specs.declared.fault.CommandFault.{CommandFault};
+
+    ghost Value = { List (Result Command CommandFault) };
+
+    ghost view = { λ commands. items_in (bytes_of commands.text) };
+
+    ghost invariant = { λ commands. length commands.text % 8 ≡ 0 };
+}
+
+impl<'a> Commands<'a> {
+    /// Reads a control text of whole bytes, in place.
+    pub fn new(text: Part<'a>) -> Commands<'a>
+        requires { length text % 8 ≡ 0 }
+        // The commands in order, and behind them the fault, if there is one.
+        ensures items { let bytes = bytes_of text.entry in result ≡ items_of (commands_in bytes) (fault_in bytes) }
+        ensures commands { commands_of result ≡ commands_in (bytes_of text.entry) }
+        ensures fault { fault_among result ≡ fault_in (bytes_of text.entry) }
+        // The commands are the longest list whose joined spellings begin the text.
+        ensures reads { let bytes = bytes_of text.entry in Reads bytes (commands_in bytes) (rest_in bytes) }
+        // Each item costs a byte at least.
+        ensures count { 8 * length result ≤ length text.entry }
+    {
+        Commands { text }
+    }
+}
+
+impl<'a> Iterator for Commands<'a> {
+    type Item = Result<Command, CommandFault>;
+
+    ghost next_gives = { YieldsFirst (λ items. items) };
+
+    ghost remaining = { item_count (λ items. items) };
+
+    fn next(&mut self) -> Option<Result<Command, CommandFault>> {
+        if self.text.is_empty() {
+            return None;
+        }
+        match read_front(&self.text) {
+            Ok((command, rest)) => {
+                self.text = rest;
+                Some(Ok(command))
+            }
+            Err(fault) => {
+                self.text = self.text.slice(self.text.len(), 0);
+                Some(Err(fault))
+            }
+        }
+    }
+}
+
+impl<'a> FusedIterator for Commands<'a> {}

@@ -1,0 +1,183 @@
+//! The front of a control text, read in place.
+ghost use Rattle.std.specs.Prelude.{◌≡◌, ◌+◌, ◌*◌, ◌≤◌, ◌<◌, ◌%◌, length, drop, Some, None, IfSome, MatchResult};
+ghost use Rattle.ncp_bits.specs.Bits.{bytes_of};
+ghost use Rattle.ncp_control.specs.Spelling.{spelling, padded};
+ghost use Rattle.ncp_control.specs.Texts.{fault_of};
+ghost use Rattle.ncp_control.specs.Reading.{size_of, byte_at, short_at, word_at, command_with, command_at};
+
+use crate::command::{Command, ERROR_DATA, LONGEST_COMMAND};
+use crate::fault::{CommandFault, ILLEGAL_OPCODE, SHORT_PARAMETER_SPACE};
+use crate::opcodes::*;
+use ncp_bits::Part;
+
+// How many bytes the command with an opcode has.
+fn command_size(opcode: u8) -> Option<usize>
+    ensures { result ≡ size_of opcode }
+{
+    match opcode {
+        NOP | RST | RRP => Some(1),
+        INR | INS | ECO | ERP => Some(2),
+        GVB => Some(4),
+        ALL | RET => Some(8),
+        CLS => Some(9),
+        RTS | STR => Some(10),
+        ERR => Some(12),
+        _ => None,
+    }
+}
+
+// The byte at a place.
+fn byte_in(text: &Part<'_>, place: usize) -> u8
+    requires near { place < LONGEST_COMMAND }
+    requires inside { 8 * place + 8 ≤ length text.now }
+    ensures { result ≡ byte_at (bytes_of text.now) place }
+{
+    text.number(8 * place, 8) as u8
+}
+
+// The number of two bytes at a place.
+fn short_in(text: &Part<'_>, place: usize) -> u16
+    requires near { place < LONGEST_COMMAND }
+    requires inside { 8 * place + 16 ≤ length text.now }
+    ensures { result ≡ short_at (bytes_of text.now) place }
+{
+    text.number(8 * place, 16) as u16
+}
+
+// The number of four bytes at a place.
+fn word_in(text: &Part<'_>, place: usize) -> u32
+    requires near { place < LONGEST_COMMAND }
+    requires inside { 8 * place + 32 ≤ length text.now }
+    ensures { result ≡ word_at (bytes_of text.now) place }
+{
+    text.number(8 * place, 32) as u32
+}
+
+// The next ten bytes from a place, zeros after the end.
+fn data_in(text: &Part<'_>, place: usize) -> [u8; ERROR_DATA]
+    requires near { place < LONGEST_COMMAND }
+    requires whole { length text.now % 8 ≡ 0 }
+    requires inside { 8 * place ≤ length text.now }
+    ensures { result ≡ padded ERROR_DATA (drop place (bytes_of text.now)) }
+{
+    let mut bytes = [0; ERROR_DATA];
+    let shown = (text.len() - 8 * place).min(8 * ERROR_DATA);
+    text.slice(8 * place, shown).to_bytes(&mut bytes);
+    bytes
+}
+
+// The RTS, STR or CLS whose bytes are there.
+#[tactic(auto, unfolding(crate::specs::Reading::command_with))]
+fn sockets_in(text: &Part<'_>, opcode: u8) -> Command
+    requires some { 1 ≤ opcode }
+    requires few { opcode ≤ 3 }
+    requires long { IfSome (size_of opcode) (λ size. 8 * size ≤ length text.now) }
+    ensures { result ≡ command_with opcode (bytes_of text.now) }
+{
+    match opcode {
+        RTS => Command::Rts {
+            receive: word_in(text, 1),
+            send: word_in(text, 5),
+            link: byte_in(text, 9),
+        },
+        STR => Command::Str {
+            send: word_in(text, 1),
+            receive: word_in(text, 5),
+            size: byte_in(text, 9),
+        },
+        _ => Command::Cls {
+            my: word_in(text, 1),
+            your: word_in(text, 5),
+        },
+    }
+}
+
+// The ALL, GVB or RET whose bytes are there.
+#[tactic(auto, unfolding(crate::specs::Reading::command_with))]
+fn allocation_in(text: &Part<'_>, opcode: u8) -> Command
+    requires some { 4 ≤ opcode }
+    requires few { opcode ≤ 6 }
+    requires long { IfSome (size_of opcode) (λ size. 8 * size ≤ length text.now) }
+    ensures { result ≡ command_with opcode (bytes_of text.now) }
+{
+    match opcode {
+        ALL => Command::All {
+            link: byte_in(text, 1),
+            messages: short_in(text, 2),
+            bits: word_in(text, 4),
+        },
+        GVB => Command::Gvb {
+            link: byte_in(text, 1),
+            fm: byte_in(text, 2),
+            fb: byte_in(text, 3),
+        },
+        _ => Command::Ret {
+            link: byte_in(text, 1),
+            messages: short_in(text, 2),
+            bits: word_in(text, 4),
+        },
+    }
+}
+
+// The command with an opcode, whose bytes are there.
+#[tactic(auto, unfolding(crate::specs::Reading::command_with))]
+fn command_in(text: &Part<'_>, opcode: u8) -> Command
+    requires whole { length text.now % 8 ≡ 0 }
+    requires long { IfSome (size_of opcode) (λ size. 8 * size ≤ length text.now) }
+    ensures { result ≡ command_with opcode (bytes_of text.now) }
+{
+    match opcode {
+        NOP => Command::Nop,
+        RTS | STR | CLS => sockets_in(text, opcode),
+        ALL | GVB | RET => allocation_in(text, opcode),
+        INR => Command::Inr {
+            link: byte_in(text, 1),
+        },
+        INS => Command::Ins {
+            link: byte_in(text, 1),
+        },
+        ECO => Command::Eco {
+            byte: byte_in(text, 1),
+        },
+        ERP => Command::Erp {
+            byte: byte_in(text, 1),
+        },
+        ERR => Command::Err {
+            code: byte_in(text, 1),
+            bytes: data_in(text, 2),
+        },
+        RST => Command::Rst,
+        _ => Command::Rrp,
+    }
+}
+
+// A fault at the front of a text.
+fn fault_at_front(text: &Part<'_>, code: u8) -> CommandFault
+    requires whole { length text.now % 8 ≡ 0 }
+    requires some { 0 < length text.now }
+    ensures code { result.code ≡ code }
+    ensures bytes { result.bytes ≡ padded ERROR_DATA (bytes_of text.now) }
+{
+    CommandFault {
+        code,
+        bytes: data_in(text, 0),
+    }
+}
+
+/// The command that begins a text, and the text behind it; else the fault at its front.
+pub(crate) fn read_front<'a>(text: &Part<'a>) -> Result<(Command, Part<'a>), CommandFault>
+    requires whole { length text.now % 8 ≡ 0 }
+    requires some { 0 < length text.now }
+    ensures command { MatchResult result (λ read. command_at (bytes_of text.now) ≡ Some read.0) (λ _. command_at (bytes_of text.now) ≡ None) }
+    ensures rest { MatchResult result (λ read. read.1 ≡ drop (8 * length (spelling read.0)) text.now) (λ fault. fault_of (bytes_of text.now) ≡ Some fault) }
+{
+    let opcode = byte_in(text, 0);
+    let Some(size) = command_size(opcode) else {
+        return Err(fault_at_front(text, ILLEGAL_OPCODE));
+    };
+    if text.len() < 8 * size {
+        return Err(fault_at_front(text, SHORT_PARAMETER_SPACE));
+    }
+    let rest = text.slice(8 * size, text.len() - 8 * size);
+    Ok((command_in(text, opcode), rest))
+}
