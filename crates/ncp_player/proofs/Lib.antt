@@ -1,9 +1,10 @@
 pub mod Decimal
 pub mod Streaming
+pub mod Choosing
+pub mod Hexadecimal
 pub mod Contents
 pub mod Progress
 pub mod Files
-pub mod Lines
 pub mod Outcomes
 pub mod Saying
 pub mod Windows

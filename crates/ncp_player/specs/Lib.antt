@@ -1,7 +1,6 @@
 pub mod Memory
 pub mod Streams
 pub mod File
-pub mod Leader
 pub mod Results
 pub mod Lines
 pub mod Shown

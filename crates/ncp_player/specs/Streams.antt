@@ -1,5 +1,6 @@
 -- Bytes on their way: from a source through a window, and through a page into a sink.
-use Rattle.std.specs.Prelude.{◌≡◌, ℕ, ◌+◌, ◌*◌, List, ◌++◌, length, Option, Some}
+use Rattle.std.specs.Prelude.{◌≡◌, ℕ, ◌+◌, ◌*◌, List, ◌++◌, length, Option, Some, Result, Ok, Err}
+use Rattle.ncp_player.specs.declared.source.Failed.{Failed}
 use Rattle.ncp_player.specs.declared.incoming.TheConstants.{WINDOW}
 
 -- the bytes that are to come: those in the window, then those that the source has left
@@ -22,6 +23,11 @@ Says page written text page' written' =
 -- a beginning of it was written, and the rest is lost
 abbrev pub SaysBeginning : List ℕ → Option (List ℕ) → List ℕ → Option (List ℕ) → Type 0
 SaysBeginning page written text written' = (lost : List ℕ) × Says page written text lost written'
+
+-- what a call did that says a text, by its answer
+abbrev pub Tells : List ℕ → Option (List ℕ) → List ℕ → Result Unit Failed → List ℕ → Option (List ℕ) → Type 0
+Tells page written text (Ok done) page' written' = Says page written text page' written'
+Tells page written text (Err failed) page' written' = SaysBeginning page written text written'
 
 -- what is left to be done by one who reads on: reads, and bytes in the window
 abbrev pub effort : ℕ → List ℕ → ℕ

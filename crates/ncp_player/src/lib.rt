@@ -2,13 +2,14 @@
 #![tactic(auto)]
 
 mod command_line;
+mod detail;
 mod file;
 mod incoming;
-mod leader;
 mod line;
 mod memory;
 mod orders;
 mod outgoing;
+mod record;
 mod showing;
 mod sink;
 mod source;

@@ -1,6 +1,7 @@
 //! `Outgoing`: bytes for a sink, written in pieces.
-ghost use Rattle.std.specs.Prelude.{◌≡◌, ℕ, ◌+◌, ◌≤◌, ◌||◌, [], ◌∷◌, ◌++◌, length, take, is_err, OnOk, OnErr};
+ghost use Rattle.std.specs.Prelude.{◌≡◌, ℕ, ◌+◌, ◌*◌, ◌<◌, ◌≤◌, ◌||◌, [], ◌∷◌, ◌++◌, length, take, decimal, is_err, OnOk, OnErr};
 ghost use Rattle.std.specs.Io.KnownBytes.{Appends};
+ghost use Rattle.ncp_player.specs.Lines.{hex_digit, hex_of};
 ghost use Rattle.ncp_player.specs.Streams.{Says, SaysBeginning};
 
 use crate::sink::Sink;
@@ -10,6 +11,9 @@ use std::marker::Model;
 
 /// How many bytes a page has room for.
 pub(crate) const PAGE: usize = 16384;
+
+/// How many digits the longest number has.
+pub(crate) const LONGEST_NUMBER: usize = 10;
 
 /// A page of bytes that are not yet written.
 #[derive(Drop)]
@@ -36,6 +40,43 @@ fn put_all<W: Sink>(sink: &mut W, piece: &[u8]) -> Result<(), Failed>
         done += sink.write(&piece[done..])?;
     }
     Ok(())
+}
+
+// Appends the digits of a number in decimal.
+fn push_digits(bytes: &mut ArrayVec<u8, PAGE>, number: u32)
+    requires { length bytes.old.items + length (decimal number) ≤ PAGE }
+    ensures { bytes.new.items ≡ bytes.old.items ++ decimal number }
+{
+    if number < 10 {
+        bytes.push(b'0' + number as u8);
+        return;
+    }
+    push_digits(bytes, number / 10);
+    bytes.push(b'0' + (number % 10) as u8);
+}
+
+// A digit of a hexadecimal number.
+fn digit_of(number: u8) -> u8
+    requires { number < 16 }
+    ensures { result ≡ hex_digit number }
+{
+    if number < 10 {
+        b'0' + number
+    } else {
+        b'a' + (number - 10)
+    }
+}
+
+// Appends bytes in hexadecimal.
+fn push_hex_digits(page: &mut ArrayVec<u8, PAGE>, bytes: &[u8])
+    requires { length page.old.items + 2 * length bytes.now ≤ PAGE }
+    ensures bytes { page.new.items ≡ page.old.items ++ hex_of bytes.now }
+    ensures len { length page.new.items ≡ length page.old.items + 2 * length bytes.now }
+{
+    for byte in bytes {
+        page.push(digit_of(*byte / 16));
+        page.push(digit_of(*byte % 16));
+    }
 }
 
 impl Outgoing {
@@ -80,6 +121,24 @@ impl Outgoing {
         ensures len { length self.new ≡ length self.old + 1 }
     {
         self.bytes.push(byte);
+    }
+
+    /// Appends the digits of a number in decimal.
+    pub(crate) fn push_decimal(&mut self, number: u32)
+        requires { length self.old + LONGEST_NUMBER ≤ PAGE }
+        ensures bytes { self.new ≡ self.old ++ decimal number }
+        ensures len { length self.new ≤ length self.old + LONGEST_NUMBER }
+    {
+        push_digits(&mut self.bytes, number);
+    }
+
+    /// Appends bytes in hexadecimal.
+    pub(crate) fn push_hex(&mut self, bytes: &[u8])
+        requires { length self.old + 2 * length bytes.now ≤ PAGE }
+        ensures bytes { self.new ≡ self.old ++ hex_of bytes.now }
+        ensures len { length self.new ≡ length self.old + 2 * length bytes.now }
+    {
+        push_hex_digits(&mut self.bytes, bytes);
     }
 
     /// Appends a text.

@@ -7,8 +7,8 @@ ghost use Rattle.ncp_player.specs.Shown.{Shown};
 
 use crate::file::{Direction, FileFault, read_header, read_record};
 use crate::incoming::Incoming;
-use crate::line::say_record;
 use crate::outgoing::Outgoing;
+use crate::record::say_record;
 use crate::sink::Sink;
 use crate::source::Source;
 

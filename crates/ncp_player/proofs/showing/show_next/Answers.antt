@@ -15,10 +15,10 @@ returns-in_default-clause-told g c = λ bytes was said a k. (rw c.in_default.is 
 pub returns-in-Ok-clause-told : goal.returns-in-Ok-clause-told
 returns-in-Ok-clause-told g c = λ bytes was said a k.
     let read = rw c.in-Some.is at (c.in_ok-message.ensures.told bytes a) in
-    (c.in-Some.message, read.0, read.1, read.2, c.in-Ok.ensures.ok was said k)
+    (c.in-Some.message, read.0, read.1, read.2, c.in-Ok.ensures.told was said k)
 
 pub returns-in-Err-clause-told : goal.returns-in-Err-clause-told
 returns-in-Err-clause-told g c = λ bytes was said a k.
     let read = rw c.in-Some.is at (c.in_ok-message.ensures.told bytes a) in
-    let broken = c.in-Err.ensures.err in
+    let broken = c.in-Err.ensures.told in
     (c.in-Some.message, read.0, broken.0, read.1, broken.1 was said k)
