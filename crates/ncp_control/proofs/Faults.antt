@@ -39,12 +39,12 @@ illegal command opcode more h e =
 pub early : (opcode : ℕ) (bytes : List ℕ) → All IsByte (opcode ∷ bytes) → NoneBegins (opcode ∷ bytes) → opcode ≤ 13
     → (command : Command) × (more : List ℕ) × IsCommand command × (spelling command ≡ (opcode ∷ bytes) ++ more)
 early opcode bytes small none h =
-    let size = get_or sizes opcode 0 in
+    let size : ℕ = get_or sizes opcode 0 in
     let is_size : size_of opcode ≡ Some size = slice_get-get_or sizes opcode 0 (omega arith) in
     elim (cases_lt (length (opcode ∷ bytes)) size) [
       | inl short ↦
-          let zeros = replicate (size - length (opcode ∷ bytes)) 0 in
-          let text = (opcode ∷ bytes) ++ zeros in
+          let zeros : List ℕ = replicate (size - length (opcode ∷ bytes)) 0 in
+          let text : List ℕ = (opcode ∷ bytes) ++ zeros in
           let long : length text ≡ size = simp (length-append, length-replicate) (omega arith) in
           let small_text : All IsByte text = All-append IsByte (opcode ∷ bytes) zeros small (All-replicate IsByte (size - length (opcode ∷ bytes)) 0 (omega arith)) in
           let begins : Begins (command_with opcode text) size text = read_begins text small_text size is_size (omega arith) in (

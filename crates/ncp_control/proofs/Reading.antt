@@ -10,7 +10,7 @@ use Rattle.std.proofs.lemmas.Nat.{mod_below}
 use Rattle.std.specs.Int.{byte_at as digit}
 use Rattle.std.proofs.lemmas.Option.{none-some, same_Some, cond_some, option_and_then_some}
 use Rattle.ncp_control.specs.Spelling.{spelling, spellings, IsByte, IsCommand, padded, error_of}
-use Rattle.ncp_control.specs.Texts.{Reads, NoneBegins, fault_of, items_of, commands_of, fault_among}
+use Rattle.ncp_control.specs.Texts.{Reads, NoneBegins, fault_of, items_of, commands_of, fault_among, EndsAtFault}
 use Rattle.ncp_control.specs.Reading.{size_of, byte_at, command_with, command_at, commands_within, commands_in, rest_in, fault_in, items_in}
 use Rattle.ncp_control.specs.declared.command.Command.{Command}
 use Rattle.ncp_control.specs.declared.command.Command.TheVariants.{Nop, Rts, Str, Cls, All as Allocate, Gvb, Ret, Inr, Ins, Eco, Erp, Err, Rst, Rrp}
@@ -305,6 +305,15 @@ fault_among-items_of : (commands : List Command) (fault : Option CommandFault) �
 fault_among-items_of [] None = refl
 fault_among-items_of [] (Some fault) = refl
 fault_among-items_of (command ∷ commands) fault = fault_among-items_of commands fault
+
+EndsAtFault-items_of : (commands : List Command) (fault : Option CommandFault) → EndsAtFault (items_of commands fault)
+EndsAtFault-items_of [] None = tt
+EndsAtFault-items_of [] (Some fault) = refl
+EndsAtFault-items_of (command ∷ commands) fault = EndsAtFault-items_of commands fault
+
+pub last_met : (bytes : List ℕ) → EndsAtFault (items_in bytes)
+unfolding items_in
+last_met bytes = EndsAtFault-items_of (commands_in bytes) (fault_in bytes)
 
 pub commands_met : (bytes : List ℕ) → commands_of (items_in bytes) ≡ commands_in bytes
 unfolding items_in

@@ -1,6 +1,6 @@
 -- What a control text says: the longest list of commands whose joined spellings begin it, and at most
 -- one fault behind them. The codes and the data of a fault are this profile's.
-use Rattle.std.specs.Prelude.{ℕ, ◌≡◌, ◌≢◌, nat_lt, List, [], ◌∷◌, ◌++◌, map, All, Option, Some, None, Result, Ok, if◌then◌else◌}
+use Rattle.std.specs.Prelude.{ℕ, ◌≡◌, ◌≢◌, ⊤, nat_lt, List, [], ◌∷◌, ◌++◌, map, All, Option, Some, None, Result, Ok, if◌then◌else◌}
 use Rattle.std.specs.Option.{option_to_list}
 use Rattle.std.specs.declared.result.Result.TheVariants.{Err as Fault}
 use Rattle.ncp_control.specs.Spelling.{spelling, spellings, IsCommand, padded}
@@ -37,3 +37,9 @@ abbrev pub fault_among : List (Result Command CommandFault) → Option CommandFa
 fault_among [] = None
 fault_among (Ok command ∷ items) = fault_among items
 fault_among (Fault fault ∷ items) = Some fault
+
+-- nothing comes behind a fault
+abbrev pub EndsAtFault : List (Result Command CommandFault) → Type 0
+EndsAtFault [] = ⊤
+EndsAtFault (Ok command ∷ items) = EndsAtFault items
+EndsAtFault (Fault fault ∷ items) = items ≡ []

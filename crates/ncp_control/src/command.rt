@@ -1,5 +1,5 @@
 //! Commands and their spelling.
-ghost use Rattle.std.specs.Prelude.{◌≡◌, ◌+◌, ◌<◌, ◌≤◌, ◌++◌, ◌∷◌, [], length, take, drop, replicate, All};
+ghost use Rattle.std.specs.Prelude.{◌≡◌, ◌+◌, ◌<◌, ◌≤◌, ◌++◌, ◌∷◌, [], length, take, drop, All};
 ghost use Rattle.std.specs.Int.{to_be_bytes, w16, w32};
 ghost use Rattle.ncp_control.specs.Spelling.{spelling, IsByte, IsCommand, error_of};
 

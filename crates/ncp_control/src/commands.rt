@@ -1,8 +1,8 @@
 //! `Commands`.
-ghost use Rattle.std.specs.Prelude.{◌≡◌, ◌+◌, ◌*◌, ◌≤◌, ◌%◌, length};
+ghost use Rattle.std.specs.Prelude.{◌≡◌, ◌*◌, ◌≤◌, ◌%◌, length};
 ghost use Rattle.std.specs.Iterator.{YieldsFirst, item_count};
 ghost use Rattle.ncp_bits.specs.Bits.{bytes_of};
-ghost use Rattle.ncp_control.specs.Texts.{Reads, items_of, commands_of, fault_among};
+ghost use Rattle.ncp_control.specs.Texts.{Reads, items_of, commands_of, fault_among, EndsAtFault};
 ghost use Rattle.ncp_control.specs.Reading.{commands_in, rest_in, fault_in};
 
 use crate::command::Command;
@@ -41,6 +41,7 @@ impl<'a> Commands<'a> {
         ensures items { let bytes = bytes_of text.entry in result ≡ items_of (commands_in bytes) (fault_in bytes) }
         ensures commands { commands_of result ≡ commands_in (bytes_of text.entry) }
         ensures fault { fault_among result ≡ fault_in (bytes_of text.entry) }
+        ensures last { EndsAtFault result }
         // The commands are the longest list whose joined spellings begin the text.
         ensures reads { let bytes = bytes_of text.entry in Reads bytes (commands_in bytes) (rest_in bytes) }
         // Each item costs a byte at least.

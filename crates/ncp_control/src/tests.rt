@@ -1,6 +1,6 @@
 //! What no clause says: that the definitions mean what the worked rows mean, and that callers can use
 //! the contracts.
-ghost use Rattle.std.specs.Prelude.{◌≡◌, ◌*◌, ◌≤◌, ◌%◌, length};
+ghost use Rattle.std.specs.Prelude.{◌≡◌, ◌*◌, ◌≤◌, ◌%◌, ◌++◌, length, OnOk, IfOk};
 ghost use Rattle.ncp_bits.specs.Bits.{bytes_of};
 ghost use Rattle.ncp_control.specs.Reading.{commands_in, fault_in};
 
@@ -9,6 +9,7 @@ use crate::{
     NONEXISTENT_SOCKET, SHORT_PARAMETER_SPACE, SOCKET_NOT_CONNECTED, error_for, laws, put_command,
 };
 use ncp_bits::{Bits, Part};
+use std::alloc::AllocError;
 use std::process::Abort;
 use std::test::Fail;
 
@@ -184,6 +185,34 @@ fn count_commands(text: Part<'_>) -> usize
         }
     }
     count
+}
+
+// Appends the commands of a control text, up to its fault, and gives that.
+fn push_commands(
+    commands: &mut Vec<Command>,
+    text: Part<'_>,
+) -> Result<Option<CommandFault>, AllocError>
+    requires { length text % 8 ≡ 0 }
+    ensures commands { OnOk result (commands.new.items ≡ commands.old.items ++ commands_in (bytes_of text.entry)) }
+    ensures fault { IfOk result (λ fault. fault ≡ fault_in (bytes_of text.entry)) }
+{
+    for item in Commands::new(text) {
+        match item {
+            Ok(command) => commands.push(command)?,
+            Err(fault) => return Ok(Some(fault)),
+        }
+    }
+    Ok(None)
+}
+
+#[test]
+fn appends_commands(rt: HostRuntime) -> Result<(), Fail> {
+    let text = text_of(&rt, &[0x00, 0x09, 0x41, 0x0e]);
+    let mut commands = Vec::new(rt.alloc());
+    let fault = push_commands(&mut commands, text.whole())?;
+    assert!(rt; fault.is_some());
+    assert!(rt; commands.as_slice() == [Command::Nop, Command::Eco { byte: 0x41 }].as_slice());
+    Ok(())
 }
 
 // The fault of a control text.

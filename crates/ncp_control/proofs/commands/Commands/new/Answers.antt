@@ -2,7 +2,7 @@ use Rattle.std.proofs.Common.{◌≡◌, ◌*◌, ◌≤◌, length, refl, arith
 use Rattle.ncp_bits.specs.Bits.{bytes_of}
 use Rattle.ncp_control.specs.Reading.{items_in}
 use Rattle.ncp_control.proofs.Text.{length_whole, bytes_are_small}
-use Rattle.ncp_control.proofs.Reading.{reads, commands_met, fault_met, items_are_few}
+use Rattle.ncp_control.proofs.Reading.{reads, commands_met, fault_met, last_met, items_are_few}
 use Rattle.ncp_control.proofs.commands.Commands.new.Goals as goal
 
 pub returns-clause-reads : goal.returns-clause-reads
@@ -23,3 +23,6 @@ returns-clause-fault c = fault_met (bytes_of c.args.text)
 pub returns-clause-items : goal.returns-clause-items
 unfolding items_in
 returns-clause-items c = refl
+
+pub returns-clause-last : goal.returns-clause-last
+returns-clause-last c = last_met (bytes_of c.args.text)
