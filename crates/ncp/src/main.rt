@@ -2,7 +2,7 @@
 #![tactic(auto)]
 
 use anyhow::Result;
-use ncp_player::{FromRead, Order, ToWrite, order, show, status};
+use ncp_player::{FromRead, Order, ToWrite, check, order, show, status};
 use std::env;
 use std::process::ExitCode;
 
@@ -20,6 +20,7 @@ fn main(rt: HostRuntime) -> Result<ExitCode> {
     let mut sink = ToWrite::new(rt.stdout());
     let outcome = match order {
         Order::Show => show(&mut source, &mut sink).map(|()| true),
+        Order::Check => check(&mut source, &mut sink),
     };
     let outcome = match outcome {
         Ok(good) => Ok(good),

@@ -1,5 +1,7 @@
 pub mod Decimal
 pub mod Streaming
+pub mod Checks
+pub mod Counting
 pub mod Choosing
 pub mod Hexadecimal
 pub mod Contents

@@ -1,23 +1,25 @@
 -- The command line of the program, in clap's words, and its exit status.
-use Rattle.std.specs.Prelude.{ℕ, Bool, true, false, List, Option, Some, None, Result, Ok, Err, codes}
+use Rattle.std.specs.Prelude.{ℕ, Bool, true, false, List, Option, Some, None, Result, Ok, Err, codes, option_map, if◌then◌else◌}
+use Rattle.std.specs.Str.{bytes_eq}
 use Rattle.clap.specs.Simple.{App, new_app, new_shape, with_subcommand, subcommand_of}
-use Rattle.clap.specs.Walk.{Row, Text}
+use Rattle.clap.specs.Walk.{Text}
 use Rattle.ncp_player.specs.declared.orders.Order.{Order}
-use Rattle.ncp_player.specs.declared.orders.Order.TheVariants.{Show}
+use Rattle.ncp_player.specs.declared.orders.Order.TheVariants.{Show, Check}
 
 -- the program and its subcommands
 abbrev pub program : App
-program = with_subcommand (new_app (codes "ncp")) (new_shape (codes "show"))
+program = with_subcommand (with_subcommand (new_app (codes "ncp")) (new_shape (codes "show"))) (new_shape (codes "check"))
 
 -- the order that a subcommand is: `show` where there is none
-abbrev pub order_named : Option (Text × List Row) → Order
-order_named None = Show
-order_named (Some found) = Show
+abbrev pub named : Option Text → Order
+named None = Show
+named (Some name) = if bytes_eq name (codes "check") then Check else Show
 
 -- the order that clap reads in words
 abbrev pub order_in : List Text → Order
-order_in words = order_named (subcommand_of program words)
+order_in words = named (option_map (λ found. found.0) (subcommand_of program words))
 
+-- 0 where all is good, 1 where the answer is no, 2 after a fault
 abbrev pub status_of : Result Bool Unit → ℕ
 status_of (Ok true) = 0
 status_of (Ok false) = 1

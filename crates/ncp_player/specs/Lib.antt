@@ -5,4 +5,6 @@ pub mod Results
 pub mod Lines
 pub mod Shown
 pub mod Steps
+pub mod Checked
+pub mod Tallies
 pub mod CommandLine

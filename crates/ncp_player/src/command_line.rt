@@ -1,11 +1,27 @@
 //! The command line of the program `ncp`.
-ghost use Rattle.std.specs.Prelude.{◌≡◌, IfOk, map};
-ghost use Rattle.ncp_player.specs.CommandLine.{order_in, status_of};
+ghost use Rattle.std.specs.Prelude.{◌≡◌, IfOk, map, option_map};
+ghost use Rattle.ncp_player.specs.CommandLine.{named, order_in, status_of};
 
 use crate::orders::Order;
 use clap::{Command, Error};
 use std::alloc::Global;
 use std::convert::AsStr;
+
+// The program's name, and those of its subcommands.
+const PROGRAM: &str = "ncp";
+const SHOW: &str = "show";
+const CHECK: &str = "check";
+
+// The order that a subcommand is: `show` where there is none.
+fn order_named(name: Option<&str>) -> Order
+    ensures { result ≡ named (option_map (λ name. name.now) name.entry) }
+{
+    if name == Some(CHECK) {
+        Order::Check
+    } else {
+        Order::Show
+    }
+}
 
 /// Reads the words of a command line, the program's name first. Without a subcommand it is `show`.
 ///
@@ -13,17 +29,16 @@ use std::convert::AsStr;
 pub fn order<'a, S: AsStr>(alloc: Global, words: &'a [S]) -> Result<Order, Error>
     ensures { IfOk result (λ order. order ≡ order_in (map S.text words.entry.now)) }
 {
-    let show = Command::new(alloc, "show").about(
-        "Shows each message of a message file, read from standard input",
-    );
-    let program = Command::new(alloc, "ncp")
+    let show = Command::new(alloc, SHOW)
+        .about("Shows each message of a message file, read from standard input");
+    let check = Command::new(alloc, CHECK)
+        .about("Counts the messages of a message file, and says whether all are sound");
+    let program = Command::new(alloc, PROGRAM)
         .about("Reads the messages of an ARPANET host")
-        .subcommand(show)?;
+        .subcommand(show)?
+        .subcommand(check)?;
     let matches = program.try_get_matches_from(words)?;
-    Ok(match matches.subcommand_name() {
-        None => Order::Show,
-        Some(_) => Order::Show,
-    })
+    Ok(order_named(matches.subcommand_name()))
 }
 
 /// The program's exit status: 0 where all is good, 1 where a check or a player answered false, 2

@@ -1,6 +1,7 @@
 //! Message files: what is shown of them, and the command line of the program `ncp`.
 #![tactic(auto)]
 
+mod checking;
 mod command_line;
 mod detail;
 mod file;
@@ -13,9 +14,11 @@ mod record;
 mod showing;
 mod sink;
 mod source;
+mod tally;
 #[cfg(test)]
 mod tests;
 
+pub use checking::check;
 pub use command_line::{order, status};
 pub use file::{Direction, FileFault};
 pub use memory::{MemorySink, MemorySource};

@@ -9,6 +9,9 @@ use ncp_leader::{Leader, Short};
 /// How many bytes a line has at most, but for a text in hexadecimal.
 pub(crate) const LONGEST_LINE: usize = 128;
 
+/// The type of a regular message.
+pub(crate) const REGULAR: u8 = 0;
+
 // How many bytes the longest name of a type has.
 const LONGEST_KIND: usize = 15;
 

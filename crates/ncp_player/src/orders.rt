@@ -5,4 +5,6 @@
 pub enum Order {
     /// Show the messages of a file.
     Show,
+    /// Say whether a file is sound.
+    Check,
 }

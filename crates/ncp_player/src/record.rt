@@ -5,15 +5,12 @@ ghost use Rattle.ncp_player.specs.Streams.{Tells};
 
 use crate::detail::say_details;
 use crate::file::Direction;
-use crate::line::{LONGEST_LINE, push_first_line};
+use crate::line::{LONGEST_LINE, REGULAR, push_first_line};
 use crate::outgoing::Outgoing;
 use crate::sink::Sink;
 use crate::source::Failed;
 use ncp_bits::Bits;
 use ncp_leader::{Leader, Short, read_leader};
-
-// The type of a regular message.
-const REGULAR: u8 = 0;
 
 // Says the first line of a record.
 fn say_first_line<W: Sink>(

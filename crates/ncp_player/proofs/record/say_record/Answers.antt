@@ -15,8 +15,8 @@ returns-in_err-say_first_line-clause-told g c =
     let first : decimal c.args.number ++ summary c.args.direction c.read_leader-leader.result ≡ first_line c.args.direction c.args.number message =
     ap (λ leader. decimal c.args.number ++ summary c.args.direction leader) c.read_leader-leader.ensures.exact in
     tells_broken c.args.page.now _ was now c.say_first_line.new.page c.from_residual.result c.from_residual.ensures.0 (
-      subst (λ text. SaysBeginning c.args.page.now was (text ++ details message) now) first
-      (says_beginning_longer c.args.page.now _ (details message) was now c.in_err-say_first_line.ensures.told))
+    subst (λ text. SaysBeginning c.args.page.now was (text ++ details message) now) first
+    (says_beginning_longer c.args.page.now _ (details message) was now c.in_err-say_first_line.ensures.told))
 
 pub returns-then-has_details-clause-told : goal.returns-then-has_details-clause-told
 returns-then-has_details-clause-told g c =

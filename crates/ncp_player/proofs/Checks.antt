@@ -1,0 +1,36 @@
+-- Writing the line of the counts.
+use Rattle.std.proofs.Common.{◌≡◌, ℕ, Bool, List, [], ◌++◌, Option, Some, None, Result, Ok, Err, sym, ap, ◌∙◌, refl}
+use Rattle.std.proofs.lemmas.List.{append-nil}
+use Rattle.ncp_player.specs.declared.file.FileFault.{FileFault}
+use Rattle.ncp_player.specs.declared.file.FileFault.TheVariants.{BadHeader, Truncated, TooLong, SpareNotZero, ReadFailed, WriteFailed}
+use Rattle.ncp_player.specs.declared.tally.Tally.{Tally}
+use Rattle.ncp_player.specs.Streams.{Said, Says, SaysBeginning}
+use Rattle.ncp_player.specs.Checked.{tally_of, tally_line, is_sound, FileHolds, Checked}
+use Rattle.ncp_player.specs.Tallies.{TalliesFile}
+
+-- what is said where a page with the line is all that there is
+fresh : (was line page : List ℕ) (written : Option (List ℕ)) → written ≡ Some was → page ≡ line → Said was page written line
+fresh was line page written e p = ([], e ∙ ap Some (sym (append-nil was)), p)
+
+pub checked_ok : (bytes was page last : List ℕ) (written now : Option (List ℕ)) (tally : Tally) (good : Bool) → TalliesFile bytes (Ok tally) → written ≡ Some was → page ≡ tally_line tally
+    → (last ≡ []) × Says page written [] last now → good ≡ is_sound tally → Checked bytes was now (Ok good)
+checked_ok bytes was page last written now tally good h e p k g =
+    let line = tally_line (tally_of h.0) in
+    let said = k.1 was line (fresh was line page written e (p ∙ ap tally_line h.2)) in
+    let same : said.0 ≡ line = sym (append-nil said.0) ∙ ap (λ xs. said.0 ++ xs) (sym k.0) ∙ said.2 ∙ append-nil line in
+    (h.0, h.1, said.1 ∙ ap (λ xs. Some (was ++ xs)) same, g ∙ ap is_sound h.2)
+
+pub checked_broken : (bytes was page : List ℕ) (written now : Option (List ℕ)) (tally : Tally) → TalliesFile bytes (Ok tally) → written ≡ Some was → page ≡ tally_line tally → SaysBeginning page written [] now
+    → Checked bytes was now (Err WriteFailed)
+checked_broken bytes was page written now tally h e p k =
+    let line = tally_line (tally_of h.0) in
+    let said = k.1 was line (fresh was line page written e (p ∙ ap tally_line h.2)) in
+    (h.0, said.0, k.0, h.1, sym (said.2 ∙ append-nil line), said.1)
+
+pub checked_fault : (bytes was : List ℕ) (written : Option (List ℕ)) (fault : FileFault) → TalliesFile bytes (Err fault) → written ≡ Some was → Checked bytes was written (Err fault)
+checked_fault bytes was written BadHeader h e = (h.0, h.1, e)
+checked_fault bytes was written Truncated h e = (h.0, h.1, e)
+checked_fault bytes was written TooLong h e = (h.0, h.1, e)
+checked_fault bytes was written SpareNotZero h e = (h.0, h.1, e)
+checked_fault bytes was written ReadFailed h e = e
+checked_fault bytes was written WriteFailed h e = absurd h

@@ -1,0 +1,38 @@
+use Rattle.std.proofs.Common.{◌≡◌, ◌∙◌, Ok, Err, refl, subst, sym}
+use Rattle.std.proofs.Math.Bool.{or-false}
+use Rattle.std.proofs.lemmas.Result.{err_from_is_err_and}
+use Rattle.ncp_player.specs.Tallies.{TalliesFrom, no_messages}
+use Rattle.ncp_player.proofs.Counting.{tallies_more, tallies_fault, tallies_end}
+use Rattle.ncp_player.proofs.checking.tally_records.Goals as goal
+
+pub loop-message-init : goal.loop-message-init
+loop-message-init g c = record {
+  told = λ bytes a. (bytes, a, λ r h. subst (λ tally. TalliesFrom bytes tally r) c.new-tally.ensures h);
+  mark = refl;
+}
+
+pub returns-in_err-message-clause-told : goal.returns-in_err-message-clause-told
+returns-in_err-message-clause-told g c = λ bytes a.
+    let p = err_from_is_err_and c.from_residual.result c.from_residual.ensures.1 in
+    let before = c.loop-message.invariant.told bytes a in
+    rw (p.1, p.2) (
+      before.2 (Err c.in_err-message.field-0.0) (
+        tallies_fault before.0 c.read_record.new.window (g.S.Source.left c.read_record.new.source) c.loop-message.tally c.in_err-message.field-0.0 (c.in_err-message.ensures.told before.0 before.1)))
+
+pub loop-message-preserved : goal.loop-message-preserved
+loop-message-preserved g c = record {
+  told = λ bytes a.
+      let before = c.loop-message.invariant.told bytes a in
+      let read = rw c.in-Some.is at (c.in_ok-message.ensures.told before.0 before.1) in (
+        read.0,
+        read.2,
+        λ r h. before.2 r (tallies_more before.0 read.0 c.in-Some.message c.loop-message.tally r read.1 (subst (λ tally. TalliesFrom read.0 tally r) c.count-tally.ensures h)),
+      );
+  mark = c.in_ok-message.ensures.mark ∙ or-false _ ∙ c.loop-message.invariant.mark;
+}
+
+pub returns-clause-told : goal.returns-clause-told
+returns-clause-told g c = λ bytes a.
+    let before = c.loop-message.invariant.told bytes a in
+    let none = rw c.in_default.is at (c.in_ok-message.ensures.told before.0 before.1) in
+    before.2 (Ok c.loop-message.tally) (tallies_end before.0 c.loop-message.tally none)

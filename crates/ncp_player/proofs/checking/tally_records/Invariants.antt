@@ -1,0 +1,18 @@
+use Rattle.std.proofs.Common.{◌≡◌, ℕ, List, Result}
+use Rattle.ncp_player.specs.declared.file.FileFault.{FileFault}
+use Rattle.ncp_player.specs.declared.tally.Tally.{Tally}
+use Rattle.ncp_player.specs.Streams.{Ahead, effort}
+use Rattle.ncp_player.specs.Tallies.{no_messages, TalliesFrom}
+use Rattle.ncp_player.proofs.checking.tally_records.Given as goal
+
+abbrev pub invariant-loop-message : goal.invariant-loop-message
+invariant-loop-message g l =
+    let s = g.S.Source in
+    record {
+      told : (bytes : List ℕ) → Ahead l.initial.window (s.left l.initial.source) bytes
+          → (now : List ℕ) × Ahead l.window (s.left l.source) now × ((r : Result Tally FileFault) → TalliesFrom now l.tally r → TalliesFrom bytes no_messages r);
+      mark : s.has_failed l.source ≡ s.has_failed l.initial.source;
+    }
+
+abbrev pub decreases-loop-message : goal.decreases-loop-message
+decreases-loop-message g l = effort (g.S.Source.reads l.source) l.window

@@ -1,0 +1,116 @@
+-- What `check` counts, writes and answers.
+use Rattle.std.specs.Prelude.{◌≡◌, ℕ, ◌-◌, ◌^◌, ◌==◌, ◌&&◌, ◌||◌, not, min, Bool, true, false, List, [], ◌++◌, length, drop, count_by, Option, Some, None, Result, Ok, Err, MatchOption, is_some, codes, if◌then◌else◌}
+use Rattle.ncp_bits.specs.Bits.{bytes_of}
+use Rattle.ncp_leader.specs.declared.leader.Leader.{Leader}
+use Rattle.ncp_leader.specs.declared.leader.Short.{Short}
+use Rattle.ncp_leader.specs.declared.fault.MessageFault.{MessageFault}
+use Rattle.ncp_leader.specs.Leader.{leader_in}
+use Rattle.ncp_leader.specs.Message.{Message, message_in}
+use Rattle.ncp_control.specs.Reading.{fault_in}
+use Rattle.ncp_player.specs.declared.file.FileFault.{FileFault}
+use Rattle.ncp_player.specs.declared.file.FileFault.TheVariants.{BadHeader, Truncated, TooLong, SpareNotZero, ReadFailed, WriteFailed}
+use Rattle.ncp_player.specs.declared.tally.Verdict.{Verdict}
+use Rattle.ncp_player.specs.declared.tally.Verdict.TheVariants as is
+use Rattle.ncp_player.specs.declared.tally.Tally.{Tally}
+use Rattle.ncp_player.specs.File.{direction_of, Holds}
+use Rattle.ncp_player.specs.Lines.{field}
+
+-- ---- one message
+
+-- a message on the control link whose size is not eight, or whose text has a fault
+abbrev pub is_bad_text : Message → Bool
+is_bad_text message =
+    (message.leader.link == 0) && (not (message.size == 8) || is_some (fault_in (bytes_of message.text)))
+
+abbrev pub verdict_of_message : Result Message MessageFault → Verdict
+verdict_of_message (Err fault) = is.Faulty
+verdict_of_message (Ok message) = if is_bad_text message then is.Bad else is.Sound
+
+abbrev pub verdict_behind : List Bool → Result Leader Short → Verdict
+verdict_behind bits (Err short) = is.Short
+verdict_behind bits (Ok leader) = if leader.kind == 0 then verdict_of_message (message_in bits) else is.Other
+
+abbrev pub verdict_of : List Bool → Verdict
+verdict_of bits = verdict_behind bits (leader_in bits)
+
+abbrev pub is_short : Verdict → Bool
+is_short is.Short = true
+is_short is.Other = false
+is_short is.Sound = false
+is_short is.Faulty = false
+is_short is.Bad = false
+
+-- of type 0
+abbrev pub is_of_type_0 : Verdict → Bool
+is_of_type_0 is.Short = false
+is_of_type_0 is.Other = false
+is_of_type_0 is.Sound = true
+is_of_type_0 is.Faulty = true
+is_of_type_0 is.Bad = true
+
+abbrev pub is_faulty : Verdict → Bool
+is_faulty is.Short = false
+is_faulty is.Other = false
+is_faulty is.Sound = false
+is_faulty is.Faulty = true
+is_faulty is.Bad = false
+
+abbrev pub is_bad : Verdict → Bool
+is_bad is.Short = false
+is_bad is.Other = false
+is_bad is.Sound = false
+is_bad is.Faulty = false
+is_bad is.Bad = true
+
+-- ---- all messages
+
+-- a count stays at the largest number
+abbrev pub capped : ℕ → ℕ
+capped number = min number (2 ^ 32 - 1)
+
+-- how many messages have a verdict that passes
+abbrev pub count_of : (Verdict → Bool) → List (List Bool) → ℕ
+count_of test messages = capped (count_by (λ message. test (verdict_of message)) messages)
+
+abbrev pub tally_of : List (List Bool) → Tally
+tally_of messages = record {
+  messages = capped (length messages);
+  short = count_of is_short messages;
+  regular = count_of is_of_type_0 messages;
+  faults = count_of is_faulty messages;
+  bad = count_of is_bad messages;
+}
+
+-- no message is short or faulty
+abbrev pub is_sound : Tally → Bool
+is_sound tally = (tally.short == 0) && ((tally.faults == 0) && (tally.bad == 0))
+
+abbrev pub tally_line : Tally → List ℕ
+tally_line tally =
+    field (codes "messages=") tally.messages ++ field (codes " short=") tally.short ++ field (codes " regular=") tally.regular
+    ++ field (codes " faults=") tally.faults ++ field (codes " bad=") tally.bad ++ codes "\n"
+
+-- ---- the file
+
+-- a file's records before its first fault, and that fault, if there is one
+abbrev pub FileHolds : List ℕ → List (List Bool) → Option FileFault → Type 0
+FileHolds bytes messages fault =
+    MatchOption (direction_of bytes) ((messages ≡ []) × (fault ≡ Some BadHeader)) (λ direction. Holds (drop 4 bytes) messages fault)
+
+-- the file has this fault, and nothing was written
+abbrev pub ChecksNone : List ℕ → List ℕ → Option (List ℕ) → FileFault → Type 0
+ChecksNone bytes was written fault = (messages : List (List Bool)) × FileHolds bytes messages (Some fault) × (written ≡ Some was)
+
+-- what was written of a file, and what is answered
+abbrev pub Checked : List ℕ → List ℕ → Option (List ℕ) → Result Bool FileFault → Type 0
+Checked bytes was written (Ok good) =
+    (messages : List (List Bool)) × FileHolds bytes messages None × (written ≡ Some (was ++ tally_line (tally_of messages)))
+    × (good ≡ is_sound (tally_of messages))
+Checked bytes was written (Err BadHeader) = ChecksNone bytes was written BadHeader
+Checked bytes was written (Err Truncated) = ChecksNone bytes was written Truncated
+Checked bytes was written (Err TooLong) = ChecksNone bytes was written TooLong
+Checked bytes was written (Err SpareNotZero) = ChecksNone bytes was written SpareNotZero
+Checked bytes was written (Err ReadFailed) = written ≡ Some was
+Checked bytes was written (Err WriteFailed) =
+    (messages : List (List Bool)) × (text : List ℕ) × (more : List ℕ) × FileHolds bytes messages None
+    × (tally_line (tally_of messages) ≡ text ++ more) × (written ≡ Some (was ++ text))

@@ -1,0 +1,52 @@
+-- What the parts of `check` do.
+use Rattle.std.specs.Prelude.{◌≡◌, ℕ, Bool, List, [], ◌∷◌, Option, Some, None, Result, Ok, Err, if◌then◌else◌}
+use Rattle.ncp_player.specs.declared.file.FileFault.{FileFault}
+use Rattle.ncp_player.specs.declared.file.FileFault.TheVariants.{BadHeader, Truncated, TooLong, SpareNotZero, ReadFailed, WriteFailed}
+use Rattle.ncp_player.specs.declared.tally.Verdict.{Verdict}
+use Rattle.ncp_player.specs.declared.tally.Tally.{Tally}
+use Rattle.ncp_player.specs.File.{Holds}
+use Rattle.ncp_player.specs.Lines.{number_after}
+use Rattle.ncp_player.specs.Checked.{verdict_of, is_short, is_of_type_0, is_faulty, is_bad, tally_of, FileHolds}
+
+-- one more, where a test passes
+abbrev pub one_more : Bool → ℕ → ℕ
+one_more passes number = if passes then number_after number else number
+
+-- the counts with one message more
+abbrev pub tally_with : Tally → Verdict → Tally
+tally_with tally verdict = record {
+  messages = number_after tally.messages;
+  short = one_more (is_short verdict) tally.short;
+  regular = one_more (is_of_type_0 verdict) tally.regular;
+  faults = one_more (is_faulty verdict) tally.faults;
+  bad = one_more (is_bad verdict) tally.bad;
+}
+
+-- and with these messages more
+abbrev pub tally_from : Tally → List (List Bool) → Tally
+tally_from tally [] = tally
+tally_from tally (message ∷ messages) = tally_from (tally_with tally (verdict_of message)) messages
+
+-- the records from here on were counted, or there is a fault
+abbrev pub TalliesFrom : List ℕ → Tally → Result Tally FileFault → Type 0
+TalliesFrom bytes tally (Ok counted) = (messages : List (List Bool)) × Holds bytes messages None × (counted ≡ tally_from tally messages)
+TalliesFrom bytes tally (Err BadHeader) = (messages : List (List Bool)) × Holds bytes messages (Some BadHeader)
+TalliesFrom bytes tally (Err Truncated) = (messages : List (List Bool)) × Holds bytes messages (Some Truncated)
+TalliesFrom bytes tally (Err TooLong) = (messages : List (List Bool)) × Holds bytes messages (Some TooLong)
+TalliesFrom bytes tally (Err SpareNotZero) = (messages : List (List Bool)) × Holds bytes messages (Some SpareNotZero)
+TalliesFrom bytes tally (Err ReadFailed) = Unit {0}
+TalliesFrom bytes tally (Err WriteFailed) = ⊥
+
+-- nothing was counted
+abbrev pub no_messages : Tally
+no_messages = record { messages = 0; short = 0; regular = 0; faults = 0; bad = 0 }
+
+-- the records of a file were counted, or the file has a fault
+abbrev pub TalliesFile : List ℕ → Result Tally FileFault → Type 0
+TalliesFile bytes (Ok counted) = (messages : List (List Bool)) × FileHolds bytes messages None × (counted ≡ tally_of messages)
+TalliesFile bytes (Err BadHeader) = (messages : List (List Bool)) × FileHolds bytes messages (Some BadHeader)
+TalliesFile bytes (Err Truncated) = (messages : List (List Bool)) × FileHolds bytes messages (Some Truncated)
+TalliesFile bytes (Err TooLong) = (messages : List (List Bool)) × FileHolds bytes messages (Some TooLong)
+TalliesFile bytes (Err SpareNotZero) = (messages : List (List Bool)) × FileHolds bytes messages (Some SpareNotZero)
+TalliesFile bytes (Err ReadFailed) = Unit {0}
+TalliesFile bytes (Err WriteFailed) = ⊥

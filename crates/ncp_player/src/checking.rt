@@ -1,0 +1,63 @@
+//! `check`: whether a message file is sound.
+ghost use Rattle.std.specs.Prelude.{◌≡◌, ℕ, ◌<◌, ◌||◌, List, Some, false};
+ghost use Rattle.ncp_player.specs.Results.{is_read_failed, is_write_failed};
+ghost use Rattle.ncp_player.specs.Streams.{Ahead};
+ghost use Rattle.ncp_player.specs.Tallies.{no_messages, TalliesFrom, TalliesFile};
+ghost use Rattle.ncp_player.specs.Checked.{Checked};
+
+use crate::file::{FileFault, read_header, read_record};
+use crate::incoming::Incoming;
+use crate::outgoing::Outgoing;
+use crate::sink::Sink;
+use crate::source::Source;
+use crate::tally::{Tally, push_tally};
+
+// Counts the messages behind the header.
+fn tally_records<S: Source>(window: &mut Incoming, source: &mut S) -> Result<Tally, FileFault>
+    ensures told { (bytes : List ℕ) → Ahead window.old (S.left source.old) bytes → TalliesFrom bytes no_messages result }
+    ensures mark { S.has_failed source.new ≡ (S.has_failed source.old || is_read_failed result) }
+    ensures other { is_write_failed result ≡ false }
+{
+    let mut tally = Tally::new();
+    while let Some(message) = read_record(window, source)? {
+        tally = tally.count(&message);
+    }
+    Ok(tally)
+}
+
+// Counts the messages of a file.
+fn tally_file<S: Source>(source: &mut S) -> Result<Tally, FileFault>
+    ensures told { (bytes : List ℕ) → S.left source.old ≡ Some bytes → TalliesFile bytes result }
+    ensures mark { S.has_failed source.new ≡ (S.has_failed source.old || is_read_failed result) }
+    ensures other { is_write_failed result ≡ false }
+{
+    let mut window = Incoming::new();
+    let _direction = read_header(&mut window, source)?;
+    tally_records(&mut window, source)
+}
+
+/// Reads a message file to its end, writes one line that counts its messages, and answers whether
+/// none of them is short or faulty. After a fault of the file nothing is written.
+///
+/// It allocates nothing, and reads in pieces of at least 4 KiB.
+pub fn check<S: Source, W: Sink>(source: &mut S, sink: &mut W) -> Result<bool, FileFault>
+    requires source_clean { S.has_failed source.old ≡ false }
+    requires sink_clean { W.has_failed sink.old ≡ false }
+
+    // Of bytes that are told, the line of the counts is written, and nothing else.
+    ensures told { (bytes : List ℕ) (was : List ℕ)
+        → S.left source.old ≡ Some bytes → W.written sink.old ≡ Some was
+        → Checked bytes was (W.written sink.new) result }
+
+    // Reading and writing are blamed exactly where they failed.
+    ensures read_failed { S.has_failed source.new ≡ is_read_failed result }
+    ensures write_failed { W.has_failed sink.new ≡ is_write_failed result }
+{
+    let tally = tally_file(source)?;
+    let mut page = Outgoing::new();
+    push_tally(&mut page, &tally);
+    match page.flush(sink) {
+        Ok(()) => Ok(tally.is_sound()),
+        Err(_) => Err(FileFault::WriteFailed),
+    }
+}
