@@ -1,11 +1,11 @@
 -- Slots in a row, and the map from links to slots that they are.
-use Rattle.std.proofs.Common.{drop, ◌≡◌, ◌≢◌, ℕ, zero, suc, ◌+◌, ◌-◌, ◌*◌, ◌<◌, ◌≤◌, Bool, true, false, cond, eqb, List, [], ◌∷◌, length, get_or, slice_set, replicate, Option, Some, None, unwrap_or, inl, inr, ◌⊎◌, refl, sym, ap, ◌∙◌, arith, eq-eqb}
-use Rattle.std.specs.List.{slice_get, list_all}
+use Rattle.std.proofs.Common.{drop, ◌≡◌, ◌≢◌, ℕ, zero, suc, ◌+◌, ◌-◌, ◌*◌, ◌<◌, ◌≤◌, Bool, true, false, cond, eqb, List, [], ◌∷◌, length, get_or, slice_set, replicate, Option, Some, None, unwrap_or, ◌↔◌, inl, inr, ◌⊎◌, refl, sym, ap, ◌∙◌, arith, eq-eqb}
+use Rattle.std.specs.List.{slice_get, list_all, range_with_len}
 use Rattle.std.specs.Ordering.{nat_cmp, eq_by_cmp}
 use Rattle.std.specs.Cmp.{unsigned_tied}
 use Rattle.std.specs.FinMap.{find, get, insert, get-insert, get-from_entries, same_map, nat_cmp-IsAntisymmetric}
 use Rattle.std.proofs.lemmas.Cmp.{nat_cmp_total}
-use Rattle.std.proofs.lemmas.Bool.{ne_eqb, cases_lt}
+use Rattle.std.proofs.lemmas.Bool.{ne_eqb, cases_lt, cases_eq, and_parts, and_from}
 use Rattle.std.proofs.lemmas.Bool.Decides.{eqb_tells}
 use Rattle.std.proofs.lemmas.Option.{unwrap_or-slice_get}
 use Rattle.std.proofs.lemmas.List.{get_or_default}
@@ -13,7 +13,7 @@ use Rattle.std.proofs.Math.ListN.{get_or-eq_default}
 use Rattle.ncp_slot.specs.declared.slot.Slot.{Slot}
 use Rattle.ncp_slot.specs.declared.slot.Slot.TheVariants.{Empty, Ready, Travelling}
 use Rattle.ncp_slot.specs.Slot.{is_empty, is_ready}
-use Rattle.ncp_slot.specs.Slots.{LinkSlots, IsQuiet, slot_at, with_slot, OthersStay, link_at, with_links, slots_in}
+use Rattle.ncp_slot.specs.Slots.{LinkSlots, IsQuiet, is_quiet, slot_at, with_slot, OthersStay, link_at, with_links, slots_in}
 
 same : (a b : ℕ) → a ≡ b → eq_by_cmp nat_cmp a b ≡ true
 same a b e = unsigned_tied a b ∙ eq-eqb a b e
@@ -201,3 +201,34 @@ all_empty-quiet [] all is len quiet = refl
 all_empty-quiet (control ∷ data_slots) all is len quiet = all_empty-each data_slots (λ place inside.
     sym (slot_at-slots_in (control ∷ data_slots) (suc place + 1) (omega arith) ∙ ap (λ (k : ℕ). get_or (control ∷ data_slots) k Empty) (let k : suc place + 1 - 1 ≡ suc place = omega arith in k))
     ∙ ap (λ (s : LinkSlots). slot_at s (suc place + 1)) is ∙ quiet (suc place + 1) (omega arith) (omega arith))
+
+list_all_in : (p : ℕ → Bool) (from count : ℕ) → list_all p (range_with_len from count) ≡ true → (k : ℕ) → from ≤ k → k < from + count → p k ≡ true
+list_all_in p from zero h k low high = absurd (omega arith)
+list_all_in p from (suc count) h k low high =
+    let parts : (p from ≡ true) × (list_all p (range_with_len (from + 1) count) ≡ true) = and_parts _ _ h in
+    elim (cases_eq from k) [
+      | inl e ↦ ap p (sym e) ∙ parts.0
+      | inr ne ↦ list_all_in p (from + 1) count parts.1 k (omega arith) (omega arith)
+    ]
+
+all_in_list : (p : ℕ → Bool) (from count : ℕ) → ((k : ℕ) → from ≤ k → k < from + count → p k ≡ true) → list_all p (range_with_len from count) ≡ true
+all_in_list p from zero h = refl
+all_in_list p from (suc count) h = and_from _ _ (h from (omega arith) (omega arith)) (all_in_list p (from + 1) count (λ k low high. h k (omega arith) (omega arith)))
+
+empty_told : (slot : Slot) → is_empty slot ≡ true → slot ≡ Empty
+empty_told Empty h = refl
+empty_told (Ready message) h = cc
+empty_told (Travelling message) h = cc
+
+-- the test tells whether the data links are quiet
+pub is_quiet-tells : (all : LinkSlots) → (is_quiet all ≡ true) ↔ IsQuiet all
+unfolding is_quiet
+is_quiet-tells all =
+    ( λ h link low high. empty_told (slot_at all link) (list_all_in (λ k. is_empty (slot_at all k)) 2 70 h link low (omega arith))
+    , λ quiet. all_in_list (λ k. is_empty (slot_at all k)) 2 70 (λ k low high. ap is_empty (quiet k low (omega arith))) )
+
+pub same_test : (a b : Bool) {P : Type 0} → ((a ≡ true) ↔ P) → ((b ≡ true) ↔ P) → a ≡ b
+same_test true true p q = refl
+same_test false false p q = refl
+same_test true false p q = sym (q.1 (p.0 refl))
+same_test false true p q = p.1 (q.0 refl)

@@ -7,15 +7,15 @@ use Rattle.ncp_slot.specs.declared.slot.Answer.TheVariants.{Rfnm, Incomplete}
 use Rattle.ncp_slot.specs.declared.laws.LinkEvent.TheVariants as event
 use Rattle.ncp_slot.specs.declared.laws.LinkNote.TheVariants as note
 use Rattle.ncp_slot.specs.Slot.{ready_message, is_empty, is_travelling}
-use Rattle.ncp_slot.specs.Deeds.{LinkHistory, deeds_in, Deed, Accepted, HandedOut, Answered, accepted_in, handed_in, answers_in, has_final_answer, has_answer, all_answered, is_out, fresh_in, last_accepted}
+use Rattle.ncp_slot.specs.Deeds.{LinkHistory, deeds_in, Deed, Accepted, HandedOut, Answered, accepted_in, handed_in, answers_in, has_rfnm, has_answer, all_answered, is_out, fresh_in, last_accepted}
 use Rattle.ncp_slot.specs.Laws.{OneAnswerBetween, SameAfterIncomplete, OthersInOrder, PutsTold, AnswersTold, HandsTold, slot_told}
 use Rattle.ncp_slot.proofs.Runs.{Does, Leads, before_happens}
 
 -- whether all is answered in the end, seen from a slot on the way
 abbrev all_answered_from : Slot → List Deed → Bool
 all_answered_from Empty deeds = all_answered deeds
-all_answered_from (Ready message) deeds = has_final_answer deeds && all_answered deeds
-all_answered_from (Travelling message) deeds = has_final_answer deeds && all_answered deeds
+all_answered_from (Ready message) deeds = has_rfnm deeds && all_answered deeds
+all_answered_from (Travelling message) deeds = has_rfnm deeds && all_answered deeds
 
 pub all_answered-does : (slot : Slot) (deeds : List Deed) (last : Slot) → Does slot deeds last → all_answered_from slot deeds ≡ is_empty last
 all_answered-does Empty [] last h = ap is_empty h

@@ -56,13 +56,12 @@ answers_in (Accepted message ∷ deeds) = answers_in deeds
 answers_in (HandedOut message ∷ deeds) = answers_in deeds
 answers_in (Answered answer ∷ deeds) = answer ∷ answers_in deeds
 
--- an answer after which the message is gone
-abbrev pub is_final : Answer → Bool
-is_final Rfnm = true
-is_final Incomplete = false
+abbrev pub is_rfnm : Answer → Bool
+is_rfnm Rfnm = true
+is_rfnm Incomplete = false
 
-abbrev pub has_final_answer : List Deed → Bool
-has_final_answer deeds = list_any is_final (answers_in deeds)
+abbrev pub has_rfnm : List Deed → Bool
+has_rfnm deeds = list_any is_rfnm (answers_in deeds)
 
 abbrev pub has_answer : List Deed → Bool
 has_answer deeds = list_any (λ answer. true) (answers_in deeds)
@@ -70,7 +69,7 @@ has_answer deeds = list_any (λ answer. true) (answers_in deeds)
 -- each accepted message was answered RFNM
 abbrev pub all_answered : List Deed → Bool
 all_answered [] = true
-all_answered (Accepted message ∷ deeds) = has_final_answer deeds && all_answered deeds
+all_answered (Accepted message ∷ deeds) = has_rfnm deeds && all_answered deeds
 all_answered (HandedOut message ∷ deeds) = all_answered deeds
 all_answered (Answered answer ∷ deeds) = all_answered deeds
 
@@ -81,13 +80,13 @@ is_out (Accepted message ∷ deeds) = is_out deeds
 is_out (HandedOut message ∷ deeds) = not (has_answer deeds) || is_out deeds
 is_out (Answered answer ∷ deeds) = is_out deeds
 
--- the messages that were handed out, but for those after Incomplete; `again` says whether the
--- last answer before these deeds was Incomplete
+-- the messages that were handed out where no answer was accepted before, or RFNM was the last;
+-- `again` says whether before these deeds another answer was the last
 abbrev pub fresh_in : Bool → List Deed → List (List Bool)
 fresh_in again [] = []
 fresh_in again (Accepted message ∷ deeds) = fresh_in again deeds
 fresh_in again (HandedOut message ∷ deeds) = if again then fresh_in again deeds else message ∷ fresh_in again deeds
-fresh_in again (Answered answer ∷ deeds) = fresh_in (not (is_final answer)) deeds
+fresh_in again (Answered answer ∷ deeds) = fresh_in (not (is_rfnm answer)) deeds
 
 -- the last accepted message
 abbrev pub last_accepted : List Deed → List Bool

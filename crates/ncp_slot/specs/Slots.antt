@@ -1,12 +1,14 @@
 -- The slots of a host's links to one peer. Link 0 is the control link; links 2 to 71 carry
 -- connections (NIC 8246). Each has a slot.
-use Rattle.std.specs.Prelude.{◌≡◌, ◌≢◌, ℕ, ◌+◌, ◌*◌, ◌-◌, ◌≤◌, Bool, true, false, List, [], ◌∷◌, unwrap_or, refl, nat_eq, if◌then◌else◌}
+use Rattle.std.specs.Prelude.{◌≡◌, ◌≢◌, ℕ, ◌+◌, ◌*◌, ◌-◌, ◌<◌, ◌≤◌, Bool, true, false, IsTrue, List, [], ◌∷◌, unwrap_or, refl, nat_eq, if◌then◌else◌}
+use Rattle.std.specs.List.{list_all, range_with_len}
 use Rattle.std.specs.Ordering.{nat_cmp}
 use Rattle.std.specs.FinMap.{FinMap, get, insert, from_entries}
 use Rattle.std.specs.Coded.{Coded, code_by, coded×, coded_ℕ, coded_bool, coded_list}
 use Rattle.ncp_slot.specs.declared.slots.TheConstants.{UNUSED_LINK, FIRST_DATA_LINK, LAST_LINK}
 use Rattle.ncp_slot.specs.declared.slot.Slot.{Slot}
 use Rattle.ncp_slot.specs.declared.slot.Slot.TheVariants.{Empty, Ready, Travelling}
+use Rattle.ncp_slot.specs.Slot.{is_empty, is_ready}
 
 abbrev pub HasSlot : ℕ → Type 0
 HasSlot link = (link ≢ UNUSED_LINK) × (link ≤ LAST_LINK)
@@ -27,9 +29,25 @@ with_slot slots link slot = insert slots link slot
 abbrev pub OthersStay : LinkSlots → LinkSlots → ℕ → Type 0
 OthersStay old new link = (other : ℕ) → other ≢ link → slot_at new other ≡ slot_at old other
 
+-- a link has a message that is to go out
+abbrev pub IsReady : LinkSlots → ℕ → Type 0
+IsReady slots link = IsTrue (is_ready (slot_at slots link))
+
+-- the lowest such link
+abbrev pub IsFirstReady : LinkSlots → ℕ → Type 0
+IsFirstReady slots link = IsReady slots link × ((lower : ℕ) → lower < link → ¬ IsReady slots lower)
+
 -- the data links are quiet where each of their slots is empty
 abbrev pub IsQuiet : LinkSlots → Type 0
 IsQuiet slots = (link : ℕ) → FIRST_DATA_LINK ≤ link → link ≤ LAST_LINK → slot_at slots link ≡ Empty
+
+-- the data links
+abbrev pub data_links : List ℕ
+data_links = range_with_len FIRST_DATA_LINK (LAST_LINK + 1 - FIRST_DATA_LINK)
+
+-- whether they are quiet
+unfoldable pub is_quiet : LinkSlots → Bool
+is_quiet slots = list_all (λ link. is_empty (slot_at slots link)) data_links
 
 -- the link of the slot at a place: links 0, 2, 3 and so on
 abbrev pub link_at : ℕ → ℕ

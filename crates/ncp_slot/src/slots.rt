@@ -2,7 +2,7 @@
 ghost use Rattle.std.specs.Prelude.{◌≡◌, ◌≢◌, ℕ, ◌-◌, ◌+◌, ◌<◌, ◌≤◌, ◌↔◌, true, false, length, slice_get, IsTrue, Some, IfOk, IfSome, IfNone, OnOk, OnErr, IsOk};
 ghost use Rattle.std.specs.List.{list_all};
 ghost use Rattle.ncp_slot.specs.Slot.{put_in, handed_out, answered, ready_message, is_empty, is_ready, is_travelling};
-ghost use Rattle.ncp_slot.specs.Slots.{HasSlot, slot_at, with_slot, OthersStay, IsQuiet, link_at};
+ghost use Rattle.ncp_slot.specs.Slots.{HasSlot, slot_at, with_slot, OthersStay, IsReady, IsFirstReady, IsQuiet, is_quiet, link_at};
 
 use crate::slot::{Answer, Busy, Slot, Stray};
 use ncp_bits::Bits;
@@ -136,10 +136,9 @@ impl Slots {
 
     /// The lowest link with a message that is to go out.
     pub fn first_ready(&self) -> Option<u8>
-        ensures none { IfNone result ((link : ℕ) → is_ready (slot_at self.now link) ≡ false) }
+        ensures none { IfNone result ((link : ℕ) → ¬ IsReady self.now link) }
+        ensures first { IfSome result (λ link. IsFirstReady self.now link) }
         ensures link { IfSome result (λ link. HasSlot link) }
-        ensures ready { IfSome result (λ link. is_ready (slot_at self.now link) ≡ true) }
-        ensures lowest { IfSome result (λ link. (lower : ℕ) → lower < link → is_ready (slot_at self.now lower) ≡ false) }
     {
         for (place, slot) in self.slots.iter().enumerate() {
             if slot.is_ready() {
@@ -151,7 +150,8 @@ impl Slots {
 
     /// Whether no data link has a message. The control link is not looked at.
     pub fn quiet(&self) -> bool
-        ensures { IsTrue result ↔ IsQuiet self.now }
+        ensures quiet { IsTrue result ↔ IsQuiet self.now }
+        ensures test { result ≡ is_quiet self.now }
     {
         all_empty(&self.slots[1..])
     }
