@@ -1,5 +1,5 @@
 -- Slots in a row, and the map from links to slots that they are.
-use Rattle.std.proofs.Common.{drop, ◌≡◌, ◌≢◌, ℕ, zero, suc, ◌+◌, ◌-◌, ◌*◌, ◌<◌, ◌≤◌, Bool, true, false, cond, eqb, List, [], ◌∷◌, length, get_or, slice_set, replicate, Option, Some, None, unwrap_or, ◌↔◌, inl, inr, ◌⊎◌, refl, sym, ap, ◌∙◌, arith, eq-eqb}
+use Rattle.std.proofs.Common.{drop, ◌≡◌, ◌≢◌, ℕ, zero, suc, ◌+◌, ◌-◌, ◌<◌, ◌≤◌, Bool, true, false, cond, List, [], ◌∷◌, length, get_or, slice_set, replicate, Some, None, unwrap_or, ◌↔◌, inl, inr, ◌⊎◌, refl, sym, ap, ◌∙◌, arith, eq-eqb}
 use Rattle.std.specs.List.{slice_get, list_all, range_with_len}
 use Rattle.std.specs.Ordering.{nat_cmp, eq_by_cmp}
 use Rattle.std.specs.Cmp.{unsigned_tied}
@@ -37,11 +37,11 @@ find-with_links (slot ∷ slots) place link has from =
       | inr h ↦ rw (same link (link_at place) (let k : link ≡ place + 1 = omega arith in k ∙ sym h.1)) refl
     ]
     go (suc d) e rest =
-      let before : slice_get slots (link - 1 - (place + 1)) ≡ slice_get slots d = ap (slice_get slots) (omega arith) in
-      elim (link_at-cases place) [
-      | inl h ↦ rw (apart link (link_at place) (λ k. let j : link ≡ 0 = k ∙ h.1 in absurd (omega arith))) (rest (omega arith) ∙ before)
-      | inr h ↦ rw (apart link (link_at place) (λ k. let j : link ≡ place + 1 = k ∙ h.1 in absurd (omega arith))) (rest (omega arith) ∙ before)
-    ]
+        let before : slice_get slots (link - 1 - (place + 1)) ≡ slice_get slots d = ap (slice_get slots) (omega arith) in
+        elim (link_at-cases place) [
+          | inl h ↦ rw (apart link (link_at place) (λ k. let j : link ≡ 0 = k ∙ h.1 in absurd (omega arith))) (rest (omega arith) ∙ before)
+          | inr h ↦ rw (apart link (link_at place) (λ k. let j : link ≡ place + 1 = k ∙ h.1 in absurd (omega arith))) (rest (omega arith) ∙ before)
+        ]
 
 -- no slot is beside the link that has none
 find-with_links-none : (slots : List Slot) (place : ℕ) → find nat_cmp 1 (with_links place slots) ≡ None
@@ -223,9 +223,10 @@ empty_told (Travelling message) h = cc
 -- the test tells whether the data links are quiet
 pub is_quiet-tells : (all : LinkSlots) → (is_quiet all ≡ true) ↔ IsQuiet all
 unfolding is_quiet
-is_quiet-tells all =
-    ( λ h link low high. empty_told (slot_at all link) (list_all_in (λ k. is_empty (slot_at all k)) 2 70 h link low (omega arith))
-    , λ quiet. all_in_list (λ k. is_empty (slot_at all k)) 2 70 (λ k low high. ap is_empty (quiet k low (omega arith))) )
+is_quiet-tells all = (
+  λ h link low high. empty_told (slot_at all link) (list_all_in (λ k. is_empty (slot_at all k)) 2 70 h link low (omega arith)),
+  λ quiet. all_in_list (λ k. is_empty (slot_at all k)) 2 70 (λ k low high. ap is_empty (quiet k low (omega arith))),
+)
 
 pub same_test : (a b : Bool) {P : Type 0} → ((a ≡ true) ↔ P) → ((b ≡ true) ↔ P) → a ≡ b
 same_test true true p q = refl

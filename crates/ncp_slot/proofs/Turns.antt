@@ -7,7 +7,7 @@ use Rattle.ncp_slot.specs.declared.slot.Answer.TheVariants.{Rfnm, Incomplete}
 use Rattle.ncp_slot.specs.declared.laws.LinkEvent.TheVariants as event
 use Rattle.ncp_slot.specs.declared.laws.LinkNote.TheVariants as note
 use Rattle.ncp_slot.specs.Slot.{ready_message, is_empty, is_travelling}
-use Rattle.ncp_slot.specs.Deeds.{LinkHistory, deeds_in, Deed, Accepted, HandedOut, Answered, accepted_in, handed_in, answers_in, has_rfnm, has_answer, all_answered, is_out, fresh_in, last_accepted}
+use Rattle.ncp_slot.specs.Deeds.{LinkHistory, deeds_in, Deed, Accepted, HandedOut, Answered, accepted_in, handed_in, answers_in, has_rfnm, has_answer, all_answered, is_out, fresh_in}
 use Rattle.ncp_slot.specs.Laws.{OneAnswerBetween, SameAfterIncomplete, OthersInOrder, PutsTold, AnswersTold, HandsTold, slot_told}
 use Rattle.ncp_slot.proofs.Runs.{Does, Leads, before_happens}
 

@@ -18,9 +18,9 @@ history_of events notes = zip events notes
 
 -- what took effect on the link
 pub data Deed : Type 0 where
-  Accepted : List Bool → Deed -- a message was accepted by Put
-  HandedOut : List Bool → Deed -- a message was handed out
-  Answered : Answer → Deed -- an answer was accepted
+  Accepted : List Bool → Deed  -- a message was accepted by Put
+  HandedOut : List Bool → Deed  -- a message was handed out
+  Answered : Answer → Deed  -- an answer was accepted
 
 -- what took effect by an event, if anything did
 abbrev pub deed_of : LinkEvent × LinkNote → Option Deed

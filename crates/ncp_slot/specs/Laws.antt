@@ -1,5 +1,5 @@
 -- What holds of every link that is given any list of events.
-use Rattle.std.specs.Prelude.{◌≡◌, ◌≤◌, Bool, true, false, ◌||◌, List, [], ◌∷◌, ◌++◌, length, Option, is_none, if◌then◌else◌}
+use Rattle.std.specs.Prelude.{◌≡◌, ◌≤◌, Bool, false, ◌||◌, List, [], ◌∷◌, ◌++◌, length, Option, is_none, if◌then◌else◌}
 use Rattle.ncp_slot.specs.declared.slot.Slot.{Slot}
 use Rattle.ncp_slot.specs.declared.slot.Slot.TheVariants.{Empty, Ready, Travelling}
 use Rattle.ncp_slot.specs.declared.slot.Answer.{Answer}
@@ -8,7 +8,7 @@ use Rattle.ncp_slot.specs.declared.laws.LinkEvent.{LinkEvent}
 use Rattle.ncp_slot.specs.declared.laws.LinkEvent.TheVariants as event
 use Rattle.ncp_slot.specs.declared.laws.LinkNote.{LinkNote}
 use Rattle.ncp_slot.specs.declared.laws.LinkNote.TheVariants as note
-use Rattle.ncp_slot.specs.Deeds.{LinkHistory, Deed, Accepted, HandedOut, Answered, deeds_in, accepted_in, handed_in, answers_in, all_answered, is_out, fresh_in, last_accepted}
+use Rattle.ncp_slot.specs.Deeds.{LinkHistory, Deed, HandedOut, deeds_in, accepted_in, handed_in, answers_in, all_answered, is_out, fresh_in, last_accepted}
 
 -- a note of an event's kind
 abbrev pub IsNoteOf : LinkEvent → LinkNote → Type 0

@@ -1,6 +1,6 @@
 -- The slots of a host's links to one peer. Link 0 is the control link; links 2 to 71 carry
 -- connections (NIC 8246). Each has a slot.
-use Rattle.std.specs.Prelude.{◌≡◌, ◌≢◌, ℕ, ◌+◌, ◌*◌, ◌-◌, ◌<◌, ◌≤◌, Bool, true, false, IsTrue, List, [], ◌∷◌, unwrap_or, refl, nat_eq, if◌then◌else◌}
+use Rattle.std.specs.Prelude.{◌≡◌, ◌≢◌, ℕ, ◌+◌, ◌-◌, ◌<◌, ◌≤◌, Bool, IsTrue, List, [], ◌∷◌, unwrap_or, refl, nat_eq, if◌then◌else◌}
 use Rattle.std.specs.List.{list_all, range_with_len}
 use Rattle.std.specs.Ordering.{nat_cmp}
 use Rattle.std.specs.FinMap.{FinMap, get, insert, from_entries}
@@ -10,6 +10,7 @@ use Rattle.ncp_slot.specs.declared.slot.Slot.{Slot}
 use Rattle.ncp_slot.specs.declared.slot.Slot.TheVariants.{Empty, Ready, Travelling}
 use Rattle.ncp_slot.specs.Slot.{is_empty, is_ready}
 
+-- link 0 and links 2 to 71
 abbrev pub HasSlot : ℕ → Type 0
 HasSlot link = (link ≢ UNUSED_LINK) × (link ≤ LAST_LINK)
 
@@ -53,7 +54,7 @@ is_quiet slots = list_all (λ link. is_empty (slot_at slots link)) data_links
 abbrev pub link_at : ℕ → ℕ
 link_at place = if nat_eq place 0 then 0 else place + 1
 
--- slots from a place on, each beside its link
+-- slots in a row from a place on, each beside its link
 abbrev pub with_links : ℕ → List Slot → List (ℕ × Slot)
 with_links place [] = []
 with_links place (slot ∷ slots) = (link_at place, slot) ∷ with_links (place + 1) slots

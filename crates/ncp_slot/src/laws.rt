@@ -1,8 +1,8 @@
 //! Laws about slots: what happens on a link over any list of events, and that the slots of
 //! different links are apart.
-ghost use Rattle.std.specs.Prelude.{◌≡◌, ◌≢◌, ℕ, ◌≤◌, IfOk};
+ghost use Rattle.std.specs.Prelude.{◌≡◌, ◌≢◌, ℕ, ◌↔◌, IsTrue, IfOk};
 ghost use Rattle.ncp_slot.specs.declared.slot.Slot.{Slot};
-ghost use Rattle.ncp_slot.specs.Slots.{HasSlot, LinkSlots, slot_at, with_slot, OthersStay};
+ghost use Rattle.ncp_slot.specs.Slots.{HasSlot, LinkSlots, slot_at, with_slot, OthersStay, IsQuiet, is_quiet};
 ghost use Rattle.ncp_slot.specs.Deeds.{history_of, deeds_of};
 ghost use Rattle.ncp_slot.specs.Laws.{AreNotesOf, OneAnswerBetween, SameAfterIncomplete, OthersInOrder, PutsTold, AnswersTold, HandsTold, slot_told};
 ghost use Rattle.ncp_slot.specs.Steps.{slot_after, note_at};
@@ -46,7 +46,11 @@ fn note_event(slots: &mut Slots, link: u8, event: &LinkEvent) -> LinkNote
 ///
 /// The clauses hold for every list of events. They speak of what took effect, which is read off
 /// the notes, and know of the slots only in the end.
-pub fn run_link(alloc: Global, link: u8, events: &[LinkEvent]) -> Result<(Slots, Vec<LinkNote>), AllocError>
+pub fn run_link(
+    alloc: Global,
+    link: u8,
+    events: &[LinkEvent],
+) -> Result<(Slots, Vec<LinkNote>), AllocError>
     requires { HasSlot link }
     ensures notes { IfOk result (λ run. AreNotesOf events.now run.1.items) }
 
@@ -76,4 +80,9 @@ pub fn run_link(alloc: Global, link: u8, events: &[LinkEvent]) -> Result<(Slots,
 pub fn slots_are_apart()
     ensures same { (slots : LinkSlots) (link : ℕ) (slot : Slot) → slot_at (with_slot slots link slot) link ≡ slot }
     ensures others { (slots : LinkSlots) (link : ℕ) (slot : Slot) → OthersStay slots (with_slot slots link slot) link }
+{}
+
+/// The test for quiet data links passes exactly where each of their slots is empty.
+pub fn quiet_links_are_empty()
+    ensures { (slots : LinkSlots) → (IsTrue (is_quiet slots) ↔ IsQuiet slots) }
 {}

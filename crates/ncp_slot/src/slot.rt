@@ -24,7 +24,7 @@ pub struct Busy;
 #[error("no message of this link waits for an answer")]
 pub struct Stray;
 
-/// What a link keeps.
+/// What a link keeps. A contract sees the slot of each link as one of these.
 #[derive(Drop)]
 pub enum Slot {
     /// No message.

@@ -1,6 +1,6 @@
 //! What no clause says: that the calls succeed, that memory is asked for where it is needed, and
 //! that the definitions mean what the worked rows mean.
-use crate::laws::{LinkEvent, LinkNote, run_link, slots_are_apart};
+use crate::laws::{LinkEvent, LinkNote, quiet_links_are_empty, run_link, slots_are_apart};
 use crate::{Answer, Busy, Slots, Stray, has_slot};
 use ncp_bits::Bits;
 use std::process::Abort;
@@ -53,6 +53,7 @@ fn hands_out_again_until_taken(rt: HostRuntime) -> Result<(), Fail> {
     assert!(rt; matches!(&notes[6], LinkNote::Answered(false)));
     assert!(rt; slots.first_ready().is_none());
     slots_are_apart();
+    quiet_links_are_empty();
     Ok(())
 }
 
@@ -100,7 +101,10 @@ fn knows_which_links_have_slots(rt: HostRuntime) -> Result<(), Fail> {
     ] {
         assert_eq!(rt; has_slot(link), has, "at {link}");
         assert!(rt; slots.answer(link, Answer::Rfnm) == Err(Stray), "at {link}");
-        assert!(rt; slots.answer(link, Answer::Incomplete) == Err(Stray), "at {link}");
+        assert!(rt;
+            slots.answer(link, Answer::Incomplete) == Err(Stray),
+            "at {link}"
+        );
     }
     Ok(())
 }

@@ -17,7 +17,7 @@ loop-event-preserved c =
       len = omega arith;
       room = omega arith;
       notes = c.push_reserved.ensures.items ∙ ap (λ (notes : List LinkNote). notes ++ c.note_event.result ∷ []) c.loop-event.invariant.notes
-      ∙ ap (λ n. notes_from Empty so_far ++ n ∷ []) note ∙ sym (notes_from-push Empty so_far c.event-item.result) ∙ ap (notes_from Empty) (sym more);
+          ∙ ap (λ n. notes_from Empty so_far ++ n ∷ []) note ∙ sym (notes_from-push Empty so_far c.event-item.result) ∙ ap (notes_from Empty) (sym more);
       slot = c.note_event.ensures.slot ∙ ap (λ s. slot_after s c.event-item.result) c.loop-event.invariant.slot ∙ sym (slot_from-push Empty so_far c.event-item.result) ∙ ap (slot_from Empty) (sym more);
       others = λ other ne. c.note_event.ensures.others other ne ∙ c.loop-event.invariant.others other ne;
     }

@@ -1,9 +1,8 @@
-use Rattle.std.proofs.Common.{◌≡◌, ◌≢◌, ◌∙◌, ℕ, ◌<◌, true, false, get_or, below_more, sym, ap, arith}
+use Rattle.std.proofs.Common.{◌≡◌, ◌∙◌, ℕ, true, false, below_more, sym, ap, arith}
 use Rattle.std.proofs.lemmas.List.{get_or_default}
-use Rattle.ncp_slot.specs.declared.slot.Slot.{Slot}
 use Rattle.ncp_slot.specs.declared.slot.Slot.TheVariants.{Empty}
 use Rattle.ncp_slot.specs.Slot.{is_ready}
-use Rattle.ncp_slot.specs.Slots.{LinkSlots, slot_at, slots_in, link_at}
+use Rattle.ncp_slot.specs.Slots.{slot_at, slots_in, link_at}
 use Rattle.ncp_slot.proofs.Places.{slot_at-place, link_at-has, place-link_at, none_ready-below, none_ready}
 use Rattle.ncp_slot.proofs.slots.Slots.first_ready.Goals as goal
 

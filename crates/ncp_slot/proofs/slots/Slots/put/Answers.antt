@@ -1,9 +1,8 @@
-use Rattle.std.proofs.Common.{◌≡◌, ◌<◌, ◌∙◌, length, slice_set, Ok, Err, IfOk, OnOk, sym, ap, arith}
+use Rattle.std.proofs.Common.{◌≡◌, ◌<◌, ◌∙◌, length, slice_set, sym, ap, arith}
 use Rattle.std.proofs.lemmas.Result.{on_ok_weaker}
-use Rattle.ncp_slot.specs.declared.slot.Slot.{Slot}
-use Rattle.ncp_slot.specs.Slot.{put_in, handed_out, answered, ready_message, is_travelling}
+use Rattle.ncp_slot.specs.Slot.{put_in}
 use Rattle.ncp_slot.specs.Slots.{slot_at, with_slot, slots_in}
-use Rattle.ncp_slot.proofs.Places.{slot_at-place, slots_in-place, slot_at-changed, OthersStay-changed, slot_at-past}
+use Rattle.ncp_slot.proofs.Places.{slot_at-place, slots_in-place, slot_at-changed, OthersStay-changed}
 use Rattle.ncp_slot.proofs.slots.Slots.put.Goals as goal
 
 pub returns-clause-variant : goal.returns-clause-variant

@@ -1,7 +1,6 @@
-use Rattle.std.proofs.Common.{◌≡◌, ◌∙◌, ◌↔◌, true, List, length, drop, sym, ap, arith}
+use Rattle.std.proofs.Common.{◌≡◌, ◌∙◌, ◌↔◌, true, drop, sym, ap, arith}
 use Rattle.std.specs.List.{list_all}
 use Rattle.std.proofs.lemmas.List.{take_all, length-drop}
-use Rattle.ncp_slot.specs.declared.slot.Slot.{Slot}
 use Rattle.ncp_slot.specs.Slot.{is_empty}
 use Rattle.ncp_slot.specs.Slots.{IsQuiet}
 use Rattle.ncp_slot.proofs.Places.{quiet-all_empty, all_empty-quiet, is_quiet-tells, same_test}
