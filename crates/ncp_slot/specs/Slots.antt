@@ -3,7 +3,7 @@
 use Rattle.std.specs.Prelude.{◌≡◌, ◌≢◌, ℕ, ◌+◌, ◌-◌, ◌<◌, ◌≤◌, Bool, IsTrue, List, [], ◌∷◌, unwrap_or, refl, nat_eq, if◌then◌else◌}
 use Rattle.std.specs.List.{list_all, range_with_len}
 use Rattle.std.specs.Ordering.{nat_cmp}
-use Rattle.std.specs.FinMap.{FinMap, get, insert, from_entries}
+use Rattle.std.specs.FinMap.{FinMap, code, get, insert, from_entries}
 use Rattle.std.specs.Coded.{Coded, code_by, coded×, coded_ℕ, coded_bool, coded_list}
 use Rattle.ncp_slot.specs.declared.slots.TheConstants.{UNUSED_LINK, FIRST_DATA_LINK, LAST_LINK}
 use Rattle.ncp_slot.specs.declared.slot.Slot.{Slot}
@@ -79,3 +79,6 @@ slot_of_parts-slot_parts (Travelling message) = refl
 
 abbrev pub coded_slot : Coded Slot
 coded_slot = code_by (ℕ × List Bool) (coded× coded_ℕ (coded_list coded_bool)) slot_parts slot_of_parts slot_of_parts-slot_parts
+
+abbrev pub coded_slots : Coded LinkSlots
+coded_slots = code coded_ℕ coded_slot

@@ -61,16 +61,12 @@ pub struct Slots {
 
 impl Model for Slots {
     ghost use Rattle.std.specs.Prelude.{◌≡◌, length};
-    ghost use Rattle.std.specs.Ordering.{nat_cmp};
-    ghost use Rattle.std.specs.FinMap as map;
-    ghost use Rattle.std.specs.Coded.{coded_ℕ};
-    ghost use Rattle.ncp_slot.specs.declared.slot.Slot.{Slot};
     ghost use Rattle.ncp_slot.specs.declared.slots.TheConstants.{SLOTS};
-    ghost use Rattle.ncp_slot.specs.Slots.{LinkSlots, slots_in, coded_slot};
+    ghost use Rattle.ncp_slot.specs.Slots.{LinkSlots, slots_in, coded_slots};
 
     ghost Value = { LinkSlots };
 
-    ghost coded = { map.code coded_ℕ coded_slot };
+    ghost coded = { coded_slots };
 
     ghost view = { λ all. slots_in all.slots.items };
 
