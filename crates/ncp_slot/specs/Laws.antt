@@ -1,0 +1,76 @@
+-- What holds of every link that is given any list of events.
+use Rattle.std.specs.Prelude.{◌≡◌, ◌≤◌, Bool, false, ◌||◌, List, [], ◌∷◌, ◌++◌, length, Option, is_none, if◌then◌else◌}
+use Rattle.ncp_slot.specs.declared.slot.Slot.{Slot}
+use Rattle.ncp_slot.specs.declared.slot.Slot.TheVariants.{Empty, Ready, Travelling}
+use Rattle.ncp_slot.specs.declared.slot.Answer.{Answer}
+use Rattle.ncp_slot.specs.declared.slot.Answer.TheVariants.{Incomplete}
+use Rattle.ncp_slot.specs.declared.laws.LinkEvent.{LinkEvent}
+use Rattle.ncp_slot.specs.declared.laws.LinkEvent.TheVariants as event
+use Rattle.ncp_slot.specs.declared.laws.LinkNote.{LinkNote}
+use Rattle.ncp_slot.specs.declared.laws.LinkNote.TheVariants as note
+use Rattle.ncp_slot.specs.Deeds.{LinkHistory, Deed, HandedOut, deeds_in, accepted_in, handed_in, answers_in, all_answered, is_out, fresh_in, last_accepted}
+
+-- a note of an event's kind
+abbrev pub IsNoteOf : LinkEvent → LinkNote → Type 0
+IsNoteOf (event.Put message) (note.Put accepted) = Unit {0}
+IsNoteOf event.Hand (note.Handed message) = Unit {0}
+IsNoteOf (event.Answer answer) (note.Answered accepted) = Unit {0}
+IsNoteOf happened told = ⊥
+
+-- one note an event, of its kind
+abbrev pub AreNotesOf : List LinkEvent → List LinkNote → Type 0
+AreNotesOf [] [] = Unit {0}
+AreNotesOf (happened ∷ events) (told ∷ notes) = IsNoteOf happened told × AreNotesOf events notes
+AreNotesOf events notes = ⊥
+
+-- between two messages handed out stands exactly one accepted answer
+abbrev pub OneAnswerBetween : List Deed → Type 0
+OneAnswerBetween deeds =
+    (earlier between later : List Deed) (message next : List Bool)
+    → deeds ≡ earlier ++ HandedOut message ∷ (between ++ HandedOut next ∷ later)
+    → handed_in between ≡ [] → length (answers_in between) ≡ 1
+
+-- a message handed out after Incomplete equals the one before it
+abbrev pub SameAfterIncomplete : List Deed → Type 0
+SameAfterIncomplete deeds =
+    (earlier between later : List Deed) (message next : List Bool)
+    → deeds ≡ earlier ++ HandedOut message ∷ (between ++ HandedOut next ∷ later)
+    → handed_in between ≡ [] → answers_in between ≡ Incomplete ∷ [] → next ≡ message
+
+-- the other messages handed out are, in order, a beginning of the accepted ones, shorter by at
+-- most one
+abbrev pub OthersInOrder : List Deed → Type 0
+OthersInOrder deeds =
+    (rest : List (List Bool)) × (accepted_in deeds ≡ fresh_in false deeds ++ rest) × (length rest ≤ 1)
+
+-- after this much of the history an event was noted so
+abbrev pub Happens : LinkHistory → LinkHistory → LinkEvent → LinkNote → Type 0
+Happens history before happened told = (after : LinkHistory) × (history ≡ before ++ (happened, told) ∷ after)
+
+-- a Put is true exactly where each message accepted before was answered RFNM
+abbrev pub PutsTold : LinkHistory → Type 0
+PutsTold history =
+    (before : LinkHistory) (message : List Bool) (accepted : Bool)
+    → Happens history before (event.Put message) (note.Put accepted)
+    → accepted ≡ all_answered (deeds_in before)
+
+-- an Answer is true exactly where a message was handed out and no answer was accepted since
+abbrev pub AnswersTold : LinkHistory → Type 0
+AnswersTold history =
+    (before : LinkHistory) (answer : Answer) (accepted : Bool)
+    → Happens history before (event.Answer answer) (note.Answered accepted)
+    → accepted ≡ is_out (deeds_in before)
+
+-- a Hand gives None exactly there, and where each message accepted before was answered RFNM
+abbrev pub HandsTold : LinkHistory → Type 0
+HandsTold history =
+    (before : LinkHistory) (message : Option (List Bool))
+    → Happens history before event.Hand (note.Handed message)
+    → is_none message ≡ (is_out (deeds_in before) || all_answered (deeds_in before))
+
+-- the slot that the link has in the end
+abbrev pub slot_told : List Deed → Slot
+slot_told deeds =
+    if all_answered deeds then Empty
+    else if is_out deeds then Travelling (last_accepted deeds)
+    else Ready (last_accepted deeds)

@@ -1,0 +1,84 @@
+-- The slots of a host's links to one peer. Link 0 is the control link; links 2 to 71 carry
+-- connections (NIC 8246). Each has a slot.
+use Rattle.std.specs.Prelude.{◌≡◌, ◌≢◌, ℕ, ◌+◌, ◌-◌, ◌<◌, ◌≤◌, Bool, IsTrue, List, [], ◌∷◌, unwrap_or, refl, nat_eq, if◌then◌else◌}
+use Rattle.std.specs.List.{list_all, range_with_len}
+use Rattle.std.specs.Ordering.{nat_cmp}
+use Rattle.std.specs.FinMap.{FinMap, code, get, insert, from_entries}
+use Rattle.std.specs.Coded.{Coded, code_by, coded×, coded_ℕ, coded_bool, coded_list}
+use Rattle.ncp_slot.specs.declared.slots.TheConstants.{UNUSED_LINK, FIRST_DATA_LINK, LAST_LINK}
+use Rattle.ncp_slot.specs.declared.slot.Slot.{Slot}
+use Rattle.ncp_slot.specs.declared.slot.Slot.TheVariants.{Empty, Ready, Travelling}
+use Rattle.ncp_slot.specs.Slot.{is_empty, is_ready}
+
+-- link 0 and links 2 to 71
+abbrev pub HasSlot : ℕ → Type 0
+HasSlot link = (link ≢ UNUSED_LINK) × (link ≤ LAST_LINK)
+
+-- the slots, each by its link
+abbrev pub LinkSlots : Type 0
+LinkSlots = FinMap nat_cmp Slot
+
+-- the slot of a link; one that is not there is as good as empty
+unfoldable pub slot_at : LinkSlots → ℕ → Slot
+slot_at slots link = unwrap_or (get slots link) Empty
+
+-- the slots with this one for a link
+unfoldable pub with_slot : LinkSlots → ℕ → Slot → LinkSlots
+with_slot slots link slot = insert slots link slot
+
+-- no call changes the slot of another link
+abbrev pub OthersStay : LinkSlots → LinkSlots → ℕ → Type 0
+OthersStay old new link = (other : ℕ) → other ≢ link → slot_at new other ≡ slot_at old other
+
+-- a link has a message that is to go out
+abbrev pub IsReady : LinkSlots → ℕ → Type 0
+IsReady slots link = IsTrue (is_ready (slot_at slots link))
+
+-- the lowest such link
+abbrev pub IsFirstReady : LinkSlots → ℕ → Type 0
+IsFirstReady slots link = IsReady slots link × ((lower : ℕ) → lower < link → ¬ IsReady slots lower)
+
+-- the data links are quiet where each of their slots is empty
+abbrev pub IsQuiet : LinkSlots → Type 0
+IsQuiet slots = (link : ℕ) → FIRST_DATA_LINK ≤ link → link ≤ LAST_LINK → slot_at slots link ≡ Empty
+
+-- the data links
+abbrev pub data_links : List ℕ
+data_links = range_with_len FIRST_DATA_LINK (LAST_LINK + 1 - FIRST_DATA_LINK)
+
+-- whether they are quiet
+unfoldable pub is_quiet : LinkSlots → Bool
+is_quiet slots = list_all (λ link. is_empty (slot_at slots link)) data_links
+
+-- the link of the slot at a place: links 0, 2, 3 and so on
+abbrev pub link_at : ℕ → ℕ
+link_at place = if nat_eq place 0 then 0 else place + 1
+
+-- slots in a row from a place on, each beside its link
+abbrev pub with_links : ℕ → List Slot → List (ℕ × Slot)
+with_links place [] = []
+with_links place (slot ∷ slots) = (link_at place, slot) ∷ with_links (place + 1) slots
+
+-- the slots in a row, in the order of their links
+unfoldable pub slots_in : List Slot → LinkSlots
+slots_in slots = from_entries (with_links 0 slots)
+
+-- a slot is stored as a number for its kind, and its message
+abbrev pub slot_parts : Slot → ℕ × List Bool
+slot_parts Empty = (0, [])
+slot_parts (Ready message) = (1, message)
+slot_parts (Travelling message) = (2, message)
+
+abbrev pub slot_of_parts : ℕ × List Bool → Slot
+slot_of_parts parts = if nat_eq parts.0 0 then Empty else if nat_eq parts.0 1 then Ready parts.1 else Travelling parts.1
+
+abbrev pub slot_of_parts-slot_parts : (slot : Slot) → slot_of_parts (slot_parts slot) ≡ slot
+slot_of_parts-slot_parts Empty = refl
+slot_of_parts-slot_parts (Ready message) = refl
+slot_of_parts-slot_parts (Travelling message) = refl
+
+abbrev pub coded_slot : Coded Slot
+coded_slot = code_by (ℕ × List Bool) (coded× coded_ℕ (coded_list coded_bool)) slot_parts slot_of_parts slot_of_parts-slot_parts
+
+abbrev pub coded_slots : Coded LinkSlots
+coded_slots = code coded_ℕ coded_slot

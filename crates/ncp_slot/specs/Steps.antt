@@ -1,0 +1,17 @@
+-- What one event does to the slot of its link, and how it is noted.
+use Rattle.ncp_slot.specs.declared.slot.Slot.{Slot}
+use Rattle.ncp_slot.specs.declared.laws.LinkEvent.{LinkEvent}
+use Rattle.ncp_slot.specs.declared.laws.LinkEvent.TheVariants as event
+use Rattle.ncp_slot.specs.declared.laws.LinkNote.{LinkNote}
+use Rattle.ncp_slot.specs.declared.laws.LinkNote.TheVariants as note
+use Rattle.ncp_slot.specs.Slot.{put_in, handed_out, answered, ready_message, is_empty, is_travelling}
+
+abbrev pub slot_after : Slot → LinkEvent → Slot
+slot_after slot (event.Put message) = put_in message slot
+slot_after slot event.Hand = handed_out slot
+slot_after slot (event.Answer answer) = answered answer slot
+
+abbrev pub note_at : Slot → LinkEvent → LinkNote
+note_at slot (event.Put message) = note.Put (is_empty slot)
+note_at slot event.Hand = note.Handed (ready_message slot)
+note_at slot (event.Answer answer) = note.Answered (is_travelling slot)

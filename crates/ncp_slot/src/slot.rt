@@ -1,0 +1,96 @@
+//! `Slot`.
+ghost use Rattle.std.specs.Prelude.{◌≡◌, ◌↔◌, IsTrue, IfSome, OnOk, IsOk};
+ghost use Rattle.ncp_slot.specs.Slot.{put_in, handed_out, answered, ready_message, is_empty, is_ready, is_travelling};
+
+use ncp_bits::Bits;
+use thiserror::Error;
+
+/// What the subnet answers to a message that went out on a link.
+#[derive(Clone, Copy, Debug, Drop, PartialEq, Eq)]
+pub enum Answer {
+    /// Ready For Next Message: the message was delivered.
+    Rfnm,
+    /// Incomplete Transmission: the message was not delivered.
+    Incomplete,
+}
+
+/// The link has a message that is not answered yet.
+#[derive(Clone, Copy, Debug, Drop, PartialEq, Eq, Error)]
+#[error("a message of this link is not answered yet")]
+pub struct Busy;
+
+/// An answer on a link on which no message waits for one.
+#[derive(Clone, Copy, Debug, Drop, PartialEq, Eq, Error)]
+#[error("no message of this link waits for an answer")]
+pub struct Stray;
+
+/// What a link keeps. A contract sees the slot of each link as one of these.
+#[derive(Drop)]
+pub enum Slot {
+    /// No message.
+    Empty,
+    /// A message that is to go out, for the first time or again.
+    Ready(Bits),
+    /// A message that went out and is not answered yet.
+    Travelling(Bits),
+}
+
+impl Slot {
+    /// Keeps a copy of a message, to go out. Busy where there is a message.
+    pub(crate) fn put(&mut self, bits: &Bits) -> Result<(), Busy>
+        ensures variant { IsOk result ↔ (self.old ≡ Slot.Empty) }
+        ensures slot { self.new ≡ put_in bits.now self.old }
+        ensures ok { OnOk result (self.new ≡ Slot.Ready bits.now) }
+    {
+        match self {
+            Slot::Empty => {
+                *self = Slot::Ready(bits.whole().to_bits());
+                Ok(())
+            }
+            Slot::Ready(_) | Slot::Travelling(_) => Err(Busy),
+        }
+    }
+
+    /// Hands out a copy of the message that is to go out, if there is one.
+    pub(crate) fn hand(&mut self) -> Option<Bits>
+        ensures handed { result ≡ ready_message self.old }
+        ensures slot { self.new ≡ handed_out self.old }
+        ensures some { IfSome result (λ message. self.new ≡ Slot.Travelling message) }
+    {
+        let Slot::Ready(bits) = self else {
+            return None;
+        };
+        let message = bits.whole().to_bits();
+        *self = Slot::Travelling(message.whole().to_bits());
+        Some(message)
+    }
+
+    /// Takes the answer to the message that went out. Stray where none is unanswered.
+    pub(crate) fn answer(&mut self, answer: Answer) -> Result<(), Stray>
+        ensures variant { IsOk result ↔ IsTrue (is_travelling self.old) }
+        ensures slot { self.new ≡ answered answer self.old }
+    {
+        let Slot::Travelling(bits) = self else {
+            return Err(Stray);
+        };
+        *self = match answer {
+            Answer::Rfnm => Slot::Empty,
+            Answer::Incomplete => Slot::Ready(bits.whole().to_bits()),
+        };
+        Ok(())
+    }
+
+    /// Whether there is no message.
+    pub(crate) fn is_empty(&self) -> bool
+        ensures { result ≡ is_empty self.now }
+    {
+        matches!(self, Slot::Empty)
+    }
+
+    /// Whether there is a message that is to go out.
+    pub(crate) fn is_ready(&self) -> bool
+        ensures { result ≡ is_ready self.now }
+    {
+        matches!(self, Slot::Ready(_))
+    }
+}

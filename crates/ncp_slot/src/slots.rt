@@ -1,0 +1,154 @@
+//! `Slots`.
+ghost use Rattle.std.specs.Prelude.{◌≡◌, ◌≢◌, ℕ, ◌-◌, ◌+◌, ◌<◌, ◌≤◌, ◌↔◌, true, false, length, slice_get, IsTrue, Some, IfOk, IfSome, IfNone, OnOk, OnErr, IsOk};
+ghost use Rattle.std.specs.List.{list_all};
+ghost use Rattle.ncp_slot.specs.Slot.{put_in, handed_out, answered, ready_message, is_empty, is_ready, is_travelling};
+ghost use Rattle.ncp_slot.specs.Slots.{HasSlot, slot_at, with_slot, OthersStay, IsReady, IsFirstReady, IsQuiet, is_quiet, link_at};
+
+use crate::slot::{Answer, Busy, Slot, Stray};
+use ncp_bits::Bits;
+use std::alloc::{AllocError, Global};
+use std::marker::Model;
+
+/// The first link that carries a connection.
+pub const FIRST_DATA_LINK: u8 = 2;
+
+/// The last link that carries a connection.
+pub const LAST_LINK: u8 = 71;
+
+/// The link between the control link and the data links. It has no slot.
+pub const UNUSED_LINK: u8 = 1;
+
+/// How many slots there are: that of the control link, 0, and those of the data links.
+const SLOTS: usize = 71;
+
+/// Whether a link has a slot: link 0 and links [`FIRST_DATA_LINK`] to [`LAST_LINK`].
+pub fn has_slot(link: u8) -> bool
+    ensures { IsTrue result ↔ HasSlot link }
+{
+    link != UNUSED_LINK && link <= LAST_LINK
+}
+
+// The place of a link's slot.
+fn place_of(link: u8) -> usize
+    requires { HasSlot link }
+    ensures place { result ≡ link - 1 }
+    ensures inside { result < SLOTS }
+{
+    usize::from(link.saturating_sub(1))
+}
+
+// The link of the slot at a place.
+fn link_of(place: usize) -> u8
+    requires { place < SLOTS }
+    ensures { result ≡ link_at place }
+{
+    if place == 0 { 0 } else { place as u8 + 1 }
+}
+
+// Whether there is no message in these slots.
+fn all_empty(slots: &[Slot]) -> bool
+    ensures { result ≡ list_all is_empty slots.now }
+{
+    slots.iter().all(|slot| slot.is_empty())
+}
+
+/// The slots of a host's links to one peer. Their room is made by [`Slots::new`]; no other call
+/// allocates.
+#[derive(Drop)]
+pub struct Slots {
+    slots: Vec<Slot>,
+}
+
+impl Model for Slots {
+    ghost use Rattle.std.specs.Prelude.{◌≡◌, length};
+    ghost use Rattle.ncp_slot.specs.declared.slots.TheConstants.{SLOTS};
+    ghost use Rattle.ncp_slot.specs.Slots.{LinkSlots, slots_in, coded_slots};
+
+    ghost Value = { LinkSlots };
+
+    ghost coded = { coded_slots };
+
+    ghost view = { λ all. slots_in all.slots.items };
+
+    ghost invariant = { λ all. length all.slots.items ≡ SLOTS };
+}
+
+impl Slots {
+    /// Empty slots.
+    pub fn new(alloc: Global) -> Result<Slots, AllocError>
+        ensures { IfOk result (λ slots. (link : ℕ) → slot_at slots link ≡ Slot.Empty) }
+    {
+        let mut slots = Vec::with_capacity(alloc, SLOTS)?;
+        for _place in 0..SLOTS {
+            slots.push_reserved(Slot::Empty);
+        }
+        Ok(Slots { slots })
+    }
+
+    /// Keeps a copy of a message, to go out on a link. Busy, and nothing changes, where the link
+    /// has a message that is not answered yet.
+    pub fn put(&mut self, link: u8, bits: &Bits) -> Result<(), Busy>
+        requires { HasSlot link }
+        ensures variant { IsOk result ↔ (slot_at self.old link ≡ Slot.Empty) }
+        ensures slot { slot_at self.new link ≡ put_in bits.now (slot_at self.old link) }
+        ensures others { OthersStay self.old self.new link }
+        ensures ok { OnOk result (self.new ≡ with_slot self.old link (Slot.Ready bits.now)) }
+        ensures err { OnErr result (self.new ≡ self.old) }
+    {
+        self.slots[place_of(link)].put(bits)
+    }
+
+    /// Hands out the message that is to go out on a link, if there is one. It is kept until it is
+    /// answered.
+    pub fn hand(&mut self, link: u8) -> Option<Bits>
+        requires { HasSlot link }
+        ensures handed { result ≡ ready_message (slot_at self.old link) }
+        ensures slot { slot_at self.new link ≡ handed_out (slot_at self.old link) }
+        ensures others { OthersStay self.old self.new link }
+        ensures some { IfSome result (λ message. self.new ≡ with_slot self.old link (Slot.Travelling message)) }
+        ensures none { IfNone result (self.new ≡ self.old) }
+    {
+        self.slots[place_of(link)].hand()
+    }
+
+    /// Takes the subnet's answer to the message that went out on a link. After an RFNM the
+    /// message is gone; after Incomplete Transmission it is to go out again.
+    ///
+    /// Stray, and nothing changes, where no message on the link is unanswered, as on a link
+    /// without a slot.
+    pub fn answer(&mut self, link: u8, answer: Answer) -> Result<(), Stray>
+        ensures variant { IsOk result ↔ IsTrue (is_travelling (slot_at self.old link)) }
+        ensures slot { slot_at self.new link ≡ answered answer (slot_at self.old link) }
+        ensures others { OthersStay self.old self.new link }
+        ensures ok { OnOk result (self.new ≡ with_slot self.old link (answered answer (slot_at self.old link))) }
+        ensures err { OnErr result (self.new ≡ self.old) }
+    {
+        let slots = &mut self.slots;
+        if !has_slot(link) {
+            return Err(Stray);
+        }
+        slots[place_of(link)].answer(answer)
+    }
+
+    /// The lowest link with a message that is to go out.
+    pub fn first_ready(&self) -> Option<u8>
+        ensures none { IfNone result ((link : ℕ) → ¬ IsReady self.now link) }
+        ensures first { IfSome result (λ link. IsFirstReady self.now link) }
+        ensures link { IfSome result (λ link. HasSlot link) }
+    {
+        for (place, slot) in self.slots.iter().enumerate() {
+            if slot.is_ready() {
+                return Some(link_of(place));
+            }
+        }
+        None
+    }
+
+    /// Whether no data link has a message. The control link is not looked at.
+    pub fn quiet(&self) -> bool
+        ensures quiet { IsTrue result ↔ IsQuiet self.now }
+        ensures test { result ≡ is_quiet self.now }
+    {
+        all_empty(&self.slots[1..])
+    }
+}
