@@ -7,7 +7,7 @@ import time
 
 HERE = os.path.dirname(os.path.abspath(__file__))
 PROGRAM = os.path.join(HERE, "..", "ncp")
-WORK = [("ncp show", [PROGRAM, "show"]), ("xxd -p", ["xxd", "-p"])]
+WORK = [("ncp show", [PROGRAM, "show"]), ("ncp check", [PROGRAM, "check"]), ("xxd -p", ["xxd", "-p"])]
 
 
 def made(size):

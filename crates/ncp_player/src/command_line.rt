@@ -9,7 +9,9 @@ use std::convert::AsStr;
 
 // The program's name, and those of its subcommands.
 const PROGRAM: &str = "ncp";
+
 const SHOW: &str = "show";
+
 const CHECK: &str = "check";
 
 // The order that a subcommand is: `show` where there is none.
@@ -29,10 +31,12 @@ fn order_named(name: Option<&str>) -> Order
 pub fn order<'a, S: AsStr>(alloc: Global, words: &'a [S]) -> Result<Order, Error>
     ensures { IfOk result (λ order. order ≡ order_in (map S.text words.entry.now)) }
 {
-    let show = Command::new(alloc, SHOW)
-        .about("Shows each message of a message file, read from standard input");
-    let check = Command::new(alloc, CHECK)
-        .about("Counts the messages of a message file, and says whether all are sound");
+    let show = Command::new(alloc, SHOW).about(
+        "Shows each message of a message file, read from standard input",
+    );
+    let check = Command::new(alloc, CHECK).about(
+        "Counts the messages of a message file, and says whether all are sound",
+    );
     let program = Command::new(alloc, PROGRAM)
         .about("Reads the messages of an ARPANET host")
         .subcommand(show)?

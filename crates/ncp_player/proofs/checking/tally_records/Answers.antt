@@ -16,8 +16,8 @@ returns-in_err-message-clause-told g c = λ bytes a.
     let p = err_from_is_err_and c.from_residual.result c.from_residual.ensures.1 in
     let before = c.loop-message.invariant.told bytes a in
     rw (p.1, p.2) (
-      before.2 (Err c.in_err-message.field-0.0) (
-        tallies_fault before.0 c.read_record.new.window (g.S.Source.left c.read_record.new.source) c.loop-message.tally c.in_err-message.field-0.0 (c.in_err-message.ensures.told before.0 before.1)))
+    before.2 (Err c.in_err-message.field-0.0) (
+    tallies_fault before.0 c.read_record.new.window (g.S.Source.left c.read_record.new.source) c.loop-message.tally c.in_err-message.field-0.0 (c.in_err-message.ensures.told before.0 before.1)))
 
 pub loop-message-preserved : goal.loop-message-preserved
 loop-message-preserved g c = record {
