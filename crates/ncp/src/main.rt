@@ -12,7 +12,7 @@ fn main(rt: HostRuntime) -> Result<ExitCode> {
     let order = match order(alloc, words.as_slice()) {
         Ok(order) => order,
         Err(error) => {
-            error.print(&rt)?;
+            let _untold = error.print(&rt);
             return Ok(ExitCode::from(error.exit_code() as u8));
         }
     };
@@ -25,7 +25,8 @@ fn main(rt: HostRuntime) -> Result<ExitCode> {
     let outcome = match outcome {
         Ok(good) => Ok(good),
         Err(fault) => {
-            eprintln!(rt; "ncp: {}", fault.name())?;
+            // The status tells the fault, even where nothing can be told on standard error.
+            let _untold = eprintln!(rt; "ncp: {}", fault.name());
             Err(())
         }
     };
