@@ -1,5 +1,5 @@
 -- What bytes behind a header hold.
-use Rattle.std.proofs.Common.{◌≡◌, ℕ, suc, zero, ◌+◌, ◌<◌, ◌≤◌, Bool, true, false, cond, ltb, List, [], ◌∷◌, ◌++◌, length, take, drop, slice_range, Option, Some, None, Result, Ok, Err, refl, sym, ap, ◌∙◌, arith}
+use Rattle.std.proofs.Common.{◌≡◌, ℕ, suc, zero, ◌+◌, ◌<◌, ◌≤◌, Bool, true, false, cond, ltb, List, [], ◌∷◌, ◌++◌, length, take, drop, slice_range, Option, Some, None, Result, Ok, Err, refl, sym, ap, ◌∙◌, arith, subst}
 use Rattle.std.proofs.lemmas.List.{length-append, length-drop, drop-drop, take-append-drop, length-take-le}
 use Rattle.std.proofs.lemmas.Bool.{ltb-false}
 use Rattle.std.proofs.Math.ListN.{drop_of_length-le}
@@ -9,7 +9,7 @@ use Rattle.ncp_bits.specs.Bits.{read_bytes, bytes_for, spare_bits, bits_of_bytes
 use Rattle.ncp_bits.specs.declared.bits.BitsFault.{BitsFault}
 use Rattle.ncp_bits.specs.declared.bits.BitsFault.TheVariants as bits
 use Rattle.ncp_player.specs.declared.file.FileFault.{FileFault}
-use Rattle.ncp_player.specs.File.{next_record, record_of, ending, Holds}
+use Rattle.ncp_player.specs.File.{Next, next_record, record_of, ending, Holds}
 use Rattle.ncp_player.proofs.Files.{next_none, next_read, next_whole, behind_record}
 
 -- ---- a record at the front
@@ -76,3 +76,31 @@ some_within (suc n) bytes h = some_next n bytes h (next_record bytes) refl (some
 -- bytes hold some records, and end or have a fault behind them
 pub holds_some : (bytes : List ℕ) → (messages : List (List Bool)) × (fault : Option FileFault) × Holds bytes messages fault
 holds_some bytes = some_within (length bytes) bytes (omega arith)
+
+-- ---- one reading
+
+ends_once : (fault other : Option FileFault) (r : Result Next FileFault) → r ≡ ending fault → r ≡ ending other → fault ≡ other
+ends_once None None r h k = refl
+ends_once None (Some f) r h k = let e : ⊥ = cc in absurd e
+ends_once (Some f) None r h k = let e : ⊥ = cc in absurd e
+ends_once (Some f) (Some g) r h k = let e : f ≡ g = cc in ap Some e
+
+-- no record stands where the file ends
+never_both : (fault : Option FileFault) (message : List Bool) (rest : List ℕ) (r : Result Next FileFault) → r ≡ ending fault → r ≡ Ok (Some (message, rest)) → ⊥
+never_both None message rest r h k = let e : ⊥ = cc in e
+never_both (Some f) message rest r h k = let e : ⊥ = cc in e
+
+-- one record stands there
+same_record : (message other : List Bool) (rest more : List ℕ) (r : Result Next FileFault) → r ≡ Ok (Some (message, rest)) → r ≡ Ok (Some (other, more)) → (message ≡ other) × (rest ≡ more)
+same_record message other rest more r h k =
+    let pair : ◌≡◌ {A = List Bool × List ℕ} (message, rest) (other, more) = cc in
+    (ap (λ p. p.0) pair, ap (λ p. p.1) pair)
+
+pub holds_once : (bytes : List ℕ) (messages others : List (List Bool)) (fault other : Option FileFault) → Holds bytes messages fault → Holds bytes others other → (messages ≡ others) × (fault ≡ other)
+holds_once bytes [] [] fault other h k = (refl, ends_once fault other (next_record bytes) h k)
+holds_once bytes [] (second ∷ others) fault other h k = absurd (never_both fault second k.0 (next_record bytes) h k.1)
+holds_once bytes (first ∷ messages) [] fault other h k = absurd (never_both other first h.0 (next_record bytes) k h.1)
+holds_once bytes (first ∷ messages) (second ∷ others) fault other h k =
+    let same = same_record first second h.0 k.0 (next_record bytes) h.1 k.1 in
+    let rest = holds_once h.0 messages others fault other h.2 (subst (λ xs. Holds xs others other) (sym same.1) k.2) in
+    (ap (λ m. m ∷ messages) same.0 ∙ ap (λ ms. second ∷ ms) rest.0, rest.1)

@@ -6,6 +6,7 @@ mod command_line;
 mod detail;
 mod file;
 mod incoming;
+pub mod laws;
 mod line;
 mod memory;
 mod orders;
