@@ -311,11 +311,23 @@ fn reads_the_command_line(rt: HostRuntime) -> Result<(), Fail> {
         return Err("help is no order".into());
     };
     assert_eq!(rt; help.exit_code(), 0);
-    for words in [["ncp", "play"], ["ncp", "--loud"]] {
+    let faults = [
+        (["ncp", "play"], "error: unrecognized subcommand 'play'"),
+        (
+            ["ncp", "--loud"],
+            "error: unexpected argument '--loud' found",
+        ),
+    ];
+    for (words, text) in faults {
         let Err(fault) = order(rt.alloc(), &words) else {
             return Err("no such word".into());
         };
         assert_eq!(rt; fault.exit_code(), 2);
+        let told = format!(in rt.alloc(); "{fault}")?;
+        assert!(rt; told.as_str().starts_with(text));
+        assert!(rt;
+            told.as_str().ends_with("Usage: ncp [COMMAND]\n\nFor more information, try '--help'.\n")
+        );
     }
     Ok(())
 }
