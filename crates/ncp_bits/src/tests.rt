@@ -1,6 +1,6 @@
 //! What no clause says: that the calls succeed, that memory is asked for where it is needed, and
 //! that the definitions mean what the worked rows mean.
-use crate::{BitStore, Bits, BitsFault, NoRoom, PlainStore};
+use crate::{BitStore, Bits, BitsFault, NoRoom, PackedStore, PlainStore};
 use std::alloc::Global;
 use std::process::Abort;
 use std::test::Fail;
@@ -139,6 +139,12 @@ fn plain_store_keeps_bits(rt: HostRuntime) -> Result<(), Fail> {
 }
 
 #[test]
+fn packed_store_keeps_bits(rt: HostRuntime) -> Result<(), Fail> {
+    keeps_thirteen_bits::<PackedStore>(&rt, rt.alloc())
+}
+
+#[test]
 fn has_memory_for_a_store(rt: HostRuntime) {
     assert!(rt; PlainStore::with_room(rt.alloc(), 65536).is_ok());
+    assert!(rt; PackedStore::with_room(rt.alloc(), 65536).is_ok());
 }
