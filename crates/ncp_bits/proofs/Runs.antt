@@ -1,6 +1,6 @@
 -- Runs of bits in bytes.
 use Rattle.std.proofs.Common.{◌≡◌, ℕ, suc, zero, ◌+◌, ◌*◌, ◌/◌, ◌%◌, ◌-◌, ◌^◌, ◌<◌, ◌≤◌, Bool, true, false, eqb, bit_and, List, [], ◌∷◌, ◌++◌, length, take, drop, get_or, slice_range, replicate, not, Ok, refl, sym, ap, ◌∙◌, arith}
-use Rattle.std.proofs.lemmas.List.{length-append, take_all, take_at, take-take, drop-take, drop_all, length-take-le, length-drop, drop-drop, take-append-le, drop-append-le, take-append-drop, get_or-take, get_or-drop, append_assoc, append-nil}
+use Rattle.std.proofs.lemmas.List.{take_all, take-take, drop-take, length-take-le, length-drop, drop-drop, take-append-le, drop-append-le, take-append-drop, get_or-take, get_or-drop, append-nil}
 use Rattle.std.specs.List.{list_any}
 use Rattle.std.specs.Int.{w64, to_be_bytes}
 use Rattle.std.proofs.lemmas.List.Concat.{flat_map-append, get_or-flat_map}

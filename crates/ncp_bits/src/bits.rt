@@ -13,7 +13,7 @@ use thiserror::Error;
 /// How many bits a [`Bits`] has at most: those of the longest message that is read.
 pub const MAX_BITS: usize = 8192;
 
-// How many bytes they take.
+// How many bytes these take.
 const MAX_BYTES: usize = MAX_BITS / 8;
 
 // What bytes are before bits are written into them.
@@ -30,7 +30,8 @@ pub enum BitsFault {
     SpareNotZero = 3,
 }
 
-/// A bit string of at most [`MAX_BITS`] bits, eight a byte. It allocates nothing.
+/// A bit string of at most [`MAX_BITS`] bits, eight a byte. It allocates nothing: a new one writes
+/// its [`MAX_BITS`] / 8 bytes once, and a move copies them.
 #[derive(Drop)]
 pub struct Bits {
     bytes: ArrayVec<u8, MAX_BYTES>,
@@ -68,15 +69,6 @@ impl Bits {
             bytes: ArrayVec::new(),
             len: 0,
         }
-    }
-
-    /// The bits of a part.
-    pub(crate) fn of_part(part: &Part<'_>) -> Bits
-        ensures { result ≡ part.now }
-    {
-        let mut bits = Bits::new();
-        bits.append(part.slice(0, part.len())).unwrap();
-        bits
     }
 
     /// The first `len` bits of bytes. Bytes behind the last one used are not looked at.
@@ -178,7 +170,7 @@ impl Bits {
         ensures err { OnErr result ((result ≡ Err BitsFault.TooLong) × (self.new ≡ self.old)) }
     {
         let bytes = value.to_be_bytes();
-        self.append(Part::of_bytes(&bytes, 64 - width, width))
+        self.append(Part::of_bytes(&bytes, u64::BITS as usize - width, width))
     }
 
     /// Appends a part. `TooLong` where it does not fit.

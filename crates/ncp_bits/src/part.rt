@@ -88,11 +88,13 @@ impl<'a> Part<'a> {
         Part::of_bytes(self.bytes, self.skip + at, len)
     }
 
-    /// A copy of the bits. It costs what `to_bytes` does, beside an empty [`Bits`].
+    /// A copy of the bits. It costs a new [`Bits`] and what `to_bytes` does.
     pub fn to_bits(&self) -> Bits
         ensures { result ≡ self.now }
     {
-        Bits::of_part(self)
+        let mut bits = Bits::new();
+        bits.append(self.slice(0, self.len())).unwrap();
+        bits
     }
 
     /// Writes the bits as bytes, the spare bits zero, and gives the number of bytes. Later bytes

@@ -1,7 +1,7 @@
-use Rattle.std.proofs.Common.{◌≡◌, ◌<◌, ◌≤◌, ◌+◌, ◌*◌, ◌/◌, ◌%◌, ◌-◌, ◌^◌, ℕ, List, Bool, false, ◌++◌, replicate, length, take, drop, get_or, set, slice_range, ◌⊎◌, inl, inr, refl, sym, ap, ◌∙◌, arith}
+use Rattle.std.proofs.Common.{◌≡◌, ◌+◌, ◌*◌, ◌/◌, ◌%◌, ◌-◌, ◌^◌, ℕ, length, take, drop, get_or, ◌⊎◌, inl, inr, ap, ◌∙◌, arith}
 use Rattle.std.proofs.lemmas.List.{take_all, length-drop}
 use Rattle.ncp_bits.specs.Numbers.{number_of}
-use Rattle.ncp_bits.specs.Bits.{bits_of_bytes, byte_bits, bytes_for, bytes_of, spare_for}
+use Rattle.ncp_bits.specs.Bits.{byte_bits}
 use Rattle.ncp_bits.proofs.Joins.{written_aligned, written_at, min_is}
 use Rattle.ncp_bits.proofs.append.write_behind.Goals as goal
 

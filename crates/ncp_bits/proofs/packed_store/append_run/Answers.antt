@@ -1,5 +1,4 @@
-use Rattle.std.proofs.Common.{◌≡◌, ◌≤◌, ◌+◌, ◌*◌, ◌++◌, length, ap, ◌∙◌, refl, arith}
-use Rattle.ncp_bits.specs.Packed.{run}
+use Rattle.std.proofs.Common.{◌+◌, ◌++◌, length, ap, ◌∙◌, refl, arith}
 use Rattle.ncp_bits.proofs.Joins.{run_written}
 use Rattle.ncp_bits.proofs.packed_store.append_run.Goals as goal
 

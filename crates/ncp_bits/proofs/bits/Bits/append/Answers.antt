@@ -1,7 +1,5 @@
-use Rattle.std.proofs.Common.{◌≡◌, ◌≤◌, ◌<◌, ◌+◌, ◌*◌, ◌-◌, ◌++◌, List, Bool, ℕ, false, length, take, drop, replicate, refl, sym, ap, ◌∙◌, arith}
+use Rattle.std.proofs.Common.{◌≡◌, ◌+◌, ◌++◌, List, ℕ, length, take, drop, refl, sym, ap, ◌∙◌, arith}
 use Rattle.std.proofs.lemmas.List.{take_at, length-append}
-use Rattle.std.proofs.lemmas.Result.{IfOk-at_ok}
-use Rattle.ncp_bits.specs.Bits.{bits_of_bytes, bytes_for, spare_for}
 use Rattle.ncp_bits.specs.Packed.{run, IsPacked}
 use Rattle.ncp_bits.proofs.Runs.{length-packed, run-take}
 use Rattle.ncp_bits.proofs.Joins.{run_behind, packed_written}

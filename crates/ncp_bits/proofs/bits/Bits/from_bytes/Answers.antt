@@ -1,8 +1,8 @@
-use Rattle.std.proofs.Common.{◌≡◌, ◌∙◌, ◌++◌, sym, ap, length, take, drop, Ok, false, List, Bool, ℕ, arith}
+use Rattle.std.proofs.Common.{◌≡◌, ◌∙◌, ◌++◌, sym, ap, take, drop, Ok, false, List, Bool, ℕ, arith}
 use Rattle.std.specs.List.{list_any}
 use Rattle.std.proofs.lemmas.Result.{IfOk-at_ok}
 use Rattle.ncp_bits.specs.Bits.{bits_of_bytes}
-use Rattle.ncp_bits.specs.Packed.{run, IsPacked}
+use Rattle.ncp_bits.specs.Packed.{run}
 use Rattle.ncp_bits.proofs.Runs.{read_packed, packed_copy, length-packed}
 use Rattle.ncp_bits.proofs.bits.Bits.from_bytes.Goals as goal
 

@@ -1,5 +1,5 @@
-use Rattle.std.proofs.Common.{◌≡◌, ℕ, List, length, refl, ap, ◌∙◌, sym, arith}
-use Rattle.ncp_bits.specs.Packed.{IsPacked, run}
+use Rattle.std.proofs.Common.{refl, arith}
+use Rattle.ncp_bits.specs.Packed.{run}
 use Rattle.ncp_bits.proofs.Runs.{run_none}
 use Rattle.ncp_bits.proofs.bits.Bits.new.Goals as goal
 

@@ -1,7 +1,7 @@
-use Rattle.std.proofs.Common.{◌≡◌, refl, ◌≤◌, ◌<◌, ◌+◌, ◌*◌, ◌-◌, ◌++◌, sym, ap, ◌∙◌, length, take, drop, List, Bool, ℕ, rules, arith}
+use Rattle.std.proofs.Common.{◌≡◌, refl, ◌+◌, ◌++◌, sym, ap, ◌∙◌, length, List, ℕ, arith}
 use Rattle.std.proofs.lemmas.List.{take_at}
 use Rattle.ncp_bits.specs.Store.{Stored}
-use Rattle.ncp_bits.specs.Packed.{run, HoldsRun}
+use Rattle.ncp_bits.specs.Packed.{run}
 use Rattle.ncp_bits.proofs.Runs.{length-run}
 use Rattle.ncp_bits.proofs.packed_store.PackedStoreBitStore.put.Goals as goal
 

@@ -1,6 +1,6 @@
-use Rattle.std.proofs.Common.{◌≡◌, ◌≤◌, ◌<◌, ◌+◌, ◌*◌, ◌-◌, ◌^◌, sym, ap, ◌∙◌, length, take, drop, List, Bool, ℕ, arith}
+use Rattle.std.proofs.Common.{◌≡◌, sym, ap, ◌∙◌, length, take, drop, List, ℕ, arith}
 use Rattle.ncp_bits.specs.Store.{Stored}
-use Rattle.ncp_bits.specs.Packed.{run, HoldsRun}
+use Rattle.ncp_bits.specs.Packed.{run}
 use Rattle.ncp_bits.proofs.Runs.{length-run, take-run, drop-run}
 use Rattle.ncp_bits.proofs.packed_store.PackedStoreBitStore.take.Goals as goal
 

@@ -1,6 +1,5 @@
-use Rattle.std.proofs.Common.{◌≡◌, ◌+◌, ◌<◌, ap, sym, ◌∙◌, length, get_or, false, Some, List, Bool, arith}
+use Rattle.std.proofs.Common.{◌≡◌, ap, sym, ◌∙◌, length, get_or, false, Some, List, Bool, arith}
 use Rattle.std.proofs.lemmas.Option.{slice_get-get_or}
-use Rattle.ncp_bits.specs.Bits.{bits_of_bytes}
 use Rattle.ncp_bits.proofs.Runs.{length-run, get_or-run}
 use Rattle.ncp_bits.proofs.part.Part.bit.Goals as goal
 

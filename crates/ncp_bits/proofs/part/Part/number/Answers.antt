@@ -1,4 +1,4 @@
-use Rattle.std.proofs.Common.{◌≡◌, ◌+◌, ◌≤◌, ◌<◌, ◌^◌, ℕ, ap, sym, ◌∙◌, length, slice_range, List, Bool, arith}
+use Rattle.std.proofs.Common.{◌≡◌, ◌+◌, ◌<◌, ◌^◌, ap, sym, ◌∙◌, length, slice_range, List, Bool, arith}
 use Rattle.ncp_bits.specs.Numbers.{number_of}
 use Rattle.ncp_bits.proofs.Numbers.{number_of_range}
 use Rattle.ncp_bits.proofs.Runs.{length-run, range-run}

@@ -1,4 +1,4 @@
-use Rattle.std.proofs.Common.{◌≡◌, ◌+◌, ◌≤◌, ap, sym, ◌∙◌, length, slice_range, List, Bool, arith}
+use Rattle.std.proofs.Common.{◌≡◌, ◌+◌, ap, sym, ◌∙◌, length, slice_range, List, Bool, arith}
 use Rattle.ncp_bits.proofs.Runs.{length-run, range-run}
 use Rattle.ncp_bits.proofs.part.Part.slice.Goals as goal
 
