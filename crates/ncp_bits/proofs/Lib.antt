@@ -2,3 +2,6 @@ pub mod Numbers
 pub mod Bytes
 pub mod Fields
 pub mod Packing
+pub mod Shifts
+pub mod Runs
+pub mod Joins

@@ -98,7 +98,7 @@ suc_second : (a b : ℕ) → suc a + b ≡ a + suc b
 suc_second a b = omega arith
 
 -- what lies above the bits of a number
-bits_of-low : (width more a r : ℕ) → bits_of width (r + a * 2 ^ (width + more)) ≡ bits_of width r
+pub bits_of-low : (width more a r : ℕ) → bits_of width (r + a * 2 ^ (width + more)) ≡ bits_of width r
 unfolding bits_of
 bits_of-low zero more a r = refl
 bits_of-low (suc width) more a r =

@@ -1,11 +1,11 @@
 -- Bytes and their bits undo each other.
-use Rattle.std.proofs.Common.{◌≡◌, ℕ, suc, zero, ◌+◌, ◌*◌, ◌-◌, ◌^◌, ◌<◌, ◌≤◌, Bool, false, List, [], ◌∷◌, ◌++◌, length, take, drop, get_or, replicate, map, refl, sym, ap, ◌∙◌, arith}
-use Rattle.std.specs.List.{All, range_with_len}
-use Rattle.std.proofs.lemmas.List.{append_assoc, length-append, length-replicate, length-take-le, length-drop, take_at, take-append-le, take-append-drop, drop_at, drop-append-le, replicate-append-replicate, take-replicate}
+use Rattle.std.proofs.Common.{◌≡◌, ℕ, suc, zero, ◌+◌, ◌*◌, ◌^◌, ◌<◌, ◌≤◌, Bool, false, List, [], ◌∷◌, ◌++◌, length, take, drop, get_or, replicate, refl, sym, ap, ◌∙◌, arith}
+use Rattle.std.specs.List.{All}
+use Rattle.std.proofs.lemmas.List.{append_assoc, length-append, length-replicate, length-take-le, length-drop, take_at, take-append-drop, drop_at, drop-append-le, replicate-append-replicate, take-replicate}
 use Rattle.std.proofs.lemmas.List.Elements.{All-nil, All-cons, All-get_or}
-use Rattle.std.proofs.lemmas.List.FromFn.{fill_by_all, get_or-map-range_with_len, length-map-range_with_len}
+use Rattle.std.proofs.lemmas.List.FromFn.{fill_by_all}
 use Rattle.std.proofs.lemmas.List.Concat.{flat_map-append}
-use Rattle.std.proofs.Math.Seq.{drop-cons, take-append-add}
+use Rattle.std.proofs.Math.Seq.{drop-cons}
 use Rattle.ncp_bits.specs.Numbers.{number_of, bits_of}
 use Rattle.ncp_bits.specs.Bits.{byte_bits, bits_of_bytes, bytes_for, spare_for, byte_of, bytes_of}
 use Rattle.ncp_bits.proofs.Numbers.{length-bits_of, bits_of-number_of, number_of-fits}

@@ -1,5 +1,5 @@
 -- Bytes as bits, eight a byte.
-use Rattle.std.specs.Prelude.{ℕ, ◌+◌, ◌*◌, ◌-◌, Bool, false, nat_lt, List, [], length, take, drop, replicate, map, ◌++◌, Result, Ok, Err, if◌then◌else◌}
+use Rattle.std.specs.Prelude.{ℕ, ◌*◌, ◌-◌, Bool, false, nat_lt, List, length, take, drop, replicate, map, ◌++◌, Result, Ok, Err, if◌then◌else◌}
 use Rattle.std.specs.List.{flat_map, list_any, range_with_len}
 use Rattle.std.specs.Int.{div_ceil}
 use Rattle.ncp_bits.specs.Numbers.{number_of, bits_of}

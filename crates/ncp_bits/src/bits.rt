@@ -1,16 +1,23 @@
 //! `Bits`.
-ghost use Rattle.std.specs.Prelude.{◌≡◌, ◌+◌, ◌<◌, ◌≤◌, ◌^◌, ◌++◌, ◌↔◌, IsTrue, [], length, drop, slice_range, slice_get, Some, IfOk, OnOk, OnErr, IsOk};
+ghost use Rattle.std.specs.Prelude.{◌≡◌, ◌+◌, ◌<◌, ◌≤◌, ◌^◌, ◌++◌, ◌↔◌, IsTrue, [], length, take, drop, slice_range, slice_get, Some, IfOk, OnOk, OnErr, IsOk};
 ghost use Rattle.ncp_bits.specs.Numbers.{number_of, bits_of};
 ghost use Rattle.ncp_bits.specs.Bits.{read_bytes, bytes_for, bytes_of};
 
-use crate::cells::{Cells, is_any_set, number_in, push_bytes, push_low_bits, write_bytes};
+use crate::append::write_behind;
 use crate::part::Part;
+use crate::reading::{bit_in, is_spare_set};
 use arrayvec::ArrayVec;
 use std::marker::Model;
 use thiserror::Error;
 
 /// How many bits a [`Bits`] has at most: those of the longest message that is read.
 pub const MAX_BITS: usize = 8192;
+
+// How many bytes these take.
+const MAX_BYTES: usize = MAX_BITS / 8;
+
+// What bytes are before bits are written into them.
+static ZEROS: [u8; MAX_BYTES] = [0; MAX_BYTES];
 
 /// Why bits are refused, in the order in which it is judged.
 #[derive(Clone, Copy, Debug, Drop, PartialEq, Eq, Error)]
@@ -23,18 +30,34 @@ pub enum BitsFault {
     SpareNotZero = 3,
 }
 
-/// A bit string of at most [`MAX_BITS`] bits. It allocates nothing.
+/// A bit string of at most [`MAX_BITS`] bits, eight a byte. It allocates nothing: a new one writes
+/// its [`MAX_BITS`] / 8 bytes once, and a move copies them.
 #[derive(Drop)]
 pub struct Bits {
-    cells: Cells,
+    bytes: ArrayVec<u8, MAX_BYTES>,
+    len: usize,
 }
 
 impl Model for Bits {
     ghost use Rattle.std.specs.Prelude.{List, Bool};
+    ghost use Rattle.ncp_bits.specs.Packed.{run, IsPacked};
 
     ghost Value = { List Bool };
 
-    ghost view = { λ bits. bits.cells.items };
+    ghost view = { λ bits. run bits.bytes.items 0 bits.len };
+
+    ghost invariant = { λ bits. IsPacked bits.bytes.items bits.len };
+}
+
+// Lengthens bytes to so many.
+fn lengthen(bytes: &mut ArrayVec<u8, MAX_BYTES>, len: usize)
+    requires longer { length bytes.old.items ≤ len }
+    requires fits { len ≤ MAX_BYTES }
+    ensures front { take (length bytes.old.items) bytes.new.items ≡ bytes.old.items }
+    ensures len { length bytes.new.items ≡ len }
+{
+    let more = len - bytes.len();
+    bytes.try_extend_from_slice(&ZEROS[..more]).unwrap();
 }
 
 impl Bits {
@@ -43,24 +66,17 @@ impl Bits {
         ensures { result ≡ [] }
     {
         Bits {
-            cells: ArrayVec::new(),
+            bytes: ArrayVec::new(),
+            len: 0,
         }
-    }
-
-    /// The bits of cells.
-    pub(crate) fn of_cells(cells: &[bool]) -> Bits
-        requires { length cells.now ≤ MAX_BITS }
-        ensures { result ≡ cells.now }
-    {
-        let mut bits = Bits::new();
-        bits.cells.try_extend_from_slice(cells).unwrap();
-        bits
     }
 
     /// The first `len` bits of bytes. Bytes behind the last one used are not looked at.
     ///
     /// Refused, in this order: `TooLong` (over [`MAX_BITS`]), `ShortBytes`, `SpareNotZero` (a bit
     /// after `len` in the last byte used).
+    ///
+    /// It copies the bytes.
     pub fn from_bytes(bytes: &[u8], len: usize) -> Result<Bits, BitsFault>
         ensures read { result ≡ read_bytes bytes.now len }
         ensures len { IfOk result (λ bits. length bits ≡ len) }
@@ -72,13 +88,13 @@ impl Bits {
         if bytes.len() < used {
             return Err(BitsFault::ShortBytes);
         }
-        let mut cells = ArrayVec::new();
-        push_bytes(&mut cells, &bytes[..used]);
-        if is_any_set(&cells.as_slice()[len..]) {
+        let front = &bytes[..used];
+        if is_spare_set(front, len) {
             return Err(BitsFault::SpareNotZero);
         }
-        cells.truncate(len);
-        Ok(Bits { cells })
+        let mut copy = ArrayVec::new();
+        copy.try_extend_from_slice(front).unwrap();
+        Ok(Bits { bytes: copy, len })
     }
 
     /// How many bits there are.
@@ -86,63 +102,65 @@ impl Bits {
         ensures len { result ≡ length self.now }
         ensures fits { result ≤ MAX_BITS }
     {
-        self.cells.len()
+        self.len
     }
 
     /// Whether there are none.
     pub fn is_empty(&self) -> bool
         ensures { IsTrue result ↔ (length self.now ≡ 0) }
     {
-        self.cells.is_empty()
+        self.len == 0
     }
 
-    /// The bit at a place, counted from 0.
+    /// The bit at a place, counted from 0. It reads one byte.
     pub fn bit(&self, place: usize) -> bool
         requires { place < length self.now }
         ensures { slice_get self.now place ≡ Some result }
     {
-        self.cells[place]
+        bit_in(self.bytes.as_slice(), place)
     }
 
-    /// The number that `width` bits from `at` on spell, the first the most significant.
-    #[tactic(auto, using(crate::proofs::Numbers::number_of_range))]
+    /// The number that `width` bits from `at` on spell, the first the most significant. It reads
+    /// each byte that they touch once, nine at most.
     pub fn number(&self, at: usize, width: usize) -> u64
         requires width { width ≤ 64 }
         requires inside { at + width ≤ length self.now }
         ensures number { result ≡ number_of (slice_range self.now at (at + width)) }
         ensures fits { result < 2 ^ width }
     {
-        number_in(&self.cells.as_slice()[at..at + width])
+        self.whole().number(at, width)
     }
 
-    /// All bits.
+    /// All bits. Nothing is copied.
     pub fn whole(&self) -> Part<'_>
         ensures { result ≡ self.now }
     {
-        Part::of_cells(self.cells.as_slice())
+        Part::of_bytes(self.bytes.as_slice(), 0, self.len)
     }
 
-    /// The run of `len` bits from `at` on.
+    /// The run of `len` bits from `at` on. Nothing is copied.
     pub fn slice(&self, at: usize, len: usize) -> Part<'_>
         requires { at + len ≤ length self.now }
         ensures bits { result ≡ slice_range self.now at (at + len) }
         ensures len { length result ≡ len }
     {
-        Part::of_cells(&self.cells.as_slice()[at..at + len])
+        self.whole().slice(at, len)
     }
 
     /// Writes the bits as bytes, the spare bits zero, and gives the number of bytes. Later bytes
-    /// stay.
+    /// stay. The bytes are copied.
     pub fn to_bytes(&self, out: &mut [u8]) -> usize
         requires { bytes_for (length self.now) ≤ length out.old }
         ensures used { result ≡ bytes_for (length self.now) }
         ensures bytes { out.new ≡ bytes_of self.now ++ drop result out.old }
     {
-        write_bytes(self.cells.as_slice(), out)
+        self.whole().to_bytes(out)
     }
 
     /// Appends a number in `width` bits, the most significant first. `TooLong` where they do not
     /// fit.
+    ///
+    /// It costs what `append` does of a part of so many bits.
     pub fn push_number(&mut self, value: u64, width: usize) -> Result<(), BitsFault>
         requires width { width ≤ 64 }
         requires value { value < 2 ^ width }
@@ -151,24 +169,27 @@ impl Bits {
         ensures len { OnOk result (length self.new ≡ length self.old + width) }
         ensures err { OnErr result ((result ≡ Err BitsFault.TooLong) × (self.new ≡ self.old)) }
     {
-        if width > self.cells.remaining_capacity() {
-            return Err(BitsFault::TooLong);
-        }
-        push_low_bits(&mut self.cells, value, width);
-        Ok(())
+        let bytes = value.to_be_bytes();
+        self.append(Part::of_bytes(&bytes, u64::BITS as usize - width, width))
     }
 
     /// Appends a part. `TooLong` where it does not fit.
+    ///
+    /// It completes the last byte. Where the rest of the part begins with a byte then, it is
+    /// copied; else each byte takes two shifts.
     pub fn append(&mut self, part: Part<'_>) -> Result<(), BitsFault>
         ensures variant { IsOk result ↔ (length self.old + length part.entry ≤ MAX_BITS) }
         ensures ok { OnOk result (self.new ≡ self.old ++ part.entry) }
         ensures len { OnOk result (length self.new ≡ length self.old + length part.entry) }
         ensures err { OnErr result ((result ≡ Err BitsFault.TooLong) × (self.new ≡ self.old)) }
     {
-        if part.len() > self.cells.remaining_capacity() {
+        if part.len() > MAX_BITS - self.len {
             return Err(BitsFault::TooLong);
         }
-        self.cells.try_extend_from_slice(part.cells()).unwrap();
+        let len = self.len + part.len();
+        lengthen(&mut self.bytes, len.div_ceil(8));
+        write_behind(self.bytes.as_mut_slice(), self.len, &part);
+        self.len = len;
         Ok(())
     }
 }

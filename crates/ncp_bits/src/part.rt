@@ -1,44 +1,47 @@
 //! `Part`.
-ghost use Rattle.std.specs.Prelude.{◌≡◌, ◌+◌, ◌<◌, ◌≤◌, ◌^◌, ◌++◌, ◌↔◌, IsTrue, [], length, drop, slice_range, slice_get, Some};
+ghost use Rattle.std.specs.Prelude.{◌≡◌, ◌+◌, ◌*◌, ◌<◌, ◌≤◌, ◌^◌, ◌++◌, ◌↔◌, IsTrue, [], length, drop, slice_range, slice_get, Some};
 ghost use Rattle.ncp_bits.specs.Numbers.{number_of};
 ghost use Rattle.ncp_bits.specs.Bits.{bytes_for, bytes_of};
+ghost use Rattle.ncp_bits.specs.Packed.{run};
 
 use crate::bits::{Bits, MAX_BITS};
-use crate::cells::{number_in, write_bytes};
+use crate::reading::{bit_in, number_in};
+use crate::writing::write_run;
 use std::marker::Model;
 
-/// A borrowed run of bits of a [`Bits`]. Nothing is copied until `to_bits`.
+/// A borrowed run of bits of a [`Bits`], at any bit of its bytes. Nothing is copied until
+/// `to_bits`.
 #[derive(Drop)]
 pub struct Part<'a> {
-    cells: &'a [bool],
+    bytes: &'a [u8],
+    skip: usize,
+    len: usize,
 }
 
 impl<'a> Model for Part<'a> {
-    ghost use Rattle.std.specs.Prelude.{List, Bool, length, ◌≤◌};
-    ghost use Rattle.ncp_bits.specs.declared.bits.TheConstants.{MAX_BITS};
+    ghost use Rattle.std.specs.Prelude.{List, Bool};
+    ghost use Rattle.ncp_bits.specs.Packed.{run, IsPart};
 
     ghost Value = { List Bool };
 
-    ghost view = { λ part. part.cells.now };
+    ghost view = { λ part. run part.bytes.now part.skip part.len };
 
-    ghost invariant = { λ part. length part.cells.now ≤ MAX_BITS };
+    ghost invariant = { λ part. IsPart part.bytes.now part.skip part.len };
 }
 
 impl<'a> Part<'a> {
-    /// The part that these cells are.
-    pub(crate) fn of_cells(cells: &'a [bool]) -> Part<'a>
-        requires { length cells.now ≤ MAX_BITS }
-        ensures { result ≡ cells.now }
+    /// The run of `len` bits of bytes from `from` on.
+    pub(crate) fn of_bytes(bytes: &'a [u8], from: usize, len: usize) -> Part<'a>
+        requires fits { len ≤ MAX_BITS }
+        requires inside { from + len ≤ 8 * length bytes.now }
+        ensures bits { result ≡ run bytes.now from len }
+        ensures len { length result ≡ len }
     {
-        Part { cells }
-    }
-
-    /// The cells of the part.
-    pub(crate) fn cells(&self) -> &'a [bool]
-        ensures cells { result.now ≡ self.now }
-        ensures fits { length result.now ≤ MAX_BITS }
-    {
-        self.cells
+        Part {
+            bytes: &bytes[from / 8..],
+            skip: from % 8,
+            len,
+        }
     }
 
     /// How many bits there are.
@@ -46,25 +49,26 @@ impl<'a> Part<'a> {
         ensures len { result ≡ length self.now }
         ensures fits { result ≤ MAX_BITS }
     {
-        self.cells.len()
+        self.len
     }
 
     /// Whether there are none.
     pub fn is_empty(&self) -> bool
         ensures { IsTrue result ↔ (length self.now ≡ 0) }
     {
-        self.cells.is_empty()
+        self.len == 0
     }
 
-    /// The bit at a place, counted from 0.
+    /// The bit at a place, counted from 0. It reads one byte.
     pub fn bit(&self, place: usize) -> bool
         requires { place < length self.now }
         ensures { slice_get self.now place ≡ Some result }
     {
-        self.cells[place]
+        bit_in(self.bytes, self.skip + place)
     }
 
-    /// The number that `width` bits from `at` on spell, the first the most significant.
+    /// The number that `width` bits from `at` on spell, the first the most significant. It reads
+    /// each byte that they touch once, nine at most.
     #[tactic(auto, using(crate::proofs::Numbers::number_of_range))]
     pub fn number(&self, at: usize, width: usize) -> u64
         requires width { width ≤ 64 }
@@ -72,34 +76,36 @@ impl<'a> Part<'a> {
         ensures number { result ≡ number_of (slice_range self.now at (at + width)) }
         ensures fits { result < 2 ^ width }
     {
-        number_in(&self.cells[at..at + width])
+        number_in(self.bytes, self.skip + at, width)
     }
 
-    /// The run of `len` bits from `at` on.
+    /// The run of `len` bits from `at` on. Nothing is copied.
     pub fn slice(&self, at: usize, len: usize) -> Part<'a>
         requires { at + len ≤ length self.now }
         ensures bits { result ≡ slice_range self.now at (at + len) }
         ensures len { length result ≡ len }
     {
-        Part {
-            cells: &self.cells[at..at + len],
-        }
+        Part::of_bytes(self.bytes, self.skip + at, len)
     }
 
-    /// A copy of the bits.
+    /// A copy of the bits. It costs a new [`Bits`] and what `to_bytes` does.
     pub fn to_bits(&self) -> Bits
         ensures { result ≡ self.now }
     {
-        Bits::of_cells(self.cells)
+        let mut bits = Bits::new();
+        bits.append(self.slice(0, self.len())).unwrap();
+        bits
     }
 
     /// Writes the bits as bytes, the spare bits zero, and gives the number of bytes. Later bytes
     /// stay.
+    ///
+    /// The bytes are copied where the part begins with a byte; elsewhere each takes two shifts.
     pub fn to_bytes(&self, out: &mut [u8]) -> usize
         requires { bytes_for (length self.now) ≤ length out.old }
         ensures used { result ≡ bytes_for (length self.now) }
         ensures bytes { out.new ≡ bytes_of self.now ++ drop result out.old }
     {
-        write_bytes(self.cells, out)
+        write_run(out, self.bytes, self.skip, self.len)
     }
 }

@@ -1,6 +1,6 @@
 //! What no clause says: that the calls succeed, that memory is asked for where it is needed, and
 //! that the definitions mean what the worked rows mean.
-use crate::{BitStore, Bits, BitsFault, NoRoom, PlainStore};
+use crate::{BitStore, Bits, BitsFault, NoRoom, PackedStore, PlainStore};
 use std::alloc::Global;
 use std::process::Abort;
 use std::test::Fail;
@@ -139,6 +139,114 @@ fn plain_store_keeps_bits(rt: HostRuntime) -> Result<(), Fail> {
 }
 
 #[test]
+fn packed_store_keeps_bits(rt: HostRuntime) -> Result<(), Fail> {
+    keeps_thirteen_bits::<PackedStore>(&rt, rt.alloc())
+}
+
+// Whether two bit strings have the same bits.
+fn are_same(a: &Bits, b: &Bits) -> bool {
+    if a.len() != b.len() {
+        return false;
+    }
+    for place in 0..a.len() {
+        if a.bit(place) != b.bit(place) {
+            return false;
+        }
+    }
+    true
+}
+
+// What a store holds that was given the first `kept` bits of a row, and `len` bits from `from` on.
+fn put_together<S: BitStore>(
+    rt: &impl Abort,
+    alloc: Global,
+    row: &Bits,
+    kept: usize,
+    from: usize,
+    len: usize,
+) -> Result<Bits, Fail> {
+    assert!(rt; kept <= row.len() && from <= row.len() && len <= row.len() - from);
+    let mut store = S::with_room(alloc, 32)?;
+    store.put(row.slice(0, kept))?;
+    store.put(row.slice(from, len))?;
+    let all = store.len();
+    assert!(rt; all <= 32);
+    Ok(store.take(all))
+}
+
+// Every place in a byte that bits are appended at, every place that they are read from, and lengths
+// on both sides of a byte's end.
+#[test]
+fn appends_at_every_bit(rt: HostRuntime) -> Result<(), Fail> {
+    let row = Bits::from_bytes(&LONG_BYTE, 108)?;
+    for kept in 0..9 {
+        for from in 60..69 {
+            for len in [0, 1, 7, 8, 9, 17] {
+                let plain = put_together::<PlainStore>(&rt, rt.alloc(), &row, kept, from, len)?;
+                let packed = put_together::<PackedStore>(&rt, rt.alloc(), &row, kept, from, len)?;
+                assert!(rt; are_same(&plain, &packed));
+                assert!(rt; kept <= row.len() && from <= row.len() && len <= row.len() - from);
+                let mut bits = row.slice(0, kept).to_bits();
+                bits.append(row.slice(from, len))?;
+                assert!(rt; are_same(&plain, &bits));
+            }
+        }
+    }
+    Ok(())
+}
+
+// A part's bytes are those of the bits that it is read as, one by one.
+#[test]
+fn reads_at_every_bit(rt: HostRuntime) -> Result<(), Fail> {
+    let row = Bits::from_bytes(&LONG_BYTE, 108)?;
+    for from in 60..69 {
+        for len in 0..40 {
+            assert!(rt; from <= row.len() && len <= row.len() - from);
+            let part = row.slice(from, len);
+            let mut one_by_one = Bits::new();
+            for place in 0..part.len() {
+                assert!(rt; place < part.len());
+                one_by_one.push_number(u64::from(part.bit(place)), 1)?;
+            }
+            assert!(rt; are_same(&part.to_bits(), &one_by_one));
+            assert_eq!(rt; one_by_one.len(), len);
+            assert_eq!(rt; part.number(0, len), one_by_one.number(0, len));
+            let mut out = [0xffu8; 6];
+            let used = part.to_bytes(&mut out);
+            assert_eq!(rt; used, len.div_ceil(8));
+            assert!(rt; are_same(&Bits::from_bytes(&out, len)?, &one_by_one));
+        }
+    }
+    Ok(())
+}
+
+// What comes out of a store with room for 23 bits that holds seven while more pass through it.
+fn pass_through<S: BitStore>(rt: &impl Abort, alloc: Global, row: &Bits) -> Result<Bits, Fail> {
+    assert!(rt; row.len() == 108);
+    let mut store = S::with_room(alloc, 23)?;
+    store.put(row.slice(0, 7))?;
+    let mut out = Bits::new();
+    for from in 0..90 {
+        let len = from % 17;
+        store.put(row.slice(from, len))?;
+        assert!(rt; len <= store.len());
+        out.append(store.take(len).whole())?;
+    }
+    assert_eq!(rt; store.room(), 16);
+    Ok(out)
+}
+
+#[test]
+fn stores_pass_the_same_bits(rt: HostRuntime) -> Result<(), Fail> {
+    let row = Bits::from_bytes(&LONG_BYTE, 108)?;
+    let plain = pass_through::<PlainStore>(&rt, rt.alloc(), &row)?;
+    let packed = pass_through::<PackedStore>(&rt, rt.alloc(), &row)?;
+    assert!(rt; are_same(&plain, &packed));
+    Ok(())
+}
+
+#[test]
 fn has_memory_for_a_store(rt: HostRuntime) {
     assert!(rt; PlainStore::with_room(rt.alloc(), 65536).is_ok());
+    assert!(rt; PackedStore::with_room(rt.alloc(), 65536).is_ok());
 }

@@ -1,16 +1,27 @@
-use Rattle.std.proofs.Common.{◌≡◌, ◌++◌, List, Bool, false, Ok, take, drop, ap, sym, ◌∙◌, arith}
+use Rattle.std.proofs.Common.{◌≡◌, ◌∙◌, ◌++◌, sym, ap, take, drop, Ok, false, List, Bool, ℕ, arith}
 use Rattle.std.specs.List.{list_any}
-use Rattle.std.proofs.lemmas.List.{take_rest}
+use Rattle.std.proofs.lemmas.Result.{IfOk-at_ok}
 use Rattle.ncp_bits.specs.Bits.{bits_of_bytes}
-use Rattle.ncp_bits.proofs.Bytes.{take-bits_of_bytes, read_bytes-ok}
+use Rattle.ncp_bits.specs.Packed.{run}
+use Rattle.ncp_bits.proofs.Runs.{read_packed, packed_copy, length-packed}
 use Rattle.ncp_bits.proofs.bits.Bits.from_bytes.Goals as goal
+
+-- the bytes that were copied
+copied : (c : goal.After-unwrap) → c.try_extend_from_slice.new.self.items ≡ take c.div_ceil-used.result c.args.bytes.now
+copied c =
+    IfOk-at_ok (λ _. c.try_extend_from_slice.new.self.items ≡ c.new-copy.result.items ++ take c.div_ceil-used.result c.args.bytes.now) c.unwrap.ensures c.try_extend_from_slice.ensures.ok
+    ∙ ap (λ (new : List ℕ). new ++ take c.div_ceil-used.result c.args.bytes.now) c.new-copy.ensures
+
+none : (c : goal.After-unwrap) → list_any (λ (bit : Bool). bit) (drop c.args.len (bits_of_bytes (take c.div_ceil-used.result c.args.bytes.now))) ≡ false
+none c = sym c.is_spare_set.ensures ∙ c.if-is_spare_set.false
+
+pub invariant_of-result : goal.invariant_of-result
+invariant_of-result c = rw (copied c) (packed_copy c.args.bytes.now c.args.len c.div_ceil-used.result (omega arith) (omega arith) (omega arith) (none c))
 
 pub returns-clause-read : goal.returns-clause-read
 returns-clause-read c =
-    let items : c.push_bytes.new.cells.items ≡ bits_of_bytes (take c.div_ceil-used.result c.args.bytes.now) = c.push_bytes.ensures.items ∙ ap (λ (new : List Bool). new ++ bits_of_bytes (take c.div_ceil-used.result c.args.bytes.now)) c.new-cells.ensures in
-    let none : list_any (λ bit. bit) (drop c.args.len (bits_of_bytes (take c.div_ceil-used.result c.args.bytes.now))) ≡ false =
-    ap (λ xs. list_any (λ bit. bit) (drop c.args.len xs)) (sym (c.as_slice.ensures.value ∙ items))
-    ∙ ap (list_any (λ bit. bit)) (sym (take_rest c.as_slice.result.now c.args.len))
-    ∙ sym c.is_any_set.ensures ∙ c.if-is_any_set.false in
-    ap Ok (c.truncate.ensures.items ∙ ap (take c.args.len) items ∙ take-bits_of_bytes c.args.bytes.now c.args.len c.div_ceil-used.result (omega arith) (omega arith))
-    ∙ sym (read_bytes-ok c.args.bytes.now c.args.len c.div_ceil-used.result (omega arith) (omega arith) (omega arith) none)
+    ap (λ (bytes : List ℕ). Ok (run bytes 0 c.args.len)) (copied c)
+    ∙ sym (read_packed c.args.bytes.now c.args.len c.div_ceil-used.result (omega arith) (omega arith) (omega arith) (none c))
+
+pub returns-clause-len : goal.returns-clause-len
+returns-clause-len c = length-packed c.try_extend_from_slice.new.self.items c.args.len (invariant_of-result c)

@@ -1,0 +1,8 @@
+use Rattle.std.proofs.Common.{arith}
+use Rattle.ncp_bits.specs.Bits.{byte_bits}
+use Rattle.ncp_bits.proofs.Shifts.{shifted_join}
+use Rattle.ncp_bits.proofs.append.joined_byte.Goals as goal
+
+pub returns : goal.returns
+unfolding byte_bits
+returns c = shifted_join c.args.byte c.args.kept c.args.number c.args.count (omega arith) (omega arith) c.requires.number

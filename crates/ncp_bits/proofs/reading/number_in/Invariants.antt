@@ -1,0 +1,13 @@
+use Rattle.std.proofs.Common.{◌≡◌, ◌≤◌, ◌-◌}
+use Rattle.ncp_bits.specs.Numbers.{number_of}
+use Rattle.ncp_bits.specs.Packed.{run}
+use Rattle.ncp_bits.proofs.reading.number_in.Given as goal
+
+abbrev pub invariant-loop-done : goal.invariant-loop-done
+invariant-loop-done l = record {
+  inside : l.done ≤ l.width;
+  number : l.number ≡ number_of (run l.bytes l.from l.done);
+}
+
+abbrev pub decreases-loop-done : goal.decreases-loop-done
+decreases-loop-done l = l.width - l.done

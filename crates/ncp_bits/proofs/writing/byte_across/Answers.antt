@@ -1,0 +1,8 @@
+use Rattle.std.proofs.Common.{arith}
+use Rattle.ncp_bits.specs.Bits.{byte_bits}
+use Rattle.ncp_bits.proofs.Shifts.{shifted_across}
+use Rattle.ncp_bits.proofs.writing.byte_across.Goals as goal
+
+pub returns : goal.returns
+unfolding byte_bits
+returns c = shifted_across c.args.first c.args.second c.args.skip (omega arith) (omega arith)

@@ -1,0 +1,37 @@
+//! Appending a part to bits that lie in bytes.
+ghost use Rattle.std.specs.Prelude.{◌≡◌, ◌+◌, ◌*◌, ◌-◌, ◌<◌, ◌≤◌, ◌^◌, ◌++◌, false, length, take, replicate};
+ghost use Rattle.ncp_bits.specs.Numbers.{number_of};
+ghost use Rattle.ncp_bits.specs.Bits.{byte_bits, bits_of_bytes, bytes_for, spare_for};
+
+use crate::part::Part;
+
+// A byte's first `kept` bits, the `count` bits of a number behind them, and zeros.
+fn joined_byte(byte: u8, kept: usize, number: u8, count: usize) -> u8
+    requires some { 0 < kept }
+    requires inside { kept + count ≤ 8 }
+    requires number { number < 2 ^ count }
+    ensures { result ≡ number_of (take kept (byte_bits byte)) * 2 ^ (8 - kept) + number * 2 ^ (8 - kept - count) }
+{
+    ((byte >> (8 - kept)) << (8 - kept)) | (number << (8 - kept - count))
+}
+
+/// Writes a part behind the first `at` bits of bytes. The bits behind it become zero, up to the
+/// end of its last byte.
+///
+/// A part that fills the byte at hand up to its end and begins with a byte then is copied; else
+/// each byte takes two shifts.
+pub(crate) fn write_behind(out: &mut [u8], at: usize, part: &Part<'_>)
+    requires { at + length part.now ≤ 8 * length out.old }
+    ensures { take (8 * bytes_for (at + length part.now)) (bits_of_bytes out.new) ≡ (take at (bits_of_bytes out.old) ++ part.now) ++ replicate (spare_for (at + length part.now)) false }
+{
+    let first = at / 8;
+    let kept = at % 8;
+    if kept == 0 {
+        part.to_bytes(&mut out[first..]);
+        return;
+    }
+    let count = part.len().min(8 - kept);
+    out[first] = joined_byte(out[first], kept, part.number(0, count) as u8, count);
+    part.slice(count, part.len() - count)
+        .to_bytes(&mut out[first + 1..]);
+}

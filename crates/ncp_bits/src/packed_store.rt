@@ -1,0 +1,112 @@
+//! `PackedStore`.
+ghost use Rattle.std.specs.Prelude.{◌≡◌, ◌+◌, ◌*◌, ◌<◌, ◌≤◌, ◌^◌, ◌++◌, length};
+ghost use Rattle.ncp_bits.specs.Packed.{run};
+
+use crate::append::write_behind;
+use crate::bits::Bits;
+use crate::part::Part;
+use crate::store::{BitStore, NoRoom};
+use std::alloc::{AllocError, Global};
+use std::marker::Model;
+
+// The largest capacity: the places of the bytes' bits are counted in a `usize`.
+const MAX_CAPACITY: usize = usize::MAX - 16;
+
+/// A store of eight bits a byte.
+///
+/// The bits begin at any bit of its bytes. `take` copies what it takes and moves nothing. `put`
+/// writes what it puts; where the bytes end before that, it first moves what is held to the front
+/// of the bytes, a copy of whole bytes.
+#[derive(Drop)]
+pub struct PackedStore {
+    bytes: Vec<u8>,
+    from: usize,
+    len: usize,
+    capacity: usize,
+}
+
+impl Model for PackedStore {
+    ghost use Rattle.ncp_bits.specs.Packed.{run, HoldsRun};
+    ghost use Rattle.ncp_bits.specs.Store.{Stored};
+
+    ghost Value = { Stored };
+
+    ghost view = { λ store. record { held = run store.bytes.items store.from store.len; capacity = store.capacity } };
+
+    ghost invariant = { λ store. HoldsRun store.bytes.items store.from store.len store.capacity };
+}
+
+// Makes room for `more` bits behind a run, and gives where the run begins then.
+fn make_room(bytes: &mut [u8], from: usize, len: usize, more: usize) -> usize
+    requires inside { from + len ≤ 8 * length bytes.old }
+    requires room { len + more + 8 ≤ 8 * length bytes.old }
+    requires counted { 8 * length bytes.old < 2 ^ 64 }
+    ensures held { run bytes.new result len ≡ run bytes.old from len }
+    ensures room { result + len + more ≤ 8 * length bytes.new }
+{
+    if more <= 8 * bytes.len() - (from + len) {
+        return from;
+    }
+    bytes.copy_within(from / 8..(from + len).div_ceil(8), 0);
+    from % 8
+}
+
+// Appends a part to a run, and gives where the run begins then.
+fn append_run(bytes: &mut [u8], from: usize, len: usize, part: &Part<'_>) -> usize
+    requires inside { from + len ≤ 8 * length bytes.old }
+    requires room { len + length part.now + 8 ≤ 8 * length bytes.old }
+    requires counted { 8 * length bytes.old < 2 ^ 64 }
+    ensures held { run bytes.new result (len + length part.now) ≡ run bytes.old from len ++ part.now }
+    ensures room { result + len + length part.now ≤ 8 * length bytes.new }
+{
+    let front = make_room(bytes, from, len, part.len());
+    write_behind(bytes, front + len, part);
+    front
+}
+
+impl BitStore for PackedStore {
+    ghost held = { λ store. store.held };
+
+    ghost capacity = { λ store. store.capacity };
+
+    fn with_room(alloc: Global, bits: usize) -> Result<Self, AllocError> {
+        if bits > MAX_CAPACITY {
+            return Err(AllocError);
+        }
+        Ok(PackedStore {
+            bytes: vec![in alloc; 0; bits.div_ceil(8) + 1]?,
+            from: 0,
+            len: 0,
+            capacity: bits,
+        })
+    }
+
+    fn len(&self) -> usize {
+        self.len
+    }
+
+    fn room(&self) -> usize {
+        self.capacity - self.len
+    }
+
+    fn put(&mut self, part: Part<'_>) -> Result<(), NoRoom> {
+        if part.len() > self.capacity - self.len {
+            return Err(NoRoom);
+        }
+        self.from = append_run(self.bytes.as_mut_slice(), self.from, self.len, &part);
+        self.len += part.len();
+        Ok(())
+    }
+
+    fn take(&mut self, count: usize) -> Bits {
+        let bits = Part::of_bytes(self.bytes.as_slice(), self.from, count).to_bits();
+        self.from += count;
+        self.len -= count;
+        bits
+    }
+
+    fn clear(&mut self) {
+        self.from = 0;
+        self.len = 0;
+    }
+}

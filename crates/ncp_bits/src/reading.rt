@@ -1,0 +1,51 @@
+//! Reading bits that lie in bytes, eight a byte.
+ghost use Rattle.std.specs.Prelude.{◌≡◌, ◌+◌, ◌*◌, ◌<◌, ◌≤◌, ◌^◌, length, take, drop, false, slice_index_or};
+ghost use Rattle.std.specs.List.{list_any};
+ghost use Rattle.ncp_bits.specs.Numbers.{number_of};
+ghost use Rattle.ncp_bits.specs.Bits.{byte_bits, bits_of_bytes, bytes_for};
+ghost use Rattle.ncp_bits.specs.Packed.{run};
+
+/// The bit at a place of bytes.
+pub(crate) fn bit_in(bytes: &[u8], place: usize) -> bool
+    requires { place < 8 * length bytes.now }
+    ensures { result ≡ slice_index_or (bits_of_bytes bytes.now) place false }
+{
+    (bytes[place / 8] >> (7 - place % 8)) & 1 == 1
+}
+
+// The number that `count` bits of a byte, from the bit `skip` on, spell.
+fn bits_in(byte: u8, skip: usize, count: usize) -> u8
+    requires some { 0 < count }
+    requires inside { skip + count ≤ 8 }
+    ensures { result ≡ number_of (take count (drop skip (byte_bits byte))) }
+{
+    (byte << skip) >> (8 - count)
+}
+
+/// The number that a run spells. Each byte that the run touches is read once.
+pub(crate) fn number_in(bytes: &[u8], from: usize, width: usize) -> u64
+    requires width { width ≤ 64 }
+    requires inside { from + width ≤ 8 * length bytes.now }
+    requires counted { from + width < 2 ^ 64 }
+    ensures { result ≡ number_of (run bytes.now from width) }
+{
+    let mut number = 0;
+    let mut done = 0;
+    while done < width {
+        let place = from + done;
+        let skip = place % 8;
+        let count = (8 - skip).min(width - done);
+        number = (number << count) | u64::from(bits_in(bytes[place / 8], skip, count));
+        done += count;
+    }
+    number
+}
+
+/// Whether a bit behind the first `len` is set, in bytes that these bits just need.
+pub(crate) fn is_spare_set(bytes: &[u8], len: usize) -> bool
+    requires used { length bytes.now ≡ bytes_for len }
+    requires counted { 8 * length bytes.now < 2 ^ 64 }
+    ensures { result ≡ list_any (λ bit. bit) (drop len (bits_of_bytes bytes.now)) }
+{
+    number_in(bytes, len, 8 * bytes.len() - len) != 0
+}
