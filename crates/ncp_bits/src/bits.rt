@@ -195,6 +195,10 @@ impl Bits {
 }
 
 impl Default for Bits {
+    ghost use Rattle.std.specs.Prelude.{◌≡◌, []};
+
+    ghost is_default = { λ bits. bits ≡ [] };
+
     fn default() -> Self {
         Bits::new()
     }

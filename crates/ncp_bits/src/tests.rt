@@ -1,5 +1,5 @@
 //! What no clause says: that the calls succeed, that memory is asked for where it is needed, and
-//! that the definitions mean what the worked rows mean.
+//! that the definitions mean what the worked examples mean.
 use crate::{BitStore, Bits, BitsFault, NoRoom, PackedStore, PlainStore};
 use std::alloc::Global;
 use std::process::Abort;

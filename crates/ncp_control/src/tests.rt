@@ -1,4 +1,4 @@
-//! What no clause says: that the definitions mean what the worked rows mean, and that callers can use
+//! What no clause says: that the definitions mean what the worked examples mean, and that callers can use
 //! the contracts.
 ghost use Rattle.std.specs.Prelude.{◌≡◌, ◌*◌, ◌≤◌, ◌%◌, ◌++◌, length, OnOk, IfOk};
 ghost use Rattle.ncp_bits.specs.Bits.{bytes_of};

@@ -1,4 +1,4 @@
-//! What no clause says: that the definitions mean what the worked rows mean, that the calls
+//! What no clause says: that the definitions mean what the worked examples mean, that the calls
 //! succeed, and the texts and numbers of the faults.
 use crate::{
     Leader, MAX_TEXT_BITS, MessageFault, Regular, Short, put_leader, put_regular, read_leader,

@@ -93,10 +93,10 @@ tallies_end bytes tally h = ([], h, refl)
 -- ---- the file
 
 pub file_no_header : (bytes window : List ℕ) (left : Option (List ℕ)) (fault : FileFault) → ReadsHeader bytes (Err fault) window left → TalliesFile bytes (Err fault)
-file_no_header bytes window left BadHeader h = ([], rw h (refl, refl))
-file_no_header bytes window left Truncated h = absurd h
-file_no_header bytes window left TooLong h = absurd h
-file_no_header bytes window left SpareNotZero h = absurd h
+file_no_header bytes window left BadHeader h = ([], rw h.1 (refl, refl))
+file_no_header bytes window left Truncated h = let e : ⊥ = cc (h.0) in absurd e
+file_no_header bytes window left TooLong h = let e : ⊥ = cc (h.0) in absurd e
+file_no_header bytes window left SpareNotZero h = let e : ⊥ = cc (h.0) in absurd e
 file_no_header bytes window left ReadFailed h = tt
 file_no_header bytes window left WriteFailed h = h
 

@@ -102,10 +102,10 @@ behind_record bytes rest len h =
 -- fewer than two bytes are no whole record
 pub cut_in_length : (window bytes : List ℕ) (left : Option (List ℕ)) → length window < 2 → Ahead window left bytes → CutOff bytes window left
 cut_in_length [] bytes left h k = (None, tt, next_none [] refl, k)
-cut_in_length (first ∷ window) bytes left h k = (Some Truncated, tt, next_cut (first ∷ window) (λ e. omega arith) h, k)
+cut_in_length (first ∷ window) bytes left h k = (Some Truncated, refl, next_cut (first ∷ window) (λ e. omega arith) h, k)
 
 pub cut_in_bytes : (window bytes : List ℕ) (left : Option (List ℕ)) (len : ℕ) → 2 ≤ length window → len ≡ big_number 2 window → len ≤ 8192 → length window < 2 + bytes_for len → Ahead window left bytes → CutOff bytes window left
-cut_in_bytes window bytes left len h e small k a = (Some Truncated, tt, next_short window len h e small k, a)
+cut_in_bytes window bytes left len h e small k a = (Some Truncated, refl, next_short window len h e small k, a)
 
 -- the length stays when more comes
 pub number_grows : (was more now : List ℕ) → now ≡ was ++ more → 2 ≤ length was → big_number 2 now ≡ big_number 2 was

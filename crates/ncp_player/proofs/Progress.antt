@@ -9,7 +9,7 @@ use Rattle.ncp_player.specs.Lines.{record_lines, lines_from, number_after}
 use Rattle.ncp_player.specs.Results.{is_write_failed}
 use Rattle.ncp_player.specs.Streams.{Ahead, Said, Says, SaysBeginning}
 use Rattle.ncp_player.specs.Shown.{IsCut, ShownAs, ShowsAll, ShowsBeginning, Shown}
-use Rattle.ncp_player.specs.Steps.{ReadsHeader, CutOff, ReadsRecord, EndsWith, ShowsNext, SaysLines, ShowsFrom, SaysFile, ShowsFile}
+use Rattle.ncp_player.specs.Steps.{IsInside, ReadsHeader, CutOff, ReadsRecord, EndsWith, ShowsNext, SaysLines, ShowsFrom, SaysFile, ShowsFile}
 use Rattle.ncp_player.proofs.Files.{direction_of-short, direction_of-take, direction_of-append}
 use Rattle.ncp_player.proofs.Contents.{next_record-front, holds_some}
 
@@ -100,12 +100,18 @@ no_header bytes was page written h k = ([], (let e : direction_of bytes ≡ None
 
 -- a header that was not read
 pub file_ends : (bytes was window page : List ℕ) (left written : Option (List ℕ)) (fault : FileFault) → ReadsHeader bytes (Err fault) window left → Said was page written [] → ShowsFile bytes was (Err fault) left page written
-file_ends bytes was window page left written BadHeader h k = no_header bytes was page written h k
-file_ends bytes was window page left written Truncated h k = absurd h
-file_ends bytes was window page left written TooLong h k = absurd h
-file_ends bytes was window page left written SpareNotZero h k = absurd h
-file_ends bytes was window page left written ReadFailed h k = (window, h.1.0, Some BadHeader, sym h.1.2, h.1.1, tt, no_header window was page written h.0 k)
+file_ends bytes was window page left written BadHeader h k = no_header bytes was page written h.1 k
+file_ends bytes was window page left written Truncated h k = let e : ⊥ = cc (h.0) in absurd e
+file_ends bytes was window page left written TooLong h k = let e : ⊥ = cc (h.0) in absurd e
+file_ends bytes was window page left written SpareNotZero h k = let e : ⊥ = cc (h.0) in absurd e
+file_ends bytes was window page left written ReadFailed h k =
+    (window, h.1.0, Some BadHeader, sym h.1.2, h.1.1, h.0, no_header window was page written (direction_of-short window h.0) k)
 file_ends bytes was window page left written WriteFailed h k = absurd h
+
+-- a file that ends inside a record is cut
+inside_cut : (bytes : List ℕ) (fault : Option FileFault) → IsInside fault → IsCut bytes fault
+inside_cut bytes None h = tt
+inside_cut bytes (Some fault) h = subst (λ f. IsCut bytes (Some f)) (sym h) tt
 
 says_file : (bytes was page : List ℕ) (written : Option (List ℕ)) (direction : Direction) (fault : Option FileFault) → direction_of bytes ≡ Some direction
     → SaysLines direction 1 (drop 4 bytes) was [] fault page written → SaysFile bytes was fault page written
@@ -137,7 +143,7 @@ file_shown bytes was page left written direction (Err ReadFailed) h k =
       k.2,
       sym (take-append-drop 4 bytes) ∙ ap (λ xs. take 4 bytes ++ xs) k.3 ∙ sym (append_assoc (take 4 bytes) k.0 k.1),
       k.4,
-      k.5,
+      inside_cut given k.2 k.5,
       says_file given was page written direction k.2 named (subst (λ xs. SaysLines direction 1 xs was [] k.2 page written) (sym behind) k.6),
     )
 file_shown bytes was page left written direction (Err WriteFailed) h k = (k.0, k.1, says_file bytes was k.1 written direction k.0 h k.2)

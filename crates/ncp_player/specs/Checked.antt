@@ -8,10 +8,11 @@ use Rattle.ncp_leader.specs.Leader.{leader_in}
 use Rattle.ncp_leader.specs.Message.{Message, message_in}
 use Rattle.ncp_control.specs.Reading.{fault_in}
 use Rattle.ncp_player.specs.declared.file.FileFault.{FileFault}
-use Rattle.ncp_player.specs.declared.file.FileFault.TheVariants.{BadHeader, Truncated, TooLong, SpareNotZero, ReadFailed, WriteFailed}
+use Rattle.ncp_player.specs.declared.file.FileFault.TheVariants.{BadHeader}
 use Rattle.ncp_player.specs.declared.tally.Verdict.{Verdict}
 use Rattle.ncp_player.specs.declared.tally.Verdict.TheVariants as is
 use Rattle.ncp_player.specs.declared.tally.Tally.{Tally}
+use Rattle.ncp_player.specs.Results.{MatchFault}
 use Rattle.ncp_player.specs.File.{direction_of, Holds}
 use Rattle.ncp_player.specs.Lines.{field}
 
@@ -101,16 +102,19 @@ FileHolds bytes messages fault =
 abbrev pub ChecksNone : List ℕ → List ℕ → Option (List ℕ) → FileFault → Type 0
 ChecksNone bytes was written fault = (messages : List (List Bool)) × FileHolds bytes messages (Some fault) × (written ≡ Some was)
 
--- what was written of a file, and what is answered
-abbrev pub Checked : List ℕ → List ℕ → Option (List ℕ) → Result Bool FileFault → Type 0
-Checked bytes was written (Ok good) =
+-- the line was written, and says this
+abbrev pub ChecksAll : List ℕ → List ℕ → Option (List ℕ) → Bool → Type 0
+ChecksAll bytes was written good =
     (messages : List (List Bool)) × FileHolds bytes messages None × (written ≡ Some (was ++ tally_line (tally_of messages)))
     × (good ≡ is_sound (tally_of messages))
-Checked bytes was written (Err BadHeader) = ChecksNone bytes was written BadHeader
-Checked bytes was written (Err Truncated) = ChecksNone bytes was written Truncated
-Checked bytes was written (Err TooLong) = ChecksNone bytes was written TooLong
-Checked bytes was written (Err SpareNotZero) = ChecksNone bytes was written SpareNotZero
-Checked bytes was written (Err ReadFailed) = written ≡ Some was
-Checked bytes was written (Err WriteFailed) =
+
+-- a beginning of the line was written
+abbrev pub ChecksBeginning : List ℕ → List ℕ → Option (List ℕ) → Type 0
+ChecksBeginning bytes was written =
     (messages : List (List Bool)) × (text : List ℕ) × (more : List ℕ) × FileHolds bytes messages None
     × (tally_line (tally_of messages) ≡ text ++ more) × (written ≡ Some (was ++ text))
+
+-- what was written of a file, and what is answered; after a failed read nothing was written
+abbrev pub Checked : List ℕ → List ℕ → Option (List ℕ) → Result Bool FileFault → Type 0
+Checked bytes was written (Ok good) = ChecksAll bytes was written good
+Checked bytes was written (Err fault) = MatchFault (ChecksNone bytes was written) (written ≡ Some was) (ChecksBeginning bytes was written) fault

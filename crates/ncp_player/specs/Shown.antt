@@ -1,8 +1,9 @@
 -- What `show` writes.
-use Rattle.std.specs.Prelude.{◌≡◌, ℕ, Bool, true, false, List, [], ◌++◌, drop, Option, Some, None, Result, Ok, Err, MatchOption}
+use Rattle.std.specs.Prelude.{◌≡◌, ◌<◌, ℕ, Bool, true, false, List, [], ◌++◌, length, drop, Option, Some, None, Result, Ok, Err, MatchOption}
 use Rattle.ncp_player.specs.declared.file.Direction.{Direction}
 use Rattle.ncp_player.specs.declared.file.FileFault.{FileFault}
 use Rattle.ncp_player.specs.declared.file.FileFault.TheVariants.{BadHeader, Truncated, TooLong, SpareNotZero, ReadFailed, WriteFailed}
+use Rattle.ncp_player.specs.Results.{MatchFault}
 use Rattle.ncp_player.specs.File.{direction_of, Holds}
 use Rattle.ncp_player.specs.Lines.{lines_from}
 
@@ -12,15 +13,15 @@ ShownAs bytes text fault =
     MatchOption (direction_of bytes) ((text ≡ []) × (fault ≡ Some BadHeader)) (λ direction.
     (messages : List (List Bool)) × Holds (drop 4 bytes) messages fault × (text ≡ lines_from direction 1 messages))
 
--- a file ends here, or inside its header or a record
-abbrev pub IsCut : Option FileFault → Type 0
-IsCut None = Unit {0}
-IsCut (Some BadHeader) = Unit {0}
-IsCut (Some Truncated) = Unit {0}
-IsCut (Some TooLong) = ⊥
-IsCut (Some SpareNotZero) = ⊥
-IsCut (Some ReadFailed) = ⊥
-IsCut (Some WriteFailed) = ⊥
+-- bytes end between records, or inside their header or a record
+abbrev pub IsCut : List ℕ → Option FileFault → Type 0
+IsCut bytes None = Unit {0}
+IsCut bytes (Some BadHeader) = length bytes < 4
+IsCut bytes (Some Truncated) = Unit {0}
+IsCut bytes (Some TooLong) = ⊥
+IsCut bytes (Some SpareNotZero) = ⊥
+IsCut bytes (Some ReadFailed) = ⊥
+IsCut bytes (Some WriteFailed) = ⊥
 
 -- this text was written behind what was there
 abbrev pub Wrote : List ℕ → List ℕ → Option (List ℕ) → Type 0
@@ -34,7 +35,7 @@ ShowsAll bytes was written fault = (text : List ℕ) × ShownAs bytes text fault
 abbrev pub ShowsRead : List ℕ → List ℕ → Option (List ℕ) → Option (List ℕ) → Type 0
 ShowsRead bytes was left written =
     (given : List ℕ) × (rest : List ℕ) × (fault : Option FileFault)
-    × (bytes ≡ given ++ rest) × (left ≡ Some rest) × IsCut fault × ShowsAll given was written fault
+    × (bytes ≡ given ++ rest) × (left ≡ Some rest) × IsCut given fault × ShowsAll given was written fault
 
 -- a beginning of the lines was written
 abbrev pub ShowsBeginning : List ℕ → List ℕ → Option (List ℕ) → Type 0
@@ -44,9 +45,5 @@ ShowsBeginning bytes was written =
 -- what was written of a file, and what is answered
 abbrev pub Shown : List ℕ → List ℕ → Option (List ℕ) → Option (List ℕ) → Result Unit FileFault → Type 0
 Shown bytes was left written (Ok done) = ShowsAll bytes was written None
-Shown bytes was left written (Err BadHeader) = ShowsAll bytes was written (Some BadHeader)
-Shown bytes was left written (Err Truncated) = ShowsAll bytes was written (Some Truncated)
-Shown bytes was left written (Err TooLong) = ShowsAll bytes was written (Some TooLong)
-Shown bytes was left written (Err SpareNotZero) = ShowsAll bytes was written (Some SpareNotZero)
-Shown bytes was left written (Err ReadFailed) = ShowsRead bytes was left written
-Shown bytes was left written (Err WriteFailed) = ShowsBeginning bytes was written
+Shown bytes was left written (Err fault) =
+    MatchFault (λ f. ShowsAll bytes was written (Some f)) (ShowsRead bytes was left written) (ShowsBeginning bytes was written) fault

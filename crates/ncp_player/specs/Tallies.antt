@@ -1,9 +1,9 @@
 -- What the parts of `check` do.
 use Rattle.std.specs.Prelude.{◌≡◌, ℕ, Bool, List, [], ◌∷◌, Option, Some, None, Result, Ok, Err, if◌then◌else◌}
 use Rattle.ncp_player.specs.declared.file.FileFault.{FileFault}
-use Rattle.ncp_player.specs.declared.file.FileFault.TheVariants.{BadHeader, Truncated, TooLong, SpareNotZero, ReadFailed, WriteFailed}
 use Rattle.ncp_player.specs.declared.tally.Verdict.{Verdict}
 use Rattle.ncp_player.specs.declared.tally.Tally.{Tally}
+use Rattle.ncp_player.specs.Results.{MatchFault}
 use Rattle.ncp_player.specs.File.{Holds}
 use Rattle.ncp_player.specs.Lines.{number_after}
 use Rattle.ncp_player.specs.Checked.{verdict_of, is_short, is_of_type_0, is_faulty, is_bad, tally_of, FileHolds}
@@ -27,26 +27,24 @@ abbrev pub tally_from : Tally → List (List Bool) → Tally
 tally_from tally [] = tally
 tally_from tally (message ∷ messages) = tally_from (tally_with tally (verdict_of message)) messages
 
+-- bytes behind a header hold records and then have this fault
+abbrev pub EndsInFault : List ℕ → FileFault → Type 0
+EndsInFault bytes fault = (messages : List (List Bool)) × Holds bytes messages (Some fault)
+
 -- the records from here on were counted, or there is a fault
 abbrev pub TalliesFrom : List ℕ → Tally → Result Tally FileFault → Type 0
 TalliesFrom bytes tally (Ok counted) = (messages : List (List Bool)) × Holds bytes messages None × (counted ≡ tally_from tally messages)
-TalliesFrom bytes tally (Err BadHeader) = (messages : List (List Bool)) × Holds bytes messages (Some BadHeader)
-TalliesFrom bytes tally (Err Truncated) = (messages : List (List Bool)) × Holds bytes messages (Some Truncated)
-TalliesFrom bytes tally (Err TooLong) = (messages : List (List Bool)) × Holds bytes messages (Some TooLong)
-TalliesFrom bytes tally (Err SpareNotZero) = (messages : List (List Bool)) × Holds bytes messages (Some SpareNotZero)
-TalliesFrom bytes tally (Err ReadFailed) = Unit {0}
-TalliesFrom bytes tally (Err WriteFailed) = ⊥
+TalliesFrom bytes tally (Err fault) = MatchFault (EndsInFault bytes) (Unit {0}) ⊥ fault
 
 -- nothing was counted
 abbrev pub no_messages : Tally
 no_messages = record { messages = 0; short = 0; regular = 0; faults = 0; bad = 0 }
 
+-- a file has this fault
+abbrev pub HasFault : List ℕ → FileFault → Type 0
+HasFault bytes fault = (messages : List (List Bool)) × FileHolds bytes messages (Some fault)
+
 -- the records of a file were counted, or the file has a fault
 abbrev pub TalliesFile : List ℕ → Result Tally FileFault → Type 0
 TalliesFile bytes (Ok counted) = (messages : List (List Bool)) × FileHolds bytes messages None × (counted ≡ tally_of messages)
-TalliesFile bytes (Err BadHeader) = (messages : List (List Bool)) × FileHolds bytes messages (Some BadHeader)
-TalliesFile bytes (Err Truncated) = (messages : List (List Bool)) × FileHolds bytes messages (Some Truncated)
-TalliesFile bytes (Err TooLong) = (messages : List (List Bool)) × FileHolds bytes messages (Some TooLong)
-TalliesFile bytes (Err SpareNotZero) = (messages : List (List Bool)) × FileHolds bytes messages (Some SpareNotZero)
-TalliesFile bytes (Err ReadFailed) = Unit {0}
-TalliesFile bytes (Err WriteFailed) = ⊥
+TalliesFile bytes (Err fault) = MatchFault (HasFault bytes) (Unit {0}) ⊥ fault

@@ -1,10 +1,13 @@
 //! The command line of the program `ncp`.
 ghost use Rattle.std.specs.Prelude.{◌≡◌, IfOk, map, option_map};
-ghost use Rattle.ncp_player.specs.CommandLine.{named, order_in, status_of};
+ghost use Rattle.ncp_player.specs.CommandLine.{program, named, order_in, status_of};
+ghost use Rattle.clap.specs.Faults.{fault_of};
+ghost use Rattle.clap.specs.Simple.{app_of};
+ghost use Rattle.clap.specs.Kinds.{FailsBy};
 
 use crate::orders::Order;
 use clap::{Command, Error};
-use std::alloc::Global;
+use std::alloc::{AllocError, Global};
 use std::convert::AsStr;
 
 // The program's name, and those of its subcommands.
@@ -25,11 +28,9 @@ fn order_named(name: Option<&str>) -> Order
     }
 }
 
-/// Reads the words of a command line, the program's name first. Without a subcommand it is `show`.
-///
-/// The error is clap's: a command-line fault, help that was asked for, or want of memory.
-pub fn order<'a, S: AsStr>(alloc: Global, words: &'a [S]) -> Result<Order, Error>
-    ensures { IfOk result (λ order. order ≡ order_in (map S.text words.entry.now)) }
+// The program with its subcommands, as clap knows it.
+fn command_line<'a>(alloc: Global) -> Result<Command<'a>, AllocError>
+    ensures { IfOk result (λ command. app_of command ≡ program) }
 {
     let show = Command::new(alloc, SHOW).about(
         "Shows each message of a message file, read from standard input",
@@ -37,10 +38,23 @@ pub fn order<'a, S: AsStr>(alloc: Global, words: &'a [S]) -> Result<Order, Error
     let check = Command::new(alloc, CHECK).about(
         "Counts the messages of a message file, and says whether all are sound",
     );
-    let program = Command::new(alloc, PROGRAM)
+    Command::new(alloc, PROGRAM)
         .about("Reads the messages of an ARPANET host")
         .subcommand(show)?
-        .subcommand(check)?;
+        .subcommand(check)
+}
+
+/// Reads the words of a command line, the program's name first. Without a subcommand it is `show`.
+///
+/// The error is clap's: a command-line fault, help that was asked for, or want of memory.
+pub fn order<'a, S: AsStr>(alloc: Global, words: &'a [S]) -> Result<Order, Error>
+    ensures named { IfOk result (λ order. order ≡ order_in (map S.text words.entry.now)) }
+
+    // Ok comes only where clap finds no fault in the words, and an error is one of those that it
+    // finds, or want of memory.
+    ensures kinds { FailsBy (fault_of program (map S.text words.entry.now)) result }
+{
+    let program = command_line(alloc)?;
     let matches = program.try_get_matches_from(words)?;
     Ok(order_named(matches.subcommand_name()))
 }

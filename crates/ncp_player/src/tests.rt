@@ -1,4 +1,4 @@
-//! What no clause says: the worked rows, the printed texts, that the calls succeed, and reads and
+//! What no clause says: the worked examples, the printed texts, that the calls succeed, and reads and
 //! writes that fail.
 ghost use Rattle.std.specs.Prelude.{◌≡◌, false};
 

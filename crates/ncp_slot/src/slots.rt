@@ -1,5 +1,5 @@
 //! `Slots`.
-ghost use Rattle.std.specs.Prelude.{◌≡◌, ◌≢◌, ℕ, ◌-◌, ◌+◌, ◌<◌, ◌≤◌, ◌↔◌, true, false, length, slice_get, IsTrue, Some, IfOk, IfSome, IfNone, OnOk, OnErr, IsOk};
+ghost use Rattle.std.specs.Prelude.{◌≡◌, ◌≢◌, ℕ, ◌-◌, ◌+◌, ◌<◌, ◌≤◌, ◌↔◌, true, false, length, slice_get, IsTrue, Some, IfOk, IfSome, IfNone, OnOk, OnErr, IsOk, IsErr};
 ghost use Rattle.std.specs.List.{list_all};
 ghost use Rattle.ncp_slot.specs.Slot.{put_in, handed_out, answered, ready_message, is_empty, is_ready, is_travelling};
 ghost use Rattle.ncp_slot.specs.Slots.{HasSlot, slot_at, with_slot, OthersStay, IsReady, IsFirstReady, IsQuiet, is_quiet, link_at};
@@ -118,6 +118,7 @@ impl Slots {
     /// without a slot.
     pub fn answer(&mut self, link: u8, answer: Answer) -> Result<(), Stray>
         ensures variant { IsOk result ↔ IsTrue (is_travelling (slot_at self.old link)) }
+        ensures elsewhere { ¬ HasSlot link → IsErr result }
         ensures slot { slot_at self.new link ≡ answered answer (slot_at self.old link) }
         ensures others { OthersStay self.old self.new link }
         ensures ok { OnOk result (self.new ≡ with_slot self.old link (answered answer (slot_at self.old link))) }

@@ -1,5 +1,5 @@
 //! What no clause says: that the calls succeed, that memory is asked for where it is needed, and
-//! that the definitions mean what the worked rows mean.
+//! that the definitions mean what the worked examples mean.
 use crate::laws::{LinkEvent, LinkNote, quiet_links_are_empty, run_link, slots_are_apart};
 use crate::{Answer, Busy, Slots, Stray, has_slot};
 use ncp_bits::Bits;
