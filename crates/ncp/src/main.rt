@@ -3,12 +3,27 @@
 
 use anyhow::Result;
 use ncp_player::{FromRead, Order, ToWrite, check, order, show, status};
-use std::env;
+use std::env::{self, Env};
+use std::alloc::AllocGlobal;
 use std::process::ExitCode;
+
+// The status of a command-line fault.
+const FAULT: u8 = 2;
+
+// The words of the command line, which are text.
+fn words_in<R: Env + AllocGlobal>(rt: &R) -> Result<Vec<String>> {
+    Ok(env::args(rt)?.collect(rt.alloc())?)
+}
 
 fn main(rt: HostRuntime) -> Result<ExitCode> {
     let alloc = rt.alloc();
-    let words: Vec<String> = env::args(&rt)?.collect(alloc)?;
+    let words = match words_in(&rt) {
+        Ok(words) => words,
+        Err(error) => {
+            let _untold = eprintln!(rt; "ncp: {error}");
+            return Ok(ExitCode::from(FAULT));
+        }
+    };
     let order = match order(alloc, words.as_slice()) {
         Ok(order) => order,
         Err(error) => {
