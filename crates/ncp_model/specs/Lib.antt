@@ -1,0 +1,9 @@
+pub mod Pairs
+pub mod Faults
+pub mod Amounts
+pub mod End
+pub mod Act
+pub mod Calls
+pub mod Commands
+pub mod Texts
+pub mod Ends
