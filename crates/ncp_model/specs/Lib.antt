@@ -7,3 +7,5 @@ pub mod Calls
 pub mod Commands
 pub mod Texts
 pub mod Ends
+pub mod Phase
+pub mod Resets

@@ -1,0 +1,3 @@
+pub mod ResetLists
+pub mod ResetKept
+pub mod ResetRuns
