@@ -5,7 +5,7 @@ use Rattle.std.proofs.lemmas.List.{take-append-drop}
 use Rattle.ncp_control.specs.declared.command.Command.{Command}
 use Rattle.ncp_control.specs.declared.command.Command.TheVariants.{Rst, Rrp}
 use Rattle.ncp_model.specs.Phase.{Phase, up, is_reset, is_other, makes, makes_all, hears, Reaction}
-use Rattle.ncp_model.specs.Resets.{Host, is_up, host_resets, host_settles, host_falls, host_makes, host_makes_all, host_hears_other, host_hears, Slot, Empty, Ready, Travelling, Subnet, Free, Accepted, Delivered, Lost, on_line, underway, World, swap, Step, Resets, Makes, Falls, Settles, Sends, Hears, Loses, Is_answered, sends, comes, lost, answered, steps, Side, This, That, Event, at, run_from, run, start, Agrees, NothingFollows}
+use Rattle.ncp_model.specs.Resets.{Host, is_up, host_resets, host_settles, host_falls, host_makes, host_makes_all, host_hears_other, host_hears, Slot, Empty, Ready, Travelling, Subnet, Free, Accepted, Delivered, Lost, on_line, underway, World, swap, Step, Resets, Makes, Falls, Settles, Sends, Hears, Loses, Is_answered, sends, comes, lost, answered, steps, Side, This, That, Event, at, run_from, run, start, Agrees, NothingFollows, Silent}
 use Rattle.ncp_model.proofs.ResetLists.{rsts, rrps, others, purged, others-drop, others-append, purged_none, arrives_on, after_rst}
 use Rattle.ncp_model.proofs.ResetKept.{Calm, Way, Kept, turned, falling, resetting, making, hearing_all, settling}
 
@@ -130,10 +130,10 @@ follows_back es before after s = behind_rst before after (underway (run es).that
 
 -- a host that is not up has made nothing and heard nothing, and lets no other wait
 
-pub silent : (es : List Event) → is_up (run es).this ≡ false → ((run es).this.made ≡ []) × ((run es).this.came ≡ []) × (others (run es).this.phase.waiting ≡ [])
+pub silent : (es : List Event) → is_up (run es).this ≡ false → Silent (run es).this
 silent es e = let p = holding es in (p.kept.this.made e, p.kept.this.came e, p.kept.this.waiting e)
 
-pub silent_back : (es : List Event) → is_up (run es).that ≡ false → ((run es).that.made ≡ []) × ((run es).that.came ≡ []) × (others (run es).that.phase.waiting ≡ [])
+pub silent_back : (es : List Event) → is_up (run es).that ≡ false → Silent (run es).that
 silent_back es e = let p = holding es in (p.kept.that.made e, p.kept.that.came e, p.kept.that.waiting e)
 
 -- the histories only watch

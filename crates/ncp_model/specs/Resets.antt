@@ -178,3 +178,8 @@ Agrees from link to =
 abbrev pub NothingFollows : Host → Link → Type 0
 NothingFollows from link =
     (before after : List Command) → underway from link ≡ before ++ Rst ∷ after → filter is_other after ≡ []
+
+-- a host that is not up has made nothing and heard nothing since it was cleared, and lets nothing
+-- wait but RST and RRP
+abbrev pub Silent : Host → Type 0
+Silent h = (h.made ≡ []) × (h.came ≡ []) × (filter is_other h.phase.waiting ≡ [])

@@ -11,6 +11,7 @@ mod call_fault;
 mod limits;
 mod outcomes;
 mod pair;
+pub mod phases;
 pub mod resets;
 #[cfg(test)]
 mod tests;
