@@ -9,3 +9,4 @@ pub mod Texts
 pub mod Ends
 pub mod Phase
 pub mod Resets
+pub mod Rows

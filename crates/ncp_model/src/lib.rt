@@ -13,6 +13,7 @@ mod outcomes;
 mod pair;
 pub mod phases;
 pub mod resets;
+pub mod rows;
 #[cfg(test)]
 mod tests;
 
