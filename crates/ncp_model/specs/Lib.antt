@@ -10,3 +10,5 @@ pub mod Ends
 pub mod Phase
 pub mod Resets
 pub mod Rows
+pub mod Happenings
+pub mod Histories

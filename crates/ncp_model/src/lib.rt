@@ -8,6 +8,7 @@
 
 mod amounts;
 mod call_fault;
+pub mod histories;
 mod limits;
 mod outcomes;
 mod pair;
