@@ -1,3 +1,4 @@
 pub mod ResetLists
 pub mod ResetKept
 pub mod ResetRuns
+pub mod FreeLinks

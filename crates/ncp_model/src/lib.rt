@@ -10,6 +10,7 @@ mod amounts;
 mod call_fault;
 pub mod histories;
 mod limits;
+pub mod links;
 mod outcomes;
 mod pair;
 pub mod phases;
