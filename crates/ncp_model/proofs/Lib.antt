@@ -2,3 +2,5 @@ pub mod ResetLists
 pub mod ResetKept
 pub mod ResetRuns
 pub mod FreeLinks
+pub mod PairOrder
+pub mod EndsAfter

@@ -1,11 +1,12 @@
 //! Laws of links: which one a receiver takes, and where one leads.
 ghost use Rattle.std.specs.Prelude.{◌≡◌, ℕ, true, false, ◌≤◌, ◌<◌, [], ◌∷◌, None, Some};
-ghost use Rattle.ncp_control.specs.declared.command.Command.{Command};
+ghost use Rattle.std.specs.FinMap.{get};
 ghost use Rattle.ncp_model.specs.End.{End, new_end};
-ghost use Rattle.ncp_model.specs.Act.{Act, Stays, Becomes};
+ghost use Rattle.ncp_model.specs.Act.{Act, end_after};
 ghost use Rattle.ncp_model.specs.Ends.{Ends, count, any, has_asked, is_by_peer, hears_link, uses_link, first_by, free_link, map_after};
 ghost use Rattle.ncp_model.specs.Rows.{outward, inward, link_heard, size_heard, asked_send, asked_receive, opened_end, due, gone};
 
+use crate::pair::Pair;
 use crate::limits::{FIRST_LINK, LAST_LINK, MAX_BY_PEER, MAX_OWN};
 
 /// A receiver takes the lowest link from 2 up that no receiving end uses; while at most 64 ends
@@ -34,4 +35,10 @@ pub fn ends_are_counted_by_request()
     ensures own { (has_asked (inward, asked_receive) ≡ true) × (has_asked (outward, gone opened_end) ≡ true) × (has_asked (outward, link_heard) ≡ false) }
     ensures by_peer { (is_by_peer (outward, link_heard) ≡ true) × (is_by_peer (outward, gone link_heard) ≡ true) × (is_by_peer (outward, opened_end) ≡ false) }
     ensures limits { (MAX_OWN ≡ 64) × (MAX_BY_PEER ≡ 64) }
+{}
+
+/// An act at a pair changes its end as the act says, and no other.
+pub fn acts_change_one_end<A>()
+    ensures there { (m : Ends) (pair : Pair) (act : Act A) → get (map_after m pair act) pair ≡ end_after (get m pair) act }
+    ensures elsewhere { (m : Ends) (pair other : Pair) (act : Act A) → ((other ≡ pair) → ⊥) → get (map_after m pair act) other ≡ get m other }
 {}
