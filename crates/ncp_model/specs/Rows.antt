@@ -1,10 +1,12 @@
 -- Ends from which the worked rows begin.
 use Rattle.std.specs.Prelude.{ℕ, Bool, true, false, List, [], ◌∷◌, replicate}
+use Rattle.std.specs.FinMap.{from_sorted}
 use Rattle.ncp_control.specs.declared.command.Command.{Command}
 use Rattle.ncp_control.specs.declared.command.Command.TheVariants as variants
 use Rattle.ncp_model.specs.declared.pair.Pair.{Pair}
 use Rattle.ncp_model.specs.declared.call_fault.CallFault.{CallFault}
 use Rattle.ncp_model.specs.End.{End, new_end}
+use Rattle.ncp_model.specs.Ends.{Ends}
 
 -- socket 3 sends to socket 2: as its own host names it, and as the receiver's does
 abbrev pub outward : Pair
@@ -61,3 +63,12 @@ shut e = record e { cls = true }
 
 abbrev pub err : ℕ → List ℕ → Command
 err code data_bytes = variants.Err code data_bytes
+
+-- a host with a sender and a receiver, both open on link 2, and a request of its own on link 3
+abbrev pub ends_both_ways : List (Pair × End)
+ends_both_ways =
+    (outward, counting 1 8) ∷ (record { local = 4; remote = 7 }, record (counting 3 24) { recall = true })
+    ∷ (record { local = 6; remote = 9 }, record asked_receive { link = 3 }) ∷ []
+
+abbrev pub both_ways : Ends
+both_ways = from_sorted ends_both_ways

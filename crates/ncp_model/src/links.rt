@@ -2,12 +2,14 @@
 ghost use Rattle.std.specs.Prelude.{◌≡◌, ℕ, true, false, ◌≤◌, ◌<◌, [], ◌∷◌, None, Some};
 ghost use Rattle.std.specs.FinMap.{get};
 ghost use Rattle.ncp_model.specs.End.{End, new_end};
-ghost use Rattle.ncp_model.specs.Act.{Act, end_after};
-ghost use Rattle.ncp_model.specs.Ends.{Ends, count, any, has_asked, is_by_peer, hears_link, uses_link, first_by, free_link, map_after};
-ghost use Rattle.ncp_model.specs.Rows.{outward, inward, link_heard, size_heard, asked_send, asked_receive, opened_end, due, gone};
+ghost use Rattle.ncp_model.specs.Act.{Act, Stays, Becomes, end_after};
+ghost use Rattle.ncp_model.specs.Ends.{Ends, count, any, has_asked, is_by_peer, hears_link, uses_link, first_by, free_link, leads_to, hear, map_after};
+ghost use Rattle.ncp_model.specs.Rows.{outward, inward, link_heard, size_heard, asked_send, asked_receive, opened_end, due, gone, shut, counting, err, both_ways};
 
-use crate::pair::Pair;
 use crate::limits::{FIRST_LINK, LAST_LINK, MAX_BY_PEER, MAX_OWN};
+use crate::outcomes::Heard;
+use crate::pair::Pair;
+use ncp_control::Command;
 
 /// A receiver takes the lowest link from 2 up that no receiving end uses; while at most 64 ends
 /// have an own request there is one up to 71.
@@ -41,4 +43,20 @@ pub fn ends_are_counted_by_request()
 pub fn acts_change_one_end<A>()
     ensures there { (m : Ends) (pair : Pair) (act : Act A) → get (map_after m pair act) pair ≡ end_after (get m pair) act }
     ensures elsewhere { (m : Ends) (pair other : Pair) (act : Act A) → ((other ≡ pair) → ⊥) → get (map_after m pair act) other ≡ get m other }
+{}
+
+/// Which end a command leads to, at a host with a sender and a receiver on one link and a request
+/// of its own.
+pub fn commands_lead_to_ends()
+    ensures rts { (leads_to (Command.Rts 2 3 2) both_ways ≡ Some outward) × (hear (Command.Rts 4 5 3) both_ways ≡ Becomes (record new_end { heard = true; link = 3 }) Heard.Nothing) }
+    ensures rts_taken { hear (Command.Rts 4 5 2) both_ways ≡ Stays (Heard.Reply (err 3 (1 ∷ 0 ∷ 0 ∷ 0 ∷ 4 ∷ 0 ∷ 0 ∷ 0 ∷ 5 ∷ 2 ∷ []))) }
+    ensures str { (leads_to (Command.Str 9 6 8) both_ways ≡ Some (record { local = 6; remote = 9 })) × (hear (Command.Str 9 6 8) both_ways ≡ Becomes (record opened_end { link = 3 }) Heard.Nothing) }
+    ensures cls { (leads_to (Command.Cls 2 3) both_ways ≡ Some outward) × (hear (Command.Cls 2 3) both_ways ≡ Becomes (shut (gone (counting 1 8))) (Heard.Reply (Command.Cls 3 2))) }
+    ensures all { (leads_to (Command.All 2 1 1) both_ways ≡ Some outward) × (hear (Command.All 2 1 1) both_ways ≡ Becomes (counting 2 9) Heard.Nothing) }
+    ensures gvb { (leads_to (Command.Gvb 2 128 0) both_ways ≡ Some outward) × (hear (Command.Gvb 2 128 0) both_ways ≡ Becomes (counting 0 8) (Heard.Reply (Command.Ret 2 1 0))) }
+    ensures ret { (leads_to (Command.Ret 2 1 1) both_ways ≡ Some (record { local = 4; remote = 7 })) × (hear (Command.Ret 2 1 1) both_ways ≡ Becomes (counting 2 23) Heard.Nothing) }
+    ensures inr { (leads_to (Command.Inr 2) both_ways ≡ Some outward) × (hear (Command.Inr 2) both_ways ≡ Becomes (record (counting 1 8) { interrupts = 1 }) Heard.Nothing) }
+    ensures ins { (leads_to (Command.Ins 2) both_ways ≡ Some (record { local = 4; remote = 7 })) × (hear (Command.Ins 2) both_ways ≡ Becomes (record (counting 3 24) { recall = true; interrupts = 1 }) Heard.Nothing) }
+    ensures nowhere { (leads_to (Command.All 3 1 1) both_ways ≡ None) × (hear (Command.All 3 1 1) both_ways ≡ Stays (Heard.Reply (err 5 (4 ∷ 3 ∷ 0 ∷ 1 ∷ 0 ∷ 0 ∷ 0 ∷ 1 ∷ 0 ∷ 0 ∷ [])))) }
+    ensures lowest { free_link both_ways ≡ 4 }
 {}
