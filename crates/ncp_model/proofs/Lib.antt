@@ -4,3 +4,4 @@ pub mod ResetRuns
 pub mod FreeLinks
 pub mod PairOrder
 pub mod EndsAfter
+pub mod Makes
