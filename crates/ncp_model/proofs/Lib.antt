@@ -5,3 +5,4 @@ pub mod FreeLinks
 pub mod PairOrder
 pub mod EndsAfter
 pub mod Makes
+pub mod SoundEnds

@@ -12,3 +12,4 @@ pub mod Resets
 pub mod Rows
 pub mod Happenings
 pub mod Histories
+pub mod Sound
