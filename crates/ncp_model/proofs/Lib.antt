@@ -6,3 +6,4 @@ pub mod PairOrder
 pub mod EndsAfter
 pub mod Makes
 pub mod SoundEnds
+pub mod BooksKept

@@ -47,7 +47,7 @@ sound-or_new : (pair : Pair) (before : Option End) → SoundAt pair before → S
 sound-or_new pair None s = record { opens = grind arith; asked = grind arith; heard = grind arith; messages = grind arith; bits = grind arith; stored = grind arith; interrupts = grind arith; busy = grind arith; recall = grind arith; leaving = grind arith; sender = grind arith; out = grind arith; due = grind arith; dropped = grind arith; shut = grind arith; over = refl }
 sound-or_new pair (Some e) s = s
 
-one_way : (pair : Pair) → receives pair ≡ true → sends pair ≡ false
+pub one_way : (pair : Pair) → receives pair ≡ true → sends pair ≡ false
 one_way pair h = grind arith
 
 safe-ask_send : (pair : Pair) (of_size with_room own : ℕ) (full : Bool) (before : Option End) → SoundAt pair before → Safe pair before (ask_send pair of_size with_room own full before)

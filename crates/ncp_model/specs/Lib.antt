@@ -13,3 +13,5 @@ pub mod Rows
 pub mod Happenings
 pub mod Histories
 pub mod Sound
+pub mod Books
+pub mod Sending

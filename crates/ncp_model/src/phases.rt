@@ -1,8 +1,9 @@
 //! Laws of a host's phase: what the theorem on resets does not guard.
-ghost use Rattle.std.specs.Prelude.{◌≡◌, ℕ, Bool, true, false, ◌++◌, ◌<◌, ◌≤◌, List, [], ◌∷◌, length, Ok, Err};
+ghost use Rattle.std.specs.Prelude.{◌≡◌, ℕ, Bool, true, false, ◌++◌, ◌<◌, ◌≤◌, List, [], ◌∷◌, length, replicate, Ok, Err};
 ghost use Rattle.std.specs.List.{filter, list_any};
 ghost use Rattle.ncp_control.specs.declared.command.Command.{Command};
 ghost use Rattle.ncp_model.specs.Phase.{Phase, Reaction, new_phase, up, is_rst, is_rrp, is_reset, is_other, purge, settles, is_resetting, reset_answer, wants_reset, resets, owes_answer, hears_rst, hears_rrp, is_stray_rrp, goes_down, makes, hears};
+ghost use Rattle.ncp_model.specs.Sending.{is_full, next_commands};
 ghost use Rattle.ncp_model.specs.Resets.{Host, Event, run, is_up, anew, NothingFollows, Silent, host_hears_all};
 
 use crate::call_fault::CallFault;
@@ -76,4 +77,16 @@ pub fn goes_down_at_the_513th()
     ensures limit { MAX_WAITING ≡ 512 }
     ensures full { (link : ℕ) (cs : List Command) (quiet : Bool) (p : Phase) → up p ≡ true → hears (Command.Inr link) (record { quiet = quiet; full = true; replies = cs }) p ≡ goes_down p }
     ensures reply { (link : ℕ) (quiet : Bool) (c : Command) (p : Phase) → up p ≡ true → hears (Command.Inr link) (record { quiet = quiet; full = false; replies = c ∷ [] }) p ≡ makes c p }
+{}
+
+/// A control message takes whole commands from the front, at most 120 bytes of them: fifteen of 8
+/// bytes, ten of 12. A call finds no place where 256 commands wait.
+pub fn control_messages_are_filled()
+    ensures beginning { (cs : List Command) → (rest : List Command) × (next_commands cs ++ rest ≡ cs) }
+    ensures fifteen { next_commands (replicate 16 (Command.All 2 1 0)) ≡ replicate 15 (Command.All 2 1 0) }
+    ensures ten { next_commands (replicate 11 (Command.Err 3 (replicate 10 0))) ≡ replicate 10 (Command.Err 3 (replicate 10 0)) }
+    ensures order { next_commands (Command.Rrp ∷ Command.Rst ∷ Command.Rts 2 3 2 ∷ []) ≡ Command.Rrp ∷ Command.Rst ∷ Command.Rts 2 3 2 ∷ [] }
+    ensures none { next_commands [] ≡ [] }
+    ensures full { (p : Phase) → length p.waiting ≡ 256 → is_full p ≡ true }
+    ensures not_full { (p : Phase) → length p.waiting ≡ 255 → is_full p ≡ false }
 {}
