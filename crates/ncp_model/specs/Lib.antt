@@ -15,3 +15,4 @@ pub mod Histories
 pub mod Sound
 pub mod Books
 pub mod Sending
+pub mod Echo

@@ -23,7 +23,7 @@ pub use amounts::give_back;
 pub use call_fault::CallFault;
 pub use limits::{
     FIRST_LINK, GIVE_BACK_PARTS, LAST_LINK, MAX_AMOUNT, MAX_BY_PEER, MAX_CALLED, MAX_CONTROL,
-    MAX_COUNT, MAX_MESSAGES, MAX_OWN, MAX_ROOM, MAX_TEXT, MAX_WAITING,
+    MAX_COUNT, MAX_ERRORS, MAX_MESSAGES, MAX_OWN, MAX_ROOM, MAX_TEXT, MAX_WAITING,
 };
 pub use outcomes::{Heard, Took};
 pub use pair::Pair;

@@ -26,3 +26,5 @@ pub const MAX_AMOUNT: u32 = 4_294_967_295;
 pub const MAX_COUNT: u32 = 4_294_967_295;
 /// How many parts of a counter a fraction of GVB counts: it is in 128ths.
 pub const GIVE_BACK_PARTS: u32 = 128;
+/// How many errors are kept for one peer: the last ones.
+pub const MAX_ERRORS: usize = 16;

@@ -1,12 +1,13 @@
 //! The worked rows on one end, computed from the definitions: each refusal, before all that are
 //! judged after it, and each effect, at its limits.
-ghost use Rattle.std.specs.Prelude.{◌≡◌, ℕ, true, false, ◌*◌, length, ◌++◌, ◌∷◌, [], None, Some, Ok, Err};
+ghost use Rattle.std.specs.Prelude.{◌≡◌, ℕ, Bool, true, false, ◌+◌, ◌*◌, length, ◌++◌, ◌∷◌, [], List, Option, None, Some, Ok, Err};
 ghost use Rattle.ncp_model.specs.Amounts.{back};
 ghost use Rattle.ncp_model.specs.End.{End, new_end, is_open, is_live, is_over};
 ghost use Rattle.ncp_model.specs.Act.{Act, Stays, Becomes, end_after, text_error};
 ghost use Rattle.ncp_model.specs.Calls.{bits_to_take, ask_send, ask_receive, close, give, take_held, allocate, call_back, interrupt};
 ghost use Rattle.ncp_model.specs.Commands.{hear_rts, hear_str, hear_cls, hear_all, hear_gvb, hear_ret, hear_inr, hear_ins};
 ghost use Rattle.ncp_model.specs.Texts.{bytes_to_send, hear_text, cut, answered, Answered, cleared};
+ghost use Rattle.ncp_model.specs.Echo.{Error, Echoes, no_echoes, echo_answer, echo_asked, eco_reply, hear_erp, is_stray_erp, hear_err, purge_echo};
 ghost use Rattle.ncp_model.specs.Rows.{outward, inward, ones, noughts, link_heard, size_heard, asked_send, asked_receive, opened_end, counting, storing, sent_one, due, gone, shut, err};
 
 use crate::call_fault::CallFault;
@@ -270,4 +271,19 @@ pub fn lives_of_an_end()
     ensures live { (is_live (Some (gone opened_end)) ≡ true) × (is_live (Some asked_send) ≡ false) × (is_live None ≡ false) }
     ensures over { (is_over (shut (gone opened_end)) ≡ true) × (is_over (gone opened_end) ≡ false) × (is_over (shut opened_end) ≡ false) }
     ensures cleared { cleared (Some opened_end) ≡ None }
+{}
+
+/// Echo and errors: one echo at a time; an ERP that is not awaited is stray; of 17 errors the last
+/// 16 are kept. A purge ends the echo alone.
+pub fn echoing()
+    ensures busy { (full : Bool) (byte : Option ℕ) (es : List Error) → let s : Echoes = record { awaited = true; echoed = byte; errors = es } in (echo_answer 65 full s ≡ Err CallFault.Busy) × (echo_asked full s ≡ s) }
+    ensures queue { (echo_answer 65 true no_echoes ≡ Err CallFault.QueueFull) × (echo_asked true no_echoes ≡ no_echoes) }
+    ensures asked { (echo_answer 65 false no_echoes ≡ Ok (Command.Eco 65)) × (echo_asked false no_echoes ≡ record no_echoes { awaited = true }) }
+    ensures reply { eco_reply 65 ≡ Command.Erp 65 }
+    ensures answered { let s : Echoes = record no_echoes { awaited = true } in (hear_erp 65 s ≡ record no_echoes { echoed = Some 65 }) × (is_stray_erp s ≡ false) }
+    ensures stray { let s : Echoes = record no_echoes { echoed = Some 65 } in (hear_erp 66 s ≡ s) × (is_stray_erp s ≡ true) }
+    ensures first { (e : Error) → hear_err e no_echoes ≡ record no_echoes { errors = e ∷ [] } }
+    ensures sixteen { (a b : Error) (es : List Error) → length es ≡ 14 → (hear_err b (record no_echoes { errors = a ∷ es })).errors ≡ (a ∷ es) ++ b ∷ [] }
+    ensures last { (a b : Error) (es : List Error) → length es ≡ 15 → (hear_err b (record no_echoes { errors = a ∷ es })).errors ≡ es ++ b ∷ [] }
+    ensures purge { (waits : Bool) (byte : Option ℕ) (es : List Error) → purge_echo (record { awaited = waits; echoed = byte; errors = es }) ≡ record { awaited = false; echoed = byte; errors = es } }
 {}
