@@ -16,3 +16,4 @@ pub mod Sound
 pub mod Books
 pub mod Sending
 pub mod Echo
+pub mod Schedules

@@ -3,8 +3,9 @@ ghost use Rattle.std.specs.Prelude.{◌≡◌, Bool, true, false, ◌++◌, ◌<
 ghost use Rattle.std.specs.List.{filter};
 ghost use Rattle.ncp_control.specs.declared.command.Command.{Command};
 ghost use Rattle.ncp_model.specs.Phase.{Phase, Reaction, up, is_reset, is_other, makes, hears, hears_rst};
-ghost use Rattle.ncp_model.specs.Resets.{Host, Event, run, is_up, Agrees, NothingFollows, host_resets, host_settles, host_falls, host_makes, host_hears};
+ghost use Rattle.ncp_model.specs.Resets.{Host, Event, Accepted, run, is_up, Agrees, NothingFollows, host_resets, host_settles, host_falls, host_makes, host_hears};
 ghost use Rattle.ncp_model.specs.Phase.{settles, resets, goes_down};
+ghost use Rattle.ncp_model.specs.Schedules.{up_phase, coming_up, both_ask, both_hear, both_answer};
 
 /// After every schedule, between two hosts that are up: no RST or RRP is underway, and the
 /// commands that came and those underway are those that were made, in order.
@@ -26,4 +27,24 @@ pub fn reset_histories_only_watch()
     ensures falls { (h : Host) → (host_falls h).phase ≡ goes_down h.phase }
     ensures makes { (c : Command) (h : Host) → (host_makes c h).phase ≡ makes c h.phase }
     ensures hears { (c : Command) (r : Reaction) (h : Host) → (host_hears c r h).phase ≡ hears c r h.phase }
+{}
+
+/// Both hosts reset while an RTS waits: it is struck, that host's message is RST alone, each
+/// answers, and both come up with nothing underway.
+pub fn reset_from_both_sides()
+    ensures up { ((run coming_up).this.phase ≡ up_phase) × ((run coming_up).that.phase ≡ up_phase) }
+    ensures alone { (run (coming_up ++ both_ask)).coming.subnet ≡ Accepted (Command.Rst ∷ []) }
+    ensures asked { ((run (coming_up ++ both_ask ++ both_hear)).this.phase ≡ record up_phase { wait = true; waiting = Command.Rrp ∷ [] }) × ((run (coming_up ++ both_ask ++ both_hear)).that.phase ≡ record up_phase { wait = true; waiting = Command.Rrp ∷ [] }) }
+    ensures answered { ((run (coming_up ++ both_ask ++ both_hear ++ both_answer)).this.phase ≡ up_phase) × ((run (coming_up ++ both_ask ++ both_hear ++ both_answer)).that.phase ≡ up_phase) }
+{}
+
+/// A peer resets while a text is out: its RST is answered only after the RFNM. And a host that
+/// resets while its own text is out makes its RST only then.
+pub fn reset_with_text_out()
+    ensures rst { hears_rst false up_phase ≡ record up_phase { owe = true } }
+    ensures rfnm { settles true (record up_phase { owe = true }) ≡ record up_phase { waiting = Command.Rrp ∷ [] } }
+    ensures reset { resets false up_phase ≡ record up_phase { want = true } }
+    ensures rfnm_too { settles true (record up_phase { want = true }) ≡ record up_phase { wait = true; waiting = Command.Rst ∷ [] } }
+    ensures crossed { hears_rst false (record up_phase { want = true }) ≡ record up_phase { want = true; owe = true } }
+    ensures both { settles true (record up_phase { want = true; owe = true }) ≡ record up_phase { wait = true; waiting = Command.Rrp ∷ Command.Rst ∷ [] } }
 {}
