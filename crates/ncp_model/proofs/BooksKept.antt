@@ -96,7 +96,6 @@ booked-text_at pair past of_size text e w g p s k = choose {x = Stays took.Wrong
 booked-answered : (pair : Pair) (past : Past) (e : End) → sends pair ≡ false → Sound pair e → Books e past → Booked (all.Is_answered Taken) (λ _. all.Accepted) (Some e) past (answered pair Taken (Some e))
 booked-answered pair past e w s k = choose {x = Becomes (leaves (record e { busy = false })) (Some (closing pair))} {y = Becomes (record e { busy = false }) None} (e.leaving) (λ c1. becomes (leaves (record e { busy = false })) (Some (closing pair)) (λ o. record { messages = grind (arith, append-nil, append_assoc, length-append, take-append-drop); bits = grind (arith, append-nil, append_assoc, length-append, take-append-drop); held = grind (arith, append-nil, append_assoc, length-append, take-append-drop) })) (λ d1. becomes (record e { busy = false }) None (λ o. record { messages = grind (arith, append-nil, append_assoc, length-append, take-append-drop); bits = grind (arith, append-nil, append_assoc, length-append, take-append-drop); held = grind (arith, append-nil, append_assoc, length-append, take-append-drop) }))
 
-
 -- what only watches leaves the books as they are
 same : (what : Happening) (o : Outcome) (before : Option End) (past : Past) → ((p : Past) → BooksAt before p → BooksAt before (adds what o p)) → BooksAt before past → BooksAt before (adds what o (if opens before before then no_past else past))
 same what o None past f k = tt
@@ -116,8 +115,8 @@ booked-open what command act pair past (Some e) q s k f =
     choose {x = Stays Late} {y = if not e.opened then Stays (Reply (error_of not_connected command)) else act e} (is_going e)
     (λ c1. record { is = same what all.Late (Some e) past (λ p. q all.Late refl p e) k })
     (λ d1. choose {x = Stays (Reply (error_of not_connected command))} {y = act e} (not e.opened)
-        (λ c2. record { is = same what (all.Erred (error_of not_connected command)) (Some e) past (λ p. q (all.Erred (error_of not_connected command)) refl p e) k })
-        (λ d2. f e d1 (grind arith) s k))
+    (λ c2. record { is = same what (all.Erred (error_of not_connected command)) (Some e) past (λ p. q (all.Erred (error_of not_connected command)) refl p e) k })
+    (λ d2. f e d1 (grind arith) s k))
 
 refused-ret : (on m b : ℕ) (o : Outcome) → is_accepted o ≡ false → (p : Past) → (e : End) → Books e p → Books e (adds (all.Ret_comes on m b) o p)
 refused-ret on m b o n p e k = record { messages = grind (arith, append-nil); bits = grind (arith, append-nil); held = grind (arith, append-nil) }
@@ -133,6 +132,7 @@ books-after pair what w r l s k = by_what what w.end w.past l s k
   where
     n : sends pair ≡ false
     n = one_way pair r
+
     by_what : (what : Happening) (before : Option End) (past : Past) → leads pair what ≡ true → SoundAt pair before → BooksAt before past → BooksAt (happens pair what before).after (adds what (happens pair what before).outcome (if opens before (happens pair what before).after then no_past else past))
     by_what (all.Asks_to_send of_size with_room own full) before past l s k = (booked-ask_send pair past of_size with_room own full before n s k).is
     by_what (all.Asks_to_receive with_room on own full) before past l s k = (booked-ask_receive pair past with_room on own full before n s k).is

@@ -100,9 +100,9 @@ pub hearing_other : (h k : Host) (x y : List Command) (c : Command) (r : Reactio
 hearing_other h k x y c r o p =
     if_cases (λ g. Kept g k x y) (is_up h) (if r.full then host_falls h else host_makes_all r.replies (record h { came = h.came ++ c ∷ [] })) h
     (λ e. let q = came_up h k x y c e o p in
-        if_both (λ g. Kept g k x y) r.full (host_falls h) (host_makes_all r.replies (record h { came = h.came ++ c ∷ [] }))
-        (falling (record h { came = h.came ++ c ∷ [] }) k x y q)
-        (replying (record h { came = h.came ++ c ∷ [] }) k x y r.replies q))
+    if_both (λ g. Kept g k x y) r.full (host_falls h) (host_makes_all r.replies (record h { came = h.came ++ c ∷ [] }))
+    (falling (record h { came = h.came ++ c ∷ [] }) k x y q)
+    (replying (record h { came = h.came ++ c ∷ [] }) k x y r.replies q))
     (λ e. dropped h k x y c e o p)
 
 pub hearing : (h k : Host) (x y : List Command) (c : Command) (r : Reaction) → Kept h k x (c ∷ y) → Kept (host_hears c r h) k x y
