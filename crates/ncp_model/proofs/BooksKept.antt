@@ -1,31 +1,25 @@
 -- The books of a receiving end agree with its history, whatever happens to it.
-use Rattle.ncp_bits.specs.Bits.{bytes_of}
-use Rattle.ncp_control.specs.Spelling.{spelling}
 use Rattle.ncp_control.specs.declared.command.Command.{Command}
-use Rattle.ncp_control.specs.declared.command.Command.TheVariants.{All, Cls, Gvb, Inr, Ins, Ret, Rts, Str}
+use Rattle.ncp_control.specs.declared.command.Command.TheVariants.{All, Cls, Gvb, Ins, Ret, Rts, Str}
 use Rattle.ncp_model.proofs.SoundEnds.{one_way, sound-after}
-use Rattle.ncp_model.specs.Act.{Act, Becomes, Stays, answer, closing, end_after, error_of, is_data_link, is_room, leaves, made_by_call, made_by_close, made_by_hearing, made_by_take, made_if_any, met, no_socket, not_connected, wrong_parameters}
-use Rattle.ncp_model.specs.Amounts.{back}
+use Rattle.ncp_model.specs.Act.{Act, Becomes, Stays, answer, closing, end_after, error_of, is_data_link, is_room, leaves, met, not_connected, wrong_parameters}
 use Rattle.ncp_model.specs.Books.{Books, BooksAt, leads, Lead}
-use Rattle.ncp_model.specs.Calls.{allocate, allocate_end, ask_receive, ask_send, asked_to_receive, asked_to_send, bits_to_take, call_back, call_back_end, close, close_end, emptied, give, give_end, interrupt, interrupt_end, interrupting, is_too_much, take_bits, take_end, take_held}
-use Rattle.ncp_model.specs.Commands.{all_at, at_open, gvb_at, hear_all, hear_cls, hear_cls_at, hear_cls_end, hear_gvb, hear_inr, hear_ins, hear_ret, hear_rts, hear_str, interrupted, ret_at}
-use Rattle.ncp_model.specs.End.{End, is_going, is_live, is_open, is_over, new_end, or_new}
+use Rattle.ncp_model.specs.Calls.{allocate_end, ask_receive, ask_send, asked_to_receive, asked_to_send, bits_to_take, call_back_end, close_end, emptied, give_end, interrupt_end, interrupting, is_too_much, take_bits, take_end}
+use Rattle.ncp_model.specs.Commands.{at_open, hear_cls, hear_cls_at, hear_cls_end, hear_rts, hear_str, interrupted, ret_at}
+use Rattle.ncp_model.specs.End.{End, is_going, is_over, or_new}
 use Rattle.ncp_model.specs.Happenings.{Happening, Outcome, end_from, happens, of_call, of_cut, of_hearing, of_take, of_text}
-use Rattle.ncp_model.specs.Histories.{Past, Watched, adds, is_accepted, is_admitted, no_past, opens, taken_out, watch, watch_from, watches}
+use Rattle.ncp_model.specs.Histories.{Past, Watched, adds, is_accepted, no_past, opens, watch, watch_from, watches}
 use Rattle.ncp_model.specs.Pairs.{is_proper, receives, sends}
 use Rattle.ncp_model.specs.Sound.{Sound, SoundAt}
-use Rattle.ncp_model.specs.Texts.{Again, Answered, Kept, Taken, answered, bytes_to_send, cleared, cut, cut_bits, hear_text, may_send, text_at}
-use Rattle.ncp_model.specs.declared.call_fault.CallFault.{CallFault}
-use Rattle.ncp_model.specs.declared.call_fault.CallFault.TheVariants.{AlreadyAsked, BadRoom, BadSex, BadSize, Busy, Closing, NoEntry, NoRoom, NotOpen, NotWhole, QueueFull, TableFull, TooMuch, WrongEnd}
-use Rattle.ncp_model.specs.declared.limits.TheConstants.{FIRST_LINK, LAST_LINK, MAX_AMOUNT, MAX_BY_PEER, MAX_COUNT, MAX_MESSAGES, MAX_OWN, MAX_ROOM, MAX_TEXT}
+use Rattle.ncp_model.specs.Texts.{Taken, answered, hear_text, text_at}
+use Rattle.ncp_model.specs.declared.call_fault.CallFault.TheVariants.{AlreadyAsked, BadRoom, BadSex, BadSize, Busy, Closing, NoRoom, NotOpen, NotWhole, QueueFull, TableFull, TooMuch, WrongEnd}
+use Rattle.ncp_model.specs.declared.limits.TheConstants.{MAX_BY_PEER, MAX_COUNT, MAX_OWN}
 use Rattle.ncp_model.specs.declared.outcomes.Heard.{Heard}
 use Rattle.ncp_model.specs.declared.outcomes.Heard.TheVariants.{Full, Late, Nothing, Reply}
-use Rattle.ncp_model.specs.declared.outcomes.Took.{Took}
 use Rattle.ncp_model.specs.declared.pair.Pair.{Pair}
 use Rattle.std.proofs.Common.{arith}
 use Rattle.std.proofs.lemmas.List.{append-nil, append_assoc, length-append, take-append-drop}
-use Rattle.std.specs.Coded.{Coded, code_by, coded_bool, coded_list, coded_ℕ, coded×}
-use Rattle.std.specs.Prelude.{Bool, Err, List, None, Ok, Option, Result, Some, [], drop, false, if◌then◌else◌, is_none, length, min, nat_le, nat_lt, not, refl, replicate, suc, take, true, zero, ℕ, ◌%◌, ◌&&◌, ◌*◌, ◌++◌, ◌+◌, ◌-◌, ◌/◌, ◌<◌, ◌==◌, ◌||◌, ◌∷◌, ◌≡◌}
+use Rattle.std.specs.Prelude.{Bool, Err, List, None, Ok, Option, Some, [], drop, false, if◌then◌else◌, is_none, length, min, nat_le, nat_lt, not, refl, take, true, ℕ, ◌%◌, ◌&&◌, ◌++◌, ◌+◌, ◌-◌, ◌==◌, ◌||◌, ◌∷◌, ◌≡◌}
 use Rattle.ncp_model.specs.declared.outcomes.Took.TheVariants as took
 use Rattle.ncp_model.specs.Happenings as all
 

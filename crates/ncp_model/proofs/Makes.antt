@@ -1,14 +1,10 @@
 -- The commands that acts make.
-use Rattle.std.proofs.Common.{◌≡◌, ℕ, Bool, true, false, not, ◌&&◌, ◌||◌, if◌then◌else◌, List, [], ◌∷◌, Option, None, Some, Result, Ok, Err, refl, arith}
+use Rattle.std.proofs.Common.{◌≡◌, [], Option, None, Some, refl, arith}
 use Rattle.std.specs.List.{filter}
-use Rattle.ncp_control.specs.declared.command.Command.{Command}
 use Rattle.ncp_model.specs.declared.pair.Pair.{Pair}
 use Rattle.ncp_model.specs.Phase.{is_reset}
-use Rattle.ncp_model.specs.End.{End, or_new}
-use Rattle.ncp_model.specs.Act.{Act, answer, made_by_call, made_by_close, made_by_take, made_by_hearing}
-use Rattle.ncp_model.specs.Calls.{ask_send, ask_receive, close, take_held, allocate, call_back, interrupt}
-use Rattle.ncp_model.specs.Commands.{hear_rts, hear_str, hear_cls, hear_all, hear_gvb, hear_ret, hear_inr, hear_ins}
-use Rattle.ncp_model.specs.Texts.{Answered, Taken, Again, Kept, hear_text, cut, answered}
+use Rattle.ncp_model.specs.End.{End}
+use Rattle.ncp_model.specs.Texts.{Taken, Again, Kept}
 use Rattle.ncp_model.specs.Happenings.{Happening, happens}
 use Rattle.ncp_model.specs.Happenings as all
 

@@ -1,13 +1,12 @@
 -- The invariant of two hosts, kept by each event, and the laws over every schedule.
-use Rattle.std.proofs.Common.{◌≡◌, ℕ, ◌+◌, Bool, true, false, not, ◌&&◌, ◌||◌, if◌then◌else◌, List, [], ◌∷◌, ◌++◌, take, drop, refl, sym, ap, ◌∙◌, subst, arith}
-use Rattle.std.specs.List.{filter}
+use Rattle.std.proofs.Common.{◌≡◌, ℕ, ◌+◌, Bool, true, false, if◌then◌else◌, List, [], ◌∷◌, ◌++◌, take, drop, refl, sym, ap, ◌∙◌, subst, arith}
 use Rattle.std.proofs.lemmas.List.{take-append-drop}
 use Rattle.ncp_control.specs.declared.command.Command.{Command}
 use Rattle.ncp_control.specs.declared.command.Command.TheVariants.{Rst, Rrp}
-use Rattle.ncp_model.specs.Phase.{Phase, up, is_reset, is_other, makes, makes_all, hears, Reaction}
+use Rattle.ncp_model.specs.Phase.{Phase, up, makes, makes_all, hears, Reaction}
 use Rattle.ncp_model.specs.Resets.{Host, is_up, host_resets, host_settles, host_falls, host_makes, host_makes_all, host_hears_other, host_hears, Slot, Empty, Ready, Travelling, Subnet, Free, Accepted, Delivered, Lost, on_line, underway, World, swap, Step, Resets, Makes, Falls, Settles, Sends, Hears, Loses, Is_answered, sends, comes, lost, answered, steps, Side, This, That, Event, at, run_from, run, start, Agrees, NothingFollows, Silent}
-use Rattle.ncp_model.proofs.ResetLists.{rsts, rrps, others, purged, others-drop, others-append, purged_none, arrives_on, after_rst}
-use Rattle.ncp_model.proofs.ResetKept.{Calm, Way, Kept, turned, falling, resetting, making, hearing_all, settling}
+use Rattle.ncp_model.proofs.ResetLists.{others, purged, others-drop, others-append, purged_none, arrives_on, after_rst}
+use Rattle.ncp_model.proofs.ResetKept.{Way, Kept, turned, falling, resetting, making, hearing_all, settling}
 
 -- the slot travels while the subnet holds its message
 abbrev pub Tied : Slot → Subnet → Type 0

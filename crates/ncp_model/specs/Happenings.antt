@@ -1,5 +1,5 @@
 -- Everything that can happen to one end of a connection, as one list.
-use Rattle.std.specs.Prelude.{ℕ, Bool, true, false, not, ◌&&◌, if◌then◌else◌, List, [], ◌∷◌, Option, None, Some, Result, Ok, Err}
+use Rattle.std.specs.Prelude.{ℕ, Bool, List, [], ◌∷◌, Option, None, Some, Result, Ok, Err}
 use Rattle.ncp_control.specs.declared.command.Command.{Command}
 use Rattle.ncp_model.specs.declared.pair.Pair.{Pair}
 use Rattle.ncp_model.specs.declared.call_fault.CallFault.{CallFault}
@@ -7,7 +7,7 @@ use Rattle.ncp_model.specs.declared.outcomes.Heard.{Heard}
 use Rattle.ncp_model.specs.declared.outcomes.Heard.TheVariants as heard
 use Rattle.ncp_model.specs.declared.outcomes.Took.{Took}
 use Rattle.ncp_model.specs.declared.outcomes.Took.TheVariants as took
-use Rattle.ncp_model.specs.End.{End, is_live}
+use Rattle.ncp_model.specs.End.{End}
 use Rattle.ncp_model.specs.Act.{Act, answer, end_after, made_by_call, made_if_any, made_by_close, made_by_take, made_by_hearing}
 use Rattle.ncp_model.specs.Calls.{ask_send, ask_receive, close, give, take_held, allocate, call_back, interrupt}
 use Rattle.ncp_model.specs.Commands.{hear_rts, hear_str, hear_cls, hear_all, hear_gvb, hear_ret, hear_inr, hear_ins}

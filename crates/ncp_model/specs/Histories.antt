@@ -1,9 +1,8 @@
 -- What happened to a pair of sockets at one host since its connection opened there. A history
 -- only watches: no rule asks it.
-use Rattle.std.specs.Prelude.{ℕ, ◌+◌, Bool, true, false, not, ◌&&◌, if◌then◌else◌, List, [], ◌∷◌, ◌++◌, Option, None, Some}
+use Rattle.std.specs.Prelude.{ℕ, ◌+◌, Bool, true, false, not, ◌&&◌, if◌then◌else◌, List, [], ◌∷◌, ◌++◌, Option, None}
 use Rattle.ncp_model.specs.declared.pair.Pair.{Pair}
 use Rattle.ncp_model.specs.End.{End, is_live}
-use Rattle.ncp_model.specs.Texts.{Answered}
 use Rattle.ncp_model.specs.Happenings.{Happening, Outcome, Happened, happens}
 use Rattle.ncp_model.specs.Happenings as all
 

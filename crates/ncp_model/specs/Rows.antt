@@ -4,7 +4,6 @@ use Rattle.std.specs.FinMap.{from_sorted}
 use Rattle.ncp_control.specs.declared.command.Command.{Command}
 use Rattle.ncp_control.specs.declared.command.Command.TheVariants as variants
 use Rattle.ncp_model.specs.declared.pair.Pair.{Pair}
-use Rattle.ncp_model.specs.declared.call_fault.CallFault.{CallFault}
 use Rattle.ncp_model.specs.End.{End, new_end}
 use Rattle.ncp_model.specs.Ends.{Ends}
 

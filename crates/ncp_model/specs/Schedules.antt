@@ -1,6 +1,5 @@
 -- Schedules from which the worked rows of resets begin.
-use Rattle.std.specs.Prelude.{Bool, true, false, List, [], ◌∷◌, ◌++◌}
-use Rattle.ncp_control.specs.declared.command.Command.{Command}
+use Rattle.std.specs.Prelude.{true, false, List, [], ◌∷◌}
 use Rattle.ncp_control.specs.declared.command.Command.TheVariants.{Rts}
 use Rattle.ncp_model.specs.Phase.{Phase, Reaction}
 use Rattle.ncp_model.specs.Resets.{Event, Side, This, That, Step, Resets, Makes, Sends, Hears, Is_answered}

@@ -1,6 +1,5 @@
-use Rattle.std.proofs.Common.{◌≡◌, List, [], ◌∷◌, refl, ◌∙◌, ap}
-use Rattle.std.specs.FinMap.{entries, get, get-entries, entries-from_sorted}
-use Rattle.ncp_model.specs.declared.pair.Pair.{Pair}
+use Rattle.std.proofs.Common.{◌≡◌, refl}
+use Rattle.std.specs.FinMap.{entries, get-entries, entries-from_sorted}
 use Rattle.ncp_model.specs.Pairs.{pair_cmp}
 use Rattle.ncp_model.specs.Amounts.{back}
 use Rattle.ncp_model.specs.Ends.{lowest}
