@@ -84,8 +84,8 @@ booked-ret pair past on of_messages of_bits e w g p s k = choose {x = Stays (Rep
 booked-ins : (pair : Pair) (past : Past) (on : ℕ) (e : End) → sends pair ≡ false → is_going e ≡ false → e.opened ≡ true → Sound pair e → Books e past → Booked (all.Ins_comes on) of_hearing (Some e) past (interrupted e)
 booked-ins pair past on e w g p s k = becomes (record e { interrupts = min (e.interrupts + 1) MAX_COUNT }) Nothing (λ o. record { messages = grind (arith, append-nil, append_assoc, length-append, take-append-drop); bits = grind (arith, append-nil, append_assoc, length-append, take-append-drop); held = grind (arith, append-nil, append_assoc, length-append, take-append-drop) })
 
-booked-text_at : (pair : Pair) (past : Past) (of_size : ℕ) (text : List Bool) (e : End) → sends pair ≡ false → is_going e ≡ false → e.opened ≡ true → Sound pair e → Books e past → Booked (all.Text_comes of_size text) of_text (Some e) past (text_at of_size text e)
-booked-text_at pair past of_size text e w g p s k = choose {x = Stays took.WrongSize} {y = if e.messages == 0 || nat_lt e.bits (length text) then Stays took.Over else Becomes (record e { messages = e.messages - 1; bits = e.bits - length text; stored = e.stored ++ text }) took.Admitted} (not (of_size == e.size)) (λ c1. record { is = record { messages = grind (arith, append-nil); bits = grind (arith, append-nil); held = grind (arith, append-nil) } }) (λ d1. choose {x = Stays took.Over} {y = Becomes (record e { messages = e.messages - 1; bits = e.bits - length text; stored = e.stored ++ text }) took.Admitted} (e.messages == 0 || nat_lt e.bits (length text)) (λ c2. record { is = record { messages = grind (arith, append-nil); bits = grind (arith, append-nil); held = grind (arith, append-nil) } }) (λ d2. becomes (record e { messages = e.messages - 1; bits = e.bits - length text; stored = e.stored ++ text }) took.Admitted (λ o. record { messages = grind (arith, append-nil, append_assoc, length-append, take-append-drop); bits = grind (arith, append-nil, append_assoc, length-append, take-append-drop); held = grind (arith, append-nil, append_assoc, length-append, take-append-drop) })))
+booked-text_at : (pair : Pair) (past : Past) (head : List Bool) (of_size : ℕ) (text : List Bool) (e : End) → sends pair ≡ false → is_going e ≡ false → e.opened ≡ true → Sound pair e → Books e past → Booked (all.Text_comes head of_size text) of_text (Some e) past (text_at of_size text e)
+booked-text_at pair past head of_size text e w g p s k = choose {x = Stays took.WrongSize} {y = if e.messages == 0 || nat_lt e.bits (length text) then Stays took.Over else Becomes (record e { messages = e.messages - 1; bits = e.bits - length text; stored = e.stored ++ text }) took.Admitted} (not (of_size == e.size)) (λ c1. record { is = record { messages = grind (arith, append-nil); bits = grind (arith, append-nil); held = grind (arith, append-nil) } }) (λ d1. choose {x = Stays took.Over} {y = Becomes (record e { messages = e.messages - 1; bits = e.bits - length text; stored = e.stored ++ text }) took.Admitted} (e.messages == 0 || nat_lt e.bits (length text)) (λ c2. record { is = record { messages = grind (arith, append-nil); bits = grind (arith, append-nil); held = grind (arith, append-nil) } }) (λ d2. becomes (record e { messages = e.messages - 1; bits = e.bits - length text; stored = e.stored ++ text }) took.Admitted (λ o. record { messages = grind (arith, append-nil, append_assoc, length-append, take-append-drop); bits = grind (arith, append-nil, append_assoc, length-append, take-append-drop); held = grind (arith, append-nil, append_assoc, length-append, take-append-drop) })))
 
 booked-answered : (pair : Pair) (past : Past) (e : End) → sends pair ≡ false → Sound pair e → Books e past → Booked (all.Is_answered Taken) (λ _. all.Accepted) (Some e) past (answered pair Taken (Some e))
 booked-answered pair past e w s k = choose {x = Becomes (leaves (record e { busy = false })) (Some (closing pair))} {y = Becomes (record e { busy = false }) None} (e.leaving) (λ c1. becomes (leaves (record e { busy = false })) (Some (closing pair)) (λ o. record { messages = grind (arith, append-nil, append_assoc, length-append, take-append-drop); bits = grind (arith, append-nil, append_assoc, length-append, take-append-drop); held = grind (arith, append-nil, append_assoc, length-append, take-append-drop) })) (λ d1. becomes (record e { busy = false }) None (λ o. record { messages = grind (arith, append-nil, append_assoc, length-append, take-append-drop); bits = grind (arith, append-nil, append_assoc, length-append, take-append-drop); held = grind (arith, append-nil, append_assoc, length-append, take-append-drop) }))
@@ -115,11 +115,11 @@ booked-open what command act pair past (Some e) q s k f =
 refused-ret : (on m b : ℕ) (o : Outcome) → is_accepted o ≡ false → (p : Past) → (e : End) → Books e p → Books e (adds (all.Ret_comes on m b) o p)
 refused-ret on m b o n p e k = record { messages = grind (arith, append-nil); bits = grind (arith, append-nil); held = grind (arith, append-nil) }
 
-booked-text : (pair : Pair) (past : Past) (of_size : ℕ) (text : List Bool) (before : Option End) → sends pair ≡ false → SoundAt pair before → BooksAt before past → Booked (all.Text_comes of_size text) of_text before past (hear_text of_size text before)
-booked-text pair past of_size text None w s k = record { is = tt }
-booked-text pair past of_size text (Some e) w s k =
+booked-text : (pair : Pair) (past : Past) (head : List Bool) (of_size : ℕ) (text : List Bool) (before : Option End) → sends pair ≡ false → SoundAt pair before → BooksAt before past → Booked (all.Text_comes head of_size text) of_text before past (hear_text of_size text before)
+booked-text pair past head of_size text None w s k = record { is = tt }
+booked-text pair past head of_size text (Some e) w s k =
     choose {x = Stays took.Late} {y = if not e.opened then Stays took.NotOpen else text_at of_size text e} (is_going e) (λ c1. record { is = record { messages = grind (arith, append-nil); bits = grind (arith, append-nil); held = grind (arith, append-nil) } })
-    (λ d1. choose {x = Stays took.NotOpen} {y = text_at of_size text e} (not e.opened) (λ c2. record { is = record { messages = grind (arith, append-nil); bits = grind (arith, append-nil); held = grind (arith, append-nil) } }) (λ d2. booked-text_at pair past of_size text e w d1 (grind arith) s k))
+    (λ d1. choose {x = Stays took.NotOpen} {y = text_at of_size text e} (not e.opened) (λ c2. record { is = record { messages = grind (arith, append-nil); bits = grind (arith, append-nil); held = grind (arith, append-nil) } }) (λ d2. booked-text_at pair past head of_size text e w d1 (grind arith) s k))
 
 pub books-after : (pair : Pair) (what : Happening) (w : Watched) → receives pair ≡ true → leads pair what ≡ true → SoundAt pair w.end → BooksAt w.end w.past → BooksAt (watches pair what w).end (watches pair what w).past
 books-after pair what w r l s k = by_what what w.end w.past l s k
@@ -150,7 +150,7 @@ books-after pair what w r l s k = by_what what w.end w.past l s k
     by_what (all.Ret_comes on m b) before past l s k = (booked-open (all.Ret_comes on m b) (Ret on m b) (ret_at on m b) pair past before (refused-ret on m b) s k (λ e. booked-ret pair past on m b e n)).is
     by_what (all.Inr_comes on) before past l s k = absurd (cc (n, l))
     by_what (all.Ins_comes on) before past l s k = (booked-open (all.Ins_comes on) (Ins on) interrupted pair past before (λ o i p e h. h) s k (λ e. booked-ins pair past on e n)).is
-    by_what (all.Text_comes of_size text) before past l s k = (booked-text pair past of_size text before n s k).is
+    by_what (all.Text_comes head of_size text) before past l s k = (booked-text pair past head of_size text before n s k).is
     by_what all.Text_goes_out before past l s k = absurd (cc (n, l))
     by_what (all.Is_answered how) before past l s k = absurd (cc (n, l))
     by_what all.Is_cleared before past l s k = tt

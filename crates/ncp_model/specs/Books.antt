@@ -17,7 +17,7 @@ leads pair all.Text_goes_out = sends pair
 leads pair (all.Is_answered how) = sends pair
 leads pair (all.Ret_comes on m b) = receives pair
 leads pair (all.Ins_comes on) = receives pair
-leads pair (all.Text_comes of_size text) = receives pair
+leads pair (all.Text_comes head of_size text) = receives pair
 leads pair what = true
 
 abbrev pub Lead : Pair → List Happening → Type 0

@@ -11,12 +11,12 @@ use Rattle.ncp_model.specs.End.{End}
 use Rattle.ncp_model.specs.Act.{Act, answer, end_after, made_by_call, made_if_any, made_by_close, made_by_take, made_by_hearing}
 use Rattle.ncp_model.specs.Calls.{ask_send, ask_receive, close, give, take_held, allocate, call_back, interrupt}
 use Rattle.ncp_model.specs.Commands.{hear_rts, hear_str, hear_cls, hear_all, hear_gvb, hear_ret, hear_inr, hear_ins}
-use Rattle.ncp_model.specs.Texts.{hear_text, cut, Answered, answered, cleared}
+use Rattle.ncp_model.specs.Texts.{hear_text, made_by_text, cut, Answered, answered, cleared}
 
 -- What an act depends on beside the end stands in its arguments: own and by_peer are the numbers
 -- of ends with an own request and with the peer's alone; full: no place for a call's command;
 -- taken: another sending end heard the link; on: a link, for a receiver's request the lowest that
--- no receiving end uses.
+-- no receiving end uses; head: the leader and prefix of a text.
 pub data Happening : Type 0 where
   Asks_to_send : (of_size : ℕ) → (with_room : ℕ) → (own : ℕ) → (full : Bool) → Happening
   Asks_to_receive : (with_room : ℕ) → (on : ℕ) → (own : ℕ) → (full : Bool) → Happening
@@ -34,7 +34,7 @@ pub data Happening : Type 0 where
   Ret_comes : (on : ℕ) → (of_messages : ℕ) → (of_bits : ℕ) → Happening
   Inr_comes : (on : ℕ) → Happening
   Ins_comes : (on : ℕ) → Happening
-  Text_comes : (of_size : ℕ) → (text : List Bool) → Happening
+  Text_comes : (head : List Bool) → (of_size : ℕ) → (text : List Bool) → Happening
   Text_goes_out : Happening
   Is_answered : (how : Answered) → Happening
   Is_cleared : Happening
@@ -109,7 +109,7 @@ happens pair (Gvb_comes on of_messages of_bits) before = happened before (hear_g
 happens pair (Ret_comes on of_messages of_bits) before = happened before (hear_ret on of_messages of_bits before) made_by_hearing of_hearing
 happens pair (Inr_comes on) before = happened before (hear_inr on before) made_by_hearing of_hearing
 happens pair (Ins_comes on) before = happened before (hear_ins on before) made_by_hearing of_hearing
-happens pair (Text_comes of_size text) before = happened before (hear_text of_size text before) (λ _. []) of_text
+happens pair (Text_comes head of_size text) before = happened before (hear_text of_size text before) (made_by_text head text) of_text
 happens pair Text_goes_out before = happened before (cut pair before) (λ _. []) of_cut
 happens pair (Is_answered how) before = happened before (answered pair how before) made_if_any (λ _. Accepted)
 happens pair Is_cleared before = record { after = cleared before; made = []; outcome = Accepted }

@@ -40,7 +40,7 @@ adds (all.Allocates m b full) o past =
     record past { granted_messages = past.granted_messages + (if is_accepted o then m else 0); granted_bits = past.granted_bits + (if is_accepted o then b else 0) }
 adds (all.Ret_comes on m b) o past =
     record past { returned_messages = past.returned_messages + (if is_accepted o then m else 0); returned_bits = past.returned_bits + (if is_accepted o then b else 0) }
-adds (all.Text_comes of_size text) o past =
+adds (all.Text_comes head of_size text) o past =
     record past { got = past.got ++ (if is_admitted o then text else []); used_messages = past.used_messages + (if is_admitted o then 1 else 0) }
 adds what o past = past
 

@@ -1,6 +1,6 @@
 -- What text does to an end: text that comes, text that goes out, and the answer to it. And a
 -- clearing.
-use Rattle.std.specs.Prelude.{ℕ, ◌-◌, ◌*◌, ◌/◌, min, ◌==◌, Bool, true, false, not, ◌&&◌, ◌||◌, nat_le, nat_lt, if◌then◌else◌, List, ◌++◌, length, take, drop, Option, None, Some}
+use Rattle.std.specs.Prelude.{ℕ, ◌-◌, ◌*◌, ◌/◌, min, ◌==◌, Bool, true, false, not, ◌&&◌, ◌||◌, nat_le, nat_lt, if◌then◌else◌, List, [], ◌∷◌, ◌++◌, length, take, drop, Option, None, Some}
 use Rattle.ncp_control.specs.declared.command.Command.{Command}
 use Rattle.ncp_model.specs.declared.pair.Pair.{Pair}
 use Rattle.ncp_model.specs.declared.outcomes.Took.{Took}
@@ -8,7 +8,7 @@ use Rattle.ncp_model.specs.declared.outcomes.Took.TheVariants.{Admitted, Late, W
 use Rattle.ncp_model.specs.declared.limits.TheConstants.{MAX_TEXT}
 use Rattle.ncp_model.specs.Pairs.{sends}
 use Rattle.ncp_model.specs.End.{End, is_going, is_open}
-use Rattle.ncp_model.specs.Act.{Act, Stays, Becomes, leaves, closing}
+use Rattle.ncp_model.specs.Act.{Act, Stays, Becomes, leaves, closing, text_error}
 
 -- A text comes, while the host is up with the peer, to the receiving end that its link leads to.
 -- One message and its bits are taken from what is outstanding (NIC 8246, allocation).
@@ -19,13 +19,17 @@ text_at of_size text e =
     else if e.messages == 0 || nat_lt e.bits (length text) then Stays Over
     else Becomes (record e { messages = e.messages - 1; bits = e.bits - length text; stored = e.stored ++ text }) Admitted
 
--- where it answers NotOpen the host makes the text's ERR
 abbrev pub hear_text : ℕ → List Bool → Option End → Act Took
 hear_text of_size text None = Stays NotOpen
 hear_text of_size text (Some e) =
     if is_going e then Stays Late
     else if not e.opened then Stays NotOpen
     else text_at of_size text e
+
+-- the commands made: head is the text's leader and prefix
+abbrev pub made_by_text : List Bool → List Bool → Took → List Command
+made_by_text head text NotOpen = text_error head text ∷ []
+made_by_text head text took = []
 
 -- Text goes out: of what waits as many whole bytes as the counter of bits admits and one message
 -- takes, where that is at least one and the counter of messages is. One text at a time.

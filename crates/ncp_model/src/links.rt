@@ -1,6 +1,6 @@
 //! Laws of links: which one a receiver takes, and where one leads.
 ghost use Rattle.std.specs.Prelude.{◌≡◌, ℕ, true, false, ◌≤◌, ◌<◌, [], ◌∷◌, None, Some};
-ghost use Rattle.std.specs.FinMap.{get};
+ghost use Rattle.std.specs.FinMap.{get, from_sorted};
 ghost use Rattle.ncp_model.specs.End.{End, new_end};
 ghost use Rattle.ncp_model.specs.Act.{Act, Stays, Becomes, end_after};
 ghost use Rattle.ncp_model.specs.Ends.{Ends, count, any, has_asked, is_by_peer, hears_link, uses_link, first_by, free_link, leads_to, hear, map_after};
@@ -59,4 +59,8 @@ pub fn commands_lead_to_ends()
     ensures ins { (leads_to (Command.Ins 2) both_ways ≡ Some (record { local = 4; remote = 7 })) × (hear (Command.Ins 2) both_ways ≡ Becomes (record (counting 3 24) { recall = true; interrupts = 1 }) Heard.Nothing) }
     ensures nowhere { (leads_to (Command.All 3 1 1) both_ways ≡ None) × (hear (Command.All 3 1 1) both_ways ≡ Stays (Heard.Reply (err 5 (4 ∷ 3 ∷ 0 ∷ 1 ∷ 0 ∷ 0 ∷ 0 ∷ 1 ∷ 0 ∷ 0 ∷ [])))) }
     ensures lowest { free_link both_ways ≡ 4 }
+    ensures first { free_link (from_sorted []) ≡ 2 }
+    ensures second { free_link (from_sorted ((inward, asked_receive) ∷ [])) ≡ 3 }
+    ensures left { free_link (from_sorted ((inward, gone opened_end) ∷ [])) ≡ 3 }
+    ensures gap { free_link (from_sorted ((inward, record asked_receive { link = 3 }) ∷ [])) ≡ 2 }
 {}

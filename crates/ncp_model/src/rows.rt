@@ -6,7 +6,7 @@ ghost use Rattle.ncp_model.specs.End.{End, new_end, is_open, is_live, is_over};
 ghost use Rattle.ncp_model.specs.Act.{Act, Stays, Becomes, end_after, text_error};
 ghost use Rattle.ncp_model.specs.Calls.{bits_to_take, ask_send, ask_receive, close, give, take_held, allocate, call_back, interrupt};
 ghost use Rattle.ncp_model.specs.Commands.{hear_rts, hear_str, hear_cls, hear_all, hear_gvb, hear_ret, hear_inr, hear_ins};
-ghost use Rattle.ncp_model.specs.Texts.{bytes_to_send, hear_text, cut, answered, Answered, cleared};
+ghost use Rattle.ncp_model.specs.Texts.{bytes_to_send, made_by_text, hear_text, cut, answered, Answered, cleared};
 ghost use Rattle.ncp_model.specs.Echo.{Error, Echoes, no_echoes, echo_answer, echo_asked, eco_reply, hear_erp, is_stray_erp, hear_err, purge_echo};
 ghost use Rattle.ncp_model.specs.Rows.{outward, inward, ones, noughts, link_heard, size_heard, asked_send, asked_receive, opened_end, counting, storing, sent_one, due, gone, shut, err};
 
@@ -248,6 +248,7 @@ pub fn giving_back()
 
 /// The data of the ERR for a text: leader and prefix, and the first 8 bits of text, or zeros.
 pub fn refusing_text()
+    ensures only { (head text : List Bool) → (made_by_text head text Took.NotOpen ≡ text_error head text ∷ []) × (made_by_text head text Took.Late ≡ []) × (made_by_text head text Took.WrongSize ≡ []) × (made_by_text head text Took.Over ≡ []) × (made_by_text head text Took.Admitted ≡ []) }
     ensures text { text_error (noughts 64 ++ ones 8) (ones 4 ++ noughts 4 ++ ones 8) ≡ err 5 (0 ∷ 0 ∷ 0 ∷ 0 ∷ 0 ∷ 0 ∷ 0 ∷ 0 ∷ 255 ∷ 240 ∷ []) }
     ensures short { text_error (noughts 71 ++ ones 1) (ones 3) ≡ err 5 (0 ∷ 0 ∷ 0 ∷ 0 ∷ 0 ∷ 0 ∷ 0 ∷ 0 ∷ 1 ∷ 224 ∷ []) }
     ensures empty { text_error (ones 72) [] ≡ err 5 (255 ∷ 255 ∷ 255 ∷ 255 ∷ 255 ∷ 255 ∷ 255 ∷ 255 ∷ 255 ∷ 0 ∷ []) }

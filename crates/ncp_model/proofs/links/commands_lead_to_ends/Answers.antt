@@ -1,9 +1,10 @@
-use Rattle.std.proofs.Common.{◌≡◌, refl}
+use Rattle.std.proofs.Common.{◌≡◌, [], ◌∷◌, refl}
 use Rattle.std.specs.FinMap.{entries, get-entries, entries-from_sorted}
 use Rattle.ncp_model.specs.Pairs.{pair_cmp}
 use Rattle.ncp_model.specs.Amounts.{back}
+use Rattle.ncp_model.specs.End.{End}
 use Rattle.ncp_model.specs.Ends.{lowest}
-use Rattle.ncp_model.specs.Rows.{outward, ends_both_ways, both_ways}
+use Rattle.ncp_model.specs.Rows.{outward, inward, asked_receive, opened_end, gone, ends_both_ways, both_ways}
 use Rattle.ncp_model.proofs.links.commands_lead_to_ends.Goals as goal
 
 entries-are : entries both_ways ≡ ends_both_ways
@@ -43,3 +44,19 @@ returns-clause-nowhere c = rw entries-are (refl, refl)
 pub returns-clause-lowest : goal.returns-clause-lowest
 unfolding lowest
 returns-clause-lowest c = rw entries-are refl
+
+pub returns-clause-first : goal.returns-clause-first
+unfolding lowest
+returns-clause-first c = rw (entries-from_sorted {X = End} pair_cmp [] tt) refl
+
+pub returns-clause-second : goal.returns-clause-second
+unfolding lowest
+returns-clause-second c = rw (entries-from_sorted pair_cmp ((inward, asked_receive) ∷ []) tt) refl
+
+pub returns-clause-left : goal.returns-clause-left
+unfolding lowest
+returns-clause-left c = rw (entries-from_sorted pair_cmp ((inward, gone opened_end) ∷ []) tt) refl
+
+pub returns-clause-gap : goal.returns-clause-gap
+unfolding lowest
+returns-clause-gap c = rw (entries-from_sorted pair_cmp ((inward, record asked_receive { link = 3 }) ∷ []) tt) refl
