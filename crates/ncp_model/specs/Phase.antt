@@ -112,6 +112,11 @@ abbrev pub makes_all : List Command → Phase → Phase
 makes_all [] p = p
 makes_all (c ∷ cs) p = makes_all cs (makes c p)
 
+-- while not up every command but RST and RRP is dropped, and so are texts and the faults of a
+-- control text; each is counted
+abbrev pub is_dropped : Command → Phase → Bool
+is_dropped c p = is_other c && not (up p)
+
 -- What a host does about a command is data here: whether its data links are quiet, whether there
 -- is no place for the peer's request, and the commands that it replies.
 pub record Reaction : Type 0 where

@@ -2,7 +2,7 @@
 ghost use Rattle.std.specs.Prelude.{◌≡◌, ℕ, Bool, true, false, ◌++◌, ◌<◌, ◌≤◌, List, [], ◌∷◌, length, replicate, Ok, Err};
 ghost use Rattle.std.specs.List.{filter, list_any};
 ghost use Rattle.ncp_control.specs.declared.command.Command.{Command};
-ghost use Rattle.ncp_model.specs.Phase.{Phase, Reaction, new_phase, up, is_rst, is_rrp, is_reset, is_other, purge, settles, is_resetting, reset_answer, wants_reset, resets, owes_answer, hears_rst, hears_rrp, is_stray_rrp, goes_down, makes, hears};
+ghost use Rattle.ncp_model.specs.Phase.{Phase, Reaction, new_phase, up, is_rst, is_rrp, is_reset, is_other, purge, settles, is_resetting, reset_answer, wants_reset, resets, owes_answer, hears_rst, hears_rrp, is_stray_rrp, goes_down, makes, is_dropped, hears};
 ghost use Rattle.ncp_model.specs.Sending.{is_full, next_commands};
 ghost use Rattle.ncp_model.specs.Resets.{Host, Event, run, is_up, anew, NothingFollows, Silent, host_hears_all};
 
@@ -27,6 +27,8 @@ pub fn resets_wait_for_quiet()
 pub fn only_resets_while_not_up()
     ensures makes { (c : Command) (p : Phase) → up p ≡ false → makes c p ≡ p }
     ensures drops { (c : Command) (r : Reaction) (p : Phase) → is_other c ≡ true → up p ≡ false → hears c r p ≡ p }
+    ensures dropped { (c : Command) (r : Reaction) (p : Phase) → is_dropped c p ≡ true → hears c r p ≡ p }
+    ensures not_dropped { (p : Phase) → (is_dropped Command.Rst p ≡ false) × (is_dropped Command.Rrp p ≡ false) × (up p ≡ true → is_dropped Command.Nop p ≡ false) }
     ensures rst { (p : Phase) → makes Command.Rst p ≡ p }
     ensures rrp { (p : Phase) → makes Command.Rrp p ≡ p }
     ensures silent { (events : List Event) → is_up (run events).this ≡ false → Silent (run events).this }
