@@ -3,7 +3,7 @@
 ghost use Rattle.std.specs.Prelude.{◌≡◌, ℕ, Bool, true, false, ◌+◌, ◌*◌, length, ◌++◌, ◌∷◌, [], List, Option, None, Some, Ok, Err};
 ghost use Rattle.ncp_model.specs.Amounts.{back};
 ghost use Rattle.ncp_model.specs.End.{End, new_end, is_open, is_live, is_over};
-ghost use Rattle.ncp_model.specs.Act.{Act, Stays, Becomes, end_after, text_error};
+ghost use Rattle.ncp_model.specs.Act.{Act, Stays, Becomes, end_after, met, text_error};
 ghost use Rattle.ncp_model.specs.Calls.{bits_to_take, ask_send, ask_receive, close, give, take_held, allocate, call_back, interrupt};
 ghost use Rattle.ncp_model.specs.Commands.{hear_rts, hear_str, hear_cls, hear_all, hear_gvb, hear_ret, hear_inr, hear_ins};
 ghost use Rattle.ncp_model.specs.Texts.{bytes_to_send, made_by_text, hear_text, cut, answered, Answered, cleared};
@@ -134,7 +134,7 @@ pub fn hearing_rts()
 /// An STR that comes: a size, once an end.
 pub fn hearing_str()
     ensures sex { (hear_str outward 8 0 None ≡ Stays (Heard.Reply (err 3 (2 ∷ 0 ∷ 0 ∷ 0 ∷ 2 ∷ 0 ∷ 0 ∷ 0 ∷ 3 ∷ 8 ∷ [])))) × (hear_str (record { local = 2; remote = 4 }) 8 0 None ≡ Stays (Heard.Reply (err 3 (2 ∷ 0 ∷ 0 ∷ 0 ∷ 4 ∷ 0 ∷ 0 ∷ 0 ∷ 2 ∷ 8 ∷ [])))) }
-    ensures size { hear_str inward 0 0 None ≡ Stays (Heard.Reply (err 3 (2 ∷ 0 ∷ 0 ∷ 0 ∷ 3 ∷ 0 ∷ 0 ∷ 0 ∷ 2 ∷ 0 ∷ []))) }
+    ensures size { hear_str inward 0 64 None ≡ Stays (Heard.Reply (err 3 (2 ∷ 0 ∷ 0 ∷ 0 ∷ 3 ∷ 0 ∷ 0 ∷ 0 ∷ 2 ∷ 0 ∷ []))) }
     ensures again { hear_str inward 8 64 (Some size_heard) ≡ Stays (Heard.Reply (err 3 (2 ∷ 0 ∷ 0 ∷ 0 ∷ 3 ∷ 0 ∷ 0 ∷ 0 ∷ 2 ∷ 8 ∷ []))) }
     ensures full { hear_str inward 8 64 None ≡ Stays Heard.Full }
     ensures first { hear_str inward 8 63 None ≡ Becomes size_heard Heard.Nothing }
@@ -151,6 +151,7 @@ pub fn hearing_cls()
     ensures again { hear_cls outward (Some (shut (due (sent_one opened_end)))) ≡ Stays (Heard.Reply (err 3 (3 ∷ 0 ∷ 0 ∷ 0 ∷ 2 ∷ 0 ∷ 0 ∷ 0 ∷ 3 ∷ 0 ∷ []))) }
     ensures left { let act = hear_cls outward (Some (gone opened_end)) in (act ≡ Becomes (shut (gone opened_end)) Heard.Nothing) × (end_after (Some (gone opened_end)) act ≡ None) }
     ensures leaving { let act = hear_cls outward (Some (due (sent_one opened_end))) in (act ≡ Becomes (shut (due (sent_one opened_end))) Heard.Nothing) × (end_after None act ≡ Some (shut (due (sent_one opened_end)))) }
+    ensures leaving_too { hear_cls inward (Some (due opened_end)) ≡ Becomes (shut (due opened_end)) Heard.Nothing }
     ensures busy { let act = hear_cls outward (Some (sent_one (storing (ones 8)))) in (act ≡ Becomes (shut (due (sent_one opened_end))) Heard.Nothing) × (end_after None act ≡ Some (shut (due (sent_one opened_end)))) }
     ensures holding { hear_cls inward (Some (storing (ones 8))) ≡ Becomes (shut (due (storing (ones 8)))) Heard.Nothing }
     ensures sender { let act = hear_cls outward (Some (storing (ones 8))) in (act ≡ Becomes (shut (gone opened_end)) (Heard.Reply (Command.Cls 3 2))) × (end_after (Some opened_end) act ≡ None) }
@@ -271,6 +272,7 @@ pub fn lives_of_an_end()
     ensures going { (is_open (due opened_end) ≡ false) × (is_open (gone opened_end) ≡ false) }
     ensures live { (is_live (Some (gone opened_end)) ≡ true) × (is_live (Some asked_send) ≡ false) × (is_live None ≡ false) }
     ensures over { (is_over (shut (gone opened_end)) ≡ true) × (is_over (gone opened_end) ≡ false) × (is_over (shut opened_end) ≡ false) }
+    ensures stays_opened { met (gone opened_end) ≡ gone opened_end }
     ensures cleared { cleared (Some opened_end) ≡ None }
 {}
 
