@@ -45,6 +45,7 @@ pub fn one_connection()
     ensures receiver { watch inward (all.Asks_to_receive 64 2 0 false ∷ all.Str_comes 8 0 ∷ all.Allocates 2 16 false ∷ all.Text_comes (noughts 72) 8 (ones 16) ∷ all.Takes 100 ∷ []) ≡ record { end = Some (counting 1 0); past = record no_past { got = ones 16; taken = ones 16; granted_messages = 2; granted_bits = 16; used_messages = 1 } } }
     ensures returned { watch inward (all.Asks_to_receive 64 2 0 false ∷ all.Str_comes 8 0 ∷ all.Allocates 2 16 false ∷ all.Calls_back 128 128 false ∷ all.Ret_comes 2 2 16 ∷ []) ≡ record { end = Some opened_end; past = record no_past { granted_messages = 2; granted_bits = 16; returned_messages = 2; returned_bits = 16 } } }
     ensures outlives { (watch outward (all.Str_comes 8 0 ∷ all.Asks_to_send 8 64 0 false ∷ all.Rts_comes 2 false 0 ∷ all.Gives (ones 8) ∷ all.Is_cleared ∷ [])).past ≡ record no_past { given = ones 8 } }
+    ensures in_order { (watch outward (all.Asks_to_send 8 64 0 false ∷ all.Rts_comes 2 false 0 ∷ all.Gives (ones 8) ∷ all.Gives (noughts 8) ∷ [])).past ≡ record no_past { given = ones 8 ++ noughts 8 } }
     ensures anew { watch outward (all.Asks_to_send 8 64 0 false ∷ all.Rts_comes 2 false 0 ∷ all.Gives (ones 8) ∷ all.Is_cleared ∷ all.Asks_to_send 8 64 0 false ∷ all.Rts_comes 2 false 0 ∷ []) ≡ record { end = Some opened_end; past = no_past } }
     ensures refused { (watch inward (all.Asks_to_receive 64 2 0 false ∷ all.Str_comes 8 0 ∷ all.Allocates 2 65 false ∷ all.Ret_comes 2 1 0 ∷ all.Text_comes (noughts 72) 8 (ones 16) ∷ all.Gives (ones 8) ∷ [])).past ≡ no_past }
 {}

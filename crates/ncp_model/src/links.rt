@@ -58,6 +58,8 @@ pub fn commands_lead_to_ends()
     ensures inr { (leads_to (Command.Inr 2) both_ways ≡ Some outward) × (hear (Command.Inr 2) both_ways ≡ Becomes (record (counting 1 8) { interrupts = 1 }) Heard.Nothing) }
     ensures ins { (leads_to (Command.Ins 2) both_ways ≡ Some (record { local = 4; remote = 7 })) × (hear (Command.Ins 2) both_ways ≡ Becomes (record (counting 3 24) { recall = true; interrupts = 1 }) Heard.Nothing) }
     ensures nowhere { (leads_to (Command.All 3 1 1) both_ways ≡ None) × (hear (Command.All 3 1 1) both_ways ≡ Stays (Heard.Reply (err 5 (4 ∷ 3 ∷ 0 ∷ 1 ∷ 0 ∷ 0 ∷ 0 ∷ 1 ∷ 0 ∷ 0 ∷ [])))) }
+    ensures full_rts { (m : Ends) → MAX_BY_PEER ≤ count is_by_peer m → any (hears_link 2) m ≡ false → get m outward ≡ None → hear (Command.Rts 2 3 2) m ≡ Stays Heard.Full }
+    ensures full_str { (m : Ends) → MAX_BY_PEER ≤ count is_by_peer m → get m inward ≡ None → hear (Command.Str 3 2 8) m ≡ Stays Heard.Full }
     ensures lowest { free_link both_ways ≡ 4 }
     ensures first { free_link (from_sorted []) ≡ 2 }
     ensures second { free_link (from_sorted ((inward, asked_receive) ∷ [])) ≡ 3 }
