@@ -1,0 +1,8 @@
+use Rattle.ncp_model.proofs.EndsAfter.{after-at, after-elsewhere}
+use Rattle.ncp_model.proofs.links.acts_change_one_end.Goals as goal
+
+pub returns-clause-there : goal.returns-clause-there
+returns-clause-there g c = after-at
+
+pub returns-clause-elsewhere : goal.returns-clause-elsewhere
+returns-clause-elsewhere g c = after-elsewhere

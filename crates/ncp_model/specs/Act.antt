@@ -1,0 +1,99 @@
+-- What an act does to an end, and what it answers. An act knows one end alone: no table, no queue.
+use Rattle.std.specs.Prelude.{ℕ, Bool, true, false, ◌&&◌, ◌||◌, not, nat_le, ◌++◌, take, replicate, if◌then◌else◌, List, [], ◌∷◌, Option, None, Some, Result, Ok, Err}
+use Rattle.ncp_bits.specs.Bits.{bytes_of}
+use Rattle.ncp_control.specs.declared.command.Command.{Command}
+use Rattle.ncp_control.specs.declared.command.Command.TheVariants.{Cls}
+use Rattle.ncp_control.specs.declared.command.Command.TheVariants as variants
+use Rattle.ncp_control.specs.Spelling.{spelling}
+use Rattle.ncp_model.specs.declared.pair.Pair.{Pair}
+use Rattle.ncp_model.specs.declared.call_fault.CallFault.{CallFault}
+use Rattle.ncp_model.specs.declared.outcomes.Heard.{Heard}
+use Rattle.ncp_model.specs.declared.outcomes.Heard.TheVariants.{Nothing, Reply, Late, Full}
+use Rattle.ncp_model.specs.declared.limits.TheConstants.{FIRST_LINK, LAST_LINK, MAX_ROOM}
+use Rattle.ncp_model.specs.End.{End, is_going, is_over}
+
+-- A refusal, and whatever has no effect, leaves the end, or that there is none, as it is.
+pub data Act (A : Type 0) : Type 0 where
+  Stays : A → Act A
+  Becomes : End → A → Act A
+
+-- what is answered
+abbrev pub answer : {A : Type 0} → Act A → A
+answer (Stays a) = a
+answer (Becomes e a) = a
+
+-- the end afterwards: one that is over is there no more
+abbrev pub end_after : {A : Type 0} → Option End → Act A → Option End
+end_after before (Stays a) = before
+end_after before (Becomes e a) = if is_over e then None else Some e
+
+-- The commands made, by the kind of answer.
+
+abbrev pub made_by_call : Result Command CallFault → List Command
+made_by_call (Ok c) = c ∷ []
+made_by_call (Err fault) = []
+
+abbrev pub made_if_any : Option Command → List Command
+made_if_any None = []
+made_if_any (Some c) = c ∷ []
+
+abbrev pub made_by_close : Result (Option Command) CallFault → List Command
+made_by_close (Ok c) = made_if_any c
+made_by_close (Err fault) = []
+
+-- with the bits that are taken
+abbrev pub made_by_take : Result (List Bool × Option Command) CallFault → List Command
+made_by_take (Ok taken) = made_if_any taken.1
+made_by_take (Err fault) = []
+
+abbrev pub made_by_hearing : Heard → List Command
+made_by_hearing Nothing = []
+made_by_hearing (Reply c) = c ∷ []
+made_by_hearing Late = []
+made_by_hearing Full = []
+
+-- The words that acts share.
+
+-- both requests have met: the end opens, unless it is on its way out. Its two numbers are zero
+-- then, as only acts on what is open move them
+abbrev pub met : End → End
+met e = record e { opened = e.opened || (e.asked && e.heard && not (is_going e)) }
+
+-- the CLS is made: what is stored is dropped
+abbrev pub leaves : End → End
+leaves e = record e { leaving = false; left = true; stored = [] }
+
+-- the end's CLS names its own socket first
+abbrev pub closing : Pair → Command
+closing pair = Cls pair.local pair.remote
+
+-- a store has from 1 to 65,536 bits
+abbrev pub is_room : ℕ → Bool
+is_room room = nat_le 1 room && nat_le room MAX_ROOM
+
+-- links 2 to 71 carry connections
+abbrev pub is_data_link : ℕ → Bool
+is_data_link on = nat_le FIRST_LINK on && nat_le on LAST_LINK
+
+-- ERR: ten bytes of data, and the codes of this profile (NIC 8246, ERR)
+
+-- erroneous parameters; a request on a socket that is not there; a link that is not connected
+abbrev pub wrong_parameters : ℕ
+wrong_parameters = 3
+
+abbrev pub no_socket : ℕ
+no_socket = 4
+
+abbrev pub not_connected : ℕ
+not_connected = 5
+
+-- the command's bytes, zeros to ten
+abbrev pub error_data : Command → List ℕ
+error_data command = take 10 (spelling command ++ replicate 10 0)
+
+abbrev pub error_of : ℕ → Command → Command
+error_of code command = variants.Err code (error_data command)
+
+-- for a text: the 72 bits of leader and prefix, and the first 8 bits of text, zeros for what is not there
+abbrev pub text_error : List Bool → List Bool → Command
+text_error head text = variants.Err not_connected (bytes_of (head ++ take 8 (text ++ replicate 8 false)))

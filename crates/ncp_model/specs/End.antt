@@ -1,0 +1,89 @@
+-- One end of a connection: what one host knows of it.
+use Rattle.std.specs.Prelude.{ℕ, Bool, false, not, ◌&&◌, ◌||◌, List, [], Option, None, Some, refl}
+use Rattle.std.specs.Coded.{Coded, code_by, coded×, coded_ℕ, coded_bool, coded_list}
+
+-- Whether it sends or receives is said by its pair of sockets. Each mark counts since the end began.
+pub record End : Type 0 where
+  pub asked : Bool  -- the own request (STR of a sender, RTS of a receiver) was made
+  pub heard : Bool  -- the peer's request came
+  pub opened : Bool  -- both requests met while neither side had closed
+  pub leaving : Bool  -- a CLS is due
+  pub left : Bool  -- the CLS was made
+  pub cls : Bool  -- the peer's CLS came
+  pub link : ℕ  -- chosen by the receiver in its RTS; 0 until then
+  pub size : ℕ  -- bits a byte, chosen by the sender in its STR; 0 until then
+  pub messages : ℕ  -- a sender's counters, a receiver's outstanding allocation
+  pub bits : ℕ
+  pub stored : List Bool  -- a sender's waiting bits, a receiver's held bits
+  pub room : ℕ  -- how many bits may be stored; 0 until the own request
+  pub busy : Bool  -- a sender's text went out and has had no RFNM
+  pub recall : Bool  -- a receiver's GVB is unanswered
+  pub interrupts : ℕ  -- how many interrupts came
+
+-- what an end begins as
+abbrev pub new_end : End
+new_end = record {
+  asked = false;
+  heard = false;
+  opened = false;
+  leaving = false;
+  left = false;
+  cls = false;
+  link = 0;
+  size = 0;
+  messages = 0;
+  bits = 0;
+  stored = [];
+  room = 0;
+  busy = false;
+  recall = false;
+  interrupts = 0;
+}
+
+-- the end that is there, or a new one
+abbrev pub or_new : Option End → End
+or_new None = new_end
+or_new (Some e) = e
+
+-- on its way out: its CLS is due or was made
+abbrev pub is_going : End → Bool
+is_going e = e.leaving || e.left
+
+-- both requests are there, and it is not on its way out (NIC 8246, establishment)
+abbrev pub is_open : End → Bool
+is_open e = e.asked && e.heard && not (is_going e)
+
+-- opened, and not ended: an end that has ended is not there
+abbrev pub is_live : Option End → Bool
+is_live None = false
+is_live (Some e) = e.opened
+
+-- its CLS was made, and one came: the connection is over here (NIC 8246, termination)
+abbrev pub is_over : End → Bool
+is_over e = e.left && e.cls
+
+-- an end as a tuple of its fields
+abbrev pub coded_end : Coded End
+coded_end =
+    code_by
+    (Bool × (Bool × (Bool × (Bool × (Bool × (Bool × (ℕ × (ℕ × (ℕ × (ℕ × (List Bool × (ℕ × (Bool × (Bool × ℕ))))))))))))))
+    (coded× coded_bool (coded× coded_bool (coded× coded_bool (coded× coded_bool (coded× coded_bool (coded× coded_bool (coded× coded_ℕ (coded× coded_ℕ (coded× coded_ℕ (coded× coded_ℕ (coded× (coded_list coded_bool) (coded× coded_ℕ (coded× coded_bool (coded× coded_bool coded_ℕ))))))))))))))
+    (λ e. (e.asked, (e.heard, (e.opened, (e.leaving, (e.left, (e.cls, (e.link, (e.size, (e.messages, (e.bits, (e.stored, (e.room, (e.busy, (e.recall, e.interrupts)))))))))))))))
+    (λ p. record {
+      asked = p.0;
+      heard = p.1.0;
+      opened = p.1.1.0;
+      leaving = p.1.1.1.0;
+      left = p.1.1.1.1.0;
+      cls = p.1.1.1.1.1.0;
+      link = p.1.1.1.1.1.1.0;
+      size = p.1.1.1.1.1.1.1.0;
+      messages = p.1.1.1.1.1.1.1.1.0;
+      bits = p.1.1.1.1.1.1.1.1.1.0;
+      stored = p.1.1.1.1.1.1.1.1.1.1.0;
+      room = p.1.1.1.1.1.1.1.1.1.1.1.0;
+      busy = p.1.1.1.1.1.1.1.1.1.1.1.1.0;
+      recall = p.1.1.1.1.1.1.1.1.1.1.1.1.1.0;
+      interrupts = p.1.1.1.1.1.1.1.1.1.1.1.1.1.1;
+    })
+    (λ _. refl)

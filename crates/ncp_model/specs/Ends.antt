@@ -1,0 +1,117 @@
+-- All ends of the connections with one peer: a finite map from pairs to ends. What an act needs
+-- to know of the others, and which end a command or a text leads to.
+use Rattle.std.specs.Prelude.{ℕ, zero, suc, ◌==◌, Bool, not, ◌&&◌, nat_lt, if◌then◌else◌, List, [], ◌∷◌, Option, None, Some}
+use Rattle.std.specs.List.{count_by}
+use Rattle.std.specs.FinMap.{FinMap, empty, entries, get, insert, remove}
+use Rattle.ncp_control.specs.declared.command.Command.{Command}
+use Rattle.ncp_control.specs.declared.command.Command.TheVariants.{Rts, Str, Cls, All, Gvb, Ret, Inr, Ins}
+use Rattle.ncp_model.specs.declared.pair.Pair.{Pair}
+use Rattle.ncp_model.specs.declared.outcomes.Heard.{Heard}
+use Rattle.ncp_model.specs.declared.outcomes.Heard.TheVariants.{Nothing}
+use Rattle.ncp_model.specs.declared.limits.TheConstants.{FIRST_LINK}
+use Rattle.ncp_model.specs.Pairs.{pair_cmp, sends, receives}
+use Rattle.ncp_model.specs.End.{End, is_over}
+use Rattle.ncp_model.specs.Act.{Act, Stays, Becomes}
+use Rattle.ncp_model.specs.Commands.{hear_rts, hear_str, hear_cls, hear_all, hear_gvb, hear_ret, hear_inr, hear_ins}
+
+abbrev pub Ends : Type 0
+Ends = FinMap pair_cmp End
+
+-- how many ends pass a test
+abbrev pub count : (Pair × End → Bool) → Ends → ℕ
+count test m = count_by test (entries m)
+
+-- whether one does
+abbrev pub any : (Pair × End → Bool) → Ends → Bool
+any test m = nat_lt 0 (count test m)
+
+-- an own request was made, or the end is there by the peer's request alone: of either kind there
+-- are 64 at most
+abbrev pub has_asked : Pair × End → Bool
+has_asked p = p.1.asked
+
+abbrev pub is_by_peer : Pair × End → Bool
+is_by_peer p = not p.1.asked
+
+-- a sending end that heard this link
+abbrev pub hears_link : ℕ → Pair × End → Bool
+hears_link on p = sends p.0 && p.1.heard && p.1.link == on
+
+-- a receiving end that asked with this link, whether it is left or not
+abbrev pub uses_link : ℕ → Pair × End → Bool
+uses_link on p = receives p.0 && p.1.asked && p.1.link == on
+
+-- the first of so many numbers that passes, else the one behind them
+unfoldable pub lowest : (ℕ → Bool) → ℕ → ℕ → ℕ
+lowest test zero from = from
+lowest test (suc many) from = if test from then from else lowest test many (suc from)
+
+-- the lowest link from 2 up that no receiving end uses: of 70 links 64 can be in use
+abbrev pub free_link : Ends → ℕ
+free_link m = lowest (λ on. not (any (uses_link on) m)) 70 FIRST_LINK
+
+-- the first that passes a test
+abbrev pub first_by : (Pair × End → Bool) → List (Pair × End) → Option (Pair × End)
+first_by test [] = None
+first_by test (p ∷ ps) = if test p then Some p else first_by test ps
+
+-- The end that a link leads to: ALL, GVB and INR name a sending end that heard it, RET, INS and
+-- text a receiving end that asked with it. An end that is left is found too.
+
+abbrev pub sender_on : ℕ → Ends → Option (Pair × End)
+sender_on on m = first_by (hears_link on) (entries m)
+
+abbrev pub receiver_on : ℕ → Ends → Option (Pair × End)
+receiver_on on m = first_by (uses_link on) (entries m)
+
+abbrev pub end_of : Option (Pair × End) → Option End
+end_of None = None
+end_of (Some p) = Some p.1
+
+abbrev pub pair_of : Option (Pair × End) → Option Pair
+pair_of None = None
+pair_of (Some p) = Some p.0
+
+-- the pair here to which a command leads, if any
+abbrev pub leads_to : Command → Ends → Option Pair
+leads_to (Rts receive send on) m = Some (record { local = send; remote = receive })
+leads_to (Str send receive of_size) m = Some (record { local = receive; remote = send })
+leads_to (Cls my your) m = Some (record { local = your; remote = my })
+leads_to (All on more_messages more_bits) m = pair_of (sender_on on m)
+leads_to (Gvb on of_messages of_bits) m = pair_of (sender_on on m)
+leads_to (Ret on of_messages of_bits) m = pair_of (receiver_on on m)
+leads_to (Inr on) m = pair_of (sender_on on m)
+leads_to (Ins on) m = pair_of (receiver_on on m)
+leads_to c m = None
+
+-- what a command of a connection does at the end to which it leads
+abbrev pub hear : Command → Ends → Act Heard
+hear (Rts receive send on) m =
+    let pair : Pair = record { local = send; remote = receive } in
+    hear_rts pair on (any (hears_link on) m) (count is_by_peer m) (get m pair)
+hear (Str send receive of_size) m =
+    let pair : Pair = record { local = receive; remote = send } in
+    hear_str pair of_size (count is_by_peer m) (get m pair)
+hear (Cls my your) m =
+    let pair : Pair = record { local = your; remote = my } in
+    hear_cls pair (get m pair)
+hear (All on more_messages more_bits) m = hear_all on more_messages more_bits (end_of (sender_on on m))
+hear (Gvb on of_messages of_bits) m = hear_gvb on of_messages of_bits (end_of (sender_on on m))
+hear (Ret on of_messages of_bits) m = hear_ret on of_messages of_bits (end_of (receiver_on on m))
+hear (Inr on) m = hear_inr on (end_of (sender_on on m))
+hear (Ins on) m = hear_ins on (end_of (receiver_on on m))
+hear c m = Stays Nothing
+
+-- the ends after an act at a pair
+abbrev pub map_after : {A : Type 0} → Ends → Pair → Act A → Ends
+map_after m pair (Stays a) = m
+map_after m pair (Becomes e a) = if is_over e then remove m pair else insert m pair e
+
+-- after an act where a look-up led, if it led anywhere
+abbrev pub map_after_at : {A : Type 0} → Ends → Option Pair → Act A → Ends
+map_after_at m None act = m
+map_after_at m (Some pair) act = map_after m pair act
+
+-- a clearing leaves no ends
+abbrev pub no_ends : Ends
+no_ends = empty

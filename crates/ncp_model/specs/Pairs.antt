@@ -1,0 +1,32 @@
+-- Pairs of sockets.
+use Rattle.std.specs.Prelude.{ℕ, ◌%◌, ◌==◌, Bool, ◌&&◌, ◌||◌, refl}
+use Rattle.std.specs.declared.cmp.Ordering.{Ordering}
+use Rattle.std.specs.Ordering.{nat_cmp, ordering_then}
+use Rattle.std.specs.Coded.{Coded, code_by, coded×, coded_ℕ}
+use Rattle.ncp_model.specs.declared.pair.Pair.{Pair}
+
+-- a receive socket is even, a send socket odd
+abbrev pub is_receive : ℕ → Bool
+is_receive socket = socket % 2 == 0
+
+abbrev pub is_send : ℕ → Bool
+is_send socket = socket % 2 == 1
+
+-- the end here sends
+abbrev pub sends : Pair → Bool
+sends pair = is_send pair.local && is_receive pair.remote
+
+-- the end here receives
+abbrev pub receives : Pair → Bool
+receives pair = is_receive pair.local && is_send pair.remote
+
+-- one socket sends, and the other receives
+abbrev pub is_proper : Pair → Bool
+is_proper pair = sends pair || receives pair
+
+-- by the socket here, and then by the socket there
+abbrev pub pair_cmp : Pair → Pair → Ordering
+pair_cmp a b = ordering_then (nat_cmp a.local b.local) (nat_cmp a.remote b.remote)
+
+abbrev pub coded_pair : Coded Pair
+coded_pair = code_by (ℕ × ℕ) (coded× coded_ℕ coded_ℕ) (λ p. (p.local, p.remote)) (λ n. record { local = n.0; remote = n.1 }) (λ _. refl)

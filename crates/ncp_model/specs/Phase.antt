@@ -1,0 +1,131 @@
+-- What a host's flags for one peer allow: coming up by RST and RRP, and going down (NIC 8246, RST
+-- and RRP; that both wait until the data links are quiet, and the limits, are this profile's).
+use Rattle.std.specs.Prelude.{Bool, true, false, not, ◌&&◌, ◌||◌, nat_lt, if◌then◌else◌, List, [], ◌∷◌, ◌++◌, length, Result, Ok, Err}
+use Rattle.std.specs.List.{filter, list_any}
+use Rattle.ncp_control.specs.declared.command.Command.{Command}
+use Rattle.ncp_control.specs.declared.command.Command.TheVariants.{Rst, Rrp}
+use Rattle.ncp_model.specs.declared.call_fault.CallFault.{CallFault}
+use Rattle.ncp_model.specs.declared.call_fault.CallFault.TheVariants.{Busy}
+use Rattle.ncp_model.specs.declared.limits.TheConstants.{MAX_WAITING}
+
+abbrev pub is_rst : Command → Bool
+is_rst Rst = true
+is_rst c = false
+
+abbrev pub is_rrp : Command → Bool
+is_rrp Rrp = true
+is_rrp c = false
+
+-- the two commands by which hosts come up, and all others
+abbrev pub is_reset : Command → Bool
+is_reset c = is_rst c || is_rrp c
+
+abbrev pub is_other : Command → Bool
+is_other c = not (is_reset c)
+
+-- the flags that a host keeps for a peer, and the commands that wait for the control link
+pub record Phase : Type 0 where
+  pub down : Bool
+  pub want : Bool  -- an RST is to be made
+  pub owe : Bool  -- an RRP is to be made
+  pub wait : Bool  -- an RST was made, and its RRP has not come
+  pub waiting : List Command
+
+-- each peer starts with down alone
+abbrev pub new_phase : Phase
+new_phase = record { down = true; want = false; owe = false; wait = false; waiting = [] }
+
+-- no flag is set
+abbrev pub up : Phase → Bool
+up p = not (p.down || p.want || p.owe || p.wait)
+
+-- a purge strikes what waits, all but RST and RRP
+abbrev pub purge : Phase → Phase
+purge p = record p { waiting = filter is_reset p.waiting }
+
+-- the RRP that is owed is made, and then the RST that is wanted. Neither is queued while one of
+-- its kind still waits; the flags change all the same
+abbrev pub answers : Phase → Phase
+answers p =
+    if p.owe
+    then record p { down = false; owe = false; waiting = if list_any is_rrp p.waiting then p.waiting else p.waiting ++ Rrp ∷ [] }
+    else p
+
+abbrev pub asks : Phase → Phase
+asks p =
+    if p.want
+    then record p { down = false; want = false; wait = true; waiting = if list_any is_rst p.waiting then p.waiting else p.waiting ++ Rst ∷ [] }
+    else p
+
+-- settling: both only while the data links are quiet. It happens after a reset, after an RST came,
+-- and after an RFNM
+abbrev pub settles : Bool → Phase → Phase
+settles quiet p = if quiet then asks (answers p) else p
+
+-- The call of a reset is refused while one is under way.
+
+abbrev pub is_resetting : Phase → Bool
+is_resetting p = p.want || p.wait
+
+abbrev pub reset_answer : Phase → Result (Unit {0}) CallFault
+reset_answer p = if is_resetting p then Err Busy else Ok tt
+
+abbrev pub wants_reset : Phase → Phase
+wants_reset p = record (purge p) { want = true }
+
+abbrev pub resets : Bool → Phase → Phase
+resets quiet p = if is_resetting p then p else settles quiet (wants_reset p)
+
+-- An RST came: a purge, and an RRP is owed.
+
+abbrev pub owes_answer : Phase → Phase
+owes_answer p = record (purge p) { owe = true }
+
+abbrev pub hears_rst : Bool → Phase → Phase
+hears_rst quiet p = settles quiet (owes_answer p)
+
+-- An RRP came. It is stray where none is awaited.
+
+abbrev pub hears_rrp : Phase → Phase
+hears_rrp p = record p { wait = false }
+
+abbrev pub is_stray_rrp : Phase → Bool
+is_stray_rrp p = not p.wait
+
+-- Going down: a purge, and down is set. It happens where a command would wait as the 513th, and
+-- where there is no place for another request of the peer.
+
+abbrev pub goes_down : Phase → Phase
+goes_down p = record (purge p) { down = true }
+
+abbrev pub has_place : Phase → Bool
+has_place p = nat_lt (length p.waiting) MAX_WAITING
+
+abbrev pub queued : Command → Phase → Phase
+queued c p = record p { waiting = p.waiting ++ c ∷ [] }
+
+-- a command of a call or of a reply is made: only while up, and it is neither RST nor RRP
+abbrev pub makes : Command → Phase → Phase
+makes c p = if up p && is_other c then (if has_place p then queued c p else goes_down p) else p
+
+abbrev pub makes_all : List Command → Phase → Phase
+makes_all [] p = p
+makes_all (c ∷ cs) p = makes_all cs (makes c p)
+
+-- while not up every command but RST and RRP is dropped, and so are texts and the faults of a
+-- control text; each is counted
+abbrev pub is_dropped : Command → Phase → Bool
+is_dropped c p = is_other c && not (up p)
+
+-- What a host does about a command is data here: whether its data links are quiet, whether there
+-- is no place for the peer's request, and the commands that it replies.
+pub record Reaction : Type 0 where
+  pub quiet : Bool
+  pub full : Bool
+  pub replies : List Command
+
+-- a command comes. While not up all but RST and RRP are dropped
+abbrev pub hears : Command → Reaction → Phase → Phase
+hears Rst r p = hears_rst r.quiet p
+hears Rrp r p = hears_rrp p
+hears c r p = if up p then (if r.full then goes_down p else makes_all r.replies p) else p

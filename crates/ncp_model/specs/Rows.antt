@@ -1,0 +1,73 @@
+-- Ends from which the worked rows begin.
+use Rattle.std.specs.Prelude.{ℕ, Bool, true, false, List, [], ◌∷◌, replicate}
+use Rattle.std.specs.FinMap.{from_sorted}
+use Rattle.ncp_control.specs.declared.command.Command.{Command}
+use Rattle.ncp_control.specs.declared.command.Command.TheVariants as variants
+use Rattle.ncp_model.specs.declared.pair.Pair.{Pair}
+use Rattle.ncp_model.specs.End.{End, new_end}
+use Rattle.ncp_model.specs.Ends.{Ends}
+
+-- socket 3 sends to socket 2: as its own host names it, and as the receiver's does
+abbrev pub outward : Pair
+outward = record { local = 3; remote = 2 }
+
+abbrev pub inward : Pair
+inward = record { local = 2; remote = 3 }
+
+-- so many bits
+abbrev pub ones : ℕ → List Bool
+ones count = replicate count true
+
+abbrev pub noughts : ℕ → List Bool
+noughts count = replicate count false
+
+-- the peer's request alone, with link 2 or with size 8
+abbrev pub link_heard : End
+link_heard = record new_end { heard = true; link = 2 }
+
+abbrev pub size_heard : End
+size_heard = record new_end { heard = true; size = 8 }
+
+-- the own request alone, with stores of 64 bits
+abbrev pub asked_send : End
+asked_send = record new_end { asked = true; size = 8; room = 64 }
+
+abbrev pub asked_receive : End
+asked_receive = record new_end { asked = true; link = 2; room = 64 }
+
+-- both: on link 2, of size 8
+abbrev pub opened_end : End
+opened_end = record new_end { asked = true; heard = true; opened = true; link = 2; size = 8; room = 64 }
+
+-- with counters, and with bits stored
+abbrev pub counting : ℕ → ℕ → End
+counting of_messages of_bits = record opened_end { messages = of_messages; bits = of_bits }
+
+abbrev pub storing : List Bool → End
+storing bits_there = record opened_end { stored = bits_there }
+
+-- a text is out; the CLS is due; the CLS was made
+abbrev pub sent_one : End → End
+sent_one e = record e { busy = true }
+
+abbrev pub due : End → End
+due e = record e { leaving = true }
+
+abbrev pub gone : End → End
+gone e = record e { left = true }
+
+-- the peer's CLS came
+abbrev pub shut : End → End
+shut e = record e { cls = true }
+
+abbrev pub err : ℕ → List ℕ → Command
+err code data_bytes = variants.Err code data_bytes
+
+-- a host with a sender and a receiver, both open on link 2, and a request of its own on link 3
+abbrev pub ends_both_ways : List (Pair × End)
+ends_both_ways =
+    (outward, counting 1 8) ∷ (record { local = 4; remote = 7 }, record (counting 3 24) { recall = true })
+    ∷ (record { local = 6; remote = 9 }, record asked_receive { link = 3 }) ∷ []
+
+abbrev pub both_ways : Ends
+both_ways = from_sorted ends_both_ways

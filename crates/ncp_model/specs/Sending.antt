@@ -1,0 +1,19 @@
+-- What goes out next on the control link, and when a call finds no place for its command.
+use Rattle.std.specs.Prelude.{ℕ, ◌-◌, Bool, nat_le, if◌then◌else◌, List, [], ◌∷◌, length}
+use Rattle.ncp_control.specs.declared.command.Command.{Command}
+use Rattle.ncp_control.specs.Spelling.{spelling}
+use Rattle.ncp_model.specs.declared.limits.TheConstants.{MAX_CALLED, MAX_CONTROL}
+use Rattle.ncp_model.specs.Phase.{Phase}
+
+-- 256 or more commands wait
+abbrev pub is_full : Phase → Bool
+is_full p = nat_le MAX_CALLED (length p.waiting)
+
+-- the whole commands from the front whose bytes sum to at most so many
+abbrev pub fitting : ℕ → List Command → List Command
+fitting room [] = []
+fitting room (c ∷ cs) = if nat_le (length (spelling c)) room then c ∷ fitting (room - length (spelling c)) cs else []
+
+-- a control message takes as many as have at most 120 bytes
+abbrev pub next_commands : List Command → List Command
+next_commands waiting = fitting MAX_CONTROL waiting

@@ -1,0 +1,29 @@
+//! The model of the protocol: what can happen to one end of a connection (act), what a host's
+//! four flags allow (phase), and the theorem on resets between two hosts.
+//!
+//! The definitions stand in `specs/`, the laws over them are the contracts of functions that do
+//! nothing. Beside them stand the words that the crates above share: a pair of sockets, the
+//! refusals of a call, and what a command or a text that came gave.
+#![tactic(auto)]
+
+mod amounts;
+mod call_fault;
+pub mod histories;
+mod limits;
+pub mod links;
+mod outcomes;
+mod pair;
+pub mod phases;
+pub mod resets;
+pub mod rows;
+#[cfg(test)]
+mod tests;
+
+pub use amounts::give_back;
+pub use call_fault::CallFault;
+pub use limits::{
+    FIRST_LINK, GIVE_BACK_PARTS, LAST_LINK, MAX_AMOUNT, MAX_BY_PEER, MAX_CALLED, MAX_CONTROL,
+    MAX_COUNT, MAX_ERRORS, MAX_MESSAGES, MAX_OWN, MAX_ROOM, MAX_TEXT, MAX_WAITING,
+};
+pub use outcomes::{Heard, Took};
+pub use pair::Pair;

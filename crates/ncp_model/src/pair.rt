@@ -1,0 +1,35 @@
+//! `Pair`.
+ghost use Rattle.std.specs.Prelude.{◌≡◌};
+ghost use Rattle.ncp_model.specs.Pairs.{sends, receives, is_proper};
+
+/// A connection, as one host names it. An even socket receives, an odd one sends.
+#[derive(Clone, Copy, Debug, Drop, PartialEq, Eq)]
+pub struct Pair {
+    /// The socket here.
+    pub local: u32,
+    /// The socket there.
+    pub remote: u32,
+}
+
+impl Pair {
+    /// Whether the end here sends.
+    pub fn sends(&self) -> bool
+        ensures { result ≡ sends self.now }
+    {
+        self.local % 2 == 1 && self.remote % 2 == 0
+    }
+
+    /// Whether the end here receives.
+    pub fn receives(&self) -> bool
+        ensures { result ≡ receives self.now }
+    {
+        self.local % 2 == 0 && self.remote % 2 == 1
+    }
+
+    /// Whether one socket sends and the other receives.
+    pub fn is_proper(&self) -> bool
+        ensures { result ≡ is_proper self.now }
+    {
+        self.sends() || self.receives()
+    }
+}

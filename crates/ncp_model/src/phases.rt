@@ -1,0 +1,94 @@
+//! Laws of a host's phase: what the theorem on resets does not guard.
+ghost use Rattle.std.specs.Prelude.{◌≡◌, ℕ, Bool, true, false, ◌++◌, ◌<◌, ◌≤◌, List, [], ◌∷◌, length, replicate, Ok, Err};
+ghost use Rattle.std.specs.List.{filter, list_any};
+ghost use Rattle.ncp_control.specs.declared.command.Command.{Command};
+ghost use Rattle.ncp_model.specs.Phase.{Phase, Reaction, new_phase, up, is_rst, is_rrp, is_reset, is_other, purge, settles, is_resetting, reset_answer, wants_reset, resets, owes_answer, hears_rst, hears_rrp, is_stray_rrp, goes_down, makes, is_dropped, hears};
+ghost use Rattle.ncp_model.specs.Sending.{is_full, next_commands};
+ghost use Rattle.ncp_model.specs.Resets.{Host, Event, run, is_up, anew, NothingFollows, Silent, host_hears_all};
+
+use crate::call_fault::CallFault;
+use crate::limits::MAX_WAITING;
+
+/// RST and RRP are made only while the data links are quiet, the RRP first, and neither while one
+/// of its kind still waits.
+pub fn resets_wait_for_quiet()
+    ensures unquiet { (p : Phase) → settles false p ≡ p }
+    ensures unquiet_reset { (p : Phase) → is_resetting p ≡ false → resets false p ≡ wants_reset p }
+    ensures unquiet_rst { (p : Phase) → hears_rst false p ≡ owes_answer p }
+    ensures neither { (p : Phase) → p.owe ≡ false → p.want ≡ false → settles true p ≡ p }
+    ensures answer { (p : Phase) → p.owe ≡ true → p.want ≡ false → list_any is_rrp p.waiting ≡ false → settles true p ≡ record p { down = false; owe = false; waiting = p.waiting ++ Command.Rrp ∷ [] } }
+    ensures reset { (p : Phase) → p.owe ≡ false → p.want ≡ true → list_any is_rst p.waiting ≡ false → settles true p ≡ record p { down = false; want = false; wait = true; waiting = p.waiting ++ Command.Rst ∷ [] } }
+    ensures both { (p : Phase) → p.owe ≡ true → p.want ≡ true → list_any is_rrp p.waiting ≡ false → list_any is_rst p.waiting ≡ false → settles true p ≡ record { down = false; want = false; owe = false; wait = true; waiting = p.waiting ++ (Command.Rrp ∷ Command.Rst ∷ []) } }
+    ensures not_twice { (p : Phase) → p.owe ≡ true → p.want ≡ true → list_any is_rrp p.waiting ≡ true → list_any is_rst p.waiting ≡ true → settles true p ≡ record { down = false; want = false; owe = false; wait = true; waiting = p.waiting } }
+{}
+
+/// While a host is not up it makes nothing but RST and RRP, and every other command that comes
+/// is dropped; calls and replies never make these two.
+pub fn only_resets_while_not_up()
+    ensures makes { (c : Command) (p : Phase) → up p ≡ false → makes c p ≡ p }
+    ensures drops { (c : Command) (r : Reaction) (p : Phase) → is_other c ≡ true → up p ≡ false → hears c r p ≡ p }
+    ensures dropped { (c : Command) (r : Reaction) (p : Phase) → is_dropped c p ≡ true → hears c r p ≡ p }
+    ensures not_dropped { (p : Phase) → (is_dropped Command.Rst p ≡ false) × (is_dropped Command.Rrp p ≡ false) × (up p ≡ true → is_dropped Command.Nop p ≡ false) }
+    ensures rst { (p : Phase) → makes Command.Rst p ≡ p }
+    ensures rrp { (p : Phase) → makes Command.Rrp p ≡ p }
+    ensures silent { (events : List Event) → is_up (run events).this ≡ false → Silent (run events).this }
+    ensures silent_too { (events : List Event) → is_up (run events).that ≡ false → Silent (run events).that }
+{}
+
+/// An RST that was made is acted on before anything that follows it; and until it came nothing
+/// but an RRP follows it, after every schedule.
+pub fn resets_come_before_what_follows()
+    ensures acts { (cs : List Command) (r : Reaction) (rs : List Reaction) (h : Host) → host_hears_all (Command.Rst ∷ cs) (r ∷ rs) h ≡ host_hears_all cs rs (anew (hears_rst r.quiet h.phase)) }
+    ensures there { (events : List Event) → NothingFollows (run events).this (run events).going }
+    ensures back { (events : List Event) → NothingFollows (run events).that (run events).coming }
+{}
+
+/// A purge strikes every command that waits but RST and RRP, and no flag.
+pub fn purges_keep_resets()
+    ensures kept { (p : Phase) → filter is_reset (purge p).waiting ≡ filter is_reset p.waiting }
+    ensures struck { (p : Phase) → filter is_other (purge p).waiting ≡ [] }
+    ensures flags { (p : Phase) → record (purge p) { waiting = p.waiting } ≡ p }
+    ensures reset { (p : Phase) → wants_reset p ≡ record (purge p) { want = true } }
+    ensures rst { (p : Phase) → owes_answer p ≡ record (purge p) { owe = true } }
+    ensures down { (p : Phase) → goes_down p ≡ record (purge p) { down = true } }
+{}
+
+/// A peer starts with down alone, and is up where no flag is set. A reset is refused while one is
+/// wanted or awaited; an RRP ends the awaiting, and is stray where there is none.
+pub fn flags_tell_the_phase()
+    ensures start { new_phase ≡ record { down = true; want = false; owe = false; wait = false; waiting = [] } }
+    ensures down { (want owe wait : Bool) (cs : List Command) → up (record { down = true; want = want; owe = owe; wait = wait; waiting = cs }) ≡ false }
+    ensures want { (down owe wait : Bool) (cs : List Command) → up (record { down = down; want = true; owe = owe; wait = wait; waiting = cs }) ≡ false }
+    ensures owe { (down want wait : Bool) (cs : List Command) → up (record { down = down; want = want; owe = true; wait = wait; waiting = cs }) ≡ false }
+    ensures wait { (down want owe : Bool) (cs : List Command) → up (record { down = down; want = want; owe = owe; wait = true; waiting = cs }) ≡ false }
+    ensures none { (cs : List Command) → up (record { down = false; want = false; owe = false; wait = false; waiting = cs }) ≡ true }
+    ensures wanted { (quiet : Bool) (p : Phase) → p.want ≡ true → (reset_answer p ≡ Err CallFault.Busy) × (resets quiet p ≡ p) }
+    ensures awaited { (quiet : Bool) (p : Phase) → p.wait ≡ true → (reset_answer p ≡ Err CallFault.Busy) × (resets quiet p ≡ p) }
+    ensures accepted { (quiet : Bool) (p : Phase) → p.want ≡ false → p.wait ≡ false → (reset_answer p ≡ Ok tt) × (resets quiet p ≡ settles quiet (wants_reset p)) }
+    ensures rst { (quiet : Bool) (p : Phase) → hears_rst quiet p ≡ settles quiet (owes_answer p) }
+    ensures rrp { (p : Phase) → hears_rrp p ≡ record p { wait = false } }
+    ensures stray { (p : Phase) → p.wait ≡ false → (is_stray_rrp p ≡ true) × (hears_rrp p ≡ p) }
+    ensures awaits { (p : Phase) → p.wait ≡ true → is_stray_rrp p ≡ false }
+{}
+
+/// A command that is made waits at the end of the others. A host goes down where it would be the
+/// 513th, and where there is no place for the peer's request, and nowhere else.
+pub fn goes_down_at_the_513th()
+    ensures place { (c : Command) (p : Phase) → is_other c ≡ true → up p ≡ true → length p.waiting < MAX_WAITING → makes c p ≡ record p { waiting = p.waiting ++ c ∷ [] } }
+    ensures none { (c : Command) (p : Phase) → is_other c ≡ true → up p ≡ true → MAX_WAITING ≤ length p.waiting → makes c p ≡ goes_down p }
+    ensures limit { MAX_WAITING ≡ 512 }
+    ensures full { (link : ℕ) (cs : List Command) (quiet : Bool) (p : Phase) → up p ≡ true → hears (Command.Inr link) (record { quiet = quiet; full = true; replies = cs }) p ≡ goes_down p }
+    ensures reply { (link : ℕ) (quiet : Bool) (c : Command) (p : Phase) → up p ≡ true → hears (Command.Inr link) (record { quiet = quiet; full = false; replies = c ∷ [] }) p ≡ makes c p }
+{}
+
+/// A control message takes whole commands from the front, at most 120 bytes of them: fifteen of 8
+/// bytes, ten of 12. A call finds no place where 256 commands wait.
+pub fn control_messages_are_filled()
+    ensures beginning { (cs : List Command) → (rest : List Command) × (next_commands cs ++ rest ≡ cs) }
+    ensures fifteen { next_commands (replicate 16 (Command.All 2 1 0)) ≡ replicate 15 (Command.All 2 1 0) }
+    ensures ten { next_commands (replicate 11 (Command.Err 3 (replicate 10 0))) ≡ replicate 10 (Command.Err 3 (replicate 10 0)) }
+    ensures order { next_commands (Command.Rrp ∷ Command.Rst ∷ Command.Rts 2 3 2 ∷ []) ≡ Command.Rrp ∷ Command.Rst ∷ Command.Rts 2 3 2 ∷ [] }
+    ensures none { next_commands [] ≡ [] }
+    ensures full { (p : Phase) → length p.waiting ≡ 256 → is_full p ≡ true }
+    ensures not_full { (p : Phase) → length p.waiting ≡ 255 → is_full p ≡ false }
+{}

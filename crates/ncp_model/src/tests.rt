@@ -1,0 +1,124 @@
+//! What no clause says: that the definitions mean what the worked rows mean.
+use crate::{
+    CallFault, FIRST_LINK, GIVE_BACK_PARTS, LAST_LINK, MAX_AMOUNT, MAX_BY_PEER, MAX_CALLED,
+    MAX_CONTROL, MAX_COUNT, MAX_ERRORS, MAX_MESSAGES, MAX_OWN, MAX_ROOM, MAX_TEXT, MAX_WAITING,
+    Pair, give_back,
+};
+use std::test::Fail;
+
+#[test]
+fn gives_back_in_128ths_rounded_up(rt: HostRuntime) {
+    let rows = [
+        (1_000, 0, 0),
+        (1_000, 1, 8),
+        (5, 128, 5),
+        (5, 255, 5),
+        (65_535, 64, 32_768),
+        (4_294_967_295, 1, 33_554_432),
+        (5, 64, 3),
+        (2, 200, 2),
+    ];
+    for (counter, fraction, back) in rows {
+        assert_eq!(rt;
+            give_back(counter, fraction),
+            back,
+            "{counter} at {fraction}"
+        );
+    }
+}
+
+#[test]
+fn numbers_and_names_refusals(rt: HostRuntime) -> Result<(), Fail> {
+    let rows = [
+        (CallFault::UnknownPeer, 1, "UnknownPeer", "no such peer"),
+        (CallFault::NotUp, 2, "NotUp", "not up with this peer"),
+        (
+            CallFault::BadSex,
+            3,
+            "BadSex",
+            "a socket of the wrong sex for this call",
+        ),
+        (CallFault::BadSize, 4, "BadSize", "a byte of no bits"),
+        (
+            CallFault::BadRoom,
+            5,
+            "BadRoom",
+            "a store of fewer than 1 or more than 65536 bits",
+        ),
+        (CallFault::NoEntry, 6, "NoEntry", "no such connection"),
+        (
+            CallFault::AlreadyAsked,
+            7,
+            "AlreadyAsked",
+            "already asked for",
+        ),
+        (CallFault::Closing, 8, "Closing", "being closed"),
+        (CallFault::NotOpen, 9, "NotOpen", "not open"),
+        (
+            CallFault::WrongEnd,
+            10,
+            "WrongEnd",
+            "the wrong end for this call",
+        ),
+        (
+            CallFault::NotWhole,
+            11,
+            "NotWhole",
+            "not a whole number of bytes",
+        ),
+        (CallFault::Busy, 12, "Busy", "an answer is still due"),
+        (CallFault::NoRoom, 13, "NoRoom", "no room in the store"),
+        (
+            CallFault::TooMuch,
+            14,
+            "TooMuch",
+            "more than the store or a counter can take",
+        ),
+        (
+            CallFault::TableFull,
+            15,
+            "TableFull",
+            "no place for another request",
+        ),
+        (
+            CallFault::QueueFull,
+            16,
+            "QueueFull",
+            "no place for another command",
+        ),
+        (CallFault::OutOfMemory, 17, "OutOfMemory", "out of memory"),
+    ];
+    for (fault, number, name, text) in rows {
+        assert_eq!(rt; fault as u8, number);
+        assert_eq!(rt; fault.name(), name);
+        assert_eq!(rt; format!(in rt.alloc(); "{fault}")?.as_str(), text);
+    }
+    Ok(())
+}
+
+#[test]
+fn tells_which_end_a_pair_is(rt: HostRuntime) {
+    let rows = [
+        (3, 2, true, false),
+        (2, 3, false, true),
+        (3, 5, false, false),
+        (2, 4, false, false),
+    ];
+    for (local, remote, sends, receives) in rows {
+        let pair = Pair { local, remote };
+        assert_eq!(rt; pair.sends(), sends, "{local} {remote}");
+        assert_eq!(rt; pair.receives(), receives, "{local} {remote}");
+        assert_eq!(rt; pair.is_proper(), sends || receives, "{local} {remote}");
+    }
+}
+
+#[test]
+fn has_the_limits_of_the_profile(rt: HostRuntime) {
+    assert_eq!(rt; (FIRST_LINK, LAST_LINK), (2, 71));
+    assert_eq!(rt; (MAX_TEXT, MAX_CONTROL), (7928, 120));
+    assert_eq!(rt; (MAX_WAITING, MAX_CALLED), (512, 256));
+    assert_eq!(rt; (MAX_OWN, MAX_BY_PEER), (64, 64));
+    assert_eq!(rt; (MAX_ROOM, MAX_ERRORS), (65_536, 16));
+    assert_eq!(rt; (MAX_MESSAGES, MAX_AMOUNT), (65_535, 4_294_967_295));
+    assert_eq!(rt; (MAX_COUNT, GIVE_BACK_PARTS), (4_294_967_295, 128));
+}
