@@ -9,7 +9,7 @@ use Rattle.std.proofs.lemmas.Bool.{ne_eqb}
 use Rattle.std.proofs.Math.Seq.{drop-cons, take-add}
 use Rattle.ncp_bits.specs.Numbers.{number_of, bits_of, bit_of}
 use Rattle.ncp_bits.specs.Bits.{byte_bits, bits_of_bytes, bytes_for, spare_for, byte_of, read_bytes}
-use Rattle.ncp_bits.specs.Packed.{run, IsPacked}
+use Rattle.ncp_bits.specs.Packed.{run, IsPart, IsPacked, HoldsRun}
 use Rattle.ncp_bits.proofs.Numbers.{length-bits_of}
 use Rattle.ncp_bits.proofs.Bytes.{length-bits_of_bytes, byte_of-long, byte_of-short, read_bytes-ok, take-bits_of_bytes}
 use Rattle.ncp_bits.proofs.Packing.{drop-bits_of_bytes}
@@ -147,9 +147,15 @@ last_of-run bytes from len k rest few is_len inside =
     ∙ ap (λ (n : ℕ). number_of (drop (8 * k) (run bytes from len)) * 2 ^ (8 - n)) short
     ∙ ap (λ bits. number_of bits * 2 ^ (8 - rest)) (drop-run bytes from len (8 * k) (omega arith) ∙ ap (run bytes (from + 8 * k)) left ∙ ap (λ (n : ℕ). run bytes n rest) place))
 
--- bytes that just hold so many bits
-pub length-packed : (bytes : List ℕ) (len : ℕ) → IsPacked bytes len → length (run bytes 0 len) ≡ len
-length-packed bytes len h = length-run bytes 0 len (let long : length bytes ≡ bytes_for len = h.long in omega arith)
+-- how many bits a part, a bit string and a store have that are seen as these
+pub length-part : {bytes : List ℕ} {skip len : ℕ} {bits : List Bool} → IsPart bytes skip len → run bytes skip len ≡ bits → len ≡ length bits
+length-part {bytes} {skip} {len} h seen = sym (length-run bytes skip len h.inside) ∙ ap length seen
+
+pub length-packed : {bytes : List ℕ} {len : ℕ} {bits : List Bool} → IsPacked bytes len → run bytes 0 len ≡ bits → len ≡ length bits
+length-packed {bytes} {len} h seen = sym (length-run bytes 0 len (let long : length bytes ≡ bytes_for len = h.long in omega arith)) ∙ ap length seen
+
+pub length-held : {bytes : List ℕ} {from len capacity : ℕ} {bits : List Bool} → HoldsRun bytes from len capacity → run bytes from len ≡ bits → len ≡ length bits
+length-held {bytes} {from} {len} h seen = sym (length-run bytes from len h.inside) ∙ ap length seen
 
 -- no bit set
 pub none_set : (bits : List Bool) → list_any (λ bit. bit) bits ≡ false → bits ≡ replicate (length bits) false

@@ -49,7 +49,7 @@ impl Model for Bits {
     ghost invariant = { λ bits. IsPacked bits.bytes.items bits.len };
 }
 
-// Lengthens bytes to so many.
+// Lengthens bytes to so many, by zeros.
 fn lengthen(bytes: &mut ArrayVec<u8, MAX_BYTES>, len: usize)
     requires longer { length bytes.old.items ≤ len }
     requires fits { len ≤ MAX_BYTES }
@@ -175,8 +175,8 @@ impl Bits {
 
     /// Appends a part. `TooLong` where it does not fit.
     ///
-    /// It completes the last byte. Where the rest of the part begins with a byte then, it is
-    /// copied; else each byte takes two shifts.
+    /// It makes the new bytes zero, and completes the last byte. Where the rest of the part begins
+    /// with a byte then, it is copied; else each byte takes two shifts.
     pub fn append(&mut self, part: Part<'_>) -> Result<(), BitsFault>
         ensures variant { IsOk result ↔ (length self.old + length part.entry ≤ MAX_BITS) }
         ensures ok { OnOk result (self.new ≡ self.old ++ part.entry) }

@@ -12,7 +12,7 @@ use std::marker::Model;
 // The largest capacity: the places of the bytes' bits are counted in a `usize`.
 const MAX_CAPACITY: usize = usize::MAX - 16;
 
-/// A store of eight bits a byte.
+/// A store of eight bits a byte. Its room takes a byte more than the bits asked for do.
 ///
 /// The bits begin at any bit of its bytes. `take` copies what it takes and moves nothing. `put`
 /// writes what it puts; where the bytes end before that, it first moves what is held to the front

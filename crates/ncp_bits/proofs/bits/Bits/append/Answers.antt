@@ -7,7 +7,7 @@ use Rattle.ncp_bits.proofs.bits.Bits.append.Goals as goal
 
 pub returns-then-len-self-clause-variant : goal.returns-then-len-self-clause-variant
 returns-then-len-self-clause-variant c =
-    let l : c.self.inside.len ≡ length c.args.self.now = sym (length-packed c.self.inside.bytes.items c.self.inside.len c.self.invariant) ∙ ap length c.self.view_is in
+    let l : c.self.inside.len ≡ length c.args.self.now = length-packed c.self.invariant c.self.view_is in
     ((λ h. absurd (cc)), (λ h. absurd (omega arith)))
 
 -- the bytes that are left are those that were written
@@ -27,7 +27,7 @@ invariant_of-self c =
 
 pub returns-clause-variant : goal.returns-clause-variant
 returns-clause-variant c =
-    let l : c.self.inside.len ≡ length c.args.self.now = sym (length-packed c.self.inside.bytes.items c.self.inside.len c.self.invariant) ∙ ap length c.self.view_is in
+    let l : c.self.inside.len ≡ length c.args.self.now = length-packed c.self.invariant c.self.view_is in
     ((λ _. omega (arith, c.self.invariant.fits)), (λ _. refl))
 
 pub returns-clause-ok : goal.returns-clause-ok

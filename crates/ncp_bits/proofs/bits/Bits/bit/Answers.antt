@@ -6,13 +6,13 @@ use Rattle.ncp_bits.proofs.bits.Bits.bit.Goals as goal
 
 pub bit_in-requires : goal.bit_in-requires
 bit_in-requires c =
-    let l : c.self.inside.len ≡ length c.args.self.now = sym (length-packed c.self.inside.bytes.items c.self.inside.len c.self.invariant) ∙ ap length c.self.view_is in
+    let l : c.self.inside.len ≡ length c.args.self.now = length-packed c.self.invariant c.self.view_is in
     let same : length c.as_slice.result.now ≡ length c.self.inside.bytes.items = ap length c.as_slice.ensures.value in
     omega (arith, c.self.invariant.long)
 
 pub returns : goal.returns
 returns c =
-    let l : c.self.inside.len ≡ length c.args.self.now = sym (length-packed c.self.inside.bytes.items c.self.inside.len c.self.invariant) ∙ ap length c.self.view_is in
+    let l : c.self.inside.len ≡ length c.args.self.now = length-packed c.self.invariant c.self.view_is in
     let place : 0 + c.args.place ≡ c.args.place = omega arith in
     slice_get-get_or c.args.self.now c.args.place false c.requires
     ∙ ap Some (

@@ -1,4 +1,4 @@
-use Rattle.std.proofs.Common.{◌≡◌, ◌∙◌, ◌++◌, sym, ap, take, drop, Ok, false, List, Bool, ℕ, arith}
+use Rattle.std.proofs.Common.{◌≡◌, ◌∙◌, ◌++◌, refl, sym, ap, take, drop, Ok, false, List, Bool, ℕ, arith}
 use Rattle.std.specs.List.{list_any}
 use Rattle.std.proofs.lemmas.Result.{IfOk-at_ok}
 use Rattle.ncp_bits.specs.Bits.{bits_of_bytes}
@@ -24,4 +24,4 @@ returns-clause-read c =
     ∙ sym (read_packed c.args.bytes.now c.args.len c.div_ceil-used.result (omega arith) (omega arith) (omega arith) (none c))
 
 pub returns-clause-len : goal.returns-clause-len
-returns-clause-len c = length-packed c.try_extend_from_slice.new.self.items c.args.len (invariant_of-result c)
+returns-clause-len c = sym (length-packed (invariant_of-result c) refl)

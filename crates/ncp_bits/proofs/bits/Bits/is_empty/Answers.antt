@@ -1,8 +1,8 @@
-use Rattle.std.proofs.Common.{◌≡◌, ap, sym, ◌∙◌, length, rules}
+use Rattle.std.proofs.Common.{◌≡◌, length, rules}
 use Rattle.ncp_bits.proofs.Runs.{length-packed}
 use Rattle.ncp_bits.proofs.bits.Bits.is_empty.Goals as goal
 
 pub returns : goal.returns
 returns c =
-    let l : c.self.inside.len ≡ length c.args.self.now = sym (length-packed c.self.inside.bytes.items c.self.inside.len c.self.invariant) ∙ ap length c.self.view_is in
+    let l : c.self.inside.len ≡ length c.args.self.now = length-packed c.self.invariant c.self.view_is in
     rw (← l) (search rules)

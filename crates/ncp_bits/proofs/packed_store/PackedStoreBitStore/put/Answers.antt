@@ -1,25 +1,25 @@
-use Rattle.std.proofs.Common.{◌≡◌, refl, ◌+◌, ◌++◌, sym, ap, ◌∙◌, length, List, ℕ, arith}
+use Rattle.std.proofs.Common.{◌≡◌, refl, ◌+◌, ◌++◌, ap, ◌∙◌, length, List, ℕ, arith}
 use Rattle.std.proofs.lemmas.List.{take_at}
 use Rattle.ncp_bits.specs.Store.{Stored}
 use Rattle.ncp_bits.specs.Packed.{run}
-use Rattle.ncp_bits.proofs.Runs.{length-run}
+use Rattle.ncp_bits.proofs.Runs.{length-held}
 use Rattle.ncp_bits.proofs.packed_store.PackedStoreBitStore.put.Goals as goal
 
 pub returns-then-len-self-clause-variant : goal.returns-then-len-self-clause-variant
 returns-then-len-self-clause-variant c =
-    let l : c.self.inside.len ≡ length c.args.self.now.held = sym (length-run c.self.inside.bytes.items c.self.inside.from c.self.inside.len c.self.invariant.inside) ∙ ap (λ (store : Stored). length store.held) c.self.view_is in
+    let l : c.self.inside.len ≡ length c.args.self.now.held = length-held c.self.invariant (ap (λ (store : Stored). store.held) c.self.view_is) in
     let size : c.self.inside.capacity ≡ c.args.self.now.capacity = ap (λ (store : Stored). store.capacity) c.self.view_is in
     ((λ h. absurd (cc)), (λ h. absurd (omega arith)))
 
 pub returns-clause-variant : goal.returns-clause-variant
 returns-clause-variant c =
-    let l : c.self.inside.len ≡ length c.args.self.now.held = sym (length-run c.self.inside.bytes.items c.self.inside.from c.self.inside.len c.self.invariant.inside) ∙ ap (λ (store : Stored). length store.held) c.self.view_is in
+    let l : c.self.inside.len ≡ length c.args.self.now.held = length-held c.self.invariant (ap (λ (store : Stored). store.held) c.self.view_is) in
     let size : c.self.inside.capacity ≡ c.args.self.now.capacity = ap (λ (store : Stored). store.capacity) c.self.view_is in
     ((λ _. omega (arith, c.self.invariant.fits)), (λ _. refl))
 
 pub returns-clause-ok : goal.returns-clause-ok
 returns-clause-ok c =
-    let l : c.self.inside.len ≡ length c.args.self.now.held = sym (length-run c.self.inside.bytes.items c.self.inside.from c.self.inside.len c.self.invariant.inside) ∙ ap (λ (store : Stored). length store.held) c.self.view_is in
+    let l : c.self.inside.len ≡ length c.args.self.now.held = length-held c.self.invariant (ap (λ (store : Stored). store.held) c.self.view_is) in
     let long : length c.append_run-self-inside.new.bytes ≡ c.self.inside.bytes.len = omega arith in
     ap (λ (bytes : List ℕ). run bytes c.append_run-self-inside.result (c.self.inside.len + c.len-2.result)) (take_at c.append_run-self-inside.new.bytes _ c.self.inside.bytes.len long)
     ∙ ap (λ (n : ℕ). run c.append_run-self-inside.new.bytes c.append_run-self-inside.result (c.self.inside.len + n)) c.len-2.ensures.len

@@ -1,28 +1,24 @@
 use Rattle.std.proofs.Common.{◌≡◌, sym, ap, ◌∙◌, length, take, drop, List, ℕ, arith}
 use Rattle.ncp_bits.specs.Store.{Stored}
 use Rattle.ncp_bits.specs.Packed.{run}
-use Rattle.ncp_bits.proofs.Runs.{length-run, take-run, drop-run}
+use Rattle.ncp_bits.proofs.Runs.{length-held, take-run, drop-run}
 use Rattle.ncp_bits.proofs.packed_store.PackedStoreBitStore.take.Goals as goal
 
 pub of_bytes-requires-clause-inside : goal.of_bytes-requires-clause-inside
 of_bytes-requires-clause-inside c =
-    let l : c.self.inside.len ≡ length c.args.self.now.held = sym (length-run c.self.inside.bytes.items c.self.inside.from c.self.inside.len c.self.invariant.inside) ∙ ap (λ (store : Stored). length store.held) c.self.view_is in
+    let l : c.self.inside.len ≡ length c.args.self.now.held = length-held c.self.invariant (ap (λ (store : Stored). store.held) c.self.view_is) in
     let same : length c.as_slice.result.now ≡ length c.self.inside.bytes.items = ap length c.as_slice.ensures.value in
     omega (arith, c.self.invariant.inside)
 
 pub overflow_add-self : goal.overflow_add-self
-overflow_add-self c =
-    let l : c.self.inside.len ≡ length c.args.self.now.held = sym (length-run c.self.inside.bytes.items c.self.inside.from c.self.inside.len c.self.invariant.inside) ∙ ap (λ (store : Stored). length store.held) c.self.view_is in
-    omega (arith, c.self.invariant.inside, c.self.invariant.counted)
+overflow_add-self c = omega (arith, length-held c.self.invariant (ap (λ (store : Stored). store.held) c.self.view_is), c.self.invariant.inside, c.self.invariant.counted)
 
 pub overflow_sub-self : goal.overflow_sub-self
-overflow_sub-self c =
-    let l : c.self.inside.len ≡ length c.args.self.now.held = sym (length-run c.self.inside.bytes.items c.self.inside.from c.self.inside.len c.self.invariant.inside) ∙ ap (λ (store : Stored). length store.held) c.self.view_is in
-    omega arith
+overflow_sub-self c = omega (arith, length-held c.self.invariant (ap (λ (store : Stored). store.held) c.self.view_is))
 
 pub invariant_of-self : goal.invariant_of-self
 invariant_of-self c =
-    let l : c.self.inside.len ≡ length c.args.self.now.held = sym (length-run c.self.inside.bytes.items c.self.inside.from c.self.inside.len c.self.invariant.inside) ∙ ap (λ (store : Stored). length store.held) c.self.view_is in
+    let l : c.self.inside.len ≡ length c.args.self.now.held = length-held c.self.invariant (ap (λ (store : Stored). store.held) c.self.view_is) in
     record {
       fits = omega (arith, c.self.invariant.fits);
       inside = omega (arith, c.self.invariant.inside);
@@ -32,7 +28,7 @@ invariant_of-self c =
 
 pub returns-clause-bits : goal.returns-clause-bits
 returns-clause-bits c =
-    let l : c.self.inside.len ≡ length c.args.self.now.held = sym (length-run c.self.inside.bytes.items c.self.inside.from c.self.inside.len c.self.invariant.inside) ∙ ap (λ (store : Stored). length store.held) c.self.view_is in
+    let l : c.self.inside.len ≡ length c.args.self.now.held = length-held c.self.invariant (ap (λ (store : Stored). store.held) c.self.view_is) in
     c.to_bits-bits.ensures ∙ c.of_bytes.ensures.bits
     ∙ ap (λ (bytes : List ℕ). run bytes c.self.inside.from c.args.count) c.as_slice.ensures.value
     ∙ sym (take-run c.self.inside.bytes.items c.self.inside.from c.self.inside.len c.args.count (omega arith))
@@ -40,6 +36,6 @@ returns-clause-bits c =
 
 pub returns-clause-held : goal.returns-clause-held
 returns-clause-held c =
-    let l : c.self.inside.len ≡ length c.args.self.now.held = sym (length-run c.self.inside.bytes.items c.self.inside.from c.self.inside.len c.self.invariant.inside) ∙ ap (λ (store : Stored). length store.held) c.self.view_is in
+    let l : c.self.inside.len ≡ length c.args.self.now.held = length-held c.self.invariant (ap (λ (store : Stored). store.held) c.self.view_is) in
     sym (drop-run c.self.inside.bytes.items c.self.inside.from c.self.inside.len c.args.count (omega arith))
     ∙ ap (λ (store : Stored). drop c.args.count store.held) c.self.view_is
