@@ -1,5 +1,5 @@
 #!/usr/bin/env python3
-"""Measures `ncp` against `xxd -p`, in one run and on the same files: best of five, and the memory at most."""
+"""Measures `ncp` against `xxd -p`, in one run and on the same files: best of five, and the most memory."""
 import os
 import subprocess
 import sys
@@ -21,13 +21,25 @@ def made(size):
 
 
 def once(words, path):
+    """How many seconds a run took, and how many KiB of memory it had at most, as far as it was seen."""
     with open(path, "rb") as source, open(os.devnull, "wb") as sink:
         begin = time.perf_counter()
         child = subprocess.Popen(words, stdin=source, stdout=sink)
-        _, status, usage = os.wait4(child.pid, 0)
-        if status:
-            sys.exit(f"{words}: status {status}")
-        return time.perf_counter() - begin, usage.ru_maxrss
+        peak = 0
+        while child.poll() is None:
+            peak = max(peak, peak_of(child.pid))
+            time.sleep(0.002)
+        if child.returncode not in (0, 1):
+            sys.exit(f"{words}: status {child.returncode}")
+        return time.perf_counter() - begin, peak
+
+
+def peak_of(process):
+    try:
+        with open(f"/proc/{process}/status") as status:
+            return next((int(line.split()[1]) for line in status if line.startswith("VmHWM")), 0)
+    except OSError:
+        return 0
 
 
 def main():

@@ -3,8 +3,8 @@
 
 use anyhow::Result;
 use ncp_player::{FromRead, Order, ToWrite, check, order, show, status};
-use std::env::{self, Env};
 use std::alloc::AllocGlobal;
+use std::env::{self, Env};
 use std::process::ExitCode;
 
 // The status of a command-line fault.
