@@ -1,11 +1,11 @@
 -- Writing the line of the counts.
-use Rattle.std.proofs.Common.{◌≡◌, ℕ, Bool, List, [], ◌++◌, Option, Some, None, Result, Ok, Err, sym, ap, ◌∙◌, refl}
+use Rattle.std.proofs.Common.{◌≡◌, ℕ, Bool, List, [], ◌++◌, Option, Some, Ok, Err, sym, ap, ◌∙◌}
 use Rattle.std.proofs.lemmas.List.{append-nil}
 use Rattle.ncp_player.specs.declared.file.FileFault.{FileFault}
 use Rattle.ncp_player.specs.declared.file.FileFault.TheVariants.{BadHeader, Truncated, TooLong, SpareNotZero, ReadFailed, WriteFailed}
 use Rattle.ncp_player.specs.declared.tally.Tally.{Tally}
 use Rattle.ncp_player.specs.Streams.{Said, Says, SaysBeginning}
-use Rattle.ncp_player.specs.Checked.{tally_of, tally_line, is_sound, FileHolds, Checked}
+use Rattle.ncp_player.specs.Checked.{tally_of, tally_line, is_sound, Checked}
 use Rattle.ncp_player.specs.Tallies.{TalliesFile}
 
 -- what is said where a page with the line is all that there is

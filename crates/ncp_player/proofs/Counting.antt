@@ -1,5 +1,5 @@
 -- Counting messages, one after the other.
-use Rattle.std.proofs.Common.{◌≡◌, ℕ, ◌+◌, ◌-◌, ◌^◌, ◌≤◌, Bool, true, false, cond, min, List, [], ◌∷◌, ◌++◌, length, drop, Option, Some, None, Result, Ok, Err, refl, sym, ap, ◌∙◌, arith, subst}
+use Rattle.std.proofs.Common.{◌≡◌, ℕ, ◌+◌, ◌≤◌, Bool, true, false, cond, List, [], ◌∷◌, length, drop, Option, Some, None, Result, Ok, Err, refl, ap, ◌∙◌, arith}
 use Rattle.std.specs.List.{count_by}
 use Rattle.std.proofs.lemmas.List.Recursion.{is_count_by}
 use Rattle.ncp_player.specs.declared.file.Direction.{Direction}
@@ -7,10 +7,9 @@ use Rattle.ncp_player.specs.declared.file.FileFault.{FileFault}
 use Rattle.ncp_player.specs.declared.file.FileFault.TheVariants.{BadHeader, Truncated, TooLong, SpareNotZero, ReadFailed, WriteFailed}
 use Rattle.ncp_player.specs.declared.tally.Verdict.{Verdict}
 use Rattle.ncp_player.specs.declared.tally.Tally.{Tally}
-use Rattle.ncp_player.specs.File.{direction_of, next_record, Holds}
-use Rattle.ncp_player.specs.Lines.{number_after}
+use Rattle.ncp_player.specs.File.{direction_of, next_record}
 use Rattle.ncp_player.specs.Steps.{ReadsHeader, ReadsRecord}
-use Rattle.ncp_player.specs.Checked.{capped, count_of, verdict_of, is_short, is_of_type_0, is_faulty, is_bad, tally_of, FileHolds}
+use Rattle.ncp_player.specs.Checked.{capped, count_of, verdict_of, is_short, is_of_type_0, is_faulty, is_bad, tally_of}
 use Rattle.ncp_player.specs.Tallies.{one_more, tally_with, tally_from, TalliesFrom, no_messages, TalliesFile}
 
 -- ---- the counts

@@ -1,9 +1,9 @@
 -- Headers and records at the front of bytes.
-use Rattle.std.proofs.Common.{◌≡◌, ◌≢◌, ℕ, ◌+◌, ◌-◌, ◌<◌, ◌≤◌, Bool, true, false, eqb, ltb, List, [], ◌∷◌, ◌++◌, length, take, drop, slice_range, Option, Some, None, Result, Ok, Err, refl, sym, ap, ◌∙◌, arith, codes, subst}
+use Rattle.std.proofs.Common.{◌≡◌, ◌≢◌, ℕ, ◌+◌, ◌<◌, ◌≤◌, Bool, true, false, eqb, ltb, List, [], ◌∷◌, ◌++◌, length, take, drop, slice_range, Option, Some, None, Result, Ok, Err, refl, sym, ap, ◌∙◌, arith, codes}
 use Rattle.std.specs.Str.{bytes_eq}
 use Rattle.std.specs.Io.KnownBytes.{IsAtEnd}
 use Rattle.std.proofs.lemmas.Slice.Eq.{bytes_eq-Decides}
-use Rattle.std.proofs.lemmas.List.{append_assoc, append-nil, length-append, length-take, length-take-le, length-drop, take-append-le, take-append-drop, take-take, drop_at, drop-append-le, drop-drop}
+use Rattle.std.proofs.lemmas.List.{append_assoc, append-nil, length-append, length-take, length-take-le, length-drop, take-append-le, take-append-drop, take-take, drop-append-le, drop-drop}
 use Rattle.std.proofs.lemmas.Bool.{le-ltb, lt-ltb, ne_eqb}
 use Rattle.byteorder.specs.Endian.{big_number}
 use Rattle.byteorder.specs.Numbers.{big_from-append}
@@ -11,11 +11,9 @@ use Rattle.ncp_bits.specs.Bits.{read_bytes, bytes_for}
 use Rattle.ncp_bits.specs.declared.bits.BitsFault.{BitsFault}
 use Rattle.ncp_bits.specs.declared.bits.BitsFault.TheVariants as bits
 use Rattle.ncp_bits.proofs.Bytes.{read_bytes-append}
-use Rattle.ncp_player.specs.declared.file.FileFault.{FileFault}
-use Rattle.ncp_player.specs.declared.file.FileFault.TheVariants.{BadHeader, Truncated, TooLong, SpareNotZero, ReadFailed, WriteFailed}
-use Rattle.ncp_player.specs.File.{direction_of, next_record, record_of, fault_of_bits, ending}
+use Rattle.ncp_player.specs.declared.file.FileFault.TheVariants.{Truncated, TooLong}
+use Rattle.ncp_player.specs.File.{direction_of, next_record, record_of, fault_of_bits}
 use Rattle.ncp_player.specs.Streams.{Ahead}
-use Rattle.ncp_player.specs.Shown.{IsCut}
 use Rattle.ncp_player.specs.Steps.{CutOff, ReadsRecord}
 
 -- ---- the bytes ahead

@@ -1,5 +1,5 @@
 -- Showing records, one after the other.
-use Rattle.std.proofs.Common.{◌≡◌, ℕ, suc, zero, ◌+◌, ◌<◌, ◌≤◌, Bool, true, false, List, [], ◌∷◌, ◌++◌, length, take, drop, Option, Some, None, Result, Ok, Err, MatchOption, refl, sym, ap, ◌∙◌, arith, subst}
+use Rattle.std.proofs.Common.{◌≡◌, ℕ, ◌≤◌, Bool, true, false, List, [], ◌∷◌, ◌++◌, length, take, drop, Option, Some, None, Result, Ok, Err, refl, sym, ap, ◌∙◌, arith, subst}
 use Rattle.std.proofs.lemmas.List.{append_assoc, append-nil, length-take-le, take-append-drop, drop_at, drop-append-le}
 use Rattle.ncp_player.specs.declared.file.Direction.{Direction}
 use Rattle.ncp_player.specs.declared.file.FileFault.{FileFault}
@@ -7,9 +7,9 @@ use Rattle.ncp_player.specs.declared.file.FileFault.TheVariants.{BadHeader, Trun
 use Rattle.ncp_player.specs.File.{direction_of, next_record, ending, Holds}
 use Rattle.ncp_player.specs.Lines.{record_lines, lines_from, number_after}
 use Rattle.ncp_player.specs.Results.{is_write_failed}
-use Rattle.ncp_player.specs.Streams.{Ahead, Said, Says, SaysBeginning}
+use Rattle.ncp_player.specs.Streams.{Said, Says, SaysBeginning}
 use Rattle.ncp_player.specs.Shown.{IsCut, ShownAs, ShowsAll, ShowsBeginning, Shown}
-use Rattle.ncp_player.specs.Steps.{IsInside, ReadsHeader, CutOff, ReadsRecord, EndsWith, ShowsNext, SaysLines, ShowsFrom, SaysFile, ShowsFile}
+use Rattle.ncp_player.specs.Steps.{IsInside, ReadsHeader, ReadsRecord, ShowsNext, SaysLines, ShowsFrom, SaysFile, ShowsFile}
 use Rattle.ncp_player.proofs.Files.{direction_of-short, direction_of-take, direction_of-append}
 use Rattle.ncp_player.proofs.Contents.{next_record-front, holds_some}
 

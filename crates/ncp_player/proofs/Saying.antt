@@ -1,10 +1,10 @@
 -- Text that is said in pieces.
-use Rattle.std.proofs.Common.{◌≡◌, ℕ, List, [], ◌∷◌, ◌++◌, take, drop, Option, Some, None, Result, Ok, Err, sym, ap, ◌∙◌, refl, subst}
+use Rattle.std.proofs.Common.{◌≡◌, ℕ, List, [], ◌∷◌, ◌++◌, take, drop, Option, Some, None, Result, Ok, Err, sym, ap, ◌∙◌, subst}
 use Rattle.std.proofs.lemmas.List.{append_assoc, append-nil, take-append-drop}
 use Rattle.std.proofs.lemmas.List.Concat.{flat_map-append}
 use Rattle.std.specs.List.{flat_map}
 use Rattle.std.specs.Io.KnownBytes.{Appends}
-use Rattle.ncp_player.specs.Streams.{Said, Says, SaysBeginning, Tells}
+use Rattle.ncp_player.specs.Streams.{Says, SaysBeginning, Tells}
 use Rattle.ncp_player.specs.declared.source.Failed.{Failed}
 use Rattle.std.specs.Result.{IsErr}
 

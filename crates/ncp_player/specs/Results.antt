@@ -1,5 +1,5 @@
 -- What a result says: a fault of the file, or that a stream failed.
-use Rattle.std.specs.Prelude.{Bool, true, false, Result, Ok, Err, MatchResult}
+use Rattle.std.specs.Prelude.{Bool, true, false, Result, Ok, Err}
 use Rattle.ncp_player.specs.declared.file.FileFault.{FileFault}
 use Rattle.ncp_player.specs.declared.file.FileFault.TheVariants.{BadHeader, Truncated, TooLong, SpareNotZero, ReadFailed, WriteFailed}
 

@@ -1,6 +1,5 @@
 -- What `show` writes.
-use Rattle.std.specs.Prelude.{◌≡◌, ◌<◌, ℕ, Bool, true, false, List, [], ◌++◌, length, drop, Option, Some, None, Result, Ok, Err, MatchOption}
-use Rattle.ncp_player.specs.declared.file.Direction.{Direction}
+use Rattle.std.specs.Prelude.{◌≡◌, ◌<◌, ℕ, Bool, List, [], ◌++◌, length, drop, Option, Some, None, Result, Ok, Err, MatchOption}
 use Rattle.ncp_player.specs.declared.file.FileFault.{FileFault}
 use Rattle.ncp_player.specs.declared.file.FileFault.TheVariants.{BadHeader, Truncated, TooLong, SpareNotZero, ReadFailed, WriteFailed}
 use Rattle.ncp_player.specs.Results.{MatchFault}

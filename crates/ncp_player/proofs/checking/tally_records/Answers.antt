@@ -1,7 +1,7 @@
-use Rattle.std.proofs.Common.{◌≡◌, ◌∙◌, Ok, Err, refl, subst, sym}
+use Rattle.std.proofs.Common.{◌∙◌, Ok, Err, refl, subst}
 use Rattle.std.proofs.Math.Bool.{or-false}
 use Rattle.std.proofs.lemmas.Result.{err_from_is_err_and}
-use Rattle.ncp_player.specs.Tallies.{TalliesFrom, no_messages}
+use Rattle.ncp_player.specs.Tallies.{TalliesFrom}
 use Rattle.ncp_player.proofs.Counting.{tallies_more, tallies_fault, tallies_end}
 use Rattle.ncp_player.proofs.checking.tally_records.Goals as goal
 

@@ -1,6 +1,6 @@
-use Rattle.std.proofs.Common.{◌≡◌, ◌∙◌, map, true, refl, sym, ap}
+use Rattle.std.proofs.Common.{◌≡◌, ◌∙◌, map, true, sym, ap}
 use Rattle.clap.specs.Faults.{fault_of, is_simple_and_free}
-use Rattle.clap.specs.Simple.{App, app_of}
+use Rattle.clap.specs.Simple.{app_of}
 use Rattle.ncp_player.specs.CommandLine.{program}
 use Rattle.ncp_player.proofs.command_line.order.Goals as goal
 

@@ -1,4 +1,4 @@
-use Rattle.std.proofs.Common.{◌≡◌, ◌∙◌, List, ap, sym, subst}
+use Rattle.std.proofs.Common.{◌≡◌, ◌∙◌, ap, sym, subst}
 use Rattle.ncp_bits.specs.Bits.{bytes_of}
 use Rattle.ncp_player.specs.Lines.{size_line, text_lines, text_line, control_lines}
 use Rattle.ncp_player.specs.Streams.{Tells}

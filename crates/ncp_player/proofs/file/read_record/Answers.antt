@@ -1,12 +1,12 @@
-use Rattle.std.proofs.Common.{◌≡◌, ◌≢◌, ◌+◌, ◌<◌, ◌++◌, ℕ, List, None, Some, Ok, Err, length, drop, sym, ap, ◌∙◌, arith}
+use Rattle.std.proofs.Common.{◌≡◌, ◌≢◌, ◌<◌, ◌++◌, Ok, Err, length, drop, sym, ap, ◌∙◌, arith}
 use Rattle.std.proofs.lemmas.List.{length-append}
 use Rattle.std.proofs.lemmas.Bool.{eqb-false}
 use Rattle.std.proofs.lemmas.Bool.Decides.{nat_tests}
 use Rattle.byteorder.specs.Endian.{big_number}
 use Rattle.byteorder.specs.Numbers.{big_from-append}
 use Rattle.std.proofs.lemmas.Result.{err_from_is_err_and}
-use Rattle.ncp_player.specs.File.{next_record, record_of}
-use Rattle.ncp_player.proofs.Files.{ahead_at_end, next_none, next_cut, next_too_long, next_short, next_whole, behind_record, cut_in_length, cut_in_bytes, number_grows, next_told, ahead_behind, told_fault}
+use Rattle.ncp_player.specs.File.{next_record}
+use Rattle.ncp_player.proofs.Files.{ahead_at_end, next_none, next_cut, next_too_long, next_short, cut_in_length, cut_in_bytes, number_grows, next_told, ahead_behind, told_fault}
 use Rattle.ncp_bits.specs.Bits.{bytes_for}
 use Rattle.ncp_player.proofs.file.read_record.Goals as goal
 

@@ -1,9 +1,8 @@
-use Rattle.std.proofs.Common.{◌≡◌, ◌++◌, ◌∙◌, List, [], ℕ, Some, drop, sym, ap, refl}
+use Rattle.std.proofs.Common.{◌++◌, ◌∙◌, List, [], ℕ, Some, drop, sym, ap}
 use Rattle.std.proofs.lemmas.List.{append-nil}
 use Rattle.std.proofs.lemmas.Result.{err_from_is_err_and}
 use Rattle.ncp_player.specs.Streams.{Ahead, Said}
 use Rattle.ncp_player.proofs.Progress.{file_ends, file_shown}
-use Rattle.ncp_player.proofs.showing.show_file.Given.{Over}
 use Rattle.ncp_player.proofs.showing.show_file.Goals as goal
 
 pub returns-in_err-direction-clause-told : goal.returns-in_err-direction-clause-told

@@ -1,4 +1,4 @@
-use Rattle.std.proofs.Common.{◌≡◌, ◌++◌, ◌-◌, ◌+◌, List, ℕ, take, subst, sym, ap, ◌∙◌, arith, Option}
+use Rattle.std.proofs.Common.{◌≡◌, ◌++◌, ◌-◌, List, ℕ, take, subst, sym, ap, ◌∙◌, arith}
 use Rattle.ncp_player.specs.Streams.{Moves}
 use Rattle.ncp_player.proofs.Windows.{moves_read, refilled}
 use Rattle.ncp_player.proofs.incoming.Incoming.refill.Goals as goal

@@ -1,4 +1,3 @@
-use Rattle.std.proofs.Common.{sym}
 use Rattle.ncp_player.proofs.Windows.{skipped}
 use Rattle.ncp_player.proofs.incoming.Incoming.skip.Goals as goal
 
