@@ -1,5 +1,7 @@
 //! `MemorySource` and `MemorySink`: bytes in memory, with a call that can be made to fail.
-ghost use Rattle.std.specs.Prelude.{◌≡◌, IfOk, [], false};
+ghost use Rattle.std.specs.Prelude.{◌≡◌, ◌+◌, ◌-◌, ◌<◌, ◌≤◌, ◌||◌, ◌↔◌, min, IfOk, IsErr, Some, is_err, length, [], false};
+ghost use Rattle.std.specs.Io.KnownBytes.{ReadConsumes, WriteAppends};
+ghost use Rattle.ncp_player.specs.Memory.{ReadFails, WriteFails, write_number};
 
 use crate::sink::Sink;
 use crate::source::{Failed, Source};
@@ -21,13 +23,23 @@ impl<'a> Model for MemorySource<'a> {
 
     ghost Value = { Reading };
 
-    ghost view = { λ source. record { left = source.bytes.now; reads = source.reads; failed = source.failed } };
+    ghost view = { λ source. record {
+      left = source.bytes.now;
+      reads = source.reads;
+      fails_at = source.fails_at;
+      failed = source.failed;
+    } };
 }
 
 impl<'a> MemorySource<'a> {
     /// A source of these bytes, with 4,294,967,295 reads.
     pub fn new(bytes: &'a [u8], fails_at: Option<u32>) -> Self
-        ensures { result ≡ record { left = bytes.now; reads = u32.MAX; failed = false } }
+        ensures { result ≡ record {
+          left = bytes.now;
+          reads = u32.MAX;
+          fails_at = fails_at;
+          failed = false;
+        } }
     {
         MemorySource {
             bytes,
@@ -47,7 +59,19 @@ impl Source for MemorySource<'_> {
 
     ghost has_failed = { λ source. source.failed };
 
-    fn read(&mut self, piece: &mut [u8]) -> Result<usize, Failed> {
+    fn read(&mut self, piece: &mut [u8]) -> Result<usize, Failed>
+        ensures count { IfOk result (λ count. count ≤ length piece.new) }
+        ensures bytes { ReadConsumes (Some self.old.left) (Some self.new.left) result piece.new }
+        ensures lowers { 0 < length piece.old → self.new.reads ≡ self.old.reads - 1 }
+        ensures stays { length piece.old ≡ 0 → self.new.reads ≡ self.old.reads }
+        ensures spent { 0 < length piece.old → self.old.reads ≡ 0 → IsErr result }
+        ensures mark { self.new.failed ≡ (self.old.failed || is_err result) }
+
+        // It fails exactly where it is to, and else gives all that it can.
+        ensures fails { IsErr result ↔ ReadFails self.old (length piece.old) }
+        ensures all { IfOk result (λ count. count ≡ min (length piece.old) (length self.old.left)) }
+        ensures same { self.new.fails_at ≡ self.old.fails_at }
+    {
         if piece.is_empty() {
             return Ok(0);
         }
@@ -77,26 +101,43 @@ impl Source for MemorySource<'_> {
 #[derive(Drop)]
 pub struct MemorySink {
     bytes: Vec<u8>,
+    capacity: usize,
     fails_at: Option<u32>,
     writes: u32,
     failed: bool,
 }
 
 impl Model for MemorySink {
+    ghost use Rattle.std.specs.Prelude.{◌-◌, ◌≤◌, vec_len, vec_capacity};
     ghost use Rattle.ncp_player.specs.Memory.{Writing};
 
     ghost Value = { Writing };
 
-    ghost view = { λ sink. record { written = sink.bytes.items; failed = sink.failed } };
+    ghost view = { λ sink. record {
+      written = sink.bytes.items;
+      room = sink.capacity - vec_len sink.bytes;
+      writes = sink.writes;
+      fails_at = sink.fails_at;
+      failed = sink.failed;
+    } };
+
+    ghost invariant = { λ sink. (sink.capacity ≤ vec_capacity sink.bytes) × (vec_len sink.bytes ≤ sink.capacity) };
 }
 
 impl MemorySink {
     /// An empty sink with room for so many bytes. No write allocates.
     pub fn new(alloc: Global, room: usize, fails_at: Option<u32>) -> Result<Self, AllocError>
-        ensures { IfOk result (λ sink. sink ≡ record { written = []; failed = false }) }
+        ensures { IfOk result (λ sink. sink ≡ record {
+          written = [];
+          room = room;
+          writes = 0;
+          fails_at = fails_at;
+          failed = false;
+        }) }
     {
         Ok(MemorySink {
             bytes: Vec::with_capacity(alloc, room)?,
+            capacity: room,
             fails_at,
             writes: 0,
             failed: false,
@@ -118,9 +159,21 @@ impl Sink for MemorySink {
 
     ghost has_failed = { λ sink. sink.failed };
 
-    fn write(&mut self, piece: &[u8]) -> Result<usize, Failed> {
+    fn write(&mut self, piece: &[u8]) -> Result<usize, Failed>
+        ensures count { IfOk result (λ count. count ≤ length piece.now) }
+        ensures some { IfOk result (λ count. 0 < length piece.now → 0 < count) }
+        ensures bytes { WriteAppends (Some self.old.written) (Some self.new.written) result piece.now }
+        ensures mark { self.new.failed ≡ (self.old.failed || is_err result) }
+
+        // It fails exactly where it is to, or is full, and else takes all for which there is room.
+        ensures fails { IsErr result ↔ WriteFails self.old (length piece.now) }
+        ensures all { IfOk result (λ count. count ≡ min (length piece.now) self.old.room) }
+        ensures room { IfOk result (λ count. self.new.room + count ≡ self.old.room) }
+        ensures counted { self.new.writes ≡ write_number self.old }
+        ensures same { self.new.fails_at ≡ self.old.fails_at }
+    {
         self.writes = self.writes.saturating_add(1);
-        let room = self.bytes.capacity() - self.bytes.len();
+        let room = self.capacity - self.bytes.len();
         if self.fails_at == Some(self.writes) || (room == 0 && !piece.is_empty()) {
             self.failed = true;
             return Err(Failed);
