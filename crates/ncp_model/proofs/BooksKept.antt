@@ -3,7 +3,8 @@ use Rattle.ncp_control.specs.declared.command.Command.{Command}
 use Rattle.ncp_control.specs.declared.command.Command.TheVariants.{All, Cls, Gvb, Ins, Ret, Rts, Str}
 use Rattle.ncp_model.proofs.SoundEnds.{one_way, sound-after}
 use Rattle.ncp_model.specs.Act.{Act, Becomes, Stays, answer, closing, end_after, error_of, is_data_link, is_room, leaves, met, not_connected, wrong_parameters}
-use Rattle.ncp_model.specs.Books.{Books, BooksAt, leads, Lead}
+use Rattle.ncp_model.specs.Leading.{suits}
+use Rattle.ncp_model.specs.Books.{Books, BooksAt, Suit}
 use Rattle.ncp_model.specs.Calls.{allocate_end, ask_receive, ask_send, asked_to_receive, asked_to_send, bits_to_take, call_back_end, close_end, emptied, give_end, interrupt_end, interrupting, is_too_much, take_bits, take_end}
 use Rattle.ncp_model.specs.Commands.{at_open, hear_cls, hear_cls_at, hear_cls_end, hear_rts, hear_str, interrupted, ret_at}
 use Rattle.ncp_model.specs.End.{End, is_going, is_over, or_new}
@@ -88,7 +89,9 @@ booked-text_at : (pair : Pair) (past : Past) (head : List Bool) (of_size : ℕ) 
 booked-text_at pair past head of_size text e w g p s k = choose {x = Stays took.WrongSize} {y = if e.messages == 0 || nat_lt e.bits (length text) then Stays took.Over else Becomes (record e { messages = e.messages - 1; bits = e.bits - length text; stored = e.stored ++ text }) took.Admitted} (not (of_size == e.size)) (λ c1. record { is = record { messages = grind (arith, append-nil); bits = grind (arith, append-nil); held = grind (arith, append-nil) } }) (λ d1. choose {x = Stays took.Over} {y = Becomes (record e { messages = e.messages - 1; bits = e.bits - length text; stored = e.stored ++ text }) took.Admitted} (e.messages == 0 || nat_lt e.bits (length text)) (λ c2. record { is = record { messages = grind (arith, append-nil); bits = grind (arith, append-nil); held = grind (arith, append-nil) } }) (λ d2. becomes (record e { messages = e.messages - 1; bits = e.bits - length text; stored = e.stored ++ text }) took.Admitted (λ o. record { messages = grind (arith, append-nil, append_assoc, length-append, take-append-drop); bits = grind (arith, append-nil, append_assoc, length-append, take-append-drop); held = grind (arith, append-nil, append_assoc, length-append, take-append-drop) })))
 
 booked-answered : (pair : Pair) (past : Past) (e : End) → sends pair ≡ false → Sound pair e → Books e past → Booked (all.Is_answered Taken) (λ _. all.Accepted) (Some e) past (answered pair Taken (Some e))
-booked-answered pair past e w s k = choose {x = Becomes (leaves (record e { busy = false })) (Some (closing pair))} {y = Becomes (record e { busy = false }) None} (e.leaving) (λ c1. becomes (leaves (record e { busy = false })) (Some (closing pair)) (λ o. record { messages = grind (arith, append-nil, append_assoc, length-append, take-append-drop); bits = grind (arith, append-nil, append_assoc, length-append, take-append-drop); held = grind (arith, append-nil, append_assoc, length-append, take-append-drop) })) (λ d1. becomes (record e { busy = false }) None (λ o. record { messages = grind (arith, append-nil, append_assoc, length-append, take-append-drop); bits = grind (arith, append-nil, append_assoc, length-append, take-append-drop); held = grind (arith, append-nil, append_assoc, length-append, take-append-drop) }))
+booked-answered pair past e w s k =
+    choose {x = Stays None} {y = if e.leaving then Becomes (leaves (record e { busy = false })) (Some (closing pair)) else Becomes (record e { busy = false }) None} (not (sends pair)) (λ c0. record { is = record { messages = grind (arith, append-nil); bits = grind (arith, append-nil); held = grind (arith, append-nil) } })
+    (λ d0. choose {x = Becomes (leaves (record e { busy = false })) (Some (closing pair))} {y = Becomes (record e { busy = false }) None} (e.leaving) (λ c1. becomes (leaves (record e { busy = false })) (Some (closing pair)) (λ o. record { messages = grind (arith, append-nil, append_assoc, length-append, take-append-drop); bits = grind (arith, append-nil, append_assoc, length-append, take-append-drop); held = grind (arith, append-nil, append_assoc, length-append, take-append-drop) })) (λ d1. becomes (record e { busy = false }) None (λ o. record { messages = grind (arith, append-nil, append_assoc, length-append, take-append-drop); bits = grind (arith, append-nil, append_assoc, length-append, take-append-drop); held = grind (arith, append-nil, append_assoc, length-append, take-append-drop) })))
 
 -- what only watches leaves the books as they are
 same : (what : Happening) (o : Outcome) (before : Option End) (past : Past) → ((p : Past) → BooksAt before p → BooksAt before (adds what o p)) → BooksAt before past → BooksAt before (adds what o (if opens before before then no_past else past))
@@ -121,13 +124,13 @@ booked-text pair past head of_size text (Some e) w s k =
     choose {x = Stays took.Late} {y = if not e.opened then Stays took.NotOpen else text_at of_size text e} (is_going e) (λ c1. record { is = record { messages = grind (arith, append-nil); bits = grind (arith, append-nil); held = grind (arith, append-nil) } })
     (λ d1. choose {x = Stays took.NotOpen} {y = text_at of_size text e} (not e.opened) (λ c2. record { is = record { messages = grind (arith, append-nil); bits = grind (arith, append-nil); held = grind (arith, append-nil) } }) (λ d2. booked-text_at pair past head of_size text e w d1 (grind arith) s k))
 
-pub books-after : (pair : Pair) (what : Happening) (w : Watched) → receives pair ≡ true → leads pair what ≡ true → SoundAt pair w.end → BooksAt w.end w.past → BooksAt (watches pair what w).end (watches pair what w).past
+pub books-after : (pair : Pair) (what : Happening) (w : Watched) → receives pair ≡ true → suits pair what ≡ true → SoundAt pair w.end → BooksAt w.end w.past → BooksAt (watches pair what w).end (watches pair what w).past
 books-after pair what w r l s k = by_what what w.end w.past l s k
   where
     n : sends pair ≡ false
     n = one_way pair r
 
-    by_what : (what : Happening) (before : Option End) (past : Past) → leads pair what ≡ true → SoundAt pair before → BooksAt before past → BooksAt (happens pair what before).after (adds what (happens pair what before).outcome (if opens before (happens pair what before).after then no_past else past))
+    by_what : (what : Happening) (before : Option End) (past : Past) → suits pair what ≡ true → SoundAt pair before → BooksAt before past → BooksAt (happens pair what before).after (adds what (happens pair what before).outcome (if opens before (happens pair what before).after then no_past else past))
     by_what (all.Asks_to_send of_size with_room own full) before past l s k = (booked-ask_send pair past of_size with_room own full before n s k).is
     by_what (all.Asks_to_receive with_room on own full) before past l s k = (booked-ask_receive pair past with_room on own full before n s k).is
     by_what (all.Closes full) None past l s k = tt
@@ -155,9 +158,9 @@ books-after pair what w r l s k = by_what what w.end w.past l s k
     by_what (all.Is_answered how) before past l s k = absurd (cc (n, l))
     by_what all.Is_cleared before past l s k = tt
 
-books-from : (pair : Pair) (whats : List Happening) (w : Watched) → receives pair ≡ true → Lead pair whats → SoundAt pair w.end → BooksAt w.end w.past → BooksAt (watch_from pair whats w).end (watch_from pair whats w).past
+books-from : (pair : Pair) (whats : List Happening) (w : Watched) → receives pair ≡ true → Suit pair whats → SoundAt pair w.end → BooksAt w.end w.past → BooksAt (watch_from pair whats w).end (watch_from pair whats w).past
 books-from pair [] w r l s k = k
 books-from pair (what ∷ more) w r l s k = books-from pair more (watches pair what w) r l.1 (sound-after pair what w.end s) (books-after pair what w r l.0 s k)
 
-pub books-ever : (pair : Pair) (whats : List Happening) → receives pair ≡ true → Lead pair whats → BooksAt (watch pair whats).end (watch pair whats).past
+pub books-ever : (pair : Pair) (whats : List Happening) → receives pair ≡ true → Suit pair whats → BooksAt (watch pair whats).end (watch pair whats).past
 books-ever pair whats r l = books-from pair whats (record { end = None; past = no_past }) r l tt tt

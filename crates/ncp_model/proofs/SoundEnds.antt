@@ -116,7 +116,9 @@ safe-cut pair None s = stays {a = None} s
 safe-cut pair (Some e) s = choose {x = cut_bits (bytes_to_send e * e.size) e} {y = Stays None} (may_send pair e) (λ c1. safe-cut_bits pair (bytes_to_send e * e.size) e c1 s) (λ d1. stays {a = None} s)
 
 safe-answered : (pair : Pair) (e : End) → Sound pair e → Safe pair (Some e) (answered pair Taken (Some e))
-safe-answered pair e s = choose {x = Becomes (leaves (record e { busy = false })) (Some (closing pair))} {y = Becomes (record e { busy = false }) None} (e.leaving) (λ c1. becomes {e = (leaves (record e { busy = false }))} {a = (Some (closing pair))} (λ o. record { opens = grind arith; asked = grind arith; heard = grind arith; messages = grind arith; bits = grind arith; stored = grind arith; interrupts = grind arith; busy = grind arith; recall = grind arith; leaving = grind arith; sender = grind arith; out = grind arith; due = grind arith; dropped = grind arith; shut = grind arith; over = o })) (λ d1. becomes {e = (record e { busy = false })} {a = None} (λ o. record { opens = grind arith; asked = grind arith; heard = grind arith; messages = grind arith; bits = grind arith; stored = grind arith; interrupts = grind arith; busy = grind arith; recall = grind arith; leaving = grind arith; sender = grind arith; out = grind arith; due = grind arith; dropped = grind arith; shut = grind arith; over = o }))
+safe-answered pair e s =
+    choose {x = Stays None} {y = if e.leaving then Becomes (leaves (record e { busy = false })) (Some (closing pair)) else Becomes (record e { busy = false }) None} (not (sends pair)) (λ c0. stays {a = None} s)
+    (λ d0. choose {x = Becomes (leaves (record e { busy = false })) (Some (closing pair))} {y = Becomes (record e { busy = false }) None} (e.leaving) (λ c1. becomes {e = (leaves (record e { busy = false }))} {a = (Some (closing pair))} (λ o. record { opens = grind arith; asked = grind arith; heard = grind arith; messages = grind arith; bits = grind arith; stored = grind arith; interrupts = grind arith; busy = grind arith; recall = grind arith; leaving = grind arith; sender = grind arith; out = grind arith; due = grind arith; dropped = grind arith; shut = grind arith; over = o })) (λ d1. becomes {e = (record e { busy = false })} {a = None} (λ o. record { opens = grind arith; asked = grind arith; heard = grind arith; messages = grind arith; bits = grind arith; stored = grind arith; interrupts = grind arith; busy = grind arith; recall = grind arith; leaving = grind arith; sender = grind arith; out = grind arith; due = grind arith; dropped = grind arith; shut = grind arith; over = o })))
 
 pub sound-after : (pair : Pair) (what : Happening) (before : Option End) → SoundAt pair before → SoundAt pair (happens pair what before).after
 sound-after pair (all.Asks_to_send of_size with_room own full) before s = (safe-ask_send pair of_size with_room own full before s).is

@@ -4,7 +4,7 @@ use Rattle.ncp_bits.specs.Bits.{bytes_of}
 use Rattle.ncp_control.specs.declared.command.Command.{Command}
 use Rattle.ncp_control.specs.declared.command.Command.TheVariants.{Cls}
 use Rattle.ncp_control.specs.declared.command.Command.TheVariants as variants
-use Rattle.ncp_control.specs.Spelling.{spelling}
+pub use Rattle.ncp_control.specs.Spelling.{error_of}
 use Rattle.ncp_model.specs.declared.pair.Pair.{Pair}
 use Rattle.ncp_model.specs.declared.call_fault.CallFault.{CallFault}
 use Rattle.ncp_model.specs.declared.outcomes.Heard.{Heard}
@@ -67,15 +67,16 @@ leaves e = record e { leaving = false; left = true; stored = [] }
 abbrev pub closing : Pair → Command
 closing pair = Cls pair.local pair.remote
 
--- a store has from 1 to 65,536 bits
+-- a store has from 1 to 65,536 bits: this profile's limit
 abbrev pub is_room : ℕ → Bool
 is_room room = nat_le 1 room && nat_le room MAX_ROOM
 
--- links 2 to 71 carry connections
+-- links 2 to 71 carry connections (NIC 8246, links)
 abbrev pub is_data_link : ℕ → Bool
 is_data_link on = nat_le FIRST_LINK on && nat_le on LAST_LINK
 
--- ERR: ten bytes of data, and the codes of this profile (NIC 8246, ERR)
+-- The codes of ERR are this profile's (NIC 8246, ERR). For a command it has the command's bytes,
+-- zeros to ten, as its data.
 
 -- erroneous parameters; a request on a socket that is not there; a link that is not connected
 abbrev pub wrong_parameters : ℕ
@@ -86,13 +87,6 @@ no_socket = 4
 
 abbrev pub not_connected : ℕ
 not_connected = 5
-
--- the command's bytes, zeros to ten
-abbrev pub error_data : Command → List ℕ
-error_data command = take 10 (spelling command ++ replicate 10 0)
-
-abbrev pub error_of : ℕ → Command → Command
-error_of code command = variants.Err code (error_data command)
 
 -- for a text: the 72 bits of leader and prefix, and the first 8 bits of text, zeros for what is not there
 abbrev pub text_error : List Bool → List Bool → Command

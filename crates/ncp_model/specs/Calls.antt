@@ -1,5 +1,8 @@
 -- What a user's call does to an end. Whether the peer is known, and whether the host is up with
--- it, is judged before. Refusals stand in the order in which they are judged.
+-- it, is judged before (Phase has the latter). Whether memory is there for the store of a request is
+-- judged last, after all that stands here: where it is refused, nothing else has happened. Refusals
+-- stand in the order in which they are judged; which there are, and their order, is this profile's
+-- rule.
 use Rattle.std.specs.Prelude.{ℕ, ◌+◌, ◌*◌, ◌/◌, ◌%◌, min, ◌==◌, Bool, true, not, ◌&&◌, ◌||◌, nat_le, nat_lt, if◌then◌else◌, List, [], ◌++◌, length, take, drop, Option, None, Some, Result, Ok, Err}
 use Rattle.ncp_control.specs.declared.command.Command.{Command}
 use Rattle.ncp_control.specs.declared.command.Command.TheVariants.{Rts, Str, All, Gvb, Inr, Ins}
@@ -58,7 +61,7 @@ abbrev pub close : Pair → Bool → Option End → Act (Result (Option Command)
 close pair full None = Stays (Err NoEntry)
 close pair full (Some e) = close_end pair full e
 
--- Text to send joins what waits. It is a whole number of bytes.
+-- Text to send joins what waits. It is a whole number of bytes: this profile's rule.
 
 abbrev pub give_end : Pair → List Bool → End → Act (Result (Unit {0}) CallFault)
 give_end pair text e =
@@ -76,7 +79,7 @@ give pair text (Some e) = give_end pair text e
 -- Text that is held is taken from its front, in whole bytes: as many as are asked for, are held,
 -- and fit one message. A leaving receiver that is emptied makes its CLS: this profile's rule.
 
--- how many bits of so many bytes
+-- how many bits of so many bytes: this profile's rule, as are the two that follow
 abbrev pub bits_to_take : ℕ → End → ℕ
 bits_to_take bytes e = min bytes (min (length e.stored / e.size) (MAX_TEXT / e.size)) * e.size
 

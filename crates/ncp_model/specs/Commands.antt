@@ -54,7 +54,8 @@ abbrev pub hear_cls : Pair → Option End → Act Heard
 hear_cls pair before = if not (is_proper pair) then errs wrong_parameters (Cls pair.remote pair.local) else hear_cls_at pair before
 
 -- The commands that name a link act on the end that the link leads to, if any: an open one. An
--- end on its way out takes them as late, one that has not opened, or none, is not connected.
+-- end on its way out takes them as late (this profile's rule), one that has not opened, or none, is
+-- not connected (NIC 8246, ERR).
 
 abbrev pub at_open : Command → (End → Act Heard) → Option End → Act Heard
 at_open command act None = errs not_connected command

@@ -1,18 +1,22 @@
 -- All ends of the connections with one peer: a finite map from pairs to ends. What an act needs
 -- to know of the others, and which end a command or a text leads to.
-use Rattle.std.specs.Prelude.{ℕ, zero, suc, ◌==◌, Bool, not, ◌&&◌, nat_lt, if◌then◌else◌, List, [], ◌∷◌, Option, None, Some}
+use Rattle.std.specs.Prelude.{ℕ, zero, suc, ◌==◌, Bool, not, ◌&&◌, nat_lt, if◌then◌else◌, List, [], ◌∷◌, Option, None, Some, Result}
 use Rattle.std.specs.List.{count_by}
 use Rattle.std.specs.FinMap.{FinMap, empty, entries, get, insert, remove}
 use Rattle.ncp_control.specs.declared.command.Command.{Command}
 use Rattle.ncp_control.specs.declared.command.Command.TheVariants.{Rts, Str, Cls, All, Gvb, Ret, Inr, Ins}
 use Rattle.ncp_model.specs.declared.pair.Pair.{Pair}
+use Rattle.ncp_model.specs.declared.call_fault.CallFault.{CallFault}
 use Rattle.ncp_model.specs.declared.outcomes.Heard.{Heard}
 use Rattle.ncp_model.specs.declared.outcomes.Heard.TheVariants.{Nothing}
+use Rattle.ncp_model.specs.declared.outcomes.Took.{Took}
 use Rattle.ncp_model.specs.declared.limits.TheConstants.{FIRST_LINK}
 use Rattle.ncp_model.specs.Pairs.{pair_cmp, sends, receives}
 use Rattle.ncp_model.specs.End.{End, is_over}
 use Rattle.ncp_model.specs.Act.{Act, Stays, Becomes}
+use Rattle.ncp_model.specs.Calls.{ask_send, ask_receive}
 use Rattle.ncp_model.specs.Commands.{hear_rts, hear_str, hear_cls, hear_all, hear_gvb, hear_ret, hear_inr, hear_ins}
+use Rattle.ncp_model.specs.Texts.{hear_text, cut, Answered, answered}
 
 abbrev pub Ends : Type 0
 Ends = FinMap pair_cmp End
@@ -26,14 +30,14 @@ abbrev pub any : (Pair × End → Bool) → Ends → Bool
 any test m = nat_lt 0 (count test m)
 
 -- an own request was made, or the end is there by the peer's request alone: of either kind there
--- are 64 at most
+-- are 64 at most (this profile's limit)
 abbrev pub has_asked : Pair × End → Bool
 has_asked p = p.1.asked
 
 abbrev pub is_by_peer : Pair × End → Bool
 is_by_peer p = not p.1.asked
 
--- a sending end that heard this link
+-- a sending end that heard this link (NIC 8246, RTS: the receiver chooses it)
 abbrev pub hears_link : ℕ → Pair × End → Bool
 hears_link on p = sends p.0 && p.1.heard && p.1.link == on
 
@@ -46,7 +50,8 @@ unfoldable pub lowest : (ℕ → Bool) → ℕ → ℕ → ℕ
 lowest test zero from = from
 lowest test (suc many) from = if test from then from else lowest test many (suc from)
 
--- the lowest link from 2 up that no receiving end uses: of 70 links 64 can be in use
+-- the lowest link from 2 up that no receiving end uses: of 70 links 64 can be in use. That it is the
+-- lowest is this profile's rule
 abbrev pub free_link : Ends → ℕ
 free_link m = lowest (λ on. not (any (uses_link on) m)) 70 FIRST_LINK
 
@@ -56,7 +61,8 @@ first_by test [] = None
 first_by test (p ∷ ps) = if test p then Some p else first_by test ps
 
 -- The end that a link leads to: ALL, GVB and INR name a sending end that heard it, RET, INS and
--- text a receiving end that asked with it. An end that is left is found too.
+-- text a receiving end that asked with it (NIC 8246, links). An end that is left is found too: this
+-- profile's rule.
 
 abbrev pub sender_on : ℕ → Ends → Option (Pair × End)
 sender_on on m = first_by (hears_link on) (entries m)
@@ -83,6 +89,34 @@ leads_to (Ret on of_messages of_bits) m = pair_of (receiver_on on m)
 leads_to (Inr on) m = pair_of (sender_on on m)
 leads_to (Ins on) m = pair_of (receiver_on on m)
 leads_to c m = None
+
+-- The requests, by what they ask of the other ends: how many have an own request, and which link
+-- is free.
+
+abbrev pub ask_send_in : Pair → ℕ → ℕ → Bool → Ends → Act (Result Command CallFault)
+ask_send_in pair of_size with_room full m = ask_send pair of_size with_room (count has_asked m) full (get m pair)
+
+abbrev pub ask_receive_in : Pair → ℕ → Bool → Ends → Act (Result Command CallFault)
+ask_receive_in pair with_room full m = ask_receive pair with_room (free_link m) (count has_asked m) full (get m pair)
+
+-- What a text that comes, goes out or is answered on a link does at the end to which the link leads.
+
+abbrev pub text_in : ℕ → ℕ → List Bool → Ends → Act Took
+text_in on of_size text m = hear_text of_size text (end_of (receiver_on on m))
+
+abbrev pub cut_at : Option (Pair × End) → Act (Option (ℕ × List Bool))
+cut_at None = Stays None
+cut_at (Some p) = cut p.0 (Some p.1)
+
+abbrev pub cut_in : ℕ → Ends → Act (Option (ℕ × List Bool))
+cut_in on m = cut_at (sender_on on m)
+
+abbrev pub answered_at : Answered → Option (Pair × End) → Act (Option Command)
+answered_at how None = Stays None
+answered_at how (Some p) = answered p.0 how (Some p.1)
+
+abbrev pub answered_in : ℕ → Answered → Ends → Act (Option Command)
+answered_in on how m = answered_at how (sender_on on m)
 
 -- what a command of a connection does at the end to which it leads
 abbrev pub hear : Command → Ends → Act Heard

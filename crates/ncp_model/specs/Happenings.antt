@@ -1,4 +1,5 @@
--- Everything that can happen to one end of a connection, as one list.
+-- Everything that can happen to one end of a connection, as one list. That it comes to the right end
+-- is presumed: Leading says which one that is.
 use Rattle.std.specs.Prelude.{ℕ, Bool, List, [], ◌∷◌, Option, None, Some, Result, Ok, Err}
 use Rattle.ncp_control.specs.declared.command.Command.{Command}
 use Rattle.ncp_model.specs.declared.pair.Pair.{Pair}

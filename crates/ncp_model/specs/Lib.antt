@@ -11,9 +11,11 @@ pub mod Phase
 pub mod Resets
 pub mod Rows
 pub mod Happenings
+pub mod Leading
 pub mod Histories
 pub mod Sound
 pub mod Books
 pub mod Sending
+pub mod Admitting
 pub mod Echo
 pub mod Schedules

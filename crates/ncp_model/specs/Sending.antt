@@ -1,4 +1,5 @@
--- What goes out next on the control link, and when a call finds no place for its command.
+-- What goes out next on the control link, and when a call finds no place for its command. The
+-- numbers are this profile's limits.
 use Rattle.std.specs.Prelude.{ℕ, ◌-◌, Bool, nat_le, if◌then◌else◌, List, [], ◌∷◌, length}
 use Rattle.ncp_control.specs.declared.command.Command.{Command}
 use Rattle.ncp_control.specs.Spelling.{spelling}

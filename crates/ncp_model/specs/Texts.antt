@@ -11,7 +11,8 @@ use Rattle.ncp_model.specs.End.{End, is_going, is_open}
 use Rattle.ncp_model.specs.Act.{Act, Stays, Becomes, leaves, closing, text_error}
 
 -- A text comes, while the host is up with the peer, to the receiving end that its link leads to.
--- One message and its bits are taken from what is outstanding (NIC 8246, allocation).
+-- One message and its bits are taken from what is outstanding (NIC 8246, allocation; what becomes
+-- of a text that does not fit is this profile's rule).
 
 abbrev pub text_at : ℕ → List Bool → End → Act Took
 text_at of_size text e =
@@ -26,13 +27,15 @@ hear_text of_size text (Some e) =
     else if not e.opened then Stays NotOpen
     else text_at of_size text e
 
--- the commands made: head is the text's leader and prefix
+-- the commands made: head is the text's leader and prefix (NIC 8246, ERR; that it is made only where
+-- no open connection has the link is this profile's rule)
 abbrev pub made_by_text : List Bool → List Bool → Took → List Command
 made_by_text head text NotOpen = text_error head text ∷ []
 made_by_text head text took = []
 
 -- Text goes out: of what waits as many whole bytes as the counter of bits admits and one message
--- takes, where that is at least one and the counter of messages is. One text at a time.
+-- takes, where that is at least one and the counter of messages is (NIC 8246, allocation). One text
+-- at a time, and as much as fits: this profile's rules.
 
 abbrev pub bytes_to_send : End → ℕ
 bytes_to_send e = min (length e.stored / e.size) (min (e.bits / e.size) (MAX_TEXT / e.size))
@@ -59,16 +62,21 @@ pub data Answered : Type 0 where
   Again : Answered
   Kept : Answered
 
--- only a text that was taken frees its sender; a leaving sender then makes its CLS
+-- only a text that was taken frees its sender; a leaving sender then makes its CLS: this profile's
+-- rule
+abbrev pub taken_at : Pair → End → Act (Option Command)
+taken_at pair e =
+    if not (sends pair) then Stays None
+    else if e.leaving then Becomes (leaves (record e { busy = false })) (Some (closing pair))
+    else Becomes (record e { busy = false }) None
+
 abbrev pub answered : Pair → Answered → Option End → Act (Option Command)
 answered pair Taken None = Stays None
-answered pair Taken (Some e) =
-    if e.leaving
-    then Becomes (leaves (record e { busy = false })) (Some (closing pair))
-    else Becomes (record e { busy = false }) None
+answered pair Taken (Some e) = taken_at pair e
 answered pair Again before = Stays None
 answered pair Kept before = Stays None
 
--- A clearing (an accepted reset, an RST that came, going down) leaves no end.
+-- A clearing (an accepted reset, an RST that came, going down) leaves no end (NIC 8246, RST; that
+-- going down clears is this profile's rule).
 abbrev pub cleared : Option End → Option End
 cleared before = None

@@ -7,7 +7,7 @@ ghost use Rattle.ncp_model.specs.Phase.{is_reset};
 ghost use Rattle.ncp_model.specs.Sound.{SoundAt};
 ghost use Rattle.ncp_model.specs.Happenings as all;
 ghost use Rattle.ncp_model.specs.Histories.{Watched, no_past, watch, watch_from};
-ghost use Rattle.ncp_model.specs.Books.{Lead, BooksAt};
+ghost use Rattle.ncp_model.specs.Books.{Suit, BooksAt};
 ghost use Rattle.ncp_model.specs.Pairs.{receives};
 ghost use Rattle.ncp_model.specs.Rows.{outward, inward, ones, noughts, opened_end, counting, sent_one};
 
@@ -35,7 +35,7 @@ pub fn ends_stay_sound()
 /// less what was returned and used, for messages and for bits, and what was got was taken or is
 /// held, each since the opening.
 pub fn receivers_keep_their_books()
-    ensures { (pair : Pair) (whats : List Happening) → receives pair ≡ true → Lead pair whats → BooksAt (watch pair whats).end (watch pair whats).past }
+    ensures { (pair : Pair) (whats : List Happening) → receives pair ≡ true → Suit pair whats → BooksAt (watch pair whats).end (watch pair whats).past }
 {}
 
 /// One connection at both ends, to show that these laws speak of something: two bytes of three go
