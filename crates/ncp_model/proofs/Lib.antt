@@ -4,6 +4,7 @@ pub mod ResetRuns
 pub mod FreeLinks
 pub mod PairOrder
 pub mod EndsAfter
+pub mod LinksLead
 pub mod Makes
 pub mod SoundEnds
 pub mod BooksKept

@@ -1,5 +1,5 @@
 -- To which end a happening comes: the acts on one end presume that it is the right one.
-use Rattle.std.specs.Prelude.{ℕ, Bool, true, List, take, drop, Option, None, Some}
+use Rattle.std.specs.Prelude.{ℕ, Bool, true, false, List, take, drop, Option, None, Some}
 use Rattle.ncp_bits.specs.Numbers.{number_of}
 use Rattle.ncp_control.specs.declared.command.Command.{Command}
 use Rattle.ncp_control.specs.declared.command.Command.TheVariants as commands
@@ -27,15 +27,20 @@ suits pair what = true
 abbrev pub link_in : List Bool → ℕ
 link_in head = number_of (take 8 (drop 16 head))
 
+-- an end is there, and passes a test
+abbrev pub passes : (Pair × End → Bool) → Pair → Option End → Bool
+passes test pair None = false
+passes test pair (Some e) = test (pair, e)
+
 -- and what names a link comes to an end that heard it, or that asked with it
-abbrev pub leads_here : Pair → Happening → End → Bool
-leads_here pair (all.All_comes on m b) e = hears_link on (pair, e)
-leads_here pair (all.Gvb_comes on m b) e = hears_link on (pair, e)
-leads_here pair (all.Inr_comes on) e = hears_link on (pair, e)
-leads_here pair (all.Ret_comes on m b) e = uses_link on (pair, e)
-leads_here pair (all.Ins_comes on) e = uses_link on (pair, e)
-leads_here pair (all.Text_comes head of_size text) e = uses_link (link_in head) (pair, e)
-leads_here pair what e = suits pair what
+abbrev pub leads : Pair → Happening → Option End → Bool
+leads pair (all.All_comes on m b) before = passes (hears_link on) pair before
+leads pair (all.Gvb_comes on m b) before = passes (hears_link on) pair before
+leads pair (all.Inr_comes on) before = passes (hears_link on) pair before
+leads pair (all.Ret_comes on m b) before = passes (uses_link on) pair before
+leads pair (all.Ins_comes on) before = passes (uses_link on) pair before
+leads pair (all.Text_comes head of_size text) before = passes (uses_link (link_in head)) pair before
+leads pair what before = suits pair what
 
 -- what a command is for the end to which it leads
 abbrev pub comes : Command → Ends → Option Happening

@@ -1,13 +1,18 @@
 //! Laws of links: which one a receiver takes, and where one leads.
-ghost use Rattle.std.specs.Prelude.{◌≡◌, ℕ, true, false, ◌≤◌, ◌<◌, [], ◌∷◌, None, Some};
+ghost use Rattle.std.specs.Prelude.{◌≡◌, ℕ, Bool, true, false, ◌≤◌, ◌<◌, List, [], ◌∷◌, ◌++◌, Option, None, Some, Ok, Err};
 ghost use Rattle.std.specs.FinMap.{get, from_sorted};
 ghost use Rattle.ncp_model.specs.End.{End, new_end};
-ghost use Rattle.ncp_model.specs.Act.{Act, Stays, Becomes, end_after};
-ghost use Rattle.ncp_model.specs.Ends.{Ends, count, any, has_asked, is_by_peer, hears_link, uses_link, first_by, free_link, leads_to, hear, map_after};
-ghost use Rattle.ncp_model.specs.Rows.{outward, inward, link_heard, size_heard, asked_send, asked_receive, opened_end, due, gone, shut, counting, err, both_ways};
+ghost use Rattle.ncp_model.specs.Act.{Act, Stays, Becomes, end_after, made_by_call, made_if_any, made_by_hearing};
+ghost use Rattle.ncp_model.specs.Ends.{Ends, count, any, has_asked, is_by_peer, hears_link, uses_link, first_by, free_link, sender_on, receiver_on, pair_of, leads_to, hear, ask_send_in, ask_receive_in, text_in, cut_in, answered_in, map_after};
+ghost use Rattle.ncp_model.specs.Texts.{Answered, made_by_text};
+ghost use Rattle.ncp_model.specs.Happenings.{Happening, happens, happened, of_call, of_hearing, of_text, of_cut};
+ghost use Rattle.ncp_model.specs.Happenings as all;
+ghost use Rattle.ncp_model.specs.Leading.{suits, leads, link_in, comes};
+ghost use Rattle.ncp_model.specs.Rows.{outward, inward, ones, noughts, link_heard, size_heard, asked_send, asked_receive, opened_end, sent_one, due, gone, shut, counting, err, both_ways};
 
+use crate::call_fault::CallFault;
 use crate::limits::{FIRST_LINK, LAST_LINK, MAX_BY_PEER, MAX_OWN};
-use crate::outcomes::Heard;
+use crate::outcomes::{Heard, Took};
 use crate::pair::Pair;
 use ncp_control::Command;
 
@@ -65,4 +70,37 @@ pub fn commands_lead_to_ends()
     ensures second { free_link (from_sorted ((inward, asked_receive) ∷ [])) ≡ 3 }
     ensures left { free_link (from_sorted ((inward, gone opened_end) ∷ [])) ≡ 3 }
     ensures gap { free_link (from_sorted ((inward, record asked_receive { link = 3 }) ∷ [])) ≡ 2 }
+{}
+
+/// What names a link comes to the end to which it leads, whatever ends there are: it heard that
+/// link, or asked with it, and it sends where a sender is meant, and receives where a receiver is.
+/// What then happens in the table of all ends is what happens to that end.
+pub fn what_leads_somewhere_suits()
+    ensures command { (m : Ends) (c : Command) (pair : Pair) (what : Happening) → leads_to c m ≡ Some pair → comes c m ≡ Some what → (leads pair what (get m pair) ≡ true) × (happens pair what (get m pair) ≡ happened (get m pair) (hear c m) made_by_hearing of_hearing) }
+    ensures text { (m : Ends) (head : List Bool) (of_size : ℕ) (text : List Bool) (pair : Pair) → pair_of (receiver_on (link_in head) m) ≡ Some pair → (leads pair (all.Text_comes head of_size text) (get m pair) ≡ true) × (happens pair (all.Text_comes head of_size text) (get m pair) ≡ happened (get m pair) (text_in (link_in head) of_size text m) (made_by_text head text) of_text) }
+    ensures cut { (m : Ends) (on : ℕ) (pair : Pair) → pair_of (sender_on on m) ≡ Some pair → (leads pair all.Text_goes_out (get m pair) ≡ true) × (happens pair all.Text_goes_out (get m pair) ≡ happened (get m pair) (cut_in on m) (λ _. []) of_cut) }
+    ensures answered { (m : Ends) (on : ℕ) (how : Answered) (pair : Pair) → pair_of (sender_on on m) ≡ Some pair → (leads pair (all.Is_answered how) (get m pair) ≡ true) × (happens pair (all.Is_answered how) (get m pair) ≡ happened (get m pair) (answered_in on how m) made_if_any (λ _. all.Accepted)) }
+    ensures asks { (m : Ends) (pair : Pair) (of_size with_room : ℕ) (full : Bool) → happens pair (all.Asks_to_send of_size with_room (count has_asked m) full) (get m pair) ≡ happened (get m pair) (ask_send_in pair of_size with_room full m) made_by_call of_call }
+    ensures asks_too { (m : Ends) (pair : Pair) (with_room : ℕ) (full : Bool) → happens pair (all.Asks_to_receive with_room (free_link m) (count has_asked m) full) (get m pair) ≡ happened (get m pair) (ask_receive_in pair with_room full m) made_by_call of_call }
+    ensures suits { (pair : Pair) (what : Happening) (before : Option End) → leads pair what before ≡ true → suits pair what ≡ true }
+{}
+
+/// What becomes of a text, and of a request, at a host with a sender and a receiver on link 2 and a
+/// request of its own on link 3: the text goes to the receiver, what goes out is the sender's, and
+/// where the link leads nowhere nothing goes out.
+pub fn texts_lead_to_ends()
+    ensures comes { text_in 2 8 (ones 8) both_ways ≡ Becomes (record (counting 2 16) { stored = ones 8; recall = true }) Took.Admitted }
+    ensures comes_early { text_in 3 8 (ones 8) both_ways ≡ Stays Took.NotOpen }
+    ensures comes_nowhere { text_in 4 8 (ones 8) both_ways ≡ Stays Took.NotOpen }
+    ensures goes_out { cut_in 2 (from_sorted ((outward, record (counting 1 8) { stored = ones 8 }) ∷ [])) ≡ Becomes (sent_one (counting 0 0)) (Some (8, ones 8)) }
+    ensures goes_nowhere { (cut_in 3 both_ways ≡ Stays None) × (cut_in 2 (from_sorted ((inward, record (counting 1 8) { stored = ones 8 }) ∷ [])) ≡ Stays None) }
+    ensures answered { answered_in 2 Answered.Taken (from_sorted ((outward, due (sent_one opened_end)) ∷ [])) ≡ Becomes (gone opened_end) (Some (Command.Cls 3 2)) }
+    ensures answered_nowhere { (answered_in 3 Answered.Taken both_ways ≡ Stays None) × (answered_in 2 Answered.Taken (from_sorted ((inward, due opened_end) ∷ [])) ≡ Stays None) }
+    ensures asks { ask_receive_in (record { local = 8; remote = 9 }) 64 false both_ways ≡ Becomes (record asked_receive { link = 4 }) (Ok (Command.Rts 8 9 4)) }
+    ensures asks_to_send { ask_send_in (record { local = 9; remote = 8 }) 8 64 false both_ways ≡ Becomes asked_send (Ok (Command.Str 9 8 8)) }
+    ensures asks_in_vain { (m : Ends) → get m outward ≡ None → MAX_OWN ≤ count has_asked m → ask_send_in outward 8 64 false m ≡ Stays (Err CallFault.TableFull) }
+    ensures asks_in_vain_too { (m : Ends) → get m inward ≡ None → MAX_OWN ≤ count has_asked m → ask_receive_in inward 64 false m ≡ Stays (Err CallFault.TableFull) }
+    ensures leads { (leads outward (all.All_comes 2 1 1) (Some link_heard) ≡ true) × (leads inward (all.Ret_comes 2 1 1) (Some asked_receive) ≡ true) }
+    ensures leads_not { (leads outward (all.All_comes 3 1 1) (Some opened_end) ≡ false) × (leads inward (all.All_comes 2 1 1) (Some opened_end) ≡ false) × (leads outward (all.All_comes 2 1 1) None ≡ false) × (leads outward (all.Ret_comes 2 1 1) (Some opened_end) ≡ false) }
+    ensures leads_by_head { (leads inward (all.Text_comes (noughts 22 ++ ones 1 ++ noughts 49) 8 []) (Some opened_end) ≡ true) × (leads inward (all.Text_comes (noughts 23 ++ ones 1 ++ noughts 48) 8 []) (Some opened_end) ≡ false) }
 {}
