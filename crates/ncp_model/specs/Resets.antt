@@ -61,11 +61,13 @@ host_hears_all [] rs h = h
 host_hears_all (c ∷ cs) [] h = host_hears_all cs [] (host_hears c no_reaction h)
 host_hears_all (c ∷ cs) (r ∷ rs) h = host_hears_all cs rs (host_hears c r h)
 
--- the place of a control message at the host that sends it
+-- the place of a control message at the host that sends it. One that was not delivered because its
+-- destination is dead is held until the user asks for it again
 pub data Slot : Type 0 where
   Empty : Slot
   Ready : (m : List Command) → Slot
   Travelling : (m : List Command) → Slot
+  Held : (m : List Command) → Slot
 
 -- what the subnet holds of it
 pub data Subnet : Type 0 where
@@ -73,6 +75,7 @@ pub data Subnet : Type 0 where
   Accepted : (m : List Command) → Subnet
   Delivered : Subnet
   Lost : Subnet
+  Dead : Subnet
 
 pub record Link : Type 0 where
   pub slot : Slot
@@ -86,6 +89,8 @@ on_line (Travelling m) Free = []
 on_line (Travelling m) (Accepted c) = c
 on_line (Travelling m) Delivered = []
 on_line (Travelling m) Lost = m
+on_line (Travelling m) Dead = m
+on_line (Held m) s = m
 
 -- the host's commands that have not come to its peer: those of that message, then those that wait
 abbrev pub underway : Host → Link → List Command
@@ -109,11 +114,14 @@ pub data Step : Type 0 where
   Sends : (n : ℕ) → Step  -- the message that is ready, or the first n + 1 commands that wait
   Hears : (reactions : List Reaction) → Step  -- the message that is coming
   Loses : Step  -- the subnet loses the message that is going
-  Is_answered : Step  -- an RFNM, or an Incomplete Transmission
+  Dies : Step  -- the subnet finds that its destination is dead
+  Is_answered : Step  -- an RFNM, an Incomplete Transmission, or a Destination Dead
+  Wakes : Step  -- the user asks again for the message that is held
 
 abbrev pub sends : Slot → List Command → ℕ → World → World
 sends (Ready m) q n w = record w { going = record { slot = Travelling m; subnet = Accepted m } }
 sends (Travelling m) q n w = w
+sends (Held m) q n w = w
 sends Empty [] n w = w
 sends Empty (c ∷ cs) n w =
     record w {
@@ -126,15 +134,22 @@ comes Free rs w = w
 comes (Accepted m) rs w = record w { this = host_hears_all m rs w.this; coming = record w.coming { subnet = Delivered } }
 comes Delivered rs w = w
 comes Lost rs w = w
+comes Dead rs w = w
 
-abbrev pub lost : Subnet → Subnet
-lost (Accepted m) = Lost
-lost subnet = subnet
+-- a message that has not come is not delivered
+abbrev pub undelivered : Subnet → Subnet → Subnet
+undelivered as_what (Accepted m) = as_what
+undelivered as_what subnet = subnet
 
 abbrev pub answered : Slot → Subnet → Link
 answered (Travelling m) Delivered = record { slot = Empty; subnet = Free }
 answered (Travelling m) Lost = record { slot = Ready m; subnet = Free }
+answered (Travelling m) Dead = record { slot = Held m; subnet = Free }
 answered slot s = record { slot = slot; subnet = s }
+
+abbrev pub woken : Slot → Slot
+woken (Held m) = Ready m
+woken slot = slot
 
 abbrev pub steps : Step → World → World
 steps (Resets quiet) w = record w { this = host_resets quiet w.this }
@@ -143,8 +158,10 @@ steps Falls w = record w { this = host_falls w.this }
 steps (Settles quiet) w = record w { this = host_settles quiet w.this }
 steps (Sends n) w = sends w.going.slot w.this.phase.waiting n w
 steps (Hears rs) w = comes w.coming.subnet rs w
-steps Loses w = record w { going = record w.going { subnet = lost w.going.subnet } }
+steps Loses w = record w { going = record w.going { subnet = undelivered Lost w.going.subnet } }
+steps Dies w = record w { going = record w.going { subnet = undelivered Dead w.going.subnet } }
 steps Is_answered w = record w { going = answered w.going.slot w.going.subnet }
+steps Wakes w = record w { going = record w.going { slot = woken w.going.slot } }
 
 pub data Side : Type 0 where
   This : Side
