@@ -4,12 +4,13 @@ use Rattle.std.proofs.lemmas.List.{take-append-drop}
 use Rattle.ncp_control.specs.declared.command.Command.{Command}
 use Rattle.ncp_control.specs.declared.command.Command.TheVariants.{Rst, Rrp}
 use Rattle.ncp_model.specs.Phase.{Phase, up, makes, makes_all, hears, Reaction}
-use Rattle.ncp_model.specs.Resets.{Host, is_up, host_resets, host_settles, host_falls, host_makes, host_makes_all, host_hears_other, host_hears, Slot, Empty, Ready, Travelling, Held, Subnet, Free, Accepted, Delivered, Lost, Dead, on_line, underway, World, swap, Step, Resets, Makes, Falls, Settles, Sends, Hears, Loses, Dies, Is_answered, Wakes, sends, comes, undelivered, answered, woken, steps, Side, This, That, Event, at, run_from, run, start, Agrees, NothingFollows, Silent}
+use Rattle.ncp_model.specs.Resets.{Host, is_up, host_resets, host_settles, host_falls, host_makes, host_makes_all, host_hears_other, host_hears, on_line, underway, World, swap, Step, Resets, Makes, Falls, Settles, Sends, Hears, Loses, Dies, Is_answered, Wakes, sends, comes, steps, Side, This, That, Event, at, run_from, run, start, Agrees, NothingFollows, Silent}
+use Rattle.ncp_model.specs.Delivery.{Slot, Empty, Ready, Travelling, Held, Subnet, Free, Accepted, Delivered, Lost, Dead, undelivered, answered, woken}
 use Rattle.ncp_model.proofs.ResetLists.{others, purged, others-drop, others-append, purged_none, arrives_on, after_rst}
 use Rattle.ncp_model.proofs.ResetKept.{Way, Kept, turned, falling, resetting, making, hearing_all, settling}
 
 -- the slot travels while the subnet holds its message
-abbrev pub Tied : Slot → Subnet → Type 0
+abbrev pub Tied : Slot (List Command) → Subnet (List Command) → Type 0
 Tied Empty Free = Unit {0}
 Tied (Ready m) Free = Unit {0}
 Tied (Held m) Free = Unit {0}
@@ -20,7 +21,7 @@ Tied (Travelling m) Dead = Unit {0}
 Tied slot subnet = ⊥
 
 -- of a world in parts: this host, that host, and the slot and the subnet of the links that go and come
-abbrev pub HoldsOf : Host → Host → Slot → Subnet → Slot → Subnet → Type 0
+abbrev pub HoldsOf : Host → Host → Slot (List Command) → Subnet (List Command) → Slot (List Command) → Subnet (List Command) → Type 0
 HoldsOf h k s t s' t' = record { going : Tied s t; coming : Tied s' t'; kept : Kept h k (on_line s t) (on_line s' t') }
 
 abbrev pub Holds : World → Type 0
@@ -44,7 +45,7 @@ y w = on_line w.coming.slot w.coming.subnet
 at_host : (w : World) (h : Host) → Holds w → Kept h w.that (on_line w.going.slot w.going.subnet) (on_line w.coming.slot w.coming.subnet) → Holds (record w { this = h })
 at_host w h p q = record { going = p.going; coming = p.coming; kept = q }
 
-sending : (h k : Host) (s : Slot) (t : Subnet) (s' : Slot) (t' : Subnet) (q : List Command) (n : ℕ) → HoldsOf h k s t s' t' → Holds (sends s q n (record { this = h; that = k; going = record { slot = s; subnet = t }; coming = record { slot = s'; subnet = t' } }))
+sending : (h k : Host) (s : Slot (List Command)) (t : Subnet (List Command)) (s' : Slot (List Command)) (t' : Subnet (List Command)) (q : List Command) (n : ℕ) → HoldsOf h k s t s' t' → Holds (sends s q n (record { this = h; that = k; going = record { slot = s; subnet = t }; coming = record { slot = s'; subnet = t' } }))
 sending h k (Ready m) Free s' t' q n p = record { going = refl; coming = p.coming; kept = p.kept }
 sending h k (Travelling m) t s' t' q n p = p
 sending h k (Held m) t s' t' q n p = p
@@ -52,7 +53,7 @@ sending h k Empty t s' t' [] n p = p
 sending h k Empty Free s' t' (c ∷ cs) n p = record { going = refl; coming = p.coming; kept = fronting h k (on_line s' t') (n + 1) p.kept }
 sending h k s t s' t' q n p = absurd p.going
 
-coming : (h k : Host) (s : Slot) (t : Subnet) (s' : Slot) (t' : Subnet) (rs : List Reaction) → HoldsOf h k s t s' t' → Holds (comes t' rs (record { this = h; that = k; going = record { slot = s; subnet = t }; coming = record { slot = s'; subnet = t' } }))
+coming : (h k : Host) (s : Slot (List Command)) (t : Subnet (List Command)) (s' : Slot (List Command)) (t' : Subnet (List Command)) (rs : List Reaction) → HoldsOf h k s t s' t' → Holds (comes t' rs (record { this = h; that = k; going = record { slot = s; subnet = t }; coming = record { slot = s'; subnet = t' } }))
 coming h k s t (Travelling m) (Accepted c) rs p = record { going = p.going; coming = tt; kept = hearing_all h k (on_line s t) c rs p.kept }
 coming h k s t Empty (Accepted c) rs p = absurd p.coming
 coming h k s t (Ready m) (Accepted c) rs p = absurd p.coming
@@ -62,7 +63,7 @@ coming h k s t s' Delivered rs p = p
 coming h k s t s' Lost rs p = p
 coming h k s t s' Dead rs p = p
 
-losing : (h k : Host) (s : Slot) (t : Subnet) (s' : Slot) (t' : Subnet) → HoldsOf h k s t s' t' → HoldsOf h k s (undelivered Lost t) s' t'
+losing : (h k : Host) (s : Slot (List Command)) (t : Subnet (List Command)) (s' : Slot (List Command)) (t' : Subnet (List Command)) → HoldsOf h k s t s' t' → HoldsOf h k s (undelivered Lost t) s' t'
 losing h k (Travelling m) (Accepted c) s' t' p = record { going = tt; coming = p.coming; kept = subst (λ x. Kept h k x (on_line s' t')) p.going p.kept }
 losing h k Empty (Accepted c) s' t' p = absurd p.going
 losing h k (Ready m) (Accepted c) s' t' p = absurd p.going
@@ -72,7 +73,7 @@ losing h k s Delivered s' t' p = p
 losing h k s Lost s' t' p = p
 losing h k s Dead s' t' p = p
 
-dying : (h k : Host) (s : Slot) (t : Subnet) (s' : Slot) (t' : Subnet) → HoldsOf h k s t s' t' → HoldsOf h k s (undelivered Dead t) s' t'
+dying : (h k : Host) (s : Slot (List Command)) (t : Subnet (List Command)) (s' : Slot (List Command)) (t' : Subnet (List Command)) → HoldsOf h k s t s' t' → HoldsOf h k s (undelivered Dead t) s' t'
 dying h k (Travelling m) (Accepted c) s' t' p = record { going = tt; coming = p.coming; kept = subst (λ x. Kept h k x (on_line s' t')) p.going p.kept }
 dying h k Empty (Accepted c) s' t' p = absurd p.going
 dying h k (Ready m) (Accepted c) s' t' p = absurd p.going
@@ -82,7 +83,7 @@ dying h k s Delivered s' t' p = p
 dying h k s Lost s' t' p = p
 dying h k s Dead s' t' p = p
 
-waking : (h k : Host) (s : Slot) (t : Subnet) (s' : Slot) (t' : Subnet) → HoldsOf h k s t s' t' → HoldsOf h k (woken s) t s' t'
+waking : (h k : Host) (s : Slot (List Command)) (t : Subnet (List Command)) (s' : Slot (List Command)) (t' : Subnet (List Command)) → HoldsOf h k s t s' t' → HoldsOf h k (woken s) t s' t'
 waking h k (Held m) Free s' t' p = record { going = tt; coming = p.coming; kept = p.kept }
 waking h k (Held m) (Accepted c) s' t' p = absurd p.going
 waking h k (Held m) Delivered s' t' p = absurd p.going
@@ -92,7 +93,7 @@ waking h k Empty t s' t' p = p
 waking h k (Ready m) t s' t' p = p
 waking h k (Travelling m) t s' t' p = p
 
-answering : (h k : Host) (s : Slot) (t : Subnet) (s' : Slot) (t' : Subnet) → HoldsOf h k s t s' t' → HoldsOf h k (answered s t).slot (answered s t).subnet s' t'
+answering : (h k : Host) (s : Slot (List Command)) (t : Subnet (List Command)) (s' : Slot (List Command)) (t' : Subnet (List Command)) → HoldsOf h k s t s' t' → HoldsOf h k (answered s t).slot (answered s t).subnet s' t'
 answering h k (Travelling m) Delivered s' t' p = record { going = tt; coming = p.coming; kept = p.kept }
 answering h k (Travelling m) Lost s' t' p = record { going = tt; coming = p.coming; kept = p.kept }
 answering h k (Travelling m) Dead s' t' p = record { going = tt; coming = p.coming; kept = p.kept }

@@ -8,6 +8,7 @@ pub mod Commands
 pub mod Texts
 pub mod Ends
 pub mod Phase
+pub mod Delivery
 pub mod Resets
 pub mod Rows
 pub mod Happenings

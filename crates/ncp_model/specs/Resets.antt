@@ -6,6 +6,7 @@ use Rattle.std.specs.List.{filter}
 use Rattle.ncp_control.specs.declared.command.Command.{Command}
 use Rattle.ncp_control.specs.declared.command.Command.TheVariants.{Rst, Rrp}
 use Rattle.ncp_model.specs.Phase.{Phase, new_phase, up, is_reset, is_other, settles, is_resetting, resets, hears_rst, hears_rrp, goes_down, has_place, queued, Reaction}
+use Rattle.ncp_model.specs.Delivery.{Slot, Empty, Ready, Travelling, Held, Subnet, Free, Accepted, Delivered, Lost, Dead, Link, idle, undelivered, answered, woken}
 
 -- a host's phase, with the other commands that it made, and those that came to it while it was
 -- up, each since its last clearing
@@ -61,28 +62,8 @@ host_hears_all [] rs h = h
 host_hears_all (c ∷ cs) [] h = host_hears_all cs [] (host_hears c no_reaction h)
 host_hears_all (c ∷ cs) (r ∷ rs) h = host_hears_all cs rs (host_hears c r h)
 
--- the place of a control message at the host that sends it. One that was not delivered because its
--- destination is dead is held until the user asks for it again
-pub data Slot : Type 0 where
-  Empty : Slot
-  Ready : (m : List Command) → Slot
-  Travelling : (m : List Command) → Slot
-  Held : (m : List Command) → Slot
-
--- what the subnet holds of it
-pub data Subnet : Type 0 where
-  Free : Subnet
-  Accepted : (m : List Command) → Subnet
-  Delivered : Subnet
-  Lost : Subnet
-  Dead : Subnet
-
-pub record Link : Type 0 where
-  pub slot : Slot
-  pub subnet : Subnet
-
 -- the commands of the message that went out and has not come
-abbrev pub on_line : Slot → Subnet → List Command
+abbrev pub on_line : Slot (List Command) → Subnet (List Command) → List Command
 on_line Empty s = []
 on_line (Ready m) s = m
 on_line (Travelling m) Free = []
@@ -93,14 +74,14 @@ on_line (Travelling m) Dead = m
 on_line (Held m) s = m
 
 -- the host's commands that have not come to its peer: those of that message, then those that wait
-abbrev pub underway : Host → Link → List Command
+abbrev pub underway : Host → Link (List Command) → List Command
 underway h link = on_line link.slot link.subnet ++ h.phase.waiting
 
 pub record World : Type 0 where
   pub this : Host
   pub that : Host
-  pub going : Link  -- from this host to that one
-  pub coming : Link
+  pub going : Link (List Command)  -- from this host to that one
+  pub coming : Link (List Command)
 
 abbrev pub swap : World → World
 swap w = record { this = w.that; that = w.this; going = w.coming; coming = w.going }
@@ -118,7 +99,7 @@ pub data Step : Type 0 where
   Is_answered : Step  -- an RFNM, an Incomplete Transmission, or a Destination Dead
   Wakes : Step  -- the user asks again for the message that is held
 
-abbrev pub sends : Slot → List Command → ℕ → World → World
+abbrev pub sends : Slot (List Command) → List Command → ℕ → World → World
 sends (Ready m) q n w = record w { going = record { slot = Travelling m; subnet = Accepted m } }
 sends (Travelling m) q n w = w
 sends (Held m) q n w = w
@@ -129,27 +110,12 @@ sends Empty (c ∷ cs) n w =
       going = record { slot = Travelling (take (n + 1) w.this.phase.waiting); subnet = Accepted (take (n + 1) w.this.phase.waiting) };
     }
 
-abbrev pub comes : Subnet → List Reaction → World → World
+abbrev pub comes : Subnet (List Command) → List Reaction → World → World
 comes Free rs w = w
 comes (Accepted m) rs w = record w { this = host_hears_all m rs w.this; coming = record w.coming { subnet = Delivered } }
 comes Delivered rs w = w
 comes Lost rs w = w
 comes Dead rs w = w
-
--- a message that has not come is not delivered
-abbrev pub undelivered : Subnet → Subnet → Subnet
-undelivered as_what (Accepted m) = as_what
-undelivered as_what subnet = subnet
-
-abbrev pub answered : Slot → Subnet → Link
-answered (Travelling m) Delivered = record { slot = Empty; subnet = Free }
-answered (Travelling m) Lost = record { slot = Ready m; subnet = Free }
-answered (Travelling m) Dead = record { slot = Held m; subnet = Free }
-answered slot s = record { slot = slot; subnet = s }
-
-abbrev pub woken : Slot → Slot
-woken (Held m) = Ready m
-woken slot = slot
 
 abbrev pub steps : Step → World → World
 steps (Resets quiet) w = record w { this = host_resets quiet w.this }
@@ -180,19 +146,19 @@ run_from [] w = w
 run_from (e ∷ es) w = run_from es (at e.side e.step w)
 
 abbrev pub start : World
-start = record { this = anew new_phase; that = anew new_phase; going = record { slot = Empty; subnet = Free }; coming = record { slot = Empty; subnet = Free } }
+start = record { this = anew new_phase; that = anew new_phase; going = idle; coming = idle }
 
 -- a whole schedule
 abbrev pub run : List Event → World
 run es = run_from es start
 
 -- no RST or RRP is underway, and what came and what is underway is what was made
-abbrev pub Agrees : Host → Link → Host → Type 0
+abbrev pub Agrees : Host → Link (List Command) → Host → Type 0
 Agrees from link to =
     (filter is_reset (underway from link) ≡ []) × (to.came ++ filter is_other (underway from link) ≡ from.made)
 
 -- once an RST was made, only an RRP may stand behind it until it came
-abbrev pub NothingFollows : Host → Link → Type 0
+abbrev pub NothingFollows : Host → Link (List Command) → Type 0
 NothingFollows from link =
     (before after : List Command) → underway from link ≡ before ++ Rst ∷ after → filter is_other after ≡ []
 

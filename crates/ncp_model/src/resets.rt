@@ -3,7 +3,8 @@ ghost use Rattle.std.specs.Prelude.{◌≡◌, Bool, true, false, ◌++◌, ◌<
 ghost use Rattle.std.specs.List.{filter, list_any};
 ghost use Rattle.ncp_control.specs.declared.command.Command.{Command};
 ghost use Rattle.ncp_model.specs.Phase.{Phase, Reaction, up, is_rrp, is_reset, is_other, makes, hears, hears_rst};
-ghost use Rattle.ncp_model.specs.Resets.{Host, Slot, Event, Step, World, This, That, Empty, Ready, Travelling, Held, Free, Accepted, Sends, Hears, Is_answered, Wakes, steps, run, is_up, Agrees, NothingFollows, host_resets, host_settles, host_falls, host_makes, host_hears, host_hears_all};
+ghost use Rattle.ncp_model.specs.Delivery.{Empty, Ready, Travelling, Held, Free, Accepted};
+ghost use Rattle.ncp_model.specs.Resets.{Host, Event, Step, World, This, That, Sends, Hears, Is_answered, Wakes, steps, run, is_up, Agrees, NothingFollows, host_resets, host_settles, host_falls, host_makes, host_hears, host_hears_all};
 ghost use Rattle.ncp_model.specs.Phase.{settles, resets, goes_down};
 ghost use Rattle.ncp_model.specs.Schedules.{up_phase, by, quietly, coming_up, both_ask, both_hear, both_answer, goes_and_is_lost, goes_and_finds_none, goes_and_comes, two_of_three, heard_with_text_out, answered_after_text, falls_answering};
 

@@ -3,7 +3,8 @@ use Rattle.std.specs.List.{list_any}
 use Rattle.ncp_control.specs.declared.command.Command.{Command}
 use Rattle.ncp_control.specs.declared.command.Command.TheVariants.{Rst, Rrp}
 use Rattle.ncp_model.specs.Phase.{Phase, up, is_rrp, is_reset, is_other, answers, asks, settles, resets, is_resetting, wants_reset, owes_answer, hears_rst, goes_down, Reaction}
-use Rattle.ncp_model.specs.Resets.{Host, is_up, anew, host_resets, host_settles, host_falls, host_makes, host_makes_all, host_hears_other, host_hears, no_reaction, host_hears_all, Slot, Empty, Ready, Travelling, Held, Subnet, Free, Accepted, Delivered, Lost, Dead, World, Step, Resets, Makes, Falls, Settles, Sends, Hears, Loses, Dies, Is_answered, Wakes, sends, comes, steps}
+use Rattle.ncp_model.specs.Resets.{Host, is_up, anew, host_resets, host_settles, host_falls, host_makes, host_makes_all, host_hears_other, host_hears, no_reaction, host_hears_all, World, Step, Resets, Makes, Falls, Settles, Sends, Hears, Loses, Dies, Is_answered, Wakes, sends, comes, steps}
+use Rattle.ncp_model.specs.Delivery.{Slot, Empty, Ready, Travelling, Held, Subnet, Free, Accepted, Delivered, Lost, Dead}
 use Rattle.ncp_model.proofs.resets.nothing_acts_until_the_reset_is_answered.Goals as goal
 
 -- a host that waits is not up, and goes on waiting
@@ -49,14 +50,14 @@ idle (c ∷ cs) (r ∷ rs) h w n =
 
 -- that host is left as it is
 
-sends-that : (s : Slot) (q : List Command) (n : ℕ) (w : World) → (sends s q n w).that ≡ w.that
+sends-that : (s : Slot (List Command)) (q : List Command) (n : ℕ) (w : World) → (sends s q n w).that ≡ w.that
 sends-that (Ready m) q n w = refl
 sends-that (Travelling m) q n w = refl
 sends-that (Held m) q n w = refl
 sends-that Empty [] n w = refl
 sends-that Empty (c ∷ cs) n w = refl
 
-comes-that : (t : Subnet) (rs : List Reaction) (w : World) → (comes t rs w).that ≡ w.that
+comes-that : (t : Subnet (List Command)) (rs : List Reaction) (w : World) → (comes t rs w).that ≡ w.that
 comes-that Free rs w = refl
 comes-that (Accepted m) rs w = refl
 comes-that Delivered rs w = refl
@@ -73,14 +74,14 @@ steps-that step w = refl
 abbrev Ends : World → Type 0
 Ends w = (m : List Command) × (w.coming.subnet ≡ Accepted m) × (list_any is_rrp m ≡ true)
 
-sends-wait : (s : Slot) (q : List Command) (n : ℕ) (w : World) → (sends s q n w).this.phase.wait ≡ w.this.phase.wait
+sends-wait : (s : Slot (List Command)) (q : List Command) (n : ℕ) (w : World) → (sends s q n w).this.phase.wait ≡ w.this.phase.wait
 sends-wait (Ready m) q n w = refl
 sends-wait (Travelling m) q n w = refl
 sends-wait (Held m) q n w = refl
 sends-wait Empty [] n w = refl
 sends-wait Empty (c ∷ cs) n w = refl
 
-ends : (t : Subnet) (rs : List Reaction) (w : World) → w.this.phase.wait ≡ true → (comes t rs w).this.phase.wait ≡ false → (m : List Command) × (t ≡ Accepted m) × (list_any is_rrp m ≡ true)
+ends : (t : Subnet (List Command)) (rs : List Reaction) (w : World) → w.this.phase.wait ≡ true → (comes t rs w).this.phase.wait ≡ false → (m : List Command) × (t ≡ Accepted m) × (list_any is_rrp m ≡ true)
 ends Free rs w a b = absurd (cc (a, b))
 ends Delivered rs w a b = absurd (cc (a, b))
 ends Lost rs w a b = absurd (cc (a, b))
