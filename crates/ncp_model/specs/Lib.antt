@@ -20,3 +20,4 @@ pub mod Sending
 pub mod Admitting
 pub mod Echo
 pub mod Schedules
+pub mod Hosts
