@@ -6,6 +6,7 @@ pub mod PairOrder
 pub mod EndsAfter
 pub mod LinksLead
 pub mod HostsBase
+pub mod HostsStand
 pub mod Makes
 pub mod SoundEnds
 pub mod BooksKept

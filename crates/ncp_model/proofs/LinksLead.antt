@@ -48,7 +48,7 @@ first-above test x (q ∷ es) p b e = go (chosen (test q) q p (first_by test es)
     go (inl h) k = let l : is_lt (pair_cmp x q.0) ≡ true = grind arith in ap (λ (y : Pair × End). is_lt (pair_cmp x y.0)) (sym h.1) ∙ l
     go (inr h) k = k (grind arith) h.1
 
-itself : (p : Pair) → eq_by_cmp pair_cmp p p ≡ true
+pub itself : (p : Pair) → eq_by_cmp pair_cmp p p ≡ true
 itself p = (eq_by_cmp_equiv pairs_total).refl p
 
 -- a key above another is another

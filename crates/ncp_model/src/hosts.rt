@@ -1,8 +1,13 @@
 //! Two hosts with their connections.
 ghost use Rattle.std.specs.Prelude.{◌≡◌, List, true, false};
+ghost use Rattle.std.specs.FinMap.{get};
+ghost use Rattle.ncp_model.specs.Ends.{no_ends};
+ghost use Rattle.ncp_model.specs.Sound.{SoundAt};
 ghost use Rattle.ncp_model.specs.Resets.{is_up, Agrees, Silent};
 ghost use Rattle.ncp_model.specs.Resets as resets;
 ghost use Rattle.ncp_model.specs.Hosts.{Event, run, base};
+
+use crate::pair::Pair;
 
 /// After every schedule of two hosts with all their connections and texts, between two that are up:
 /// no RST or RRP is underway, and the commands that came and those underway are those that were
@@ -13,4 +18,12 @@ pub fn hosts_act_once_in_order()
     ensures back { (events : List Event) → is_up (run events).this.host ≡ true → is_up (run events).that.host ≡ true → Agrees (run events).that.host (run events).that.control (run events).this.host }
     ensures silent { (events : List Event) → is_up (run events).this.host ≡ false → Silent (run events).this.host }
     ensures silent_too { (events : List Event) → is_up (run events).that.host ≡ false → Silent (run events).that.host }
+{}
+
+/// Ends stand only at a host that is up, and each of them is sound, after every schedule.
+pub fn ends_stand_only_while_up()
+    ensures none { (events : List Event) → is_up (run events).this.host ≡ false → (run events).this.ends ≡ no_ends }
+    ensures none_too { (events : List Event) → is_up (run events).that.host ≡ false → (run events).that.ends ≡ no_ends }
+    ensures sound { (events : List Event) (pair : Pair) → SoundAt pair (get (run events).this.ends pair) }
+    ensures sound_too { (events : List Event) (pair : Pair) → SoundAt pair (get (run events).that.ends pair) }
 {}
