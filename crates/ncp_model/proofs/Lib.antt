@@ -7,6 +7,7 @@ pub mod EndsAfter
 pub mod LinksLead
 pub mod HostsBase
 pub mod HostsStand
+pub mod HostsListed
 pub mod Makes
 pub mod SoundEnds
 pub mod BooksKept

@@ -21,3 +21,4 @@ pub mod Admitting
 pub mod Echo
 pub mod Schedules
 pub mod Hosts
+pub mod Runs

@@ -1,11 +1,14 @@
 //! Two hosts with their connections.
-ghost use Rattle.std.specs.Prelude.{◌≡◌, List, true, false};
+ghost use Rattle.std.specs.Prelude.{◌≡◌, List, true, false, Some};
 ghost use Rattle.std.specs.FinMap.{get};
 ghost use Rattle.ncp_model.specs.Ends.{no_ends};
 ghost use Rattle.ncp_model.specs.Sound.{SoundAt};
 ghost use Rattle.ncp_model.specs.Resets.{is_up, Agrees, Silent};
 ghost use Rattle.ncp_model.specs.Resets as resets;
-ghost use Rattle.ncp_model.specs.Hosts.{Event, run, base};
+ghost use Rattle.ncp_model.specs.Hosts.{Event, run, base, past_of};
+ghost use Rattle.ncp_model.specs.Delivery.{Travelling, Accepted, idle};
+ghost use Rattle.ncp_model.specs.Rows.{outward, inward, ones, noughts, counting, sent_one};
+ghost use Rattle.ncp_model.specs.Runs.{with_text_out, got_and_taken};
 
 use crate::pair::Pair;
 
@@ -26,4 +29,11 @@ pub fn ends_stand_only_while_up()
     ensures none_too { (events : List Event) → is_up (run events).that.host ≡ false → (run events).that.ends ≡ no_ends }
     ensures sound { (events : List Event) (pair : Pair) → SoundAt pair (get (run events).this.ends pair) }
     ensures sound_too { (events : List Event) (pair : Pair) → SoundAt pair (get (run events).that.ends pair) }
+{}
+
+/// That these laws speak of something: both hosts come up, a connection opens, two of three bytes
+/// go out, come, and are taken.
+pub fn text_comes_over()
+    ensures out { let w = run with_text_out in (get w.this.ends outward ≡ Some (sent_one (record (counting 1 0) { stored = noughts 8 }))) × (get w.that.ends inward ≡ Some (counting 2 16)) × (w.this.texts 2 ≡ record { slot = Travelling (record { of_size = 8; bits = ones 16 }); subnet = Accepted (record { of_size = 8; bits = ones 16 }) }) }
+    ensures taken { let w = run got_and_taken in (get w.this.ends outward ≡ Some (record (counting 1 0) { stored = noughts 8 })) × (get w.that.ends inward ≡ Some (counting 1 0)) × ((past_of w.that.pasts inward).taken ≡ ones 16) × (w.this.texts 2 ≡ idle) × (w.that.wrong ≡ false) }
 {}
