@@ -5,6 +5,7 @@ pub mod FreeLinks
 pub mod PairOrder
 pub mod EndsAfter
 pub mod LinksLead
+pub mod Lives
 pub mod HostsBase
 pub mod HostsStand
 pub mod HostsListed
