@@ -1,4 +1,4 @@
--- A host that is not up has no ends, and every end of a host is sound.
+-- A host that is not up has no ends; all its ends are sound, and no two are on one link.
 use Rattle.std.proofs.Common.{◌≡◌, ◌⊎◌, inl, inr, ℕ, Bool, true, false, cond, ◌&&◌, if◌then◌else◌, List, [], ◌∷◌, ◌++◌, Option, None, Some, refl, sym, ap, ◌∙◌, subst, arith}
 use Rattle.std.specs.FinMap.{empty, entries, get, insert, remove, get-empty, get-insert, get-remove}
 use Rattle.std.specs.Ordering.{eq_by_cmp}
@@ -24,68 +24,36 @@ use Rattle.ncp_model.specs.Hosts.{TextOut, Node, quiet, reaction, kept, put, cle
 use Rattle.ncp_model.proofs.PairOrder.{pairs_exact, pairs_total}
 use Rattle.ncp_model.proofs.EndsAfter.{after-at, after-elsewhere}
 use Rattle.ncp_model.proofs.LinksLead.{itself, led, command-led, cut-led, answered-led}
-use Rattle.ncp_model.proofs.SoundEnds.{sound-after}
+use Rattle.ncp_model.proofs.LinksStay.{brings_link, takes_link}
+use Rattle.ncp_model.proofs.EndsGood.{Good, none-good, Changes, Fresh, good-after, put-changes, act-changes, none-fresh, called-fresh, comes-fresh}
 
 -- of the ends at a host that is up or not
 abbrev pub Stand : Bool → Ends → Type 0
-Stand is_there m = record { none : is_there ≡ false → m ≡ no_ends; sound : (pair : Pair) → SoundAt pair (get m pair) }
+Stand is_there m = record { none : is_there ≡ false → m ≡ no_ends; good : Good m }
 
 abbrev pub Stands : Node → Type 0
 Stands n = Stand (is_up n.host) n.ends
 
-none-sound : (pair : Pair) → SoundAt pair (get no_ends pair)
-none-sound pair = subst (SoundAt pair) (sym (get-empty pair_cmp pair)) tt
-
 none-stand : (b : Bool) → Stand b no_ends
-none-stand b = record { none = λ _. refl; sound = none-sound }
+none-stand b = record { none = λ _. refl; good = none-good }
 
-keeping : (h : Host) (m : Ends) → ((pair : Pair) → SoundAt pair (get m pair)) → Stand (is_up h) (kept h m)
-keeping h m s = go (is_up h)
+keeping : (h : Host) (m : Ends) → Good m → Stand (is_up h) (kept h m)
+keeping h m g = go (is_up h)
   where
     go : (b : Bool) → Stand b (if b then m else no_ends)
-    go true = record { none = λ e. absurd (cc e); sound = s }
+    go true = record { none = λ e. absurd (cc e); good = g }
     go false = none-stand false
 
 -- where a host is not up, it was not
 staying : (b c : Bool) (m : Ends) → (c ≡ false → b ≡ false) → Stand b m → Stand c m
-staying b c m f p = record { none = λ e. p.none (f e); sound = p.sound }
-
-same_key : (q p : Pair) → eq_by_cmp pair_cmp q p ≡ true → q ≡ p
-same_key q p e = tells_apart pairs_exact q p e
-
--- one end is changed
-put-sound : (m : Ends) (pair : Pair) (after : Option End) → SoundAt pair after → ((q : Pair) → SoundAt q (get m q)) → (q : Pair) → SoundAt q (get (put m pair after) q)
-put-sound m pair None a s q =
-    subst (SoundAt q) (sym (get-remove pairs_total m pair q)) (go (eq_by_cmp pair_cmp q pair))
-  where
-    go : (b : Bool) → SoundAt q (cond b None (get m q))
-    go true = tt
-    go false = s q
-put-sound m pair (Some e) a s q =
-    subst (SoundAt q) (sym (get-insert pairs_total m pair e q)) (go (eq_by_cmp pair_cmp q pair) refl)
-  where
-    go : (b : Bool) → eq_by_cmp pair_cmp q pair ≡ b → SoundAt q (cond b (Some e) (get m q))
-    go true t = subst (λ r. SoundAt r (Some e)) (sym (same_key q pair t)) a
-    go false t = s q
-
-after-sound : {A : Type 0} → (m : Ends) (pair : Pair) (act : Act A) → SoundAt pair (end_after (get m pair) act) → ((q : Pair) → SoundAt q (get m q)) → (q : Pair) → SoundAt q (get (map_after m pair act) q)
-after-sound m pair act a s q = go (eq_by_cmp pair_cmp q pair) refl
-  where
-    go : (b : Bool) → eq_by_cmp pair_cmp q pair ≡ b → SoundAt q (get (map_after m pair act) q)
-    go true t =
-        let same : q ≡ pair = same_key q pair t in
-        subst (λ r. SoundAt r (get (map_after m pair act) r)) (sym same) (subst (SoundAt pair) (sym (after-at m pair act)) a)
-    go false t =
-        let apart : (q ≡ pair) → ⊥ = λ e. let k = ap (eq_by_cmp pair_cmp q) e in absurd (cc (t, k, itself q)) in
-        subst (SoundAt q) (sym (after-elsewhere m pair q act apart)) (s q)
+staying b c m f p = record { none = λ e. p.none (f e); good = p.good }
 
 -- where a look-up led, the act is what happens to the end there
-looked : {A : Type 0} → (m : Ends) (o : Option Pair) (act : Act A) → ((pair : Pair) → o ≡ Some pair → SoundAt pair (end_after (get m pair) act)) → ((q : Pair) → SoundAt q (get m q)) → (q : Pair) → SoundAt q (get (map_after_at m o act) q)
-looked m None act f s = s
-looked m (Some pair) act f s = after-sound m pair act (f pair refl) s
-
-known : (m : Ends) (pair : Pair) (what : Happening) (after : Option End) → (happens pair what (get m pair)).after ≡ after → ((q : Pair) → SoundAt q (get m q)) → SoundAt pair after
-known m pair what after e s = subst (SoundAt pair) e (sound-after pair what (get m pair) (s pair))
+looked : {A : Type 0} → (m : Ends) (o : Option Pair) (act : Act A)
+    → ((pair : Pair) → o ≡ Some pair → (what : Happening) × ((happens pair what (get m pair)).after ≡ end_after (get m pair) act) × Fresh m what)
+    → Good m → Good (map_after_at m o act)
+looked m None act f g = g
+looked m (Some pair) act f g = let w = f pair refl in good-after m (map_after m pair act) pair w.0 (act-changes m pair w.0 act w.1) w.2 g
 
 comes-some : (c : Command) (m : Ends) (pair : Pair) → leads_to c m ≡ Some pair → (what : Happening) × (comes c m ≡ Some what)
 comes-some (Command.Rts a b d) m pair e = (_, refl)
@@ -98,39 +66,39 @@ comes-some (Command.Inr a) m pair e = (_, refl)
 comes-some (Command.Ins a) m pair e = (_, refl)
 comes-some c m pair e = absurd (cc e)
 
-command-sound : (c : Command) (m : Ends) → ((q : Pair) → SoundAt q (get m q)) → (q : Pair) → SoundAt q (get (map_after_at m (leads_to c m) (hear c m)) q)
-command-sound c m s =
+command-good : (c : Command) (m : Ends) → Good m → Good (map_after_at m (leads_to c m) (hear c m))
+command-good c m =
     looked m (leads_to c m) (hear c m)
-    (λ pair e. let w = comes-some c m pair e in known m pair w.0 (end_after (get m pair) (hear c m)) (ap (λ (d : Happened). d.after) (command-led m c pair w.0 e w.1).1) s) s
+    (λ pair e. let w = comes-some c m pair e in (w.0, ap (λ (d : Happened). d.after) (command-led m c pair w.0 e w.1).1, comes-fresh c m w.0 w.1))
 
-text-sound : (m : Ends) (on : ℕ) (of_size : ℕ) (text : List Bool) → ((q : Pair) → SoundAt q (get m q)) → (q : Pair) → SoundAt q (get (map_after_at m (pair_of (receiver_on on m)) (text_in on of_size text m)) q)
-text-sound m on of_size text s =
+text-good : (m : Ends) (on : ℕ) (of_size : ℕ) (text : List Bool) → Good m → Good (map_after_at m (pair_of (receiver_on on m)) (text_in on of_size text m))
+text-good m on of_size text =
     looked m (pair_of (receiver_on on m)) (text_in on of_size text m)
-    (λ pair e. known m pair (all.Text_comes [] of_size text) (end_after (get m pair) (text_in on of_size text m)) (ap (λ o. end_after (get m pair) (hear_text of_size text o)) (led (uses_link on) m pair e).0) s) s
+    (λ pair e. (all.Text_comes [] of_size text, ap (λ o. end_after (get m pair) (hear_text of_size text o)) (led (uses_link on) m pair e).0, none-fresh m (all.Text_comes [] of_size text) (λ l. refl) (λ l. refl)))
 
-cut-sound : (m : Ends) (on : ℕ) → ((q : Pair) → SoundAt q (get m q)) → (q : Pair) → SoundAt q (get (map_after_at m (pair_of (sender_on on m)) (cut_in on m)) q)
-cut-sound m on s =
+cut-good : (m : Ends) (on : ℕ) → Good m → Good (map_after_at m (pair_of (sender_on on m)) (cut_in on m))
+cut-good m on =
     looked m (pair_of (sender_on on m)) (cut_in on m)
-    (λ pair e. known m pair all.Text_goes_out (end_after (get m pair) (cut_in on m)) (ap (λ (d : Happened). d.after) (cut-led m on pair e).1) s) s
+    (λ pair e. (all.Text_goes_out, ap (λ (d : Happened). d.after) (cut-led m on pair e).1, none-fresh m all.Text_goes_out (λ l. refl) (λ l. refl)))
 
-answered-sound : (m : Ends) (on : ℕ) → ((q : Pair) → SoundAt q (get m q)) → (q : Pair) → SoundAt q (get (map_after_at m (pair_of (sender_on on m)) (answered_in on Taken m)) q)
-answered-sound m on s =
+answered-good : (m : Ends) (on : ℕ) → Good m → Good (map_after_at m (pair_of (sender_on on m)) (answered_in on Taken m))
+answered-good m on =
     looked m (pair_of (sender_on on m)) (answered_in on Taken m)
-    (λ pair e. known m pair (all.Is_answered Taken) (end_after (get m pair) (answered_in on Taken m)) (ap (λ (d : Happened). d.after) (answered-led m on Taken pair e).1) s) s
+    (λ pair e. (all.Is_answered Taken, ap (λ (d : Happened). d.after) (answered-led m on Taken pair e).1, none-fresh m (all.Is_answered Taken) (λ l. refl) (λ l. refl)))
 
 -- Each step.
 
-happening-stands : (pair : Pair) (what : Happening) (n : Node) → Stands n → Stands (happens_at pair what n)
-happening-stands pair what n p =
+happening-stands : (pair : Pair) (what : Happening) (n : Node) → Fresh n.ends what → Stands n → Stands (happens_at pair what n)
+happening-stands pair what n f p =
     let did : Happened = happens pair what (get n.ends pair) in
-    keeping (host_makes_all did.made n.host) (put n.ends pair did.after) (put-sound n.ends pair did.after (sound-after pair what (get n.ends pair) (p.sound pair)) p.sound)
+    keeping (host_makes_all did.made n.host) (put n.ends pair did.after) (good-after n.ends (put n.ends pair did.after) pair what (put-changes n.ends pair what) f p.good)
 
 either : (P : Node → Type 0) (b : Bool) (n m : Node) → P n → P m → P (if b then n else m)
 either P true n m p q = p
 either P false n m p q = q
 
 echoing-stands : (byte : ℕ) (n : Node) → Stands n → Stands (echo_called byte n)
-echoing-stands byte n p = keeping (echo_called byte n).host n.ends p.sound
+echoing-stands byte n p = keeping (echo_called byte n).host n.ends p.good
 
 cleared-stands : (h : Host) (n : Node) → Stands (cleared h n)
 cleared-stands h n = none-stand (is_up h)
@@ -144,14 +112,14 @@ rrp_up n e = grind arith
 hearing-stands : (c : Command) (n : Node) → Stands n → Stands (hears c n)
 hearing-stands Rst n p = cleared-stands (host_hears Rst (reaction Rst n) n.host) n
 hearing-stands Rrp n p = staying (is_up n.host) (is_up (host_hears Rrp (reaction Rrp n) n.host)) n.ends (rrp_up n) p
-hearing-stands c n p = either Stands (is_up n.host) (hears_other c n) n (keeping (hears_other c n).host (map_after_at n.ends (leads_to c n.ends) (hear c n.ends)) (command-sound c n.ends p.sound)) p
+hearing-stands c n p = either Stands (is_up n.host) (hears_other c n) n (keeping (hears_other c n).host (map_after_at n.ends (leads_to c n.ends) (hear c n.ends)) (command-good c n.ends p.good)) p
 
 hearing_all-stands : (cs : List Command) (n : Node) → Stands n → Stands (hears_all cs n)
 hearing_all-stands [] n p = p
 hearing_all-stands (c ∷ cs) n p = hearing_all-stands cs (hears c n) (hearing-stands c n p)
 
 text-stands : (on : ℕ) (head : List Bool) (t : TextOut) (n : Node) → Stands n → Stands (hears_text on head t n)
-text-stands on head t n p = either Stands (is_up n.host) (takes_text on head t n) n (keeping (takes_text on head t n).host (map_after_at n.ends (pair_of (receiver_on on n.ends)) (text_in on t.of_size t.bits n.ends)) (text-sound n.ends on t.of_size t.bits p.sound)) p
+text-stands on head t n p = either Stands (is_up n.host) (takes_text on head t n) n (keeping (takes_text on head t n).host (map_after_at n.ends (pair_of (receiver_on on n.ends)) (text_in on t.of_size t.bits n.ends)) (text-good n.ends on t.of_size t.bits p.good)) p
 
 -- where there are no ends nothing goes out
 nothing_out : (on : ℕ) → answer (cut_in on no_ends) ≡ None
@@ -167,7 +135,7 @@ cutting-stands : (on : ℕ) (o : Option (ℕ × List Bool)) (n : Node) → answe
 cutting-stands on None n e p = p
 cutting-stands on (Some text) n e p = record {
   none = λ d. let k : answer (cut_in on n.ends) ≡ None = ap (λ m. answer (cut_in on m)) (p.none d) ∙ nothing_out on in absurd (cc (k, e));
-  sound = cut-sound n.ends on p.sound;
+  good = cut-good n.ends on p.good;
 }
 
 sending-stands : (on : ℕ) (slot : Slot TextOut) (n : Node) → Stands n → Stands (sends_text on slot n)
@@ -188,7 +156,7 @@ settling-stands : (n : Node) → Stands n → Stands (settles n)
 settling-stands n p = staying (is_up n.host) (is_up (host_settles (quiet n) n.host)) n.ends (settled_up (quiet n) n.host) p
 
 freeing-stands : (on : ℕ) (n : Node) → Stands n → Stands (frees on n)
-freeing-stands on n p = keeping (frees on n).host (map_after_at n.ends (pair_of (sender_on on n.ends)) (answered_in on Taken n.ends)) (answered-sound n.ends on p.sound)
+freeing-stands on n p = keeping (frees on n).host (map_after_at n.ends (pair_of (sender_on on n.ends)) (answered_in on Taken n.ends)) (answered-good n.ends on p.good)
 
 text_answered-stands : (on : ℕ) (slot : Slot TextOut) (subnet : Subnet TextOut) (n : Node) → Stands n → Stands (text_answered on slot subnet n)
 text_answered-stands on (Travelling t) Delivered n p = settling-stands (frees on n) (freeing-stands on n p)
@@ -226,7 +194,7 @@ step-stands : (step : Step) (w : World) → BothStand w → BothStand (steps ste
 step-stands Calls_reset w p = (resetting-stands w.this p.0, p.1)
 step-stands (Calls pair call) w p =
     let what = called call (is_full w.this.host.phase) w.this.ends in
-    (either Stands (is_up w.this.host) (happens_at pair what w.this) w.this (happening-stands pair what w.this p.0) p.0, p.1)
+    (either Stands (is_up w.this.host) (happens_at pair what w.this) w.this (happening-stands pair what w.this (called-fresh call (is_full w.this.host.phase) w.this.ends) p.0) p.0, p.1)
 step-stands (Calls_echo byte) w p = (either Stands (is_up w.this.host) (echo_called byte w.this) w.this (echoing-stands byte w.this p.0) p.0, p.1)
 step-stands Falls w p = (cleared-stands (host_falls w.this.host) w.this, p.1)
 step-stands (Sends n) w p =

@@ -5,8 +5,11 @@ pub mod FreeLinks
 pub mod PairOrder
 pub mod EndsAfter
 pub mod LinksLead
+pub mod Lookups
+pub mod LinksStay
 pub mod Lives
 pub mod HostsBase
+pub mod EndsGood
 pub mod HostsStand
 pub mod HostsListed
 pub mod Makes

@@ -1,7 +1,8 @@
 //! Two hosts with their connections.
-ghost use Rattle.std.specs.Prelude.{◌≡◌, List, true, false, Some};
+ghost use Rattle.std.specs.Prelude.{◌≡◌, ℕ, List, true, false, Some};
 ghost use Rattle.std.specs.FinMap.{get};
-ghost use Rattle.ncp_model.specs.Ends.{no_ends};
+ghost use Rattle.ncp_model.specs.Ends.{no_ends, hears_link, uses_link};
+ghost use Rattle.ncp_model.specs.Leading.{passes};
 ghost use Rattle.ncp_model.specs.Sound.{SoundAt};
 ghost use Rattle.ncp_model.specs.Resets.{is_up, Agrees, Silent};
 ghost use Rattle.ncp_model.specs.Resets as resets;
@@ -23,12 +24,15 @@ pub fn hosts_act_once_in_order()
     ensures silent_too { (events : List Event) → is_up (run events).that.host ≡ false → Silent (run events).that.host }
 {}
 
-/// Ends stand only at a host that is up, and each of them is sound, after every schedule.
+/// Ends stand only at a host that is up, each of them is sound, and no two that send, nor two that
+/// receive, are on one link, after every schedule.
 pub fn ends_stand_only_while_up()
     ensures none { (events : List Event) → is_up (run events).this.host ≡ false → (run events).this.ends ≡ no_ends }
     ensures none_too { (events : List Event) → is_up (run events).that.host ≡ false → (run events).that.ends ≡ no_ends }
     ensures sound { (events : List Event) (pair : Pair) → SoundAt pair (get (run events).this.ends pair) }
     ensures sound_too { (events : List Event) (pair : Pair) → SoundAt pair (get (run events).that.ends pair) }
+    ensures apart { (events : List Event) (on : ℕ) (p q : Pair) → passes (hears_link on) p (get (run events).this.ends p) ≡ true → passes (hears_link on) q (get (run events).this.ends q) ≡ true → p ≡ q }
+    ensures apart_too { (events : List Event) (on : ℕ) (p q : Pair) → passes (uses_link on) p (get (run events).this.ends p) ≡ true → passes (uses_link on) q (get (run events).this.ends q) ≡ true → p ≡ q }
 {}
 
 /// That these laws speak of something: both hosts come up, a connection opens, two of three bytes

@@ -10,7 +10,13 @@ pub returns-clause-none_too : goal.returns-clause-none_too
 returns-clause-none_too c = λ (events : List Event). (ever-stand events).1.none
 
 pub returns-clause-sound : goal.returns-clause-sound
-returns-clause-sound c = λ (events : List Event). (ever-stand events).0.sound
+returns-clause-sound c = λ (events : List Event). (ever-stand events).0.good.sound
 
 pub returns-clause-sound_too : goal.returns-clause-sound_too
-returns-clause-sound_too c = λ (events : List Event). (ever-stand events).1.sound
+returns-clause-sound_too c = λ (events : List Event). (ever-stand events).1.good.sound
+
+pub returns-clause-apart : goal.returns-clause-apart
+returns-clause-apart c = λ (events : List Event). (ever-stand events).0.good.heard
+
+pub returns-clause-apart_too : goal.returns-clause-apart_too
+returns-clause-apart_too c = λ (events : List Event). (ever-stand events).0.good.asked
