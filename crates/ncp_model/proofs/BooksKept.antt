@@ -13,12 +13,12 @@ use Rattle.ncp_model.specs.Sound.{SoundAt}
 use Rattle.ncp_model.proofs.SoundEnds.{one_way, sound-after}
 
 -- after what happened the books agree
-abbrev Kept : Pair → Happening → Option End → Past → Type 0
+abbrev pub Kept : Pair → Happening → Option End → Past → Type 0
 Kept pair what before past = BooksAt (happens pair what before).after (adds what (happens pair what before).outcome (if opens before (happens pair what before).after then no_past else past))
 
 ruleset on_books = (append-nil, append_assoc, length-append, take-append-drop)
 
-books-kept : (pair : Pair) (what : Happening) (before : Option End) (past : Past) → sends pair ≡ false → suits pair what ≡ true → SoundAt pair before → BooksAt before past → Kept pair what before past
+pub books-kept : (pair : Pair) (what : Happening) (before : Option End) (past : Past) → sends pair ≡ false → suits pair what ≡ true → SoundAt pair before → BooksAt before past → Kept pair what before past
 books-kept pair (all.Asks_to_send of_size with_room own full) None past n l s k = grind (arith, on_books)
 books-kept pair (all.Asks_to_send of_size with_room own full) (Some e) past n l s k = grind (arith, on_books)
 books-kept pair (all.Asks_to_receive with_room on own full) None past n l s k = grind (arith, on_books)

@@ -20,5 +20,10 @@ pub mod Sending
 pub mod Admitting
 pub mod Echo
 pub mod Schedules
+pub mod Connections
+pub mod Ledger
+pub mod Clearings
+pub mod Sharing
+pub mod Finding
 pub mod Hosts
 pub mod Runs

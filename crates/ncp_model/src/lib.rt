@@ -8,6 +8,7 @@
 
 mod amounts;
 mod call_fault;
+pub mod connections;
 pub mod histories;
 pub mod hosts;
 mod limits;
@@ -17,6 +18,7 @@ mod pair;
 pub mod phases;
 pub mod resets;
 pub mod rows;
+pub mod sharing;
 #[cfg(test)]
 mod tests;
 

@@ -1,0 +1,154 @@
+-- One connection between two hosts that stay up: an end at the sender's host and one at the
+-- receiver's, what is underway between them, and at most one text that is out. All that happens at
+-- an end is an act; what it makes joins what is underway. A control link keeps order, so the
+-- commands of each host come in the order in which they were made.
+use Rattle.std.specs.Prelude.{ℕ, Bool, true, false, ◌||◌, nat_lt, if◌then◌else◌, List, [], ◌∷◌, ◌++◌, Option, None, Some}
+use Rattle.ncp_control.specs.declared.command.Command.{Command}
+use Rattle.ncp_control.specs.declared.command.Command.TheVariants.{Rts, Str, Cls, All, Gvb, Ret, Inr, Ins}
+use Rattle.ncp_model.specs.declared.pair.Pair.{Pair}
+use Rattle.ncp_model.specs.declared.limits.TheConstants.{MAX_BY_PEER}
+use Rattle.ncp_model.specs.Act.{is_data_link}
+use Rattle.ncp_model.specs.Texts.{Answered, Taken, Again, Kept}
+use Rattle.ncp_model.specs.Happenings.{Happening, Outcome, Happened, happens}
+use Rattle.ncp_model.specs.Happenings as all
+use Rattle.ncp_model.specs.Histories.{Watched, no_past, watches}
+
+-- the pair as the peer names it
+abbrev pub turned : Pair → Pair
+turned pair = record { local = pair.remote; remote = pair.local }
+
+-- the one text that may be out, from its output to its RFNM
+pub data Text : Type 0 where
+  No_text : Text
+  Away : (of_size : ℕ) → (bits : List Bool) → Text  -- it went out and has not come
+  Here : Text  -- it came and has had no RFNM
+
+pub record Connection : Type 0 where
+  pub sender : Watched  -- the end at the sender's host, with the history of the pair
+  pub receiver : Watched
+  pub to_receiver : List Command  -- underway: made, and not come
+  pub to_sender : List Command
+  pub text : Text
+  pub violated : Bool  -- an end answered a command or a text of its peer as against the protocol
+
+abbrev pub no_end : Watched
+no_end = record { end = None; past = no_past }
+
+abbrev pub new_connection : Connection
+new_connection = record { sender = no_end; receiver = no_end; to_receiver = []; to_sender = []; text = No_text; violated = false }
+
+-- an ERR is made, or a text is answered as one that the peer may not send
+abbrev pub is_violation : Outcome → Bool
+is_violation (all.Erred error) = true
+is_violation all.WrongSize = true
+is_violation all.Over = true
+is_violation all.NotOpen = true
+is_violation outcome = false
+
+-- the text that is out once this happened at the sender's end
+abbrev pub text_after : Outcome → Text → Text
+text_after (all.Sent of_size bits) text = Away of_size bits
+text_after outcome text = text
+
+-- This happens at an end, which the sender's host names by this pair. What is made is underway.
+
+abbrev pub sender_does : Pair → Happening → Connection → Connection
+sender_does pair what w =
+    let did : Happened = happens pair what w.sender.end in
+    record w {
+      sender = watches pair what w.sender;
+      to_receiver = w.to_receiver ++ did.made;
+      text = text_after did.outcome w.text;
+      violated = w.violated || is_violation did.outcome;
+    }
+
+abbrev pub receiver_does : Pair → Happening → Connection → Connection
+receiver_does pair what w =
+    let did : Happened = happens (turned pair) what w.receiver.end in
+    record w {
+      receiver = watches (turned pair) what w.receiver;
+      to_sender = w.to_sender ++ did.made;
+      violated = w.violated || is_violation did.outcome;
+    }
+
+-- what a user may call; a receiver asks with a link that carries connections
+abbrev pub is_call : Happening → Bool
+is_call (all.Asks_to_send of_size with_room own full) = true
+is_call (all.Asks_to_receive with_room on own full) = is_data_link on
+is_call (all.Closes full) = true
+is_call (all.Gives text) = true
+is_call (all.Takes bytes) = true
+is_call (all.Allocates of_messages of_bits full) = true
+is_call (all.Calls_back of_messages of_bits full) = true
+is_call (all.Interrupts full) = true
+is_call what = false
+
+-- What a command is to the end to which it comes, where no other end there has its link, and so
+-- many ends are there by the peer's request alone.
+abbrev pub command_comes : ℕ → Command → Option Happening
+command_comes by_peer (Rts receive send on) = Some (all.Rts_comes on false by_peer)
+command_comes by_peer (Str send receive of_size) = Some (all.Str_comes of_size by_peer)
+command_comes by_peer (Cls my your) = Some all.Cls_comes
+command_comes by_peer (All on of_messages of_bits) = Some (all.All_comes on of_messages of_bits)
+command_comes by_peer (Gvb on of_messages of_bits) = Some (all.Gvb_comes on of_messages of_bits)
+command_comes by_peer (Ret on of_messages of_bits) = Some (all.Ret_comes on of_messages of_bits)
+command_comes by_peer (Inr on) = Some (all.Inr_comes on)
+command_comes by_peer (Ins on) = Some (all.Ins_comes on)
+command_comes by_peer c = None
+
+-- The things that happen. A host that would answer Full goes down, which is a clearing and no event
+-- here: so a command comes where fewer than 64 ends are there by the peer's request alone.
+pub data Event : Type 0 where
+  Sender_calls : (what : Happening) → Event
+  Receiver_calls : (what : Happening) → Event
+  Comes_to_sender : (by_peer : ℕ) → Event  -- the first command underway
+  Comes_to_receiver : (by_peer : ℕ) → Event
+  Text_goes_out : Event
+  Text_comes : (head : List Bool) → Event  -- with this leader and prefix
+  Text_is_answered : (how : Answered) → Event
+
+abbrev pub sender_hears : Pair → Option Happening → Connection → Connection
+sender_hears pair None w = w
+sender_hears pair (Some what) w = sender_does pair what w
+
+abbrev pub receiver_hears : Pair → Option Happening → Connection → Connection
+receiver_hears pair None w = w
+receiver_hears pair (Some what) w = receiver_does pair what w
+
+abbrev pub comes_to_sender : Pair → ℕ → List Command → Connection → Connection
+comes_to_sender pair by_peer [] w = w
+comes_to_sender pair by_peer (c ∷ rest) w = sender_hears pair (command_comes by_peer c) (record w { to_sender = rest })
+
+abbrev pub comes_to_receiver : Pair → ℕ → List Command → Connection → Connection
+comes_to_receiver pair by_peer [] w = w
+comes_to_receiver pair by_peer (c ∷ rest) w = receiver_hears pair (command_comes by_peer c) (record w { to_receiver = rest })
+
+abbrev pub text_comes : Pair → List Bool → Text → Connection → Connection
+text_comes pair head No_text w = w
+text_comes pair head (Away of_size bits) w = receiver_does pair (all.Text_comes head of_size bits) (record w { text = Here })
+text_comes pair head Here w = w
+
+-- A text that came is answered by RFNM. One that has not come is answered as not delivered: it is
+-- still out, and goes out again.
+abbrev pub text_is_answered : Pair → Answered → Text → Connection → Connection
+text_is_answered pair Taken Here w = sender_does pair (all.Is_answered Taken) (record w { text = No_text })
+text_is_answered pair Again (Away of_size bits) w = sender_does pair (all.Is_answered Again) w
+text_is_answered pair Kept (Away of_size bits) w = sender_does pair (all.Is_answered Kept) w
+text_is_answered pair how text w = w
+
+abbrev pub occurs : Pair → Event → Connection → Connection
+occurs pair (Sender_calls what) w = if is_call what then sender_does pair what w else w
+occurs pair (Receiver_calls what) w = if is_call what then receiver_does pair what w else w
+occurs pair (Comes_to_sender by_peer) w = if nat_lt by_peer MAX_BY_PEER then comes_to_sender pair by_peer w.to_sender w else w
+occurs pair (Comes_to_receiver by_peer) w = if nat_lt by_peer MAX_BY_PEER then comes_to_receiver pair by_peer w.to_receiver w else w
+occurs pair Text_goes_out w = sender_does pair all.Text_goes_out w
+occurs pair (Text_comes head) w = text_comes pair head w.text w
+occurs pair (Text_is_answered how) w = text_is_answered pair how w.text w
+
+-- the connection after these events, in order
+abbrev pub occur_from : Pair → List Event → Connection → Connection
+occur_from pair [] w = w
+occur_from pair (e ∷ more) w = occur_from pair more (occurs pair e w)
+
+abbrev pub occur : Pair → List Event → Connection
+occur pair events = occur_from pair events new_connection

@@ -1,0 +1,49 @@
+-- What names a link, or sockets, leads to the end for which it was made.
+use Rattle.std.specs.Prelude.{◌≡◌, ℕ, Bool, true, false, List, ◌∷◌, Option, None, Some}
+use Rattle.ncp_control.specs.declared.command.Command.{Command}
+use Rattle.ncp_control.specs.declared.command.Command.TheVariants.{Rts, Str, Cls, All, Gvb, Ret, Inr, Ins}
+use Rattle.ncp_model.specs.declared.pair.Pair.{Pair}
+use Rattle.ncp_model.specs.Pairs.{sends}
+use Rattle.ncp_model.specs.End.{or_new}
+use Rattle.ncp_model.specs.Connections.{turned}
+use Rattle.ncp_model.specs.Ledger.{is_out}
+use Rattle.ncp_model.specs.Sharing.{Tagged, Shared, hears_at, uses_at}
+
+-- the link that a command names, if it names no sockets
+abbrev pub link_of : Command → Option ℕ
+link_of (All on of_messages of_bits) = Some on
+link_of (Gvb on of_messages of_bits) = Some on
+link_of (Ret on of_messages of_bits) = Some on
+link_of (Inr on) = Some on
+link_of (Ins on) = Some on
+link_of c = None
+
+-- this one, and no other
+abbrev pub Only : (Pair → Bool) → Pair → Type 0
+Only test q = (test q ≡ true) × ((p : Pair) → test p ≡ true → p ≡ q)
+
+-- what comes with a link leads to the sending end that heard it: the one for which it was made
+abbrev pub GrantFinds : Shared → Type 0
+GrantFinds s = (q : Pair) (c : Command) (on : ℕ) (rest : List Tagged) → s.to_senders ≡ record { pair = q; command = c } ∷ rest
+    → sends q ≡ true → link_of c ≡ Some on → Only (hears_at s on) q
+
+-- and to the receiving end that asked with it
+abbrev pub ReturnFinds : Shared → Type 0
+ReturnFinds s = (q : Pair) (c : Command) (on : ℕ) (rest : List Tagged) → s.to_receivers ≡ record { pair = q; command = c } ∷ rest
+    → sends q ≡ true → link_of c ≡ Some on → Only (uses_at s on) q
+
+-- an RTS that comes names a link that no sending end heard
+abbrev pub RequestFits : Shared → Type 0
+RequestFits s = (q : Pair) (receive send on : ℕ) (rest : List Tagged) → s.to_senders ≡ record { pair = q; command = Rts receive send on } ∷ rest
+    → sends q ≡ true → (p : Pair) → hears_at s on p ≡ true → ⊥
+
+-- While a text is out: at each host that was not cleared its end holds its link, and no other does.
+
+abbrev pub SenderHoldsLink : Shared → Type 0
+SenderHoldsLink s = (q : Pair) → is_out (s.text q) ≡ true → sends q ≡ true → Only (hears_at s (or_new (s.sender q).end).link) q
+
+abbrev pub ReceiverHoldsLink : Shared → Type 0
+ReceiverHoldsLink s = (q : Pair) → is_out (s.text q) ≡ true → sends q ≡ true → Only (uses_at s (or_new (s.receiver q).end).link) q
+
+abbrev pub SameLink : Shared → Type 0
+SameLink s = (q : Pair) → is_out (s.text q) ≡ true → sends q ≡ true → (or_new (s.receiver q).end).link ≡ (or_new (s.sender q).end).link

@@ -1,0 +1,36 @@
+//! One connection between two hosts that stay up.
+ghost use Rattle.std.specs.Prelude.{◌≡◌, List, true, false};
+ghost use Rattle.ncp_model.specs.Pairs.{sends};
+ghost use Rattle.ncp_model.specs.Connections.{Event, occur};
+ghost use Rattle.ncp_model.specs.Ledger.{BothOpen, MessagesAgree, BitsAgree, Parted, Held, Begins, OutIsOpened};
+ghost use Rattle.ncp_model.specs.Clearings.{Change, change, OutStaysOpened};
+
+use crate::pair::Pair;
+
+/// After every list of events: no end made an ERR for a command of its peer, or answered a text as
+/// not connected, of the wrong size or beyond the allocation. While both ends are open the ledger
+/// agrees, for messages and for bits, and what was given was got, is out, or waits. What was got was
+/// taken or is held, and is a beginning of what was given. While a text is out both ends have opened.
+pub fn nothing_is_lost_or_made()
+    ensures safe { (pair : Pair) (events : List Event) → sends pair ≡ true → (occur pair events).violated ≡ false }
+    ensures messages { (pair : Pair) (events : List Event) → sends pair ≡ true → BothOpen (occur pair events) → MessagesAgree (occur pair events) }
+    ensures bits { (pair : Pair) (events : List Event) → sends pair ≡ true → BothOpen (occur pair events) → BitsAgree (occur pair events) }
+    ensures parted { (pair : Pair) (events : List Event) → sends pair ≡ true → BothOpen (occur pair events) → Parted (occur pair events) }
+    ensures held { (pair : Pair) (events : List Event) → sends pair ≡ true → Held (occur pair events) }
+    ensures beginning { (pair : Pair) (events : List Event) → sends pair ≡ true → Begins (occur pair events) }
+    ensures opened { (pair : Pair) (events : List Event) → sends pair ≡ true → OutIsOpened (occur pair events) }
+{}
+
+/// The same where either host may be cleared at any moment, and where a connection starts anew once
+/// both were cleared: no end at a host that was not cleared ever answers its peer with an ERR or as
+/// against the protocol, the ledger agrees while both ends are open, and what a live receiver got is
+/// a beginning of what was given, whatever became of the sender since.
+pub fn clearings_lose_and_make_nothing()
+    ensures safe { (pair : Pair) (cs : List Change) → sends pair ≡ true → (change pair cs).connection.violated ≡ false }
+    ensures messages { (pair : Pair) (cs : List Change) → sends pair ≡ true → BothOpen (change pair cs).connection → MessagesAgree (change pair cs).connection }
+    ensures bits { (pair : Pair) (cs : List Change) → sends pair ≡ true → BothOpen (change pair cs).connection → BitsAgree (change pair cs).connection }
+    ensures parted { (pair : Pair) (cs : List Change) → sends pair ≡ true → BothOpen (change pair cs).connection → Parted (change pair cs).connection }
+    ensures held { (pair : Pair) (cs : List Change) → sends pair ≡ true → Held (change pair cs).connection }
+    ensures beginning { (pair : Pair) (cs : List Change) → sends pair ≡ true → Begins (change pair cs).connection }
+    ensures opened { (pair : Pair) (cs : List Change) → sends pair ≡ true → OutStaysOpened (change pair cs) }
+{}

@@ -1,0 +1,20 @@
+//! Many connections over the same two lists of commands.
+ghost use Rattle.std.specs.Prelude.{◌≡◌, List, true, false};
+ghost use Rattle.ncp_model.specs.Pairs.{sends};
+ghost use Rattle.ncp_model.specs.Ledger.{BothOpen, MessagesAgree, BitsAgree, Parted, Held, Begins};
+ghost use Rattle.ncp_model.specs.Clearings.{OutStaysOpened};
+ghost use Rattle.ncp_model.specs.Sharing.{Shared_event, AllMayHappen, new_shared, shared, at, hosted_at};
+
+use crate::pair::Pair;
+
+/// The same for each of any number of connections from one host to another, whose commands share the
+/// two lists underway with those of the connections the other way.
+pub fn each_loses_and_makes_nothing()
+    ensures safe { (events : List Shared_event) (p : Pair) → AllMayHappen events new_shared → sends p ≡ true → (shared events).violated p ≡ false }
+    ensures messages { (events : List Shared_event) (p : Pair) → AllMayHappen events new_shared → sends p ≡ true → BothOpen (at p (shared events)) → MessagesAgree (at p (shared events)) }
+    ensures bits { (events : List Shared_event) (p : Pair) → AllMayHappen events new_shared → sends p ≡ true → BothOpen (at p (shared events)) → BitsAgree (at p (shared events)) }
+    ensures parted { (events : List Shared_event) (p : Pair) → AllMayHappen events new_shared → sends p ≡ true → BothOpen (at p (shared events)) → Parted (at p (shared events)) }
+    ensures held { (events : List Shared_event) (p : Pair) → AllMayHappen events new_shared → sends p ≡ true → Held (at p (shared events)) }
+    ensures beginning { (events : List Shared_event) (p : Pair) → AllMayHappen events new_shared → sends p ≡ true → Begins (at p (shared events)) }
+    ensures opened { (events : List Shared_event) (p : Pair) → AllMayHappen events new_shared → sends p ≡ true → OutStaysOpened (hosted_at p (shared events)) }
+{}
