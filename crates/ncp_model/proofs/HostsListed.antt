@@ -30,7 +30,8 @@ use Rattle.ncp_model.specs.Sending.{is_full}
 use Rattle.ncp_model.specs.Delivery.{Slot, Empty, Ready, Travelling, Held, Subnet, Free, Accepted, Delivered, Lost, Dead, Link, idle, undelivered, answered, woken}
 use Rattle.ncp_model.specs.Resets.{Host, is_up, anew, host_resets, host_settles, host_falls, host_makes_all, host_hears, Side, This, That}
 use Rattle.ncp_model.specs.Resets as resets
-use Rattle.ncp_model.specs.Hosts.{TextOut, Pasts, or_no_past, past_of, past_after, pasts_after, pasts_after_at, Node, new_node, all_empty, quiet, set_link, kept, kept_echoes, is_violation, Call, Ask_to_send, Ask_to_receive, Close, Give, Take, Allocate, Call_back, Interrupt, called, put, cleared, made_by_echo, happens_at, calls, echo_called, calls_echo, calls_reset, is_full_up, echo_replies, echoes_after, reaction, hears, hears_other, hears_all, takes_text, hears_text, goes_out, cuts, sends_text, frees, settles, text_answered, text_comes, control_answered, message_comes, undelivered_text, moved, World, swap, base, Step, Calls_reset, Calls, Calls_echo, Falls, Sends, Sends_text, Hears, Hears_text, Loses, Loses_text, Dies, Text_dies, Is_answered, Text_is_answered, Wakes, steps, Event, at, run_from, run, start}
+use Rattle.ncp_model.specs.Connections.{is_violation}
+use Rattle.ncp_model.specs.Hosts.{TextOut, Pasts, or_no_past, past_of, past_after, pasts_after, pasts_after_at, Node, new_node, all_empty, quiet, set_link, kept, kept_echoes, Call, Ask_to_send, Ask_to_receive, Close, Give, Take, Allocate, Call_back, Interrupt, called, put, cleared, made_by_echo, happens_at, calls, echo_called, calls_echo, calls_reset, is_full_up, echo_replies, echoes_after, reaction, hears, hears_other, hears_all, takes_text, hears_text, goes_out, cuts, sends_text, frees, settles, text_answered, text_comes, control_answered, message_comes, undelivered_text, moved, World, swap, base, Step, Calls_reset, Calls, Calls_echo, Falls, Sends, Sends_text, Hears, Hears_text, Loses, Loses_text, Dies, Text_dies, Is_answered, Text_is_answered, Wakes, steps, Event, at, run_from, run, start}
 use Rattle.ncp_model.proofs.PairOrder.{pairs_exact, pairs_total}
 
 abbrev pub Listed : Type 0
@@ -522,3 +523,26 @@ low_run es = low_run_from es (record { this = low_new; that = low_new })
 
 pub run-low : (es : List Event) → lowered (run es) ≡ low_run es
 run-low es = run_from-low es start ∙ ap (low_run_from es) (rw (no_entries {X = End}, no_entries {X = Past}) refl)
+
+-- What a run leaves, computed.
+
+pub this-end : (es : List Event) (pair : Pair) → get (run es).this.ends pair ≡ find pair_cmp pair (low_run es).this.ends
+this-end es pair = get-entries (run es).this.ends pair ∙ ap (λ (w : LowWorld). find pair_cmp pair w.this.ends) (run-low es)
+
+pub that-end : (es : List Event) (pair : Pair) → get (run es).that.ends pair ≡ find pair_cmp pair (low_run es).that.ends
+that-end es pair = get-entries (run es).that.ends pair ∙ ap (λ (w : LowWorld). find pair_cmp pair w.that.ends) (run-low es)
+
+pub that-past : (es : List Event) (pair : Pair) → past_of (run es).that.pasts pair ≡ or_no_past (find pair_cmp pair (low_run es).that.pasts)
+that-past es pair = ap or_no_past (get-entries (run es).that.pasts pair ∙ ap (λ (w : LowWorld). find pair_cmp pair w.that.pasts) (run-low es))
+
+pub this-link : (es : List Event) (on : ℕ) → (run es).this.texts on ≡ (low_run es).this.texts on
+this-link es on = ap (λ (w : LowWorld). w.this.texts on) (run-low es)
+
+pub this-host : (es : List Event) → (run es).this.host ≡ (low_run es).this.host
+this-host es = ap (λ (w : LowWorld). w.this.host) (run-low es)
+
+pub that-host : (es : List Event) → (run es).that.host ≡ (low_run es).that.host
+that-host es = ap (λ (w : LowWorld). w.that.host) (run-low es)
+
+pub right : (es : List Event) → (run es).that.wrong ≡ (low_run es).that.wrong
+right es = ap (λ (w : LowWorld). w.that.wrong) (run-low es)

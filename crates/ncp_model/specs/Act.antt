@@ -22,7 +22,7 @@ abbrev pub answer : {A : Type 0} → Act A → A
 answer (Stays a) = a
 answer (Becomes e a) = a
 
--- the end afterwards: one that is over is there no more
+-- the end afterwards: one that is over is there no more (NIC 8246, termination)
 abbrev pub end_after : {A : Type 0} → Option End → Act A → Option End
 end_after before (Stays a) = before
 end_after before (Becomes e a) = if is_over e then None else Some e
@@ -54,16 +54,16 @@ made_by_hearing Full = []
 
 -- The words that acts share.
 
--- both requests have met: the end opens, unless it is on its way out. Its two numbers are zero
--- then, as only acts on what is open move them
+-- both requests have met (NIC 8246, establishment): the end opens, unless it is on its way out. Its
+-- two numbers are zero then, as only acts on what is open move them
 abbrev pub met : End → End
 met e = record e { opened = e.opened || (e.asked && e.heard && not (is_going e)) }
 
--- the CLS is made: what is stored is dropped
+-- the CLS is made: what is stored is dropped (this profile's rule)
 abbrev pub leaves : End → End
 leaves e = record e { leaving = false; left = true; stored = [] }
 
--- the end's CLS names its own socket first
+-- the end's CLS names its own socket first (NIC 8246, CLS)
 abbrev pub closing : Pair → Command
 closing pair = Cls pair.local pair.remote
 

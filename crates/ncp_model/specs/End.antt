@@ -1,4 +1,5 @@
--- One end of a connection: what one host knows of it.
+-- One end of a connection: what one host knows of it (NIC 8246, connections). Its words opened,
+-- leaving and live, and that it ends with both CLSs, are this profile's.
 use Rattle.std.specs.Prelude.{ℕ, Bool, false, not, ◌&&◌, ◌||◌, List, [], Option, None, Some, refl}
 use Rattle.std.specs.Coded.{Coded, code_by, coded×, coded_ℕ, coded_bool, coded_list}
 

@@ -41,7 +41,7 @@ is_by_peer p = not p.1.asked
 abbrev pub hears_link : ℕ → Pair × End → Bool
 hears_link on p = sends p.0 && p.1.heard && p.1.link == on
 
--- a receiving end that asked with this link, whether it is left or not
+-- a receiving end that asked with this link, whether it is left or not (this profile's rule)
 abbrev pub uses_link : ℕ → Pair × End → Bool
 uses_link on p = receives p.0 && p.1.asked && p.1.link == on
 
@@ -78,7 +78,8 @@ abbrev pub pair_of : Option (Pair × End) → Option Pair
 pair_of None = None
 pair_of (Some p) = Some p.0
 
--- the pair here to which a command leads, if any
+-- the pair here to which a command leads, if any (NIC 8246, commands: requests and CLS name both
+-- sockets, all others a link)
 abbrev pub leads_to : Command → Ends → Option Pair
 leads_to (Rts receive send on) m = Some (record { local = send; remote = receive })
 leads_to (Str send receive of_size) m = Some (record { local = receive; remote = send })
@@ -91,7 +92,7 @@ leads_to (Ins on) m = pair_of (receiver_on on m)
 leads_to c m = None
 
 -- The requests, by what they ask of the other ends: how many have an own request, and which link
--- is free.
+-- is free (this profile's rules).
 
 abbrev pub ask_send_in : Pair → ℕ → ℕ → Bool → Ends → Act (Result Command CallFault)
 ask_send_in pair of_size with_room full m = ask_send pair of_size with_room (count has_asked m) full (get m pair)
@@ -99,7 +100,8 @@ ask_send_in pair of_size with_room full m = ask_send pair of_size with_room (cou
 abbrev pub ask_receive_in : Pair → ℕ → Bool → Ends → Act (Result Command CallFault)
 ask_receive_in pair with_room full m = ask_receive pair with_room (free_link m) (count has_asked m) full (get m pair)
 
--- What a text that comes, goes out or is answered on a link does at the end to which the link leads.
+-- What a text that comes, goes out or is answered on a link does at the end to which the link leads
+-- (NIC 8246, links).
 
 abbrev pub text_in : ℕ → ℕ → List Bool → Ends → Act Took
 text_in on of_size text m = hear_text of_size text (end_of (receiver_on on m))
@@ -118,7 +120,7 @@ answered_at how (Some p) = answered p.0 how (Some p.1)
 abbrev pub answered_in : ℕ → Answered → Ends → Act (Option Command)
 answered_in on how m = answered_at how (sender_on on m)
 
--- what a command of a connection does at the end to which it leads
+-- what a command of a connection does at the end to which it leads; all others do nothing there
 abbrev pub hear : Command → Ends → Act Heard
 hear (Rts receive send on) m =
     let pair : Pair = record { local = send; remote = receive } in

@@ -1,5 +1,5 @@
 -- What happened to a pair of sockets at one host since its connection opened there. A history
--- only watches: no rule asks it.
+-- only watches: no rule asks it. All of it is this profile's way to speak of a connection.
 use Rattle.std.specs.Prelude.{ℕ, ◌+◌, Bool, true, false, not, ◌&&◌, if◌then◌else◌, List, [], ◌∷◌, ◌++◌, Option, None}
 use Rattle.ncp_model.specs.declared.pair.Pair.{Pair}
 use Rattle.ncp_model.specs.End.{End, is_live}

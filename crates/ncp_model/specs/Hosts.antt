@@ -19,6 +19,7 @@ use Rattle.ncp_model.specs.Ends.{Ends, count, has_asked, free_link, sender_on, r
 use Rattle.ncp_model.specs.Happenings.{Happening, Outcome, Happened, happens, of_hearing, of_text}
 use Rattle.ncp_model.specs.Happenings as all
 use Rattle.ncp_model.specs.Leading.{comes}
+use Rattle.ncp_model.specs.Connections.{is_violation}
 use Rattle.ncp_model.specs.Histories.{Past, no_past, adds, opens}
 use Rattle.ncp_model.specs.Echo.{Echoes, Error, no_echoes, echo_answer, echo_asked, eco_reply, hear_erp, hear_err, purge_echo}
 use Rattle.ncp_model.specs.Phase.{new_phase, is_resetting, Reaction}
@@ -83,14 +84,6 @@ kept h m = if is_up h then m else no_ends
 
 abbrev pub kept_echoes : Host → Echoes → Echoes
 kept_echoes h s = if is_up h then s else purge_echo s
-
--- against the protocol: an ERR is made, or a text is answered as one that the peer may not send
-abbrev pub is_violation : Outcome → Bool
-is_violation (all.Erred error) = true
-is_violation all.WrongSize = true
-is_violation all.Over = true
-is_violation all.NotOpen = true
-is_violation outcome = false
 
 -- the histories after something happened to a pair
 abbrev pub past_after : Option End → Happening → Happened → Past → Past

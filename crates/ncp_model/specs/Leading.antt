@@ -42,7 +42,7 @@ leads pair (all.Ins_comes on) before = passes (uses_link on) pair before
 leads pair (all.Text_comes head of_size text) before = passes (uses_link (link_in head)) pair before
 leads pair what before = suits pair what
 
--- what a command is for the end to which it leads
+-- what a command is for the end to which it leads (NIC 8246, commands)
 abbrev pub comes : Command → Ends → Option Happening
 comes (commands.Rts receive send on) m = Some (all.Rts_comes on (any (hears_link on) m) (count is_by_peer m))
 comes (commands.Str send receive of_size) m = Some (all.Str_comes of_size (count is_by_peer m))

@@ -1,4 +1,5 @@
--- Pairs of sockets.
+-- Pairs of sockets (NIC 8246, sockets: an even one receives, an odd one sends, and a connection joins
+-- one of each). That each pair is judged by itself is this profile's rule.
 use Rattle.std.specs.Prelude.{ℕ, ◌%◌, ◌==◌, Bool, ◌&&◌, ◌||◌, refl}
 use Rattle.std.specs.declared.cmp.Ordering.{Ordering}
 use Rattle.std.specs.Ordering.{nat_cmp, ordering_then}

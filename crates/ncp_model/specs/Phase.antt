@@ -1,5 +1,6 @@
--- What a host's flags for one peer allow: coming up by RST and RRP, and going down (NIC 8246, RST
--- and RRP; that both wait until the data links are quiet, and the limits, are this profile's).
+-- What a host's flags for one peer allow: coming up by RST and RRP (NIC 8246, RST and RRP). That both
+-- wait until the data links are quiet, the purge, going down, that a second reset is refused, that all
+-- else is dropped meanwhile, and the limits are this profile's.
 use Rattle.std.specs.Prelude.{Bool, true, false, not, ◌&&◌, ◌||◌, nat_lt, if◌then◌else◌, List, [], ◌∷◌, ◌++◌, length, Result, Ok, Err}
 use Rattle.std.specs.List.{filter, list_any}
 use Rattle.ncp_control.specs.declared.command.Command.{Command}

@@ -1,6 +1,7 @@
 -- Two hosts that reset, and a control link each way between them. Each step is written once, for
 -- "this host" and "that host". What the hosts do besides is left open: when their data links are
--- quiet, what they reply, and when they go down is data of the events.
+-- quiet, what they reply, and when they go down is data of the events. Phase and Delivery say which
+-- rules are of the standards.
 use Rattle.std.specs.Prelude.{◌≡◌, ℕ, ◌+◌, Bool, false, ◌&&◌, if◌then◌else◌, List, [], ◌∷◌, ◌++◌, take, drop}
 use Rattle.std.specs.List.{filter}
 use Rattle.ncp_control.specs.declared.command.Command.{Command}

@@ -70,6 +70,7 @@ pub fn commands_lead_to_ends()
     ensures second { free_link (from_sorted ((inward, asked_receive) ∷ [])) ≡ 3 }
     ensures left { free_link (from_sorted ((inward, gone opened_end) ∷ [])) ≡ 3 }
     ensures gap { free_link (from_sorted ((inward, record asked_receive { link = 3 }) ∷ [])) ≡ 2 }
+    ensures others { (hear Command.Nop both_ways ≡ Stays Heard.Nothing) × (hear (Command.Eco 65) both_ways ≡ Stays Heard.Nothing) × (hear (Command.Erp 65) both_ways ≡ Stays Heard.Nothing) × (hear (err 3 []) both_ways ≡ Stays Heard.Nothing) × (hear Command.Rst both_ways ≡ Stays Heard.Nothing) × (hear Command.Rrp both_ways ≡ Stays Heard.Nothing) }
 {}
 
 /// What names a link comes to the end to which it leads, whatever ends there are: it heard that
@@ -103,4 +104,9 @@ pub fn texts_lead_to_ends()
     ensures leads { (leads outward (all.All_comes 2 1 1) (Some link_heard) ≡ true) × (leads inward (all.Ret_comes 2 1 1) (Some asked_receive) ≡ true) }
     ensures leads_not { (leads outward (all.All_comes 3 1 1) (Some opened_end) ≡ false) × (leads inward (all.All_comes 2 1 1) (Some opened_end) ≡ false) × (leads outward (all.All_comes 2 1 1) None ≡ false) × (leads outward (all.Ret_comes 2 1 1) (Some opened_end) ≡ false) }
     ensures leads_by_head { (leads inward (all.Text_comes (noughts 22 ++ ones 1 ++ noughts 49) 8 []) (Some opened_end) ≡ true) × (leads inward (all.Text_comes (noughts 23 ++ ones 1 ++ noughts 48) 8 []) (Some opened_end) ≡ false) }
+    ensures leads_by_link { leads inward (all.Text_comes (ones 16 ++ noughts 6 ++ ones 1 ++ noughts 1 ++ ones 8 ++ noughts 40) 8 []) (Some opened_end) ≡ true }
+    ensures suits { (suits outward (all.All_comes 2 1 1) ≡ true) × (suits outward (all.Gvb_comes 2 1 1) ≡ true) × (suits outward (all.Inr_comes 2) ≡ true) × (suits inward (all.Ret_comes 2 1 1) ≡ true) × (suits inward (all.Ins_comes 2) ≡ true) × (suits inward (all.Text_comes [] 8 []) ≡ true) }
+    ensures suits_not { (suits inward (all.All_comes 2 1 1) ≡ false) × (suits inward (all.Gvb_comes 2 1 1) ≡ false) × (suits inward (all.Inr_comes 2) ≡ false) × (suits outward (all.Ret_comes 2 1 1) ≡ false) × (suits outward (all.Ins_comes 2) ≡ false) × (suits outward (all.Text_comes [] 8 []) ≡ false) }
+    ensures anew { ask_receive_in inward 64 false (from_sorted []) ≡ Becomes asked_receive (Ok (Command.Rts 2 3 2)) }
+    ensures freed { ask_receive_in (record { local = 10; remote = 11 }) 64 false (from_sorted ((record { local = 4; remote = 5 }, record asked_receive { link = 3 }) ∷ [])) ≡ Becomes asked_receive (Ok (Command.Rts 10 11 2)) }
 {}

@@ -2,12 +2,12 @@
 ghost use Rattle.std.specs.Prelude.{◌≡◌, ℕ, Bool, true, false, ◌+◌, ◌++◌, ◌<◌, ◌≤◌, List, [], ◌∷◌, length, take, replicate, None, Some, Result, Ok, Err};
 ghost use Rattle.std.specs.List.{filter, list_any};
 ghost use Rattle.ncp_control.specs.declared.command.Command.{Command};
-ghost use Rattle.ncp_model.specs.Phase.{Phase, Reaction, new_phase, up, is_rst, is_rrp, is_reset, is_other, purge, settles, is_resetting, reset_answer, wants_reset, resets, owes_answer, hears_rst, hears_rrp, is_stray_rrp, goes_down, makes, is_dropped, hears};
+ghost use Rattle.ncp_model.specs.Phase.{Phase, Reaction, new_phase, up, is_rst, is_rrp, is_reset, is_other, purge, settles, is_resetting, reset_answer, wants_reset, resets, owes_answer, hears_rst, hears_rrp, is_stray_rrp, goes_down, makes, makes_all, is_dropped, hears};
 ghost use Rattle.ncp_control.specs.Spelling.{IsCommand, spelling, spellings};
 ghost use Rattle.ncp_model.specs.Act.{Act, Stays};
 ghost use Rattle.ncp_model.specs.Calls.{ask_send, interrupt};
 ghost use Rattle.ncp_model.specs.Texts.{hear_text};
-ghost use Rattle.ncp_model.specs.Echo.{no_echoes, echo_answer};
+ghost use Rattle.ncp_model.specs.Echo.{no_echoes, echo_answer, eco_reply};
 ghost use Rattle.ncp_model.specs.Admitting.{while_up, answer_while_up, text_while_up, hears_fault};
 ghost use Rattle.ncp_model.specs.Rows.{outward, inward, ones, opened_end, counting, err};
 ghost use Rattle.ncp_model.specs.Schedules.{up_phase};
@@ -41,6 +41,7 @@ pub fn only_resets_while_not_up()
     ensures rrp { (p : Phase) → makes Command.Rrp p ≡ p }
     ensures silent { (events : List Event) → is_up (run events).this ≡ false → Silent (run events).this }
     ensures silent_too { (events : List Event) → is_up (run events).that ≡ false → Silent (run events).that }
+    ensures counted { (c : Command) (p : Phase) → is_other c ≡ true → up p ≡ false → is_dropped c p ≡ true }
 {}
 
 /// An RST that was made is acted on before anything that follows it; and until it came nothing
@@ -101,8 +102,8 @@ pub fn control_messages_are_filled()
     ensures ten { next_commands (replicate 11 (Command.Err 3 (replicate 10 0))) ≡ replicate 10 (Command.Err 3 (replicate 10 0)) }
     ensures order { next_commands (Command.Rrp ∷ Command.Rst ∷ Command.Rts 2 3 2 ∷ []) ≡ Command.Rrp ∷ Command.Rst ∷ Command.Rts 2 3 2 ∷ [] }
     ensures none { next_commands [] ≡ [] }
-    ensures full { (p : Phase) → length p.waiting ≡ 256 → is_full p ≡ true }
-    ensures not_full { (p : Phase) → length p.waiting ≡ 255 → is_full p ≡ false }
+    ensures full { (p : Phase) → 256 ≤ length p.waiting → is_full p ≡ true }
+    ensures not_full { (p : Phase) → length p.waiting ≤ 255 → is_full p ≡ false }
 {}
 
 /// While a host is not up with a peer, a call is refused for that before all that its end judges, a
@@ -131,4 +132,6 @@ pub fn what_is_not_up_lets_nothing_through()
     ensures text_awaiting { text_while_up (resets true up_phase) (hear_text 8 (ones 16) (Some (counting 2 16))) ≡ None }
     ensures fault { hears_fault 1 (14 ∷ 0 ∷ replicate 8 0) up_phase ≡ record up_phase { waiting = err 1 (14 ∷ 0 ∷ replicate 8 0) ∷ [] } }
     ensures fault_dropped { hears_fault 2 (4 ∷ 2 ∷ 0 ∷ replicate 7 0) new_phase ≡ new_phase }
+    ensures fault_early { hears_fault 2 (4 ∷ 2 ∷ 0 ∷ replicate 7 0) up_phase ≡ record up_phase { waiting = err 2 (4 ∷ 2 ∷ 0 ∷ replicate 7 0) ∷ [] } }
+    ensures fault_behind { hears_fault 1 (14 ∷ replicate 9 0) (makes_all (eco_reply 65 ∷ []) up_phase) ≡ record up_phase { waiting = Command.Erp 65 ∷ err 1 (14 ∷ replicate 9 0) ∷ [] } }
 {}

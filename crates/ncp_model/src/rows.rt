@@ -8,6 +8,8 @@ ghost use Rattle.ncp_model.specs.Calls.{bits_to_take, ask_send, ask_receive, clo
 ghost use Rattle.ncp_model.specs.Commands.{hear_rts, hear_str, hear_cls, hear_all, hear_gvb, hear_ret, hear_inr, hear_ins};
 ghost use Rattle.ncp_model.specs.Texts.{bytes_to_send, made_by_text, hear_text, cut, answered, Answered, cleared};
 ghost use Rattle.ncp_model.specs.Echo.{Error, Echoes, no_echoes, echo_answer, echo_asked, eco_reply, hear_erp, is_stray_erp, hear_err, purge_echo};
+ghost use Rattle.ncp_model.specs.Happenings.{happens};
+ghost use Rattle.ncp_model.specs.Happenings as all;
 ghost use Rattle.ncp_model.specs.Rows.{outward, inward, ones, noughts, link_heard, size_heard, asked_send, asked_receive, opened_end, counting, storing, sent_one, due, gone, shut, err};
 
 use crate::call_fault::CallFault;
@@ -27,6 +29,8 @@ pub fn asking_to_send()
     ensures most { ask_send outward 255 65536 0 false None ≡ Becomes (record new_end { asked = true; size = 255; room = 65536 }) (Ok (Command.Str 3 2 255)) }
     ensures least { ask_send outward 1 1 0 false None ≡ Becomes (record new_end { asked = true; size = 1; room = 1 }) (Ok (Command.Str 3 2 1)) }
     ensures opens { ask_send outward 8 64 0 false (Some link_heard) ≡ Becomes opened_end (Ok (Command.Str 3 2 8)) }
+    ensures asked_early { ask_send outward 8 64 1 false (Some asked_send) ≡ Stays (Err CallFault.AlreadyAsked) }
+    ensures empty { ask_send outward 8 64 0 false (Some (record link_heard { stored = ones 8 })) ≡ Becomes opened_end (Ok (Command.Str 3 2 8)) }
 {}
 
 /// Asking to receive, on the link that is given.
@@ -40,6 +44,9 @@ pub fn asking_to_receive()
     ensures made { ask_receive inward 64 2 63 false None ≡ Becomes asked_receive (Ok (Command.Rts 2 3 2)) }
     ensures most { ask_receive inward 65536 71 0 false None ≡ Becomes (record new_end { asked = true; link = 71; room = 65536 }) (Ok (Command.Rts 2 3 71)) }
     ensures opens { ask_receive inward 64 2 0 false (Some size_heard) ≡ Becomes opened_end (Ok (Command.Rts 2 3 2)) }
+    ensures asked_early { ask_receive inward 64 2 1 false (Some asked_receive) ≡ Stays (Err CallFault.AlreadyAsked) }
+    ensures table_heard { ask_receive inward 1 2 64 false (Some size_heard) ≡ Stays (Err CallFault.TableFull) }
+    ensures empty { ask_receive inward 64 2 0 false (Some (record size_heard { stored = ones 8 })) ≡ Becomes opened_end (Ok (Command.Rts 2 3 2)) }
 {}
 
 /// Closing: with a text out the sender's CLS is only due.
@@ -53,6 +60,8 @@ pub fn closing()
     ensures receiver { close inward false (Some (storing (ones 8))) ≡ Becomes (gone opened_end) (Ok (Some (Command.Cls 2 3))) }
     ensures refusal { close outward false (Some link_heard) ≡ Becomes (gone link_heard) (Ok (Some (Command.Cls 3 2))) }
     ensures ends { let act = close inward false (Some (shut (due (storing (ones 8))))) in (act ≡ Becomes (shut (gone opened_end)) (Ok (Some (Command.Cls 2 3)))) × (end_after (Some (shut (due (storing (ones 8))))) act ≡ None) }
+    ensures unanswered { close outward false (Some asked_send) ≡ Becomes (gone asked_send) (Ok (Some (Command.Cls 3 2))) }
+    ensures left_unopened { close outward false (Some (gone asked_send)) ≡ Stays (Err CallFault.Closing) }
 {}
 
 /// Giving text: whole bytes, up to the room of the store, at the end of what waits.
@@ -65,6 +74,7 @@ pub fn giving()
     ensures room { give outward (ones 16) (Some (storing (noughts 56))) ≡ Stays (Err CallFault.NoRoom) }
     ensures fits { give outward (ones 8) (Some (storing (noughts 56))) ≡ Becomes (storing (noughts 56 ++ ones 8)) (Ok tt) }
     ensures nothing { give outward [] (Some (storing (ones 64))) ≡ Becomes (storing (ones 64)) (Ok tt) }
+    ensures busy { give outward (ones 8) (Some (sent_one opened_end)) ≡ Becomes (sent_one (storing (ones 8))) (Ok tt) }
 {}
 
 /// Taking text: whole bytes, from the front of what is held. A sender's CLS came while six bytes
@@ -94,6 +104,7 @@ pub fn allocating()
     ensures messages { (allocate inward 1 0 true (Some (counting 65535 0)) ≡ Stays (Err CallFault.TooMuch)) × (allocate inward 1 0 false (Some (counting 65534 0)) ≡ Becomes (counting 65535 0) (Ok (Command.All 2 1 0))) }
     ensures queue { allocate inward 1 64 true (Some opened_end) ≡ Stays (Err CallFault.QueueFull) }
     ensures made { allocate inward 2 16 false (Some opened_end) ≡ Becomes (counting 2 16) (Ok (Command.All 2 2 16)) }
+    ensures bits_alone { allocate inward 0 16 false (Some opened_end) ≡ Becomes (counting 0 16) (Ok (Command.All 2 0 16)) }
 {}
 
 /// Calling back, one at a time.
@@ -105,6 +116,7 @@ pub fn calling_back()
     ensures busy { call_back inward 64 1 true (Some (record opened_end { recall = true })) ≡ Stays (Err CallFault.Busy) }
     ensures queue { call_back inward 64 1 true (Some opened_end) ≡ Stays (Err CallFault.QueueFull) }
     ensures made { call_back inward 64 1 false (Some (counting 5 1000)) ≡ Becomes (record (counting 5 1000) { recall = true }) (Ok (Command.Gvb 2 64 1)) }
+    ensures nothing_outstanding { call_back inward 128 128 false (Some opened_end) ≡ Becomes (record opened_end { recall = true }) (Ok (Command.Gvb 2 128 128)) }
 {}
 
 /// Interrupting: INS from a sender, INR from a receiver.
@@ -129,6 +141,8 @@ pub fn hearing_rts()
     ensures last { hear_rts outward 71 false 0 None ≡ Becomes (record new_end { heard = true; link = 71 }) Heard.Nothing }
     ensures opens { hear_rts outward 2 false 64 (Some asked_send) ≡ Becomes opened_end Heard.Nothing }
     ensures left { hear_rts outward 2 false 64 (Some (gone asked_send)) ≡ Becomes (record (gone asked_send) { heard = true; link = 2 }) Heard.Nothing }
+    ensures faulty_when_full { (hear_rts inward 2 false 64 None ≡ Stays (Heard.Reply (err 3 (1 ∷ 0 ∷ 0 ∷ 0 ∷ 3 ∷ 0 ∷ 0 ∷ 0 ∷ 2 ∷ 2 ∷ [])))) × (hear_rts outward 72 false 64 None ≡ Stays (Heard.Reply (err 3 (1 ∷ 0 ∷ 0 ∷ 0 ∷ 2 ∷ 0 ∷ 0 ∷ 0 ∷ 3 ∷ 72 ∷ [])))) }
+    ensures left_again { hear_rts outward 5 false 0 (Some (gone link_heard)) ≡ Stays (Heard.Reply (err 3 (1 ∷ 0 ∷ 0 ∷ 0 ∷ 2 ∷ 0 ∷ 0 ∷ 0 ∷ 3 ∷ 5 ∷ []))) }
 {}
 
 /// An STR that comes: a size, once an end.
@@ -141,6 +155,8 @@ pub fn hearing_str()
     ensures last { hear_str inward 255 0 None ≡ Becomes (record new_end { heard = true; size = 255 }) Heard.Nothing }
     ensures opens { hear_str inward 8 64 (Some asked_receive) ≡ Becomes opened_end Heard.Nothing }
     ensures left { hear_str inward 8 64 (Some (gone asked_receive)) ≡ Becomes (record (gone asked_receive) { heard = true; size = 8 }) Heard.Nothing }
+    ensures faulty_when_full { hear_str outward 8 64 None ≡ Stays (Heard.Reply (err 3 (2 ∷ 0 ∷ 0 ∷ 0 ∷ 2 ∷ 0 ∷ 0 ∷ 0 ∷ 3 ∷ 8 ∷ []))) }
+    ensures left_again { hear_str inward 9 0 (Some (gone size_heard)) ≡ Stays (Heard.Reply (err 3 (2 ∷ 0 ∷ 0 ∷ 0 ∷ 3 ∷ 0 ∷ 0 ∷ 0 ∷ 2 ∷ 9 ∷ []))) }
 {}
 
 /// A CLS that comes is matched by one: at once, or when the text out was taken, or when what is
@@ -157,6 +173,8 @@ pub fn hearing_cls()
     ensures sender { let act = hear_cls outward (Some (storing (ones 8))) in (act ≡ Becomes (shut (gone opened_end)) (Heard.Reply (Command.Cls 3 2))) × (end_after (Some opened_end) act ≡ None) }
     ensures receiver { let act = hear_cls inward (Some opened_end) in (act ≡ Becomes (shut (gone opened_end)) (Heard.Reply (Command.Cls 2 3))) × (end_after (Some opened_end) act ≡ None) }
     ensures refusal { let act = hear_cls inward (Some asked_receive) in (act ≡ Becomes (shut (gone asked_receive)) (Heard.Reply (Command.Cls 2 3))) × (end_after (Some asked_receive) act ≡ None) }
+    ensures left_unopened { let act = hear_cls outward (Some (gone asked_send)) in (act ≡ Becomes (shut (gone asked_send)) Heard.Nothing) × (end_after (Some (gone asked_send)) act ≡ None) }
+    ensures request_alone { let act = hear_cls outward (Some link_heard) in (act ≡ Becomes (shut (gone link_heard)) (Heard.Reply (Command.Cls 3 2))) × (end_after (Some link_heard) act ≡ None) }
 {}
 
 /// An ALL that comes raises both counters, or neither where one would pass its limit.
@@ -178,6 +196,7 @@ pub fn hearing_gvb()
     ensures late { (hear_gvb 2 64 1 (Some (gone link_heard)) ≡ Stays Heard.Late) × (hear_gvb 2 64 1 (Some (due (sent_one (counting 5 1000)))) ≡ Stays Heard.Late) }
     ensures first { hear_gvb 2 64 1 (Some (counting 5 1000)) ≡ Becomes (counting 2 992) (Heard.Reply (Command.Ret 2 3 8)) }
     ensures second { hear_gvb 2 200 0 (Some (counting 2 992)) ≡ Becomes (counting 0 992) (Heard.Reply (Command.Ret 2 2 0)) }
+    ensures nothing_back { hear_gvb 2 0 0 (Some (counting 5 1000)) ≡ Becomes (counting 5 1000) (Heard.Reply (Command.Ret 2 0 0)) }
 {}
 
 /// A RET that comes lowers what is outstanding, or neither number where one is over it, and
@@ -190,6 +209,7 @@ pub fn hearing_ret()
     ensures bits { hear_ret 2 0 21 (Some (record (counting 5 20) { recall = true })) ≡ Stays (Heard.Reply (err 3 (6 ∷ 2 ∷ 0 ∷ 0 ∷ 0 ∷ 0 ∷ 0 ∷ 21 ∷ 0 ∷ 0 ∷ []))) }
     ensures all { hear_ret 2 5 20 (Some (record (counting 5 20) { recall = true })) ≡ Becomes opened_end Heard.Nothing }
     ensures falls { hear_ret 2 3 8 (Some (record (counting 5 20) { recall = true })) ≡ Becomes (counting 2 12) Heard.Nothing }
+    ensures unasked { hear_ret 2 1 1 (Some (counting 3 24)) ≡ Becomes (counting 2 23) Heard.Nothing }
 {}
 
 /// An interrupt that comes is counted, up to the limit.
@@ -199,6 +219,8 @@ pub fn hearing_interrupts()
     ensures late { (hear_inr 2 (Some (gone link_heard)) ≡ Stays Heard.Late) × (hear_ins 2 (Some (due opened_end)) ≡ Stays Heard.Late) }
     ensures counted { (hear_inr 2 (Some opened_end) ≡ Becomes (record opened_end { interrupts = 1 }) Heard.Nothing) × (hear_ins 2 (Some opened_end) ≡ Becomes (record opened_end { interrupts = 1 }) Heard.Nothing) }
     ensures limit { hear_ins 2 (Some (record opened_end { interrupts = 4294967295 })) ≡ Becomes (record opened_end { interrupts = 4294967295 }) Heard.Nothing }
+    ensures limit_too { hear_inr 2 (Some (record opened_end { interrupts = 4294967295 })) ≡ Becomes (record opened_end { interrupts = 4294967295 }) Heard.Nothing }
+    ensures unopened_too { hear_ins 2 (Some asked_receive) ≡ Stays (Heard.Reply (err 5 (8 ∷ 2 ∷ 0 ∷ 0 ∷ 0 ∷ 0 ∷ 0 ∷ 0 ∷ 0 ∷ 0 ∷ []))) }
 {}
 
 /// A text that comes: its size is judged before its length. One of no bytes takes a message alone.
@@ -211,6 +233,9 @@ pub fn hearing_text()
     ensures bits { hear_text 8 (ones 16) (Some (counting 2 15)) ≡ Stays Took.Over }
     ensures admitted { hear_text 8 (ones 16) (Some (record (counting 2 16) { stored = noughts 8 })) ≡ Becomes (record (counting 1 0) { stored = noughts 8 ++ ones 16 }) Took.Admitted }
     ensures empty { hear_text 8 [] (Some (counting 2 16)) ≡ Becomes (counting 1 16) Took.Admitted }
+    ensures last { hear_text 8 (ones 8) (Some (counting 1 8)) ≡ Becomes (record (counting 0 0) { stored = ones 8 }) Took.Admitted }
+    ensures empty_without_bits { hear_text 8 [] (Some (counting 1 0)) ≡ Becomes (counting 0 0) Took.Admitted }
+    ensures empty_size { hear_text 7 [] (Some (counting 2 16)) ≡ Stays Took.WrongSize }
 {}
 
 /// A text that goes out: three bytes wait, two are allocated. None goes out where one is out,
@@ -263,6 +288,8 @@ pub fn answering()
     ensures kept { answered outward Answered.Kept (Some (due (sent_one opened_end))) ≡ Stays None }
     ensures leaving { let act = answered outward Answered.Taken (Some (due (sent_one opened_end))) in (act ≡ Becomes (gone opened_end) (Some (Command.Cls 3 2))) × (end_after None act ≡ Some (gone opened_end)) }
     ensures ends { let act = answered outward Answered.Taken (Some (shut (due (sent_one opened_end)))) in (act ≡ Becomes (shut (gone opened_end)) (Some (Command.Cls 3 2))) × (end_after (Some opened_end) act ≡ None) }
+    ensures not_delivered { (answered outward Answered.Again (Some (sent_one opened_end)) ≡ Stays None) × (answered outward Answered.Kept (Some (sent_one opened_end)) ≡ Stays None) }
+    ensures receiver { answered inward Answered.Taken (Some (due (storing (ones 8)))) ≡ Stays None }
 {}
 
 /// What opened, open, live and over mean of an end.
@@ -289,4 +316,54 @@ pub fn echoing()
     ensures sixteen { (a b : Error) (es : List Error) → length es ≡ 14 → (hear_err b (record no_echoes { errors = a ∷ es })).errors ≡ (a ∷ es) ++ b ∷ [] }
     ensures last { (a b : Error) (es : List Error) → length es ≡ 15 → (hear_err b (record no_echoes { errors = a ∷ es })).errors ≡ es ++ b ∷ [] }
     ensures purge { (waits : Bool) (byte : Option ℕ) (es : List Error) → purge_echo (record { awaited = waits; echoed = byte; errors = es }) ≡ record { awaited = false; echoed = byte; errors = es } }
+    ensures error_alone { (e : Error) → hear_err e (record { awaited = true; echoed = Some 65; errors = [] }) ≡ record { awaited = true; echoed = Some 65; errors = e ∷ [] } }
+    ensures answer_alone { (e : Error) → hear_erp 65 (record { awaited = true; echoed = None; errors = e ∷ [] }) ≡ record { awaited = false; echoed = Some 65; errors = e ∷ [] } }
+{}
+
+/// What is told of a call that happens: the end after it, the command that it makes, and the outcome.
+pub fn telling_of_calls()
+    ensures asks_to_send { happens outward (all.Asks_to_send 8 64 0 false) None ≡ record { after = Some asked_send; made = Command.Str 3 2 8 ∷ []; outcome = all.Accepted } }
+    ensures asks_to_receive { happens inward (all.Asks_to_receive 64 2 0 false) None ≡ record { after = Some asked_receive; made = Command.Rts 2 3 2 ∷ []; outcome = all.Accepted } }
+    ensures refused { (happens outward (all.Asks_to_send 0 64 0 false) None ≡ record { after = None; made = []; outcome = all.Refused CallFault.BadSize }) × (happens inward (all.Asks_to_receive 64 2 64 false) None ≡ record { after = None; made = []; outcome = all.Refused CallFault.TableFull }) }
+    ensures closes { happens outward (all.Closes false) (Some opened_end) ≡ record { after = Some (gone opened_end); made = Command.Cls 3 2 ∷ []; outcome = all.Accepted } }
+    ensures closes_later { happens outward (all.Closes false) (Some (sent_one opened_end)) ≡ record { after = Some (due (sent_one opened_end)); made = []; outcome = all.Accepted } }
+    ensures closes_nothing { happens outward (all.Closes false) None ≡ record { after = None; made = []; outcome = all.Refused CallFault.NoEntry } }
+    ensures gives { (happens outward (all.Gives (ones 8)) (Some opened_end) ≡ record { after = Some (storing (ones 8)); made = []; outcome = all.Accepted }) × (happens outward (all.Gives (ones 7)) (Some opened_end) ≡ record { after = Some opened_end; made = []; outcome = all.Refused CallFault.NotWhole }) }
+    ensures takes { happens inward (all.Takes 100) (Some (storing (ones 16))) ≡ record { after = Some opened_end; made = []; outcome = all.Took_out (ones 16) } }
+    ensures takes_last { happens inward (all.Takes 100) (Some (shut (due (storing (ones 16))))) ≡ record { after = None; made = Command.Cls 2 3 ∷ []; outcome = all.Took_out (ones 16) } }
+    ensures takes_nothing { happens outward (all.Takes 100) (Some opened_end) ≡ record { after = Some opened_end; made = []; outcome = all.Refused CallFault.WrongEnd } }
+    ensures allocates { happens inward (all.Allocates 2 16 false) (Some opened_end) ≡ record { after = Some (counting 2 16); made = Command.All 2 2 16 ∷ []; outcome = all.Accepted } }
+    ensures calls_back { happens inward (all.Calls_back 64 1 false) (Some opened_end) ≡ record { after = Some (record opened_end { recall = true }); made = Command.Gvb 2 64 1 ∷ []; outcome = all.Accepted } }
+    ensures interrupts { (happens outward (all.Interrupts false) (Some opened_end) ≡ record { after = Some opened_end; made = Command.Ins 2 ∷ []; outcome = all.Accepted }) × (happens outward (all.Interrupts true) (Some opened_end) ≡ record { after = Some opened_end; made = []; outcome = all.Refused CallFault.QueueFull }) }
+{}
+
+/// What is told of a command that comes.
+#[tactic(auto, unfolding(crate::specs::Amounts::back))]
+pub fn telling_of_commands()
+    ensures rts { happens outward (all.Rts_comes 2 false 0) None ≡ record { after = Some link_heard; made = []; outcome = all.Accepted } }
+    ensures rts_taken { let e = err 3 (1 ∷ 0 ∷ 0 ∷ 0 ∷ 2 ∷ 0 ∷ 0 ∷ 0 ∷ 3 ∷ 2 ∷ []) in happens outward (all.Rts_comes 2 true 0) None ≡ record { after = None; made = e ∷ []; outcome = all.Erred e } }
+    ensures rts_full { happens outward (all.Rts_comes 2 false 64) None ≡ record { after = None; made = []; outcome = all.Full } }
+    ensures str { happens inward (all.Str_comes 8 0) (Some asked_receive) ≡ record { after = Some opened_end; made = []; outcome = all.Accepted } }
+    ensures cls { happens outward all.Cls_comes (Some opened_end) ≡ record { after = None; made = Command.Cls 3 2 ∷ []; outcome = all.Accepted } }
+    ensures cls_nowhere { let e = err 4 (3 ∷ 0 ∷ 0 ∷ 0 ∷ 2 ∷ 0 ∷ 0 ∷ 0 ∷ 3 ∷ 0 ∷ []) in happens outward all.Cls_comes None ≡ record { after = None; made = e ∷ []; outcome = all.Erred e } }
+    ensures all { happens outward (all.All_comes 2 2 16) (Some opened_end) ≡ record { after = Some (counting 2 16); made = []; outcome = all.Accepted } }
+    ensures late { happens outward (all.All_comes 2 2 16) (Some (gone opened_end)) ≡ record { after = Some (gone opened_end); made = []; outcome = all.Late } }
+    ensures gvb { happens outward (all.Gvb_comes 2 64 1) (Some (counting 5 1000)) ≡ record { after = Some (counting 2 992); made = Command.Ret 2 3 8 ∷ []; outcome = all.Accepted } }
+    ensures ret { happens inward (all.Ret_comes 2 3 8) (Some (record (counting 5 20) { recall = true })) ≡ record { after = Some (counting 2 12); made = []; outcome = all.Accepted } }
+    ensures inr { happens outward (all.Inr_comes 2) (Some opened_end) ≡ record { after = Some (record opened_end { interrupts = 1 }); made = []; outcome = all.Accepted } }
+    ensures ins { happens inward (all.Ins_comes 2) (Some opened_end) ≡ record { after = Some (record opened_end { interrupts = 1 }); made = []; outcome = all.Accepted } }
+{}
+
+/// What is told of a text that comes, that goes out, or that is answered, and of a clearing.
+pub fn telling_of_texts()
+    ensures admitted { happens inward (all.Text_comes (noughts 72) 8 (ones 8)) (Some (counting 1 8)) ≡ record { after = Some (record (counting 0 0) { stored = ones 8 }); made = []; outcome = all.Admitted } }
+    ensures late { happens inward (all.Text_comes (noughts 72) 8 (ones 8)) (Some (gone (counting 1 8))) ≡ record { after = Some (gone (counting 1 8)); made = []; outcome = all.Late } }
+    ensures size { happens inward (all.Text_comes (noughts 72) 7 (ones 7)) (Some (counting 1 8)) ≡ record { after = Some (counting 1 8); made = []; outcome = all.WrongSize } }
+    ensures over { happens inward (all.Text_comes (noughts 72) 8 (ones 16)) (Some (counting 1 8)) ≡ record { after = Some (counting 1 8); made = []; outcome = all.Over } }
+    ensures not_open { happens inward (all.Text_comes (ones 72) 8 []) None ≡ record { after = None; made = text_error (ones 72) [] ∷ []; outcome = all.NotOpen } }
+    ensures goes_out { happens outward all.Text_goes_out (Some (record (counting 1 8) { stored = ones 8 })) ≡ record { after = Some (sent_one (counting 0 0)); made = []; outcome = all.Sent 8 (ones 8) } }
+    ensures stays { happens outward all.Text_goes_out (Some opened_end) ≡ record { after = Some opened_end; made = []; outcome = all.Accepted } }
+    ensures taken { happens outward (all.Is_answered Answered.Taken) (Some (due (sent_one opened_end))) ≡ record { after = Some (gone opened_end); made = Command.Cls 3 2 ∷ []; outcome = all.Accepted } }
+    ensures again { happens outward (all.Is_answered Answered.Again) (Some (due (sent_one opened_end))) ≡ record { after = Some (due (sent_one opened_end)); made = []; outcome = all.Accepted } }
+    ensures cleared { happens outward all.Is_cleared (Some opened_end) ≡ record { after = None; made = []; outcome = all.Accepted } }
 {}

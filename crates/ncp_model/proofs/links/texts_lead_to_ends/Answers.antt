@@ -1,9 +1,11 @@
-use Rattle.std.proofs.Common.{◌≡◌, [], ◌∷◌, refl}
-use Rattle.std.specs.FinMap.{entries, get-entries, entries-from_sorted}
+use Rattle.std.proofs.Common.{◌≡◌, List, [], ◌∷◌, refl}
+use Rattle.std.specs.FinMap.{entries, get-entries, from_sorted, entries-from_sorted}
 use Rattle.ncp_bits.specs.Numbers.{number_of}
+use Rattle.ncp_model.specs.declared.pair.Pair.{Pair}
 use Rattle.ncp_model.specs.Pairs.{pair_cmp}
+use Rattle.ncp_model.specs.End.{End}
 use Rattle.ncp_model.specs.Ends.{lowest}
-use Rattle.ncp_model.specs.Rows.{outward, inward, ones, opened_end, counting, sent_one, due, ends_both_ways, both_ways}
+use Rattle.ncp_model.specs.Rows.{outward, inward, ones, asked_receive, opened_end, counting, sent_one, due, ends_both_ways, both_ways}
 use Rattle.ncp_model.proofs.links.texts_lead_to_ends.Goals as goal
 
 entries-are : entries both_ways ≡ ends_both_ways
@@ -40,3 +42,17 @@ returns-clause-asks_to_send c = rw (get-entries both_ways (record { local = 9; r
 pub returns-clause-leads_by_head : goal.returns-clause-leads_by_head
 unfolding number_of
 returns-clause-leads_by_head c = (refl, refl)
+
+pub returns-clause-leads_by_link : goal.returns-clause-leads_by_link
+unfolding number_of
+returns-clause-leads_by_link c = refl
+
+pub returns-clause-anew : goal.returns-clause-anew
+unfolding lowest
+returns-clause-anew c = rw (get-entries (from_sorted {X = End} {R = pair_cmp} []) inward, entries-from_sorted {X = End} pair_cmp [] tt) refl
+
+pub returns-clause-freed : goal.returns-clause-freed
+unfolding lowest
+returns-clause-freed c =
+    let one : List (Pair × End) = (record { local = 4; remote = 5 }, record asked_receive { link = 3 }) ∷ [] in
+    rw (get-entries (from_sorted {R = pair_cmp} one) (record { local = 10; remote = 11 }), entries-from_sorted pair_cmp one tt) refl
