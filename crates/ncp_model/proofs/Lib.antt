@@ -24,6 +24,7 @@ pub mod HostsBase
 pub mod EndsGood
 pub mod HostsStand
 pub mod HostsListed
+pub mod LimitsKept
 pub mod Makes
 pub mod SoundEnds
 pub mod BooksKept

@@ -16,6 +16,7 @@ pub mod Leading
 pub mod Histories
 pub mod Sound
 pub mod Books
+pub mod Limits
 pub mod Sending
 pub mod Admitting
 pub mod Echo

@@ -8,6 +8,7 @@ ghost use Rattle.ncp_model.specs.Sound.{SoundAt};
 ghost use Rattle.ncp_model.specs.Happenings as all;
 ghost use Rattle.ncp_model.specs.Histories.{Watched, no_past, watch, watch_from};
 ghost use Rattle.ncp_model.specs.Books.{Suit, BooksAt};
+ghost use Rattle.ncp_model.specs.Limits.{InLimitsAt};
 ghost use Rattle.ncp_model.specs.Pairs.{receives};
 ghost use Rattle.ncp_model.specs.Rows.{outward, inward, ones, noughts, opened_end, counting, sent_one};
 
@@ -29,6 +30,13 @@ pub fn acts_make_no_resets()
 pub fn ends_stay_sound()
     ensures ever { (pair : Pair) (whats : List Happening) → SoundAt pair (end_from pair whats None) }
     ensures step { (pair : Pair) (what : Happening) (before : Option End) → SoundAt pair before → SoundAt pair (happens pair what before).after }
+{}
+
+/// No number of an end goes beyond its limit, whatever happened to it: what is stored and what is
+/// outstanding fit the store, counters stop at their limits, a link that was heard is one from 2 to
+/// 71, and a byte has bits.
+pub fn ends_keep_their_limits()
+    ensures { (pair : Pair) (whats : List Happening) → Suit pair whats → InLimitsAt pair (end_from pair whats None) }
 {}
 
 /// The books of a receiving end, whatever happened to it: what is outstanding is what was granted
