@@ -19,6 +19,11 @@ pub mod ReceiverActs
 pub mod Whole
 pub mod Outliving
 pub mod Projecting
+pub mod Calm
+pub mod Clear
+pub mod Linking
+pub mod LinkSteps
+pub mod Found
 pub mod Lives
 pub mod HostsBase
 pub mod EndsGood

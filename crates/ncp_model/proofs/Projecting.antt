@@ -72,7 +72,7 @@ module _ (pair : Pair) (sd : sends pair ≡ true) (p q : List Command) where
   back : (a b : Bool) (w : Connection) (x : List Command) → Fit pair a b (with p (q ++ x) w) → Fit pair a b (with (p ++ []) (q ++ x) w)
   back a b w x k = subst (λ (y : List Command). Fit pair a b (with y (q ++ x) w)) (sym (append-nil p)) k
 
-  framed : (e : Event) (a b : Bool) (w : Connection) → Fit pair a b (with p q w) → Fit pair a b (onto p q (if (if is_at_sender e then a else b) then occurs pair e (with [] [] w) else misses e (with [] [] w)))
+  pub framed : (e : Event) (a b : Bool) (w : Connection) → Fit pair a b (with p q w) → Fit pair a b (onto p q (if (if is_at_sender e then a else b) then occurs pair e (with [] [] w) else misses e (with [] [] w)))
   framed (Sender_calls what) false b w k = none false b w k
   framed (Sender_calls what) true b w k = go (is_call what) refl
     where
@@ -120,7 +120,7 @@ module _ (pair : Pair) (sd : sends pair ≡ true) (p q : List Command) where
       go Kept (Away n bits) k = there true b (sender_does pair (all.Is_answered Kept) (record w { text = Away n bits })) [] (fit_text_is_answered pair sd Kept b (Away n bits) (with p q w) k)
       go Kept Here k = none true b (record w { text = Here }) k
 
-  framed_to_sender : (n : ℕ) (c : Command) (a b : Bool) (w : Connection) → nat_lt n MAX_BY_PEER ≡ true → Fit pair a b (with p (c ∷ q) w) → Fit pair a b (onto p q (if a then (if nat_lt n MAX_BY_PEER then comes_to_sender pair n (c ∷ []) (with [] (c ∷ []) w) else with [] (c ∷ []) w) else with [] [] w))
+  pub framed_to_sender : (n : ℕ) (c : Command) (a b : Bool) (w : Connection) → nat_lt n MAX_BY_PEER ≡ true → Fit pair a b (with p (c ∷ q) w) → Fit pair a b (onto p q (if a then (if nat_lt n MAX_BY_PEER then comes_to_sender pair n (c ∷ []) (with [] (c ∷ []) w) else with [] (c ∷ []) w) else with [] [] w))
   framed_to_sender n c false b w few k = none false b w (missed_by_sender pair sd b q (with p (c ∷ q) w) k)
   framed_to_sender n c true b w few k = rw few (go (command_comes n c) (fit_comes_to_sender pair sd n b (c ∷ q) (with p (c ∷ q) w) few k))
     where
@@ -128,7 +128,7 @@ module _ (pair : Pair) (sd : sends pair ≡ true) (p q : List Command) where
       go None k = none true b w k
       go (Some what) k = there true b (sender_does pair what w) (happens pair what w.sender.end).made k
 
-  framed_to_receiver : (n : ℕ) (c : Command) (a b : Bool) (w : Connection) → nat_lt n MAX_BY_PEER ≡ true → Fit pair a b (with (c ∷ p) q w) → Fit pair a b (onto p q (if b then (if nat_lt n MAX_BY_PEER then comes_to_receiver pair n (c ∷ []) (with (c ∷ []) [] w) else with (c ∷ []) [] w) else with [] [] w))
+  pub framed_to_receiver : (n : ℕ) (c : Command) (a b : Bool) (w : Connection) → nat_lt n MAX_BY_PEER ≡ true → Fit pair a b (with (c ∷ p) q w) → Fit pair a b (onto p q (if b then (if nat_lt n MAX_BY_PEER then comes_to_receiver pair n (c ∷ []) (with (c ∷ []) [] w) else with (c ∷ []) [] w) else with [] [] w))
   framed_to_receiver n c a false w few k = none a false w (missed_by_receiver pair sd a p (with (c ∷ p) q w) k)
   framed_to_receiver n c a true w few k = rw few (go (command_comes n c) (fit_comes_to_receiver pair sd n a (c ∷ p) (with (c ∷ p) q w) few k))
     where

@@ -176,7 +176,7 @@ module _ (pair : Pair) (sd : sends pair ≡ true) where
 
   -- The first command underway comes.
 
-  alien_to_sender : (c : Command) (q : List Command) (w : Connection) → to_sender_kind c ≡ Alien → Whole (record w { to_sender = c ∷ q }) → ⊥
+  pub alien_to_sender : (c : Command) (q : List Command) (w : Connection) → to_sender_kind c ≡ Alien → Whole (record w { to_sender = c ∷ q }) → ⊥
   alien_to_sender c q w e k = go k.place k.joint
     where
       go : (d : Place) → Joint d (or_new w.sender.end) w.sender.past.given (or_new w.receiver.end) (live_got w.receiver.end w.receiver.past) w.to_receiver (c ∷ q) w.text → ⊥
@@ -184,7 +184,7 @@ module _ (pair : Pair) (sd : sends pair ≡ true) where
       go Sender_ahead j = absurd (cc (j.none))
       go Receiver_ahead j = rw e at j.passes
 
-  alien_to_receiver : (c : Command) (p : List Command) (w : Connection) → to_receiver_kind c ≡ Alien → Whole (record w { to_receiver = c ∷ p }) → ⊥
+  pub alien_to_receiver : (c : Command) (p : List Command) (w : Connection) → to_receiver_kind c ≡ Alien → Whole (record w { to_receiver = c ∷ p }) → ⊥
   alien_to_receiver c p w e k = go k.place k.joint
     where
       go : (d : Place) → Joint d (or_new w.sender.end) w.sender.past.given (or_new w.receiver.end) (live_got w.receiver.end w.receiver.past) (c ∷ p) w.to_sender w.text → ⊥

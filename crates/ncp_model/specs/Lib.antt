@@ -26,5 +26,6 @@ pub mod Ledger
 pub mod Clearings
 pub mod Sharing
 pub mod Finding
-pub mod Hosts
 pub mod Runs
+pub mod Hosts
+pub mod HostRuns

@@ -1,96 +1,56 @@
--- Schedules of two hosts, by which the laws on them are seen to speak of something. Socket 3 of this
--- host sends to socket 2 of that one.
-use Rattle.std.specs.Prelude.{ℕ, Bool, List, [], ◌∷◌, ◌++◌}
-use Rattle.ncp_model.specs.Resets.{Side, This, That}
-use Rattle.ncp_model.specs.Rows.{outward, inward, ones, noughts}
-use Rattle.ncp_model.specs.Hosts.{Event, Step, Calls_reset, Calls, Sends, Sends_text, Hears, Hears_text, Loses_text, Text_dies, Is_answered, Text_is_answered, Wakes, Ask_to_send, Ask_to_receive, Close, Give, Take, Allocate}
+-- Runs of the connection from host 1's socket 3 to the peer's socket 2, and of one more, which show
+-- that the laws speak of something.
+use Rattle.std.specs.Prelude.{Bool, true, false, List, [], ◌∷◌, ◌++◌}
+use Rattle.ncp_model.specs.declared.pair.Pair.{Pair}
+use Rattle.ncp_model.specs.Texts.{Taken, Again}
+use Rattle.ncp_model.specs.Happenings.{Happening}
+use Rattle.ncp_model.specs.Happenings as all
+use Rattle.ncp_model.specs.Rows.{outward, ones, noughts}
+use Rattle.ncp_model.specs.Connections.{Event, Sender_calls, Receiver_calls, Comes_to_sender, Comes_to_receiver, Text_goes_out, Text_comes, Text_is_answered}
+use Rattle.ncp_model.specs.Clearings.{Change, Occurs, Sender_is_cleared, Receiver_is_cleared, Starts_anew}
+use Rattle.ncp_model.specs.Sharing.{Shared_event, On, Next_to_senders, Next_to_receivers}
 
-abbrev pub by : Side → Step → Event
-by side step = record { side = side; step = step }
+-- both ask, with bytes of 8 bits and link 2, and both requests come
+abbrev pub opening : List Event
+opening = Sender_calls (all.Asks_to_send 8 64 0 false) ∷ Receiver_calls (all.Asks_to_receive 64 2 0 false) ∷ Comes_to_sender 0 ∷ Comes_to_receiver 0 ∷ []
 
--- the other side
-abbrev pub peer : Side → Side
-peer This = That
-peer That = This
+-- of three bytes that are given two are allocated, and go out
+abbrev pub text_out : List Event
+text_out = opening ++ Receiver_calls (all.Allocates 2 16 false) ∷ Comes_to_sender 0 ∷ Sender_calls (all.Gives (ones 16 ++ noughts 8)) ∷ Text_goes_out ∷ []
 
--- a control message of a host: up to ten commands go out, come and are answered
-abbrev pub message : Side → List Event
-message side = by side (Sends 9) ∷ by (peer side) Hears ∷ by side Is_answered ∷ []
+-- it is lost once, comes, and is confirmed
+abbrev pub text_got : List Event
+text_got = text_out ++ Text_is_answered Again ∷ Text_comes (noughts 72) ∷ Text_is_answered Taken ∷ []
 
--- a host resets, and its peer answers
-abbrev pub comes_up : Side → List Event
-comes_up side = by side Calls_reset ∷ message side ++ message (peer side)
+-- the CLS comes to a busy sender, which makes its own after the RFNM; the text is late
+abbrev pub receiver_closes : List Event
+receiver_closes = text_out ++ Receiver_calls (all.Closes false) ∷ Comes_to_sender 0 ∷ Text_comes (noughts 72) ∷ Text_is_answered Taken ∷ Comes_to_receiver 0 ∷ []
 
--- both ask for the connection, and it opens at both ends
-abbrev pub opens_both : List Event
-opens_both = by This (Calls outward (Ask_to_send 8 64)) ∷ by That (Calls inward (Ask_to_receive 64)) ∷ message That ++ message This
+-- the sender's CLS is due until the RFNM; the receiver makes its own when all is taken
+abbrev pub sender_closes : List Event
+sender_closes = text_out ++ Sender_calls (all.Closes false) ∷ Text_comes (noughts 72) ∷ Text_is_answered Taken ∷ Comes_to_receiver 0 ∷ Receiver_calls (all.Takes 9) ∷ Comes_to_sender 0 ∷ []
 
--- two messages and 16 bits are allocated, and three bytes are given
-abbrev pub allocates_and_gives : List Event
-allocates_and_gives = by That (Calls inward (Allocate 2 16)) ∷ message That ++ by This (Calls outward (Give (ones 16 ++ noughts 8))) ∷ []
+-- calling back, and an interrupt each way
+abbrev pub called_back : List Event
+called_back = text_got ++ Receiver_calls (all.Allocates 1 8 false) ∷ Comes_to_sender 0 ∷ Receiver_calls (all.Calls_back 64 128 false) ∷ Receiver_calls (all.Interrupts false) ∷ Comes_to_sender 0 ∷ Comes_to_sender 0 ∷ Sender_calls (all.Interrupts false) ∷ Comes_to_receiver 0 ∷ Comes_to_receiver 0 ∷ []
 
--- a text goes out on link 2, and comes with its leader and prefix; it is answered
-abbrev pub text_goes : List Event
-text_goes = by This (Sends_text 2) ∷ []
+abbrev pub occur_all : List Event → List Change
+occur_all [] = []
+occur_all (e ∷ es) = Occurs e ∷ occur_all es
 
-abbrev pub text_is_heard : List Event
-text_is_heard = by That (Hears_text 2 (noughts 72)) ∷ []
+-- the receiver's host is cleared while a text is out
+abbrev pub receiver_cleared : List Change
+receiver_cleared = occur_all text_out ++ Receiver_is_cleared 0 ∷ []
 
-abbrev pub text_is_answered : List Event
-text_is_answered = by This (Text_is_answered 2) ∷ []
+-- then the text is dropped and confirmed, the sender's host is cleared too, and a connection opens anew
+abbrev pub opened_anew : List Change
+opened_anew = receiver_cleared ++ Occurs (Text_comes (noughts 72)) ∷ Occurs (Text_is_answered Taken) ∷ Sender_is_cleared 0 ∷ Starts_anew ∷ occur_all opening
 
--- both open, two bytes went out and came, the third waits
-abbrev pub with_text_out : List Event
-with_text_out = comes_up This ++ opens_both ++ allocates_and_gives ++ text_goes
+-- a second connection, from socket 5 to socket 4, with link 3: its requests stand in the same lists
+abbrev pub second : Pair
+second = record { local = 5; remote = 4 }
 
-abbrev pub got_and_taken : List Event
-got_and_taken = with_text_out ++ text_is_heard ++ text_is_answered ++ by That (Calls inward (Take 100)) ∷ []
-
--- the text is lost, answered so, and goes out again
-abbrev pub loses_text : List Event
-loses_text = by This (Loses_text 2) ∷ by This (Text_is_answered 2) ∷ by This (Sends_text 2) ∷ []
-
-abbrev pub lost_twice : List Event
-lost_twice = with_text_out ++ loses_text ++ loses_text ++ text_is_heard ++ text_is_answered
-
--- its destination is dead: it is held, and does not go out until the user asks for it
-abbrev pub held_back : List Event
-held_back = with_text_out ++ by This (Text_dies 2) ∷ by This (Text_is_answered 2) ∷ by This (Sends_text 2) ∷ []
-
-abbrev pub woken_again : List Event
-woken_again = held_back ++ by This Wakes ∷ by This (Sends_text 2) ∷ text_is_heard ++ text_is_answered
-
--- that host asks to receive, and before its RTS is out both reset
-abbrev pub both_reset : List Event
-both_reset =
-    comes_up This ++ by That (Calls inward (Ask_to_receive 64)) ∷ by This Calls_reset ∷ by That Calls_reset
-    ∷ message This ++ message That ++ message This ++ message That
-
--- that host resets while a text is out: its RST comes, and then the text
-abbrev pub reset_under_text : List Event
-reset_under_text = with_text_out ++ by That Calls_reset ∷ message That ++ text_is_heard
-
--- the RRP is made once the text was answered; then that host asks to receive again
-abbrev pub reset_over : List Event
-reset_over = reset_under_text ++ text_is_answered ++ message This
-
-abbrev pub asks_again : List Event
-asks_again = reset_over ++ by That (Calls inward (Ask_to_receive 64)) ∷ []
-
--- the receiver closes while a text is out: the text is late, and the sender's CLS follows its RFNM
-abbrev pub closed_by_receiver : List Event
-closed_by_receiver = with_text_out ++ by That (Calls inward Close) ∷ message That ++ text_is_heard
-
-abbrev pub over_by_receiver : List Event
-over_by_receiver = closed_by_receiver ++ text_is_answered ++ message This
-
--- the sender closes while a text is out: the text is got, and taken after the CLS came
-abbrev pub closed_by_sender : List Event
-closed_by_sender = with_text_out ++ by This (Calls outward Close) ∷ text_is_heard ++ text_is_answered ++ message This
-
-abbrev pub over_by_sender : List Event
-over_by_sender = closed_by_sender ++ by That (Calls inward (Take 100)) ∷ message That
-
--- and the connection opens once more, on the same link
-abbrev pub opened_again : List Event
-opened_again = over_by_receiver ++ opens_both
+abbrev pub two_open : List Shared_event
+two_open = On outward (Sender_calls (all.Asks_to_send 8 64 0 false)) ∷ On second (Sender_calls (all.Asks_to_send 36 64 0 false))
+    ∷ On outward (Receiver_calls (all.Asks_to_receive 64 2 0 false)) ∷ On second (Receiver_calls (all.Asks_to_receive 64 3 0 false))
+    ∷ Next_to_senders 0 ∷ Next_to_receivers 0 ∷ Next_to_senders 0 ∷ Next_to_receivers 0 ∷ []

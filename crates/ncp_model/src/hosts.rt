@@ -9,7 +9,7 @@ ghost use Rattle.ncp_model.specs.Resets as resets;
 ghost use Rattle.ncp_model.specs.Hosts.{Event, run, base, past_of};
 ghost use Rattle.ncp_model.specs.Delivery.{Travelling, Held, Free, Accepted, idle};
 ghost use Rattle.ncp_model.specs.Rows.{outward, inward, ones, noughts, asked_receive, opened_end, counting, sent_one, due, gone, shut};
-ghost use Rattle.ncp_model.specs.Runs.{with_text_out, got_and_taken, lost_twice, held_back, woken_again, both_reset, reset_under_text, reset_over, asks_again, closed_by_receiver, over_by_receiver, opened_again, closed_by_sender, over_by_sender};
+ghost use Rattle.ncp_model.specs.HostRuns.{with_text_out, got_and_taken, lost_twice, held_back, woken_again, both_reset, reset_under_text, reset_over, asks_again, closed_by_receiver, over_by_receiver, opened_again, closed_by_sender, over_by_sender};
 ghost use Rattle.ncp_model.specs.Schedules.{up_phase};
 
 use crate::pair::Pair;

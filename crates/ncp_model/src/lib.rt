@@ -18,6 +18,7 @@ mod pair;
 pub mod phases;
 pub mod resets;
 pub mod rows;
+pub mod runs;
 pub mod sharing;
 #[cfg(test)]
 mod tests;

@@ -3,6 +3,7 @@ ghost use Rattle.std.specs.Prelude.{◌≡◌, List, true, false};
 ghost use Rattle.ncp_model.specs.Pairs.{sends};
 ghost use Rattle.ncp_model.specs.Ledger.{BothOpen, MessagesAgree, BitsAgree, Parted, Held, Begins};
 ghost use Rattle.ncp_model.specs.Clearings.{OutStaysOpened};
+ghost use Rattle.ncp_model.specs.Finding.{GrantFinds, ReturnFinds, RequestFits, SenderHoldsLink, ReceiverHoldsLink, SameLink};
 ghost use Rattle.ncp_model.specs.Sharing.{Shared_event, AllMayHappen, new_shared, shared, at, hosted_at};
 
 use crate::pair::Pair;
@@ -17,4 +18,17 @@ pub fn each_loses_and_makes_nothing()
     ensures held { (events : List Shared_event) (p : Pair) → AllMayHappen events new_shared → sends p ≡ true → Held (at p (shared events)) }
     ensures beginning { (events : List Shared_event) (p : Pair) → AllMayHappen events new_shared → sends p ≡ true → Begins (at p (shared events)) }
     ensures opened { (events : List Shared_event) (p : Pair) → AllMayHappen events new_shared → sends p ≡ true → OutStaysOpened (hosted_at p (shared events)) }
+{}
+
+/// Where receivers ask only with links that no receiving end uses: at a host that was not cleared, what
+/// comes with a link leads to the end for which it was made, and to no other; no RTS comes with a link
+/// in use; and from the output of a text to its RFNM its link is held by the ends of its connection
+/// and by no others, so that no other opens on it.
+pub fn links_lead_home()
+    ensures grant { (events : List Shared_event) → AllMayHappen events new_shared → (shared events).sends ≡ true → GrantFinds (shared events) }
+    ensures give_back { (events : List Shared_event) → AllMayHappen events new_shared → (shared events).receives ≡ true → ReturnFinds (shared events) }
+    ensures request { (events : List Shared_event) → AllMayHappen events new_shared → (shared events).sends ≡ true → RequestFits (shared events) }
+    ensures sender { (events : List Shared_event) → AllMayHappen events new_shared → (shared events).sends ≡ true → SenderHoldsLink (shared events) }
+    ensures receiver { (events : List Shared_event) → AllMayHappen events new_shared → (shared events).receives ≡ true → ReceiverHoldsLink (shared events) }
+    ensures text { (events : List Shared_event) → AllMayHappen events new_shared → (shared events).sends ≡ true → (shared events).receives ≡ true → SameLink (shared events) }
 {}

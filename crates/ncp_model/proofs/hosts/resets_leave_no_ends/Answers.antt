@@ -4,7 +4,7 @@ use Rattle.ncp_model.specs.Histories.{Past}
 use Rattle.ncp_model.specs.Resets.{Host}
 use Rattle.ncp_model.specs.Rows.{outward, inward}
 use Rattle.ncp_model.specs.Hosts.{all_empty}
-use Rattle.ncp_model.specs.Runs.{both_reset, reset_under_text, reset_over, asks_again}
+use Rattle.ncp_model.specs.HostRuns.{both_reset, reset_under_text, reset_over, asks_again}
 use Rattle.ncp_model.proofs.HostsListed.{this-end, that-end, that-past, this-link, this-host, that-host, right}
 use Rattle.ncp_model.proofs.hosts.resets_leave_no_ends.Goals as goal
 
