@@ -24,6 +24,7 @@ pub mod Clear
 pub mod Linking
 pub mod LinkSteps
 pub mod Found
+pub mod InOrder
 pub mod Lives
 pub mod HostsBase
 pub mod EndsGood

@@ -2,11 +2,12 @@
 -- receiver's, what is underway between them, and at most one text that is out. All that happens at
 -- an end is an act; what it makes joins what is underway. A control link keeps order, so the
 -- commands of each host come in the order in which they were made.
-use Rattle.std.specs.Prelude.{ℕ, Bool, true, false, ◌||◌, nat_lt, if◌then◌else◌, List, [], ◌∷◌, ◌++◌, Option, None, Some}
+use Rattle.std.specs.Prelude.{◌≡◌, ℕ, Bool, true, false, ◌||◌, nat_lt, if◌then◌else◌, List, [], ◌∷◌, ◌++◌, Option, None, Some}
 use Rattle.ncp_control.specs.declared.command.Command.{Command}
 use Rattle.ncp_control.specs.declared.command.Command.TheVariants.{Rts, Str, Cls, All, Gvb, Ret, Inr, Ins}
 use Rattle.ncp_model.specs.declared.pair.Pair.{Pair}
 use Rattle.ncp_model.specs.declared.limits.TheConstants.{MAX_BY_PEER}
+use Rattle.ncp_model.specs.End.{End}
 use Rattle.ncp_model.specs.Act.{is_data_link}
 use Rattle.ncp_model.specs.Texts.{Answered, Taken, Again, Kept}
 use Rattle.ncp_model.specs.Happenings.{Happening, Outcome, Happened, happens}
@@ -144,6 +145,18 @@ occurs pair (Comes_to_receiver by_peer) w = if nat_lt by_peer MAX_BY_PEER then c
 occurs pair Text_goes_out w = sender_does pair all.Text_goes_out w
 occurs pair (Text_comes head) w = text_comes pair head w.text w
 occurs pair (Text_is_answered how) w = text_is_answered pair how w.text w
+
+-- what comes is taken, or is late
+abbrev pub is_in_order : Outcome → Bool
+is_in_order all.Accepted = true
+is_in_order all.Admitted = true
+is_in_order all.Late = true
+is_in_order outcome = false
+
+-- so this command is, whose coming is this; no other commands are underway
+abbrev pub ComesInOrder : Pair → Option Happening → Option End → Type 0
+ComesInOrder pair None end = ⊥
+ComesInOrder pair (Some what) end = is_in_order (happens pair what end).outcome ≡ true
 
 -- the connection after these events, in order
 abbrev pub occur_from : Pair → List Event → Connection → Connection

@@ -1,10 +1,14 @@
 //! One connection between two hosts that stay up.
-ghost use Rattle.std.specs.Prelude.{◌≡◌, List, true, false};
+ghost use Rattle.std.specs.Prelude.{◌≡◌, ℕ, ◌<◌, Bool, List, ◌∷◌, true, false};
+ghost use Rattle.ncp_control.specs.declared.command.Command.{Command};
 ghost use Rattle.ncp_model.specs.Pairs.{sends};
-ghost use Rattle.ncp_model.specs.Connections.{Event, occur};
+ghost use Rattle.ncp_model.specs.Happenings.{happens};
+ghost use Rattle.ncp_model.specs.Happenings as all;
+ghost use Rattle.ncp_model.specs.Connections.{turned, Text, Away, Event, occur, is_in_order, ComesInOrder, command_comes};
 ghost use Rattle.ncp_model.specs.Ledger.{BothOpen, MessagesAgree, BitsAgree, Parted, Held, Begins, OutIsOpened};
 ghost use Rattle.ncp_model.specs.Clearings.{Change, change, OutStaysOpened};
 
+use crate::limits::MAX_BY_PEER;
 use crate::pair::Pair;
 
 /// After every list of events: no end made an ERR for a command of its peer, or answered a text as
@@ -19,6 +23,13 @@ pub fn nothing_is_lost_or_made()
     ensures held { (pair : Pair) (events : List Event) → sends pair ≡ true → Held (occur pair events) }
     ensures beginning { (pair : Pair) (events : List Event) → sends pair ≡ true → Begins (occur pair events) }
     ensures opened { (pair : Pair) (events : List Event) → sends pair ≡ true → OutIsOpened (occur pair events) }
+{}
+
+/// A command that comes is taken or late, an interrupt too: no end makes an ERR for it. So is a text.
+pub fn what_comes_is_in_order()
+    ensures to_sender { (pair : Pair) (events : List Event) (c : Command) (rest : List Command) (by_peer : ℕ) → sends pair ≡ true → by_peer < MAX_BY_PEER → (occur pair events).to_sender ≡ c ∷ rest → ComesInOrder pair (command_comes by_peer c) (occur pair events).sender.end }
+    ensures to_receiver { (pair : Pair) (events : List Event) (c : Command) (rest : List Command) (by_peer : ℕ) → sends pair ≡ true → by_peer < MAX_BY_PEER → (occur pair events).to_receiver ≡ c ∷ rest → ComesInOrder (turned pair) (command_comes by_peer c) (occur pair events).receiver.end }
+    ensures text { (pair : Pair) (events : List Event) (head : List Bool) (of_size : ℕ) (bits : List Bool) → sends pair ≡ true → (occur pair events).text ≡ Away of_size bits → is_in_order (happens (turned pair) (all.Text_comes head of_size bits) (occur pair events).receiver.end).outcome ≡ true }
 {}
 
 /// The same where either host may be cleared at any moment, and where a connection starts anew once
