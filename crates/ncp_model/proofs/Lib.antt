@@ -5,7 +5,6 @@ pub mod FreeLinks
 pub mod PairOrder
 pub mod EndsAfter
 pub mod LinksLead
-pub mod Few
 pub mod Lookups
 pub mod LinksStay
 pub mod Lines
@@ -25,7 +24,6 @@ pub mod Linking
 pub mod LinkSteps
 pub mod Found
 pub mod InOrder
-pub mod Lives
 pub mod HostsBase
 pub mod EndsGood
 pub mod HostsStand
