@@ -1,5 +1,5 @@
 -- What a receiving end counts is what its history says.
-use Rattle.std.proofs.Common.{◌≡◌, ℕ, Bool, true, false, if◌then◌else◌, List, [], ◌∷◌, Option, None, Some, arith}
+use Rattle.std.proofs.Common.{◌≡◌, true, false, if◌then◌else◌, List, [], ◌∷◌, Option, None, Some, arith}
 use Rattle.std.proofs.lemmas.List.{append-nil, append_assoc, length-append, take-append-drop}
 use Rattle.ncp_model.specs.declared.pair.Pair.{Pair}
 use Rattle.ncp_model.specs.Pairs.{sends, receives}

@@ -1,6 +1,6 @@
 -- What holds of all the ends of a host: each is sound, and no two are on one link.
-use Rattle.std.proofs.Common.{◌≡◌, ◌⊎◌, inl, inr, ℕ, ◌==◌, ◌≤◌, ◌<◌, Bool, true, false, cond, not, ◌&&◌, ◌||◌, nat_le, nat_lt, if◌then◌else◌, List, [], ◌∷◌, Option, None, Some, refl, sym, ap, ◌∙◌, subst, arith}
-use Rattle.std.specs.FinMap.{get, insert, remove, get-empty, get-insert, get-remove}
+use Rattle.std.proofs.Common.{◌≡◌, ◌⊎◌, inl, inr, ℕ, ◌==◌, ◌≤◌, Bool, true, false, cond, not, ◌&&◌, ◌||◌, nat_le, Option, None, Some, refl, sym, ap, ◌∙◌, subst, arith}
+use Rattle.std.specs.FinMap.{get, get-empty, get-insert, get-remove}
 use Rattle.std.specs.Ordering.{eq_by_cmp}
 use Rattle.std.proofs.lemmas.Bool.{eqb-true}
 use Rattle.std.proofs.lemmas.Map.Views.{tells_apart}
@@ -10,17 +10,16 @@ use Rattle.ncp_model.specs.declared.limits.TheConstants.{MAX_OWN}
 use Rattle.ncp_model.specs.Pairs.{pair_cmp}
 use Rattle.ncp_model.specs.End.{End}
 use Rattle.ncp_model.specs.Act.{Act, end_after}
-use Rattle.ncp_model.specs.Texts.{hear_text, Answered}
-use Rattle.ncp_model.specs.Ends.{Ends, count, any, has_asked, is_by_peer, hears_link, uses_link, free_link, sender_on, receiver_on, pair_of, leads_to, hear, text_in, cut_in, answered_in, map_after, map_after_at, no_ends}
+use Rattle.ncp_model.specs.Ends.{Ends, count, any, has_asked, is_by_peer, hears_link, uses_link, free_link, map_after, no_ends}
 use Rattle.ncp_model.specs.Happenings.{Happening, Happened, happens}
 use Rattle.ncp_model.specs.Happenings as all
 use Rattle.ncp_model.specs.Leading.{passes, comes}
 use Rattle.ncp_model.specs.Sound.{SoundAt}
-use Rattle.ncp_model.specs.Hosts.{Call, Ask_to_send, Ask_to_receive, called, put}
+use Rattle.ncp_model.specs.Hosts.{Call, Ask_to_receive, called, put}
 use Rattle.ncp_model.proofs.PairOrder.{pairs_exact, pairs_total}
 use Rattle.ncp_model.proofs.EndsAfter.{after-at, after-elsewhere}
 use Rattle.ncp_model.proofs.FreeLinks.{free-free, free-room}
-use Rattle.ncp_model.proofs.LinksLead.{itself, led, command-led, cut-led, answered-led}
+use Rattle.ncp_model.proofs.LinksLead.{itself}
 use Rattle.ncp_model.proofs.LinksStay.{brings_link, takes_link, heard-by, asked-by}
 use Rattle.ncp_model.proofs.Lookups.{any-none}
 use Rattle.ncp_model.proofs.SoundEnds.{sound-after}

@@ -1,24 +1,23 @@
 -- What names a link finds the end for which it was made.
-use Rattle.std.proofs.Common.{◌≡◌, ℕ, ◌==◌, Bool, true, false, List, [], ◌∷◌, ◌++◌, Option, None, Some, refl, ap, sym, ◌∙◌, subst, ◌⊎◌, inl, inr}
+use Rattle.std.proofs.Common.{◌≡◌, ℕ, Bool, true, false, List, ◌∷◌, ◌++◌, Option, None, Some, refl, sym, ◌∙◌, subst, ◌⊎◌, inl, inr}
 use Rattle.std.proofs.lemmas.Bool.{both_ways}
 use Rattle.ncp_control.specs.declared.command.Command.{Command}
 use Rattle.ncp_control.specs.declared.command.Command.TheVariants.{Rts, Str, Cls, All, Gvb, Ret, Inr, Ins}
 use Rattle.ncp_model.specs.declared.pair.Pair.{Pair}
 use Rattle.ncp_model.specs.Pairs.{sends}
 use Rattle.ncp_model.specs.End.{End, or_new, is_live}
-use Rattle.ncp_model.specs.Histories.{Watched}
-use Rattle.ncp_model.specs.Connections.{Text, Connection}
+use Rattle.ncp_model.specs.Connections.{Connection}
 use Rattle.ncp_model.specs.Ledger.{is_out}
-use Rattle.ncp_model.specs.Sharing.{Tagged, Shared, same, only, at, hears_at, uses_at}
-use Rattle.ncp_model.specs.Finding.{link_of, Only, GrantFinds, ReturnFinds, RequestFits, SenderHoldsLink, ReceiverHoldsLink, SameLink}
-use Rattle.ncp_model.proofs.Lines.{Kind, Data, Alien, same_number}
-use Rattle.ncp_model.proofs.Joint.{to_sender_kind, to_receiver_kind, kinds, sender_marks, receiver_marks, Place, Together, Sender_ahead, Receiver_ahead, Joint, Core, Firm, live_got}
+use Rattle.ncp_model.specs.Sharing.{Tagged, Shared, same, only, at, hears_at}
+use Rattle.ncp_model.specs.Finding.{link_of, GrantFinds, ReturnFinds, RequestFits, SenderHoldsLink, ReceiverHoldsLink, SameLink}
+use Rattle.ncp_model.proofs.Lines.{Data, Alien, same_number}
+use Rattle.ncp_model.proofs.Joint.{to_sender_kind, to_receiver_kind, kinds, sender_marks, receiver_marks, Place, Together, Sender_ahead, Receiver_ahead, Joint, Firm, live_got}
 use Rattle.ncp_model.proofs.Senders.{s_there}
 use Rattle.ncp_model.proofs.Receivers.{r_there}
 use Rattle.ncp_model.proofs.Whole.{Local, Whole, Inv, s_firm, r_firm, alien_to_sender, alien_to_receiver, out_is_opened}
 use Rattle.ncp_model.proofs.Outliving.{Fit}
-use Rattle.ncp_model.proofs.Projecting.{same_refl, same_true, FitAt, AllFit}
-use Rattle.ncp_model.proofs.Linking.{hears_from, hears_parts, uses_from, uses_parts, asks_at, LinkFits}
+use Rattle.ncp_model.proofs.Projecting.{same_refl, same_true, AllFit}
+use Rattle.ncp_model.proofs.Linking.{hears_from, hears_parts, uses_from, asks_at, LinkFits}
 use Rattle.ncp_model.proofs.Clear.{Clear}
 use Rattle.ncp_model.proofs.LinkSteps.{rts_fits}
 
@@ -115,8 +114,8 @@ module _ (s : Shared) (f : AllFit s) (k : LinkFits s) where
   pub grant_finds : s.sends ≡ true → GrantFinds s
   grant_finds a q c on rest e sq l =
       let fit : Fit q true s.receives (record (at q s) { to_sender = c ∷ only q rest }) =
-          subst (λ (x : Bool). Fit q x s.receives (record (at q s) { to_sender = c ∷ only q rest })) a
-          (rw (same_refl q) at (subst (λ (xs : List Tagged). Fit q s.sends s.receives (record (at q s) { to_sender = only q xs })) e (f q sq))) in
+      subst (λ (x : Bool). Fit q x s.receives (record (at q s) { to_sender = c ∷ only q rest })) a
+      (rw (same_refl q) at (subst (λ (xs : List Tagged). Fit q s.sends s.receives (record (at q s) { to_sender = only q xs })) e (f q sq))) in
       let u = sender_fits q sq s.receives c on (only q rest) (at q s) l fit in
       let h = hears_from on q (or_new (s.sender q).end) sq u.0 (sym u.1) in
       (h, λ p m. k.senders a p q on m h)
@@ -124,8 +123,8 @@ module _ (s : Shared) (f : AllFit s) (k : LinkFits s) where
   pub return_finds : s.receives ≡ true → ReturnFinds s
   return_finds a q c on rest e sq l =
       let fit : Fit q s.sends true (record (at q s) { to_receiver = c ∷ only q rest }) =
-          subst (λ (x : Bool). Fit q s.sends x (record (at q s) { to_receiver = c ∷ only q rest })) a
-          (rw (same_refl q) at (subst (λ (xs : List Tagged). Fit q s.sends s.receives (record (at q s) { to_receiver = only q xs })) e (f q sq))) in
+      subst (λ (x : Bool). Fit q s.sends x (record (at q s) { to_receiver = c ∷ only q rest })) a
+      (rw (same_refl q) at (subst (λ (xs : List Tagged). Fit q s.sends s.receives (record (at q s) { to_receiver = only q xs })) e (f q sq))) in
       let u = receiver_fits q sq s.sends c on (only q rest) (at q s) l fit in
       let h = uses_from on q (or_new (s.receiver q).end) sq u.0 (sym u.1) in
       (h, λ p m. k.receivers a p q on m h)

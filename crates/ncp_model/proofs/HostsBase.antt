@@ -1,5 +1,5 @@
 -- Two hosts without their ends and texts are the reset machine: each step is some of its steps.
-use Rattle.std.proofs.Common.{◌≡◌, ℕ, Bool, true, false, if◌then◌else◌, List, [], ◌∷◌, ◌++◌, Option, None, Some, refl, sym, ap, ◌∙◌, subst, arith}
+use Rattle.std.proofs.Common.{◌≡◌, ℕ, Bool, true, false, if◌then◌else◌, List, [], ◌∷◌, ◌++◌, Option, None, Some, refl, sym, ap, ◌∙◌, arith}
 use Rattle.ncp_control.specs.declared.command.Command.{Command}
 use Rattle.ncp_control.specs.declared.command.Command.TheVariants.{Rst, Rrp}
 use Rattle.ncp_model.specs.Phase.{Reaction, is_resetting}
@@ -13,7 +13,7 @@ use Rattle.ncp_model.specs.Sending.{is_full}
 use Rattle.ncp_model.specs.Delivery.{Slot, Empty, Ready, Travelling, Held, Subnet, Free, Accepted, Delivered, Lost, Dead, answered}
 use Rattle.ncp_model.specs.Resets.{Host, is_up, host_makes, host_makes_all, host_hears, host_hears_other, host_hears_all, Side, This, That}
 use Rattle.ncp_model.specs.Resets as resets
-use Rattle.ncp_model.specs.Hosts.{TextOut, Node, quiet, reaction, hears, hears_other, hears_all, calls_reset, called, calls, happens_at, made_by_echo, echo_called, calls_echo, cuts, sends_text, takes_text, hears_text, text_answered, text_comes, frees, settles, control_answered, message_comes, World, swap, base, Step, Calls_reset, Calls, Calls_echo, Falls, Sends, Sends_text, Hears, Hears_text, Loses, Loses_text, Dies, Text_dies, Is_answered, Text_is_answered, Wakes, steps, Event, at, run_from, run, start}
+use Rattle.ncp_model.specs.Hosts.{TextOut, Node, quiet, reaction, hears, hears_other, hears_all, calls_reset, called, happens_at, made_by_echo, echo_called, cuts, sends_text, takes_text, text_answered, text_comes, frees, settles, control_answered, message_comes, World, swap, base, Step, Calls_reset, Calls, Calls_echo, Falls, Sends, Sends_text, Hears, Hears_text, Loses, Loses_text, Dies, Text_dies, Is_answered, Text_is_answered, Wakes, steps, Event, at, run_from, run, start}
 
 -- the reset machine comes from one world to another
 abbrev pub Reaches : resets.World → resets.World → Type 0

@@ -1,6 +1,6 @@
 -- Two hosts whose ends and histories are plain lists, in the order of their pairs: what they do can
 -- be computed, and it is what the hosts do.
-use Rattle.std.proofs.Common.{◌≡◌, ℕ, ◌==◌, Bool, true, false, cond, not, ◌||◌, nat_lt, if◌then◌else◌, List, [], ◌∷◌, ◌++◌, length, Option, None, Some, refl, sym, ap, ◌∙◌, arith}
+use Rattle.std.proofs.Common.{◌≡◌, ℕ, Bool, true, false, cond, not, ◌||◌, nat_lt, if◌then◌else◌, List, [], ◌∷◌, ◌++◌, length, Option, None, Some, refl, sym, ap, ◌∙◌, arith}
 use Rattle.std.specs.List.{count_by}
 use Rattle.std.specs.declared.cmp.Ordering.TheVariants.{Equal}
 use Rattle.std.specs.Ordering.{eq_by_cmp}
@@ -19,7 +19,7 @@ use Rattle.ncp_model.specs.End.{End, is_over}
 use Rattle.ncp_model.specs.Act.{Act, Stays, Becomes, answer, made_if_any, made_by_hearing}
 use Rattle.ncp_model.specs.Texts.{hear_text, made_by_text, Taken}
 use Rattle.ncp_model.specs.Commands.{hear_rts, hear_str, hear_cls, hear_all, hear_gvb, hear_ret, hear_inr, hear_ins}
-use Rattle.ncp_model.specs.Ends.{Ends, has_asked, is_by_peer, hears_link, uses_link, first_by, lowest, end_of, pair_of, leads_to, hear, text_in, cut_at, cut_in, answered_at, answered_in, map_after, map_after_at, no_ends}
+use Rattle.ncp_model.specs.Ends.{Ends, has_asked, is_by_peer, hears_link, uses_link, first_by, lowest, end_of, pair_of, leads_to, hear, text_in, cut_at, cut_in, answered_at, answered_in, map_after_at, no_ends}
 use Rattle.ncp_model.specs.Happenings.{Happening, Happened, happens, of_hearing, of_text}
 use Rattle.ncp_model.specs.Happenings as all
 use Rattle.ncp_model.specs.Leading.{comes}
@@ -31,7 +31,7 @@ use Rattle.ncp_model.specs.Delivery.{Slot, Empty, Ready, Travelling, Held, Subne
 use Rattle.ncp_model.specs.Resets.{Host, is_up, anew, host_resets, host_settles, host_falls, host_makes_all, host_hears, Side, This, That}
 use Rattle.ncp_model.specs.Resets as resets
 use Rattle.ncp_model.specs.Connections.{is_violation}
-use Rattle.ncp_model.specs.Hosts.{TextOut, Pasts, or_no_past, past_of, past_after, pasts_after, pasts_after_at, Node, new_node, all_empty, quiet, set_link, kept, kept_echoes, Call, Ask_to_send, Ask_to_receive, Close, Give, Take, Allocate, Call_back, Interrupt, called, put, cleared, made_by_echo, happens_at, calls, echo_called, calls_echo, calls_reset, is_full_up, echo_replies, echoes_after, reaction, hears, hears_other, hears_all, takes_text, hears_text, goes_out, cuts, sends_text, frees, settles, text_answered, text_comes, control_answered, message_comes, undelivered_text, moved, World, swap, base, Step, Calls_reset, Calls, Calls_echo, Falls, Sends, Sends_text, Hears, Hears_text, Loses, Loses_text, Dies, Text_dies, Is_answered, Text_is_answered, Wakes, steps, Event, at, run_from, run, start}
+use Rattle.ncp_model.specs.Hosts.{TextOut, Pasts, or_no_past, past_of, past_after, pasts_after, pasts_after_at, Node, all_empty, quiet, set_link, kept, kept_echoes, Call, Ask_to_send, Ask_to_receive, Close, Give, Take, Allocate, Call_back, Interrupt, called, put, cleared, made_by_echo, happens_at, calls, echo_called, calls_echo, calls_reset, is_full_up, echo_replies, echoes_after, reaction, hears, hears_other, hears_all, takes_text, hears_text, cuts, sends_text, frees, text_answered, text_comes, control_answered, message_comes, World, swap, Step, Calls_reset, Calls, Calls_echo, Falls, Sends, Sends_text, Hears, Hears_text, Loses, Loses_text, Dies, Text_dies, Is_answered, Text_is_answered, Wakes, steps, Event, at, run_from, run, start}
 use Rattle.ncp_model.proofs.PairOrder.{pairs_exact, pairs_total}
 
 abbrev pub Listed : Type 0

@@ -1,31 +1,25 @@
 -- A host that is not up has no ends; all its ends are sound, and no two are on one link.
-use Rattle.std.proofs.Common.{◌≡◌, ◌⊎◌, inl, inr, ℕ, Bool, true, false, cond, ◌&&◌, if◌then◌else◌, List, [], ◌∷◌, ◌++◌, Option, None, Some, refl, sym, ap, ◌∙◌, subst, arith}
-use Rattle.std.specs.FinMap.{empty, entries, get, insert, remove, get-empty, get-insert, get-remove}
-use Rattle.std.specs.Ordering.{eq_by_cmp}
-use Rattle.std.proofs.lemmas.Map.Views.{tells_apart}
+use Rattle.std.proofs.Common.{◌≡◌, ℕ, Bool, true, false, if◌then◌else◌, List, [], ◌∷◌, Option, None, Some, refl, sym, ap, ◌∙◌, subst, arith}
+use Rattle.std.specs.FinMap.{get, get-empty}
 use Rattle.ncp_control.specs.declared.command.Command.{Command}
 use Rattle.ncp_control.specs.declared.command.Command.TheVariants.{Rst, Rrp}
 use Rattle.ncp_model.specs.declared.pair.Pair.{Pair}
 use Rattle.ncp_model.specs.Pairs.{pair_cmp}
 use Rattle.ncp_model.specs.End.{End}
-use Rattle.ncp_model.specs.Act.{Act, answer, end_after, made_if_any, made_by_hearing}
-use Rattle.ncp_model.specs.Texts.{hear_text, made_by_text, Taken}
-use Rattle.ncp_model.specs.Ends.{Ends, hears_link, uses_link, first_by, sender_on, receiver_on, pair_of, leads_to, hear, text_in, cut_at, cut_in, answered_in, map_after, map_after_at, no_ends}
+use Rattle.ncp_model.specs.Act.{Act, answer, end_after}
+use Rattle.ncp_model.specs.Texts.{hear_text, Taken}
+use Rattle.ncp_model.specs.Ends.{Ends, hears_link, uses_link, sender_on, receiver_on, pair_of, leads_to, hear, text_in, cut_at, cut_in, answered_in, map_after, map_after_at, no_ends}
 use Rattle.ncp_model.specs.Happenings.{Happening, Happened, happens, happened, of_hearing, of_text, of_cut}
 use Rattle.ncp_model.specs.Happenings as all
 use Rattle.ncp_model.specs.Leading.{passes, comes}
-use Rattle.ncp_model.specs.Sound.{SoundAt}
 use Rattle.ncp_model.specs.Phase.{is_resetting}
 use Rattle.ncp_model.specs.Sending.{is_full}
 use Rattle.ncp_model.specs.Delivery.{Slot, Empty, Ready, Travelling, Held, Subnet, Free, Accepted, Delivered, Lost, Dead}
 use Rattle.ncp_model.specs.Resets.{Host, is_up, host_resets, host_settles, host_falls, host_makes_all, host_hears, Side, This, That}
 use Rattle.ncp_model.specs.Resets as resets
-use Rattle.ncp_model.specs.Hosts.{TextOut, Node, quiet, reaction, kept, put, cleared, called, happens_at, calls, echo_called, calls_echo, calls_reset, hears, hears_other, hears_all, takes_text, hears_text, cuts, sends_text, frees, settles, text_answered, text_comes, control_answered, message_comes, moved, World, swap, base, Step, Calls_reset, Calls, Calls_echo, Falls, Sends, Sends_text, Hears, Hears_text, Loses, Loses_text, Dies, Text_dies, Is_answered, Text_is_answered, Wakes, steps, Event, at, run_from, run, start}
-use Rattle.ncp_model.proofs.PairOrder.{pairs_exact, pairs_total}
-use Rattle.ncp_model.proofs.EndsAfter.{after-at, after-elsewhere}
-use Rattle.ncp_model.proofs.LinksLead.{itself, led, command-led, cut-led, answered-led}
-use Rattle.ncp_model.proofs.LinksStay.{brings_link, takes_link}
-use Rattle.ncp_model.proofs.EndsGood.{Good, none-good, Changes, Fresh, good-after, put-changes, act-changes, none-fresh, called-fresh, comes-fresh}
+use Rattle.ncp_model.specs.Hosts.{TextOut, Node, quiet, reaction, kept, put, cleared, called, happens_at, echo_called, calls_reset, hears, hears_other, hears_all, takes_text, hears_text, cuts, sends_text, frees, settles, text_answered, text_comes, control_answered, message_comes, World, swap, base, Step, Calls_reset, Calls, Calls_echo, Falls, Sends, Sends_text, Hears, Hears_text, Is_answered, Text_is_answered, steps, Event, at, run_from, run, start}
+use Rattle.ncp_model.proofs.LinksLead.{led, command-led, cut-led, answered-led}
+use Rattle.ncp_model.proofs.EndsGood.{Good, none-good, Fresh, good-after, put-changes, act-changes, none-fresh, called-fresh, comes-fresh}
 
 -- of the ends at a host that is up or not
 abbrev pub Stand : Bool → Ends → Type 0

@@ -1,6 +1,6 @@
 -- A command or a text that comes is taken, or is late.
-use Rattle.std.proofs.Common.{◌≡◌, ℕ, Bool, true, false, not, ◌||◌, ◌&&◌, nat_lt, List, [], ◌∷◌, Option, None, Some, refl, subst, arith}
-use Rattle.std.proofs.lemmas.Bool.{both_ways, or_parts}
+use Rattle.std.proofs.Common.{◌≡◌, ℕ, Bool, true, false, nat_lt, List, ◌∷◌, Option, None, Some, refl, arith}
+use Rattle.std.proofs.lemmas.Bool.{or_parts}
 use Rattle.ncp_control.specs.declared.command.Command.{Command}
 use Rattle.ncp_control.specs.declared.command.Command.TheVariants.{Rts, Str, Cls, All, Gvb, Ret, Inr, Ins}
 use Rattle.ncp_model.specs.declared.pair.Pair.{Pair}
@@ -9,8 +9,8 @@ use Rattle.ncp_model.specs.Pairs.{sends}
 use Rattle.ncp_model.specs.End.{End}
 use Rattle.ncp_model.specs.Happenings.{Happening, happens}
 use Rattle.ncp_model.specs.Happenings as all
-use Rattle.ncp_model.specs.Connections.{turned, Text, Away, Connection, is_violation, is_in_order, ComesInOrder, command_comes, comes_to_sender, comes_to_receiver}
-use Rattle.ncp_model.proofs.Whole.{Inv, Whole, alien_to_sender, alien_to_receiver, comes_to_sender_keeps, comes_to_receiver_keeps, text_comes_keeps}
+use Rattle.ncp_model.specs.Connections.{turned, Away, Connection, is_violation, is_in_order, ComesInOrder, command_comes, comes_to_sender, comes_to_receiver}
+use Rattle.ncp_model.proofs.Whole.{Inv, alien_to_sender, alien_to_receiver, comes_to_sender_keeps, comes_to_receiver_keeps, text_comes_keeps}
 
 -- where no ERR is made
 abbrev Fine : Pair → Happening → Option End → Type 0

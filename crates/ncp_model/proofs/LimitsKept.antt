@@ -2,7 +2,7 @@
 use Rattle.std.proofs.Common.{◌≡◌, ℕ, Bool, true, false, List, [], ◌∷◌, Option, None, Some, refl, arith}
 use Rattle.std.proofs.lemmas.List.{length-append, length-drop}
 use Rattle.ncp_model.specs.declared.pair.Pair.{Pair}
-use Rattle.ncp_model.specs.Pairs.{sends, receives}
+use Rattle.ncp_model.specs.Pairs.{sends}
 use Rattle.ncp_model.specs.End.{End, is_going}
 use Rattle.ncp_model.specs.Texts.{Taken, Again, Kept}
 use Rattle.ncp_model.specs.Happenings.{Happening, happens, end_from}

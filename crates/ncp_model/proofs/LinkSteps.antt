@@ -1,6 +1,6 @@
 -- No event makes two ends hold one link.
-use Rattle.std.proofs.Common.{◌≡◌, ℕ, ◌==◌, Bool, true, false, not, ◌||◌, ◌&&◌, nat_le, nat_lt, cond, if◌then◌else◌, List, [], ◌∷◌, ◌++◌, take, drop, Option, None, Some, Result, Ok, Err, refl, ap, sym, ◌∙◌, subst, arith, ◌⊎◌, inl, inr}
-use Rattle.std.proofs.lemmas.Bool.{both_ways, and_parts, and_from, and_left, or_parts, not-true, eq-eqb, eqb-true, not_from_false}
+use Rattle.std.proofs.Common.{◌≡◌, ℕ, Bool, true, false, not, ◌&&◌, nat_le, nat_lt, if◌then◌else◌, List, [], ◌∷◌, ◌++◌, Option, None, Some, Result, refl, sym, ◌∙◌, subst, ◌⊎◌, inl, inr}
+use Rattle.std.proofs.lemmas.Bool.{both_ways, and_from, and_left, or_parts, not-true, eq-eqb, not_from_false}
 use Rattle.ncp_control.specs.declared.command.Command.{Command}
 use Rattle.ncp_control.specs.declared.command.Command.TheVariants.{Rts, Str, Cls, All, Gvb, Ret, Inr, Ins}
 use Rattle.ncp_model.specs.declared.pair.Pair.{Pair}
@@ -8,24 +8,24 @@ use Rattle.ncp_model.specs.declared.call_fault.CallFault.{CallFault}
 use Rattle.ncp_model.specs.declared.limits.TheConstants.{MAX_BY_PEER, MAX_OWN}
 use Rattle.ncp_model.specs.Pairs.{sends, receives}
 use Rattle.ncp_model.specs.End.{End, new_end, or_new, is_going, is_over}
-use Rattle.ncp_model.specs.Act.{Act, Stays, Becomes, answer, end_after, made_by_call, is_room, is_data_link}
+use Rattle.ncp_model.specs.Act.{Act, answer, end_after, made_by_call, is_room, is_data_link}
 use Rattle.ncp_model.specs.Calls.{ask_receive, asked_to_receive}
-use Rattle.ncp_model.specs.Ends.{hears_link, uses_link}
-use Rattle.ncp_model.specs.Texts.{Answered, Taken, Again, Kept}
+use Rattle.ncp_model.specs.Ends.{hears_link}
+use Rattle.ncp_model.specs.Texts.{Taken, Again, Kept}
 use Rattle.ncp_model.specs.Happenings.{Happening, happens}
 use Rattle.ncp_model.specs.Happenings as all
-use Rattle.ncp_model.specs.Histories.{Watched, watches}
-use Rattle.ncp_model.specs.Connections.{turned, Text, No_text, Away, Here, Connection, sender_does, receiver_does, is_call, command_comes, Event, Sender_calls, Receiver_calls, Comes_to_sender, Comes_to_receiver, Text_goes_out, Text_comes, Text_is_answered, sender_hears, receiver_hears, comes_to_sender, comes_to_receiver, text_comes, text_is_answered, occurs}
+use Rattle.ncp_model.specs.Histories.{Watched}
+use Rattle.ncp_model.specs.Connections.{turned, Text, No_text, Away, Here, Connection, sender_does, receiver_does, is_call, command_comes, Event, Sender_calls, Receiver_calls, Comes_to_sender, Comes_to_receiver, Text_goes_out, Text_comes, Text_is_answered, sender_hears, receiver_hears, comes_to_sender, comes_to_receiver, occurs}
 use Rattle.ncp_model.specs.Clearings.{Hosted, Occurs, changes, is_at_sender, misses, text_over, text_dropped}
-use Rattle.ncp_model.specs.Sharing.{Tagged, Shared, new_shared, same, set_at, only, tag, at, bringing, put, hears_at, uses_at, Shared_event, On, Next_to_senders, Next_to_receivers, Other_to_senders, Other_to_receivers, Senders_are_cleared, Receivers_are_cleared, All_start_anew, next_to_senders, next_to_receivers, shared_occurs, shared_from, shared, MayHappen, AllMayHappen}
+use Rattle.ncp_model.specs.Sharing.{Tagged, Shared, new_shared, same, only, at, bringing, put, hears_at, uses_at, Shared_event, On, Next_to_senders, Next_to_receivers, Other_to_senders, Other_to_receivers, Senders_are_cleared, Receivers_are_cleared, All_start_anew, next_to_senders, next_to_receivers, shared_occurs, shared_from, shared, MayHappen, AllMayHappen}
 use Rattle.ncp_model.proofs.Joint.{to_sender_kind, Firm, sender_well}
 use Rattle.ncp_model.proofs.Senders.{s_unheard, s_close_fits}
-use Rattle.ncp_model.proofs.Whole.{Inv, s_firm, r_firm, turned_receives}
+use Rattle.ncp_model.proofs.Whole.{s_firm, r_firm, turned_receives}
 use Rattle.ncp_model.proofs.Outliving.{Fit, Nobody}
-use Rattle.ncp_model.proofs.Projecting.{same_refl, same_true, apart, FitAt, AllFit, put_own, framed, framed_to_sender, framed_to_receiver, fits_keep, new_fits}
+use Rattle.ncp_model.proofs.Projecting.{same_refl, apart, FitAt, AllFit, put_own, framed, framed_to_sender, framed_to_receiver, fits_keep, new_fits}
 use Rattle.ncp_model.proofs.Calm.{no_rts, Left, keeps_link, SenderCalm, sender_calm, sender_hears_rts, sender_hears_cls, asks_link, ReceiverCalm, receiver_calm, makes_no_rts}
 use Rattle.ncp_model.proofs.Clear.{Clear, Free, holds, still_left, clear_more, clear_cut, clear_popped, clear_noise}
-use Rattle.ncp_model.proofs.Linking.{hears_from, hears_parts, uses_from, uses_parts, asks_at, ClearAt, LinkFits, Before, Does, before_as, put_links, put_asks}
+use Rattle.ncp_model.proofs.Linking.{hears_from, hears_parts, uses_parts, asks_at, LinkFits, Before, Does, before_as, put_links, put_asks}
 
 -- An end that is left, at a host that is there.
 
@@ -152,8 +152,8 @@ calm_links q sq h s f left fit k = put_links q h s (λ on. hears_at s on q) (or_
 
 record Way (pair : Pair) (on : ℕ) (before : Option End) (act : Act (Result Command CallFault)) : Type 0 where
   is :
-    ((made_by_call (answer act) ≡ []) × (end_after before act ≡ before))
-    ⊎ ((made_by_call (answer act) ≡ Rts pair.local pair.remote on ∷ []) × ((or_new (end_after before act)).asked ≡ true) × ((or_new (end_after before act)).link ≡ on))
+      ((made_by_call (answer act) ≡ []) × (end_after before act ≡ before))
+      ⊎ ((made_by_call (answer act) ≡ Rts pair.local pair.remote on ∷ []) × ((or_new (end_after before act)).asked ≡ true) × ((or_new (end_after before act)).link ≡ on))
 
 one_way : (pair : Pair) (room on own : ℕ) (full : Bool) (before : Option End) → Way pair on before (ask_receive pair room on own full before)
 one_way pair room on own full before =

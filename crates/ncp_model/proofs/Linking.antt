@@ -1,23 +1,21 @@
 -- At each host that was not cleared, no two ends hold one link; and what is underway keeps it so.
-use Rattle.std.proofs.Common.{◌≡◌, ℕ, ◌==◌, Bool, true, false, not, ◌||◌, ◌&&◌, nat_lt, cond, if◌then◌else◌, List, [], ◌∷◌, ◌++◌, take, drop, Option, None, Some, refl, ap, sym, ◌∙◌, subst, arith, ◌⊎◌, inl, inr}
-use Rattle.std.proofs.lemmas.Bool.{both_ways, and_parts, and_from, or_parts, not-true, eq-eqb, eqb-true, not_from_false}
-use Rattle.std.proofs.lemmas.List.{append-nil}
+use Rattle.std.proofs.Common.{◌≡◌, ℕ, Bool, true, false, cond, if◌then◌else◌, List, [], ◌∷◌, ◌++◌, refl, ap, sym, ◌∙◌, subst, arith}
+use Rattle.std.proofs.lemmas.Bool.{both_ways, eqb-true}
 use Rattle.ncp_control.specs.declared.command.Command.{Command}
-use Rattle.ncp_control.specs.declared.command.Command.TheVariants.{Rts, Str, Cls, All, Gvb, Ret, Inr, Ins}
+use Rattle.ncp_control.specs.declared.command.Command.TheVariants.{Rts}
 use Rattle.ncp_model.specs.declared.pair.Pair.{Pair}
-use Rattle.ncp_model.specs.Pairs.{sends, receives}
-use Rattle.ncp_model.specs.End.{End, new_end, or_new}
+use Rattle.ncp_model.specs.Pairs.{sends}
+use Rattle.ncp_model.specs.End.{End, or_new}
 use Rattle.ncp_model.specs.Ends.{hears_link, uses_link}
-use Rattle.ncp_model.specs.Histories.{Watched}
 use Rattle.ncp_model.specs.Connections.{turned, Connection}
 use Rattle.ncp_model.specs.Clearings.{Hosted}
-use Rattle.ncp_model.specs.Sharing.{Tagged, Shared, same, set_at, only, tag, at, put, hears_at, uses_at}
+use Rattle.ncp_model.specs.Sharing.{Tagged, Shared, same, only, tag, at, put, hears_at, uses_at}
 use Rattle.ncp_model.proofs.Lines.{Comes, Passes, comes_asked}
 use Rattle.ncp_model.proofs.Joint.{to_sender_kind, kinds, Place, Together, Sender_ahead, Receiver_ahead, Joint, live_got}
 use Rattle.ncp_model.proofs.Senders.{kinds_none}
 use Rattle.ncp_model.proofs.Whole.{Inv, turned_receives}
 use Rattle.ncp_model.proofs.Outliving.{Fit}
-use Rattle.ncp_model.proofs.Projecting.{same_refl, same_true, only_more, only_own, FitAt}
+use Rattle.ncp_model.proofs.Projecting.{same_refl, same_true, FitAt}
 use Rattle.ncp_model.proofs.Calm.{no_rts, ReceiverCalm}
 use Rattle.ncp_model.proofs.Clear.{Clear, clear_mono, clear_more, clear_own, clear_other, clear_kept, clear_none, clear_unasked, clear_passes}
 
@@ -58,8 +56,8 @@ clear_gone p on w cs e k a m = go k.core.place k.core.joint
     go : (d : Place) → Joint d s w.sender.past.given r (live_got w.receiver.end w.receiver.past) w.to_receiver w.to_sender w.text → Clear p on cs (hears_link on (p, s)) s.left false
     go Together j =
         let back : Comes s.heard s.cls s.link s.size (kinds to_sender_kind (only p cs)) false r.heard r.left r.link =
-            subst (λ (b : Bool). Comes s.heard s.cls s.link s.size (kinds to_sender_kind (only p cs)) b r.heard r.left r.link) a
-            (subst (λ (x : List Command). Comes s.heard s.cls s.link s.size (kinds to_sender_kind x) r.asked r.heard r.left r.link) e j.0.back) in
+        subst (λ (b : Bool). Comes s.heard s.cls s.link s.size (kinds to_sender_kind (only p cs)) b r.heard r.left r.link) a
+        (subst (λ (x : List Command). Comes s.heard s.cls s.link s.size (kinds to_sender_kind x) r.asked r.heard r.left r.link) e j.0.back) in
         let h : s.heard ≡ false = false_if s.heard (λ x. both_ways false refl (comes_asked s.heard s.cls s.link s.size (kinds to_sender_kind (only p cs)) false r.heard r.left r.link x back)) in
         let u = unheard h in
         subst (λ (b : Bool). Clear p on cs b s.left false) (sym u.1) (clear_unasked p on cs s.left true false s.heard s.cls s.link s.size r.heard r.left r.link back u.0)
@@ -159,7 +157,7 @@ module _ (q : Pair) (h : Hosted) (s : Shared) (hh : ℕ → Bool) (ll : Bool) (b
         gone r a =
             let whole : Inv q (at q (put q h s)) = subst (λ (x : Bool). Fit q x true (at q (put q h s))) k (subst (λ (x : Bool). Fit q s.sends x (at q (put q h s))) r fit) in
             let c : Clear q on (put q h s).to_senders (hears_link on (q, or_new ((put q h s).sender q).end)) (or_new ((put q h s).sender q).end).left false =
-                clear_gone q on (at q (put q h s)) (put q h s).to_senders refl whole (rw (same_refl q) a) (rw (same_refl q) (loose k on)) in
+            clear_gone q on (at q (put q h s)) (put q h s).to_senders refl whole (rw (same_refl q) a) (rw (same_refl q) (loose k on)) in
             clear_mono q on (s.to_senders ++ tag q h.connection.to_sender) (hears_link on (q, or_new h.connection.sender.end)) (hears_link on (q, or_new h.connection.sender.end)) (or_new h.connection.sender.end).left (or_new h.connection.sender.end).left false (uses_link on (turned q, or_new h.connection.receiver.end))
             (λ e. e) (λ e. e) (λ e. absurd (both_ways false refl e)) (rw (same_refl q) at c)
 

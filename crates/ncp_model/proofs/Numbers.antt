@@ -1,5 +1,5 @@
 -- The books of two ends in one round, where what changes counts nothing.
-use Rattle.std.proofs.Common.{◌≡◌, ℕ, Bool, true, false, List, [], ◌∷◌, ◌++◌, length, refl, ap, sym, ◌∙◌, arith}
+use Rattle.std.proofs.Common.{◌≡◌, Bool, true, false, List, [], length, refl, ap, sym, ◌∙◌, arith}
 use Rattle.std.proofs.lemmas.Bool.{both_ways}
 use Rattle.ncp_control.specs.declared.command.Command.{Command}
 use Rattle.ncp_model.specs.End.{End, is_going}

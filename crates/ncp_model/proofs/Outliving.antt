@@ -1,9 +1,8 @@
 -- A host that was cleared is a host that is silent, and what was struck of its commands is underway
 -- for ever. So what is left of a connection is part of a whole one, which keeps what holds of it.
-use Rattle.std.proofs.Common.{◌≡◌, ℕ, Bool, true, false, not, ◌||◌, ◌&&◌, nat_lt, cond, if◌then◌else◌, List, [], ◌∷◌, ◌++◌, take, drop, Option, None, Some, refl, ap, sym, ◌∙◌, subst, arith, append_assoc}
-use Rattle.std.specs.Bool.{⊤}
-use Rattle.std.proofs.lemmas.Bool.{both_ways, or_parts, or_from}
-use Rattle.std.proofs.lemmas.List.{take-append-drop, append-nil}
+use Rattle.std.proofs.Common.{◌≡◌, ℕ, Bool, true, false, ◌||◌, nat_lt, if◌then◌else◌, List, [], ◌∷◌, ◌++◌, take, drop, Option, None, Some, refl, ap, sym, ◌∙◌, subst, arith, append_assoc}
+use Rattle.std.proofs.lemmas.Bool.{both_ways, or_from}
+use Rattle.std.proofs.lemmas.List.{take-append-drop}
 use Rattle.ncp_control.specs.declared.command.Command.{Command}
 use Rattle.ncp_model.specs.declared.pair.Pair.{Pair}
 use Rattle.ncp_model.specs.declared.limits.TheConstants.{MAX_BY_PEER}
@@ -14,10 +13,10 @@ use Rattle.ncp_model.specs.Happenings.{Happening, happens}
 use Rattle.ncp_model.specs.Happenings as all
 use Rattle.ncp_model.specs.Histories.{Watched, no_past, opens, watches}
 use Rattle.ncp_model.specs.Connections.{turned, Text, No_text, Away, Here, Connection, sender_does, receiver_does, is_call, command_comes, Event, Sender_calls, Receiver_calls, Comes_to_sender, Comes_to_receiver, Text_goes_out, Text_comes, Text_is_answered, sender_hears, receiver_hears, comes_to_sender, comes_to_receiver, text_comes, text_is_answered, occurs}
-use Rattle.ncp_model.specs.Ledger.{is_out, BothOpen, MessagesAgree, BitsAgree, Parted, Held, Begins, OutIsOpened}
+use Rattle.ncp_model.specs.Ledger.{BothOpen, MessagesAgree, BitsAgree, Parted, Held, Begins}
 use Rattle.ncp_model.specs.Clearings.{Hosted, new_hosted, text_dropped, text_over, is_at_sender, misses, Change, Occurs, Sender_is_cleared, Receiver_is_cleared, Starts_anew, starts_anew, changes, change_from, change, OutStaysOpened}
 use Rattle.ncp_model.proofs.SenderActs.{opens_none}
-use Rattle.ncp_model.proofs.Whole.{Local, Whole, Inv, sender_calls_keep, receiver_calls_keep, comes_to_sender_keeps, comes_to_receiver_keeps, text_comes_keeps, text_is_answered_keeps, keeps, new_core, ever, both_open, what_was_held, what_begins, out_is_opened}
+use Rattle.ncp_model.proofs.Whole.{Inv, sender_calls_keep, receiver_calls_keep, comes_to_sender_keeps, comes_to_receiver_keeps, text_comes_keeps, text_is_answered_keeps, keeps, new_core, ever, both_open, what_was_held, what_begins, out_is_opened}
 
 -- the receiver's host was cleared: the receiver as it was, and what was struck of its commands
 pub record SenderAlone (pair : Pair) (w : Connection) : Type 0 where

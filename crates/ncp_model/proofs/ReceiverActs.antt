@@ -1,30 +1,30 @@
 -- Every act at the receiver's end keeps what the ends have in common.
-use Rattle.std.proofs.Common.{◌≡◌, ℕ, ◌+◌, ◌-◌, ◌*◌, ◌/◌, ◌%◌, ◌≤◌, Bool, true, false, not, ◌||◌, ◌&&◌, ◌==◌, if◌then◌else◌, nat_le, nat_lt, cond, List, [], ◌∷◌, ◌++◌, length, take, drop, Option, None, Some, Result, Ok, Err, refl, ap, sym, ◌∙◌, subst, arith}
+use Rattle.std.proofs.Common.{◌≡◌, ℕ, ◌+◌, ◌-◌, ◌≤◌, Bool, true, false, not, ◌||◌, ◌&&◌, ◌==◌, if◌then◌else◌, nat_le, nat_lt, cond, List, [], ◌∷◌, ◌++◌, length, take, drop, Option, None, Some, Ok, Err, refl, ap, sym, ◌∙◌, subst, arith}
 use Rattle.std.specs.Prelude.{is_none, min}
-use Rattle.std.proofs.lemmas.Bool.{both_ways, or_parts, and_parts, and_left, and_from, or_left, not-true, not-false, leb-true}
+use Rattle.std.proofs.lemmas.Bool.{both_ways, or_parts, and_parts, and_left, or_left, not-true, not-false}
 use Rattle.std.proofs.lemmas.List.{append-nil}
 use Rattle.ncp_control.specs.declared.command.Command.{Command}
-use Rattle.ncp_control.specs.declared.command.Command.TheVariants.{Rts, Str, Cls, All, Gvb, Ret, Inr, Ins}
+use Rattle.ncp_control.specs.declared.command.Command.TheVariants.{Rts, Str, Cls, Gvb, Ret, Inr, Ins}
 use Rattle.ncp_model.specs.declared.pair.Pair.{Pair}
 use Rattle.ncp_model.specs.declared.call_fault.CallFault.{CallFault}
 use Rattle.ncp_model.specs.declared.outcomes.Heard.{Heard}
 use Rattle.ncp_model.specs.declared.outcomes.Heard.TheVariants as heard
 use Rattle.ncp_model.specs.declared.outcomes.Took.TheVariants as took
-use Rattle.ncp_model.specs.declared.limits.TheConstants.{MAX_OWN, MAX_BY_PEER, MAX_MESSAGES, MAX_COUNT}
+use Rattle.ncp_model.specs.declared.limits.TheConstants.{MAX_OWN, MAX_BY_PEER, MAX_COUNT}
 use Rattle.ncp_model.specs.Pairs.{sends, receives, is_proper}
 use Rattle.ncp_model.specs.End.{End, new_end, or_new, is_going, is_over, is_live}
 use Rattle.ncp_model.specs.Act.{Act, Stays, Becomes, answer, end_after, made_by_call, made_by_close, made_by_take, made_by_hearing, met, leaves, closing, is_room, is_data_link}
-use Rattle.ncp_model.specs.Calls.{ask_send, ask_receive, asked_to_receive, close, close_end, give, give_end, take_held, take_end, take_bits, bits_to_take, emptied, allocate, allocate_end, call_back, call_back_end, interrupt, interrupt_end, interrupting, is_too_much}
+use Rattle.ncp_model.specs.Calls.{ask_send, ask_receive, asked_to_receive, close, give, take_held, bits_to_take, emptied, allocate, call_back, interrupt, interrupting, is_too_much}
 use Rattle.ncp_model.specs.Commands.{hear_str, hear_cls, hear_cls_end, hear_ret, hear_ins, at_open, ret_at, interrupted}
-use Rattle.ncp_model.specs.Texts.{hear_text, text_at, made_by_text}
+use Rattle.ncp_model.specs.Texts.{hear_text, made_by_text}
 use Rattle.ncp_model.specs.Happenings.{Happening, Outcome, of_call, of_take, of_hearing, of_text}
 use Rattle.ncp_model.specs.Happenings as all
 use Rattle.ncp_model.specs.Histories.{Past, no_past, adds, opens}
-use Rattle.ncp_model.specs.Connections.{Text, No_text, Away, Here, is_violation}
+use Rattle.ncp_model.specs.Connections.{Text, Away, Here, is_violation}
 use Rattle.ncp_model.proofs.Lines.{Data}
 use Rattle.ncp_model.proofs.Joint.{to_receiver_kind, Core, Firm, live_got, unasked, unheard}
 use Rattle.ncp_model.proofs.Standing.{stands}
-use Rattle.ncp_model.proofs.SenderActs.{opens_same, opens_none, opens_again}
+use Rattle.ncp_model.proofs.SenderActs.{opens_same, opens_again}
 use Rattle.ncp_model.proofs.Receivers.{r_asks, r_unheard, r_hears, r_leaves, r_ends, r_close_fits, r_ended, r_shut, r_replies, r_late, r_there, r_fits, r_enough, r_ret, r_ins, r_allocates, r_makes, r_takes, text_late, text_opened, text_within, text_admitted}
 
 -- what was got stays, whether the end opens or not
@@ -143,8 +143,8 @@ module _ (pair : Pair) (rd : receives pair ≡ true) (past : Past) (s : End) (g 
       let l : e.left ≡ false = (or_parts e.left (e.leaving && sends pair) c).0 in
       choose (sends pair && e.busy) (λ b. absurd (both_ways (sends pair) (only_receives pair rd) (and_parts (sends pair) e.busy b).0)) (λ _.
       closes (leaves e) (Ok (Some (closing pair))) refl (λ x. x) (λ _. refl)
-          (λ o. r_ends s g e (live_got (Some e) past) p q t fs fr pair.local pair.remote l o k)
-          (λ o. r_leaves s g e (live_got (Some e) past) p q t fs fr pair.local pair.remote l (and_parts (e.asked || e.heard) (nat_le e.room 65536) st).0 k))))
+      (λ o. r_ends s g e (live_got (Some e) past) p q t fs fr pair.local pair.remote l o k)
+      (λ o. r_leaves s g e (live_got (Some e) past) p q t fs fr pair.local pair.remote l (and_parts (e.asked || e.heard) (nat_le e.room 65536) st).0 k))))
 
   pub rk-give : (text : List Bool) (before : Option End) → Core s g (or_new before) (live_got before past) p q t
       → Keeps (all.Gives text) before past s g p q t (λ _. []) of_call (give pair text before)
@@ -167,8 +167,8 @@ module _ (pair : Pair) (rd : receives pair ≡ true) (past : Past) (s : End) (g 
       let asked : e.asked ≡ true = (fr.marks (not-false e.opened o)).0 in
       choose (e.leaving && emptied e n)
       (λ v. closes (leaves e) (Ok (take n e.stored, Some (closing pair))) refl (λ x. x) (λ _. refl)
-          (λ x. r_ends s g e (live_got (Some e) past) p q t fs fr pair.local pair.remote l x k)
-          (λ x. r_leaves s g e (live_got (Some e) past) p q t fs fr pair.local pair.remote l (or_left e.asked e.heard asked) k))
+      (λ x. r_ends s g e (live_got (Some e) past) p q t fs fr pair.local pair.remote l x k)
+      (λ x. r_leaves s g e (live_got (Some e) past) p q t fs fr pair.local pair.remote l (or_left e.asked e.heard asked) k))
       (λ v. becomes e2 (Ok (take n e.stored, None)) refl (and_left e.left e.cls l) (λ x. x) (λ _. refl) (rw (append-nil q) k2)))))
 
   pub rk-allocate : (m b : ℕ) (full : Bool) (before : Option End) → Firm (or_new before) → Core s g (or_new before) (live_got before past) p q t
@@ -197,7 +197,7 @@ module _ (pair : Pair) (rd : receives pair ≡ true) (past : Past) (s : End) (g 
       choose full (λ _. refused (λ _. refl) k) (λ _.
       let f = and_parts e.asked e.heard (not-false (e.asked && e.heard) c) in
       becomes (record e { recall = true }) (Ok (Gvb e.link m b)) refl (not_over e v) (λ x. x) (λ _. refl)
-          (r_makes s g e (live_got (Some e) past) p q t fs fr (Gvb e.link m b) (record e { recall = true }) e.link refl refl refl refl v f.0 f.1 refl refl refl refl refl k))))))
+      (r_makes s g e (live_got (Some e) past) p q t fs fr (Gvb e.link m b) (record e { recall = true }) e.link refl refl refl refl v f.0 f.1 refl refl refl refl refl k))))))
 
   pub rk-interrupt : (full : Bool) (before : Option End) → Firm (or_new before) → Core s g (or_new before) (live_got before past) p q t
       → Keeps (all.Interrupts full) before past s g p q t made_by_call of_call (interrupt pair full before)
@@ -208,7 +208,7 @@ module _ (pair : Pair) (rd : receives pair ≡ true) (past : Past) (s : End) (g 
       choose full (λ _. refused (λ _. refl) k) (λ _.
       let f = and_parts e.asked e.heard (not-false (e.asked && e.heard) c) in
       becomes e (Ok (interrupting pair e)) refl (not_over e v) (λ x. x) (λ _. refl)
-          (rw (only_receives pair rd) (r_makes s g e (live_got (Some e) past) p q t fs fr (Inr e.link) e e.link refl refl refl refl v f.0 f.1 refl refl refl refl refl k)))))
+      (rw (only_receives pair rd) (r_makes s g e (live_got (Some e) past) p q t fs fr (Inr e.link) e e.link refl refl refl refl v f.0 f.1 refl refl refl refl refl k)))))
 
   -- What comes.
 
@@ -239,17 +239,17 @@ module _ (pair : Pair) (rd : receives pair ≡ true) (past : Past) (s : End) (g 
       choose e.cls (λ c. absurd (both_ways e.cls u.0 c)) (λ _.
       choose (e.left || e.leaving) (λ c.
       closes (record e { cls = true }) heard.Nothing refl (λ x. x) (λ _. refl)
-          (λ o. rw (append-nil q) (r_ended s g e h p q t fs fr i j (and_parts e.left true o).0 k))
-          (λ o. let l : e.left ≡ false = grind arith in
-          rw (append-nil q) (r_shut s g e h p q t fs fr i j (record e { cls = true }) l refl (grind arith) refl k))) (λ c.
+      (λ o. rw (append-nil q) (r_ended s g e h p q t fs fr i j (and_parts e.left true o).0 k))
+      (λ o. let l : e.left ≡ false = grind arith in
+      rw (append-nil q) (r_shut s g e h p q t fs fr i j (record e { cls = true }) l refl (grind arith) refl k))) (λ c.
       let l = or_parts e.left e.leaving c in
       choose (sends pair && e.busy) (λ b. absurd (both_ways (sends pair) (only_receives pair rd) (and_parts (sends pair) e.busy b).0)) (λ _.
       choose (receives pair && nat_lt 0 (length e.stored)) (λ _.
       becomes (record e { cls = true; leaving = true }) heard.Nothing refl (and_left e.left true l.0) (λ x. x) (λ _. refl)
-          (rw (append-nil q) (r_shut s g e h p q t fs fr i j (record e { cls = true; leaving = true }) l.0 refl refl refl k))) (λ _.
+      (rw (append-nil q) (r_shut s g e h p q t fs fr i j (record e { cls = true; leaving = true }) l.0 refl refl refl k))) (λ _.
       closes (leaves (record e { cls = true })) (heard.Reply (closing pair)) refl (λ x. x) (λ _. refl)
-          (λ o. r_replies s g e h p q t fs fr i j pair.local pair.remote l.0 k)
-          (λ o. absurd (both_ways true o refl))))))
+      (λ o. r_replies s g e h p q t fs fr i j pair.local pair.remote l.0 k)
+      (λ o. absurd (both_ways true o refl))))))
 
   pub rk-cls : (i j : ℕ) (before : Option End) → Firm (or_new before) → Core s g (or_new before) (live_got before past) (Cls i j ∷ p) q t
       → Keeps all.Cls_comes before past s g p q t made_by_hearing of_hearing (hear_cls pair before)

@@ -1,6 +1,6 @@
 -- What is done at the receiver's end keeps what the ends have in common.
-use Rattle.std.proofs.Common.{◌≡◌, ℕ, ◌+◌, ◌-◌, ◌≤◌, Bool, true, false, not, ◌||◌, ◌&&◌, ◌==◌, min, List, [], ◌∷◌, ◌++◌, length, take, drop, refl, ap, sym, ◌∙◌, subst, arith, append_assoc}
-use Rattle.std.proofs.lemmas.Bool.{both_ways, or_parts, or_right, and_left, and_right}
+use Rattle.std.proofs.Common.{◌≡◌, ℕ, ◌+◌, ◌-◌, ◌≤◌, Bool, true, false, not, ◌||◌, ◌==◌, min, List, [], ◌∷◌, ◌++◌, length, refl, ap, sym, ◌∙◌, subst, arith, append_assoc}
+use Rattle.std.proofs.lemmas.Bool.{both_ways}
 use Rattle.std.proofs.lemmas.List.{append-nil}
 use Rattle.ncp_control.specs.declared.command.Command.{Command}
 use Rattle.ncp_control.specs.declared.command.Command.TheVariants.{Rts, Str, Cls, All, Gvb, Ret, Inr, Ins}
@@ -8,10 +8,10 @@ use Rattle.ncp_model.specs.declared.limits.TheConstants.{MAX_COUNT}
 use Rattle.ncp_model.specs.Act.{met, leaves, is_data_link}
 use Rattle.ncp_model.specs.Calls.{asked_to_receive}
 use Rattle.ncp_model.specs.End.{End, new_end, is_going}
-use Rattle.ncp_model.specs.Connections.{Text, No_text, Away, Here}
-use Rattle.ncp_model.specs.Ledger.{granted_messages, granted_bits, returned_messages, returned_bits, sum_of, text_messages, text_bits, is_out, IsBeginning}
+use Rattle.ncp_model.specs.Connections.{Text, Away, Here}
+use Rattle.ncp_model.specs.Ledger.{granted_messages, granted_bits, returned_messages, returned_bits, sum_of, is_out}
 use Rattle.ncp_model.proofs.Lines.{Kind, Request, Close, Data, Marks, Same, Ahead, Comes, same_swap, same_asks, ahead_asks, same_leaves, ahead_leaves, same_ends, same_data, same_number, same_hears_request, behind_hears_request, same_close_fits, same_hears_close, same_left_ends, same_replies, behind_ends, same_data_fits}
-use Rattle.ncp_model.proofs.Joint.{to_sender_kind, to_receiver_kind, kinds, kinds_more, sum_more, sum_same, sender_marks, receiver_marks, Books, Place, Together, Sender_ahead, Receiver_ahead, Joint, Sized, Core, Firm, sender_well, receiver_well, no_text, unasked, unheard, left_not_busy, begun_empty, sized_none}
+use Rattle.ncp_model.proofs.Joint.{to_sender_kind, to_receiver_kind, kinds, kinds_more, sum_more, sum_same, sender_marks, receiver_marks, Books, Place, Together, Sender_ahead, Receiver_ahead, Joint, Sized, Core, Firm, sender_well, receiver_well, no_text, unasked, unheard, begun_empty}
 use Rattle.ncp_model.proofs.Numbers.{books_as, books_receiver, books_receiver_going, books_new}
 use Rattle.ncp_model.proofs.Senders.{going_parts, kinds_none}
 
@@ -213,7 +213,7 @@ module _ (s : End) (g : List Bool) (r : End) (h : List Bool) (p q : List Command
       go : (d : Place) → Joint d s g r h (c ∷ p) q t → (r.asked ≡ true) × (on ≡ r.link)
       go Together k2 =
           let f = same_data_fits (receiver_marks r) (sender_marks s) (kinds to_sender_kind q) (kinds to_receiver_kind p) false on
-              (subst (λ (x : Kind). Same (receiver_marks r) (sender_marks s) (kinds to_sender_kind q) (x ∷ kinds to_receiver_kind p)) e (swapped (c ∷ p) q k2.0)) in
+          (subst (λ (x : Kind). Same (receiver_marks r) (sender_marks s) (kinds to_sender_kind q) (x ∷ kinds to_receiver_kind p)) e (swapped (c ∷ p) q k2.0)) in
           (f.0, f.2)
       go Sender_ahead k2 =
           let l : Ahead (sender_marks s) (receiver_marks r) (Data false on ∷ kinds to_receiver_kind p) (kinds to_sender_kind q) = subst (λ (x : Kind). Ahead (sender_marks s) (receiver_marks r) (x ∷ kinds to_receiver_kind p) (kinds to_sender_kind q)) e k2 in
@@ -226,7 +226,7 @@ module _ (s : End) (g : List Bool) (r : End) (h : List Bool) (p q : List Command
       go : (d : Place) → Joint d s g r h (c ∷ p) q t → Fits s g r h p (c ∷ p) q t
       go Together k2 =
           let f = same_data_fits (receiver_marks r) (sender_marks s) (kinds to_sender_kind q) (kinds to_receiver_kind p) false on
-              (subst (λ (x : Kind). Same (receiver_marks r) (sender_marks s) (kinds to_sender_kind q) (x ∷ kinds to_receiver_kind p)) e (swapped (c ∷ p) q k2.0)) in
+          (subst (λ (x : Kind). Same (receiver_marks r) (sender_marks s) (kinds to_sender_kind q) (x ∷ kinds to_receiver_kind p)) e (swapped (c ∷ p) q k2.0)) in
           record {
             opened = fr.opens v f.0 f.1;
             same = same_swap (receiver_marks r) (sender_marks s) (kinds to_sender_kind q) (kinds to_receiver_kind p) f.3;

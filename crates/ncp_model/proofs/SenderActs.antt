@@ -1,27 +1,26 @@
 -- Every act at the sender's end keeps what the ends have in common.
-use Rattle.std.proofs.Common.{◌≡◌, ℕ, ◌+◌, ◌*◌, ◌/◌, ◌%◌, ◌≤◌, Bool, true, false, not, ◌||◌, ◌&&◌, ◌==◌, if◌then◌else◌, nat_le, nat_lt, cond, List, [], ◌∷◌, ◌++◌, length, take, drop, Option, None, Some, Result, Ok, Err, refl, ap, sym, ◌∙◌, subst, arith}
+use Rattle.std.proofs.Common.{◌≡◌, ℕ, ◌+◌, ◌*◌, ◌/◌, ◌%◌, ◌≤◌, Bool, true, false, not, ◌||◌, ◌&&◌, ◌==◌, if◌then◌else◌, nat_le, nat_lt, cond, List, [], ◌∷◌, ◌++◌, length, Option, None, Some, Ok, Err, refl, ap, sym, ◌∙◌, subst, arith}
 use Rattle.std.specs.Prelude.{is_none, min}
-use Rattle.std.proofs.lemmas.Bool.{both_ways, or_parts, and_parts, and_left, and_from, or_left, not-true, not-false, leb-true}
+use Rattle.std.proofs.lemmas.Bool.{both_ways, or_parts, and_parts, and_left, or_left, not-true, not-false, leb-true}
 use Rattle.std.proofs.lemmas.List.{append-nil}
 use Rattle.std.proofs.Math.Nat.{div-mul-le_self, mul-le-mul_right, min-le_left, min-le_right}
 use Rattle.ncp_control.specs.declared.command.Command.{Command}
-use Rattle.ncp_control.specs.declared.command.Command.TheVariants.{Rts, Str, Cls, All, Gvb, Ret, Inr, Ins}
+use Rattle.ncp_control.specs.declared.command.Command.TheVariants.{Rts, Cls, All, Gvb, Inr}
 use Rattle.ncp_model.specs.declared.pair.Pair.{Pair}
 use Rattle.ncp_model.specs.declared.call_fault.CallFault.{CallFault}
 use Rattle.ncp_model.specs.declared.outcomes.Heard.{Heard}
 use Rattle.ncp_model.specs.declared.outcomes.Heard.TheVariants as heard
 use Rattle.ncp_model.specs.declared.limits.TheConstants.{MAX_OWN, MAX_BY_PEER, MAX_MESSAGES, MAX_AMOUNT, MAX_TEXT, MAX_COUNT}
 use Rattle.ncp_model.specs.Pairs.{sends, receives, is_proper}
-use Rattle.ncp_model.specs.End.{End, new_end, or_new, is_going, is_over, is_live, is_open}
+use Rattle.ncp_model.specs.End.{End, new_end, or_new, is_going, is_over}
 use Rattle.ncp_model.specs.Act.{Act, Stays, Becomes, answer, end_after, made_by_call, made_by_close, made_by_take, made_by_hearing, made_if_any, met, leaves, closing, is_room, is_data_link}
-use Rattle.ncp_model.specs.Calls.{ask_send, asked_to_send, ask_receive, close, close_end, give, give_end, take_held, take_end, allocate, allocate_end, call_back, call_back_end, interrupt, interrupt_end, interrupting, is_too_much}
+use Rattle.ncp_model.specs.Calls.{ask_send, ask_receive, close, give, take_held, allocate, call_back, interrupt, interrupting}
 use Rattle.ncp_model.specs.Commands.{hear_rts, hear_cls, hear_cls_end, hear_all, hear_gvb, hear_inr, at_open, all_at, gvb_at, interrupted}
-use Rattle.ncp_model.specs.Texts.{cut, cut_bits, may_send, bytes_to_send, Answered, answered, Taken, Again, Kept}
+use Rattle.ncp_model.specs.Texts.{cut, may_send, bytes_to_send, Answered, answered, Taken}
 use Rattle.ncp_model.specs.Happenings.{Happening, Outcome, of_call, of_take, of_hearing, of_cut}
 use Rattle.ncp_model.specs.Happenings as all
 use Rattle.ncp_model.specs.Histories.{Past, no_past, adds, opens}
-use Rattle.ncp_model.specs.Connections.{Text, No_text, Away, Here, is_violation, text_after}
-use Rattle.ncp_model.specs.Ledger.{is_out}
+use Rattle.ncp_model.specs.Connections.{Text, No_text, Here, is_violation, text_after}
 use Rattle.ncp_model.proofs.Lines.{Data}
 use Rattle.ncp_model.proofs.Joint.{to_sender_kind, Core, Firm, unasked, unheard}
 use Rattle.ncp_model.proofs.Standing.{stands}
@@ -158,11 +157,11 @@ module _ (pair : Pair) (sd : sends pair ≡ true) (past : Past) (r : End) (h : L
       let l : e.left ≡ false = (or_parts e.left (e.leaving && sends pair) c).0 in
       choose (sends pair && e.busy)
       (λ b. becomes (record e { leaving = true; stored = [] }) (Ok None) refl (and_left e.left e.cls l) refl
-          (rw (append-nil p) (s_leaving e past.given r h p q t fs fr (record e { leaving = true; stored = [] }) (and_parts (sends pair) e.busy b).1 refl refl refl refl refl refl k)))
+      (rw (append-nil p) (s_leaving e past.given r h p q t fs fr (record e { leaving = true; stored = [] }) (and_parts (sends pair) e.busy b).1 refl refl refl refl refl refl k)))
       (λ b. let y : e.busy ≡ false = grind arith in
       closes (leaves e) (Ok (Some (closing pair))) refl refl
-          (λ o. s_ends e past.given r h p q t fs fr pair.local pair.remote y l o k)
-          (λ o. s_leaves e past.given r h p q t fs fr pair.local pair.remote y l (and_parts (e.asked || e.heard) (nat_le e.room 65536) st).0 k))))
+      (λ o. s_ends e past.given r h p q t fs fr pair.local pair.remote y l o k)
+      (λ o. s_leaves e past.given r h p q t fs fr pair.local pair.remote y l (and_parts (e.asked || e.heard) (nat_le e.room 65536) st).0 k))))
 
   pub sk-give : (text : List Bool) (before : Option End) → Firm (or_new before) → Core (or_new before) past.given r h p q t
       → Keeps (all.Gives text) before past r h p q t (λ _. []) of_call (give pair text before)
@@ -237,20 +236,20 @@ module _ (pair : Pair) (sd : sends pair ≡ true) (past : Past) (r : End) (h : L
       choose e.cls (λ c. absurd (both_ways e.cls u.0 c)) (λ _.
       choose (e.left || e.leaving) (λ c.
       closes (record e { cls = true }) heard.Nothing refl refl
-          (λ o. rw (append-nil p) (s_ended e past.given r h p q t fs fr i j (and_parts e.left true o).0 k))
-          (λ o. let l : e.left ≡ false = grind arith in
-          let v : e.leaving ≡ true = grind arith in
-          rw (append-nil p) (s_shut e past.given r h p q t fs fr i j (record e { cls = true }) l (fs.leaving v).0 refl (grind arith) refl refl refl refl k))) (λ c.
+      (λ o. rw (append-nil p) (s_ended e past.given r h p q t fs fr i j (and_parts e.left true o).0 k))
+      (λ o. let l : e.left ≡ false = grind arith in
+      let v : e.leaving ≡ true = grind arith in
+      rw (append-nil p) (s_shut e past.given r h p q t fs fr i j (record e { cls = true }) l (fs.leaving v).0 refl (grind arith) refl refl refl refl k))) (λ c.
       let l = or_parts e.left e.leaving c in
       choose (sends pair && e.busy) (λ b.
       let y = (and_parts (sends pair) e.busy b).1 in
       becomes (record e { cls = true; leaving = true; stored = [] }) heard.Nothing refl (and_left e.left true l.0) refl
-          (rw (append-nil p) (s_shut e past.given r h p q t fs fr i j (record e { cls = true; leaving = true; stored = [] }) l.0 (fs.out y).0 refl refl refl refl refl refl k))) (λ b.
+      (rw (append-nil p) (s_shut e past.given r h p q t fs fr i j (record e { cls = true; leaving = true; stored = [] }) l.0 (fs.out y).0 refl refl refl refl refl refl k))) (λ b.
       choose (receives pair && nat_lt 0 (length e.stored)) (λ x. absurd (both_ways (receives pair) (only_sends pair sd) (and_parts (receives pair) (nat_lt 0 (length e.stored)) x).0)) (λ _.
       let y : e.busy ≡ false = grind arith in
       closes (leaves (record e { cls = true })) (heard.Reply (closing pair)) refl refl
-          (λ o. s_replies e past.given r h p q t fs fr i j pair.local pair.remote l.0 y k)
-          (λ o. absurd (both_ways true o refl))))))
+      (λ o. s_replies e past.given r h p q t fs fr i j pair.local pair.remote l.0 y k)
+      (λ o. absurd (both_ways true o refl))))))
 
   pub sk-cls : (i j : ℕ) (before : Option End) → Firm (or_new before) → Core (or_new before) past.given r h p (Cls i j ∷ q) t
       → Keeps all.Cls_comes before past r h p q t made_by_hearing of_hearing (hear_cls pair before)
@@ -302,7 +301,7 @@ module _ (pair : Pair) (sd : sends pair ≡ true) (past : Past) (r : End) (h : L
       let n : ℕ = bytes_to_send e * e.size in
       let l : n ≤ length e.stored = times e.size (bytes_to_send e) (length e.stored) (min-le_left (length e.stored / e.size) (min (e.bits / e.size) (MAX_TEXT / e.size))) in
       let b : n ≤ e.bits = times e.size (bytes_to_send e) e.bits
-          (omega (arith, min-le_right (length e.stored / e.size) (min (e.bits / e.size) (MAX_TEXT / e.size)), min-le_left (e.bits / e.size) (MAX_TEXT / e.size))) in
+      (omega (arith, min-le_right (length e.stored / e.size) (min (e.bits / e.size) (MAX_TEXT / e.size)), min-le_left (e.bits / e.size) (MAX_TEXT / e.size))) in
       becomes _ _ refl (not_over e v) refl (rw (append-nil p) (s_cuts e past.given r h p q t fs fr n v a o y (leb-true 1 e.messages one) l b k)))
       (λ _. stays _ refl refl refl (λ _. refl) k)
 
@@ -320,8 +319,8 @@ module _ (pair : Pair) (past : Past) (r : End) (h : List Bool) (p q : List Comma
       (λ _. choose e.leaving
       (λ v. let f = fs.leaving v in
       closes (leaves e2) (Some (closing pair)) refl refl
-          (λ o. s_ends e2 past.given r h p q No_text fs2 fr pair.local pair.remote refl f.1 o k2)
-          (λ o. s_leaves e2 past.given r h p q No_text fs2 fr pair.local pair.remote refl f.1 (or_left e.asked e.heard (fs.marks f.0).0) k2))
+      (λ o. s_ends e2 past.given r h p q No_text fs2 fr pair.local pair.remote refl f.1 o k2)
+      (λ o. s_leaves e2 past.given r h p q No_text fs2 fr pair.local pair.remote refl f.1 (or_left e.asked e.heard (fs.marks f.0).0) k2))
       (λ v. becomes e2 None refl (shut e fs v) refl (rw (append-nil p) k2)))
     where
       shut : (e : End) → Firm e → e.leaving ≡ false → is_over e ≡ false

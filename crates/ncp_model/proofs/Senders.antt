@@ -1,6 +1,6 @@
 -- What is done at the sender's end keeps what the ends have in common.
-use Rattle.std.proofs.Common.{◌≡◌, ℕ, ◌+◌, ◌-◌, ◌≤◌, Bool, true, false, not, ◌||◌, ◌&&◌, ◌==◌, min, List, [], ◌∷◌, ◌++◌, length, take, drop, refl, ap, sym, ◌∙◌, subst, arith, append_assoc}
-use Rattle.std.proofs.lemmas.Bool.{both_ways, or_parts, or_right, and_left, and_right}
+use Rattle.std.proofs.Common.{◌≡◌, ℕ, ◌+◌, ◌-◌, ◌≤◌, Bool, true, false, ◌||◌, ◌==◌, min, List, [], ◌∷◌, ◌++◌, length, take, drop, refl, ap, sym, ◌∙◌, subst, arith, append_assoc}
+use Rattle.std.proofs.lemmas.Bool.{both_ways, or_parts}
 use Rattle.std.proofs.lemmas.List.{take-append-drop, length-take-le}
 use Rattle.ncp_control.specs.declared.command.Command.{Command}
 use Rattle.ncp_control.specs.declared.command.Command.TheVariants.{Rts, Str, Cls, All, Gvb, Ret, Inr, Ins}
@@ -11,7 +11,7 @@ use Rattle.ncp_model.specs.Calls.{asked_to_send}
 use Rattle.ncp_model.specs.End.{End, new_end, is_going}
 use Rattle.ncp_model.specs.Connections.{Text, No_text, Away, Here}
 use Rattle.ncp_model.specs.Ledger.{granted_messages, granted_bits, returned_messages, returned_bits, sum_of, text_messages, text_bits, is_out, IsBeginning}
-use Rattle.ncp_model.proofs.Lines.{Kind, Request, Close, Data, Marks, Same, Ahead, Comes, same_swap, same_asks, ahead_asks, same_leaves, ahead_leaves, same_ends, same_data, same_number, same_hears_request, behind_hears_request, same_close_fits, same_hears_close, same_left_ends, same_replies, behind_ends, same_data_fits}
+use Rattle.ncp_model.proofs.Lines.{Kind, Data, Marks, Same, Ahead, Comes, same_asks, ahead_asks, same_leaves, ahead_leaves, same_ends, same_data, same_number, same_hears_request, behind_hears_request, same_close_fits, same_hears_close, same_left_ends, same_replies, behind_ends, same_data_fits}
 use Rattle.ncp_model.proofs.Joint.{to_sender_kind, to_receiver_kind, kinds, kinds_more, sum_more, sum_same, sender_marks, receiver_marks, Books, Place, Together, Sender_ahead, Receiver_ahead, Joint, Sized, Core, Firm, sender_well, receiver_well, no_text, unasked, unheard, left_not_busy, begun_empty, sized_none}
 use Rattle.ncp_model.proofs.Numbers.{books_as, books_sender, books_going, books_opens, books_new}
 
@@ -283,7 +283,7 @@ module _ (s : End) (g : List Bool) (r : End) (h : List Bool) (p q : List Command
       go : (d : Place) → Joint d s g r h p (c ∷ q) t → (s.heard ≡ true) × (on ≡ s.link)
       go Together j2 =
           let f = same_data_fits (sender_marks s) (receiver_marks r) (kinds to_receiver_kind p) (kinds to_sender_kind q) true on
-              (subst (λ (x : Kind). Same (sender_marks s) (receiver_marks r) (kinds to_receiver_kind p) (x ∷ kinds to_sender_kind q)) e j2.0) in
+          (subst (λ (x : Kind). Same (sender_marks s) (receiver_marks r) (kinds to_receiver_kind p) (x ∷ kinds to_sender_kind q)) e j2.0) in
           (f.1, f.2)
       go Sender_ahead j2 = absurd (cc (j2.none))
       go Receiver_ahead j2 =
@@ -296,7 +296,7 @@ module _ (s : End) (g : List Bool) (r : End) (h : List Bool) (p q : List Command
       go : (d : Place) → Joint d s g r h p (c ∷ q) t → Fits s g r h p q t c on
       go Together j2 =
           let f = same_data_fits (sender_marks s) (receiver_marks r) (kinds to_receiver_kind p) (kinds to_sender_kind q) true on
-              (subst (λ (x : Kind). Same (sender_marks s) (receiver_marks r) (kinds to_receiver_kind p) (x ∷ kinds to_sender_kind q)) e j2.0) in
+          (subst (λ (x : Kind). Same (sender_marks s) (receiver_marks r) (kinds to_receiver_kind p) (x ∷ kinds to_sender_kind q)) e j2.0) in
           record {
             asked = f.0;
             heard = f.1;

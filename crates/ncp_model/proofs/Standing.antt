@@ -1,10 +1,10 @@
 -- An end is there by a request, and its room is a store's, whatever happens to it.
-use Rattle.std.proofs.Common.{◌≡◌, ◌≤◌, Bool, true, false, ◌||◌, ◌&&◌, nat_le, List, [], Option, None, Some, refl, arith}
-use Rattle.std.proofs.lemmas.Bool.{and_parts, leb-true, both_ways}
+use Rattle.std.proofs.Common.{◌≡◌, Bool, true, ◌||◌, ◌&&◌, nat_le, Option, None, Some, refl, arith}
+use Rattle.std.proofs.lemmas.Bool.{and_parts, leb-true}
 use Rattle.ncp_model.specs.declared.pair.Pair.{Pair}
-use Rattle.ncp_model.specs.End.{End, new_end, or_new}
+use Rattle.ncp_model.specs.End.{End, or_new}
 use Rattle.ncp_model.specs.Texts.{Taken, Again, Kept}
-use Rattle.ncp_model.specs.Sound.{Sound, SoundAt}
+use Rattle.ncp_model.specs.Sound.{SoundAt}
 use Rattle.ncp_model.specs.Happenings.{Happening, happens}
 use Rattle.ncp_model.specs.Happenings as all
 use Rattle.ncp_model.proofs.Joint.{Firm, firm, new_firm}

@@ -1,6 +1,6 @@
 -- What holds after every list of events.
-use Rattle.std.proofs.Common.{◌≡◌, ℕ, ◌+◌, Bool, true, false, not, ◌||◌, ◌&&◌, nat_lt, cond, List, [], ◌∷◌, ◌++◌, length, Option, None, Some, refl, ap, sym, ◌∙◌, subst, arith}
-use Rattle.std.proofs.lemmas.Bool.{both_ways, or_parts, or_from, and_parts, and_from, not-true}
+use Rattle.std.proofs.Common.{◌≡◌, ℕ, Bool, true, false, not, ◌&&◌, nat_lt, cond, List, [], ◌∷◌, ◌++◌, Option, None, Some, refl, ap, sym, ◌∙◌, subst, arith}
+use Rattle.std.proofs.lemmas.Bool.{both_ways, or_from, and_parts, not-true}
 use Rattle.ncp_control.specs.declared.command.Command.{Command}
 use Rattle.ncp_control.specs.declared.command.Command.TheVariants.{Rts, Str, Cls, All, Gvb, Ret, Inr, Ins}
 use Rattle.ncp_model.specs.declared.pair.Pair.{Pair}
@@ -13,19 +13,17 @@ use Rattle.ncp_model.specs.Books.{BooksAt}
 use Rattle.ncp_model.specs.Leading.{suits}
 use Rattle.ncp_model.specs.Happenings.{Happening, Outcome, Happened, happens}
 use Rattle.ncp_model.specs.Happenings as all
-use Rattle.ncp_model.specs.Histories.{Past, Watched, no_past, adds, opens, watches}
 use Rattle.ncp_model.proofs.SoundEnds.{one_way, sound-after}
 use Rattle.ncp_model.proofs.BooksKept.{books-kept}
-use Rattle.ncp_model.specs.Connections.{turned, Text, No_text, Away, Here, Connection, new_connection, is_violation, text_after, sender_does, receiver_does, is_call, command_comes, Event, Sender_calls, Receiver_calls, Comes_to_sender, Comes_to_receiver, Text_goes_out, Text_comes, Text_is_answered, comes_to_sender, comes_to_receiver, text_comes, text_is_answered, occurs, occur_from, occur}
-use Rattle.ncp_model.specs.Ledger.{sending, receiving, is_out, text_bits, BothOpen, MessagesAgree, BitsAgree, Parted, Held, IsBeginning, Begins, OutIsOpened}
-use Rattle.ncp_model.proofs.Lines.{Kind, Alien}
+use Rattle.ncp_model.specs.Connections.{turned, Text, No_text, Away, Here, Connection, new_connection, is_violation, sender_does, receiver_does, is_call, Event, Sender_calls, Receiver_calls, Comes_to_sender, Comes_to_receiver, Text_goes_out, Text_comes, Text_is_answered, comes_to_sender, comes_to_receiver, text_comes, text_is_answered, occurs, occur_from, occur}
+use Rattle.ncp_model.specs.Ledger.{sending, receiving, text_bits, BothOpen, MessagesAgree, BitsAgree, Parted, Held, IsBeginning, Begins, OutIsOpened}
+use Rattle.ncp_model.proofs.Lines.{Alien}
 use Rattle.ncp_model.proofs.Joint.{to_sender_kind, to_receiver_kind, Place, Together, Sender_ahead, Receiver_ahead, Joint, Core, Firm, live_got, begun_empty}
 use Rattle.ncp_model.proofs.Numbers.{books_new}
 use Rattle.ncp_model.proofs.Senders.{going_parts}
 use Rattle.ncp_model.proofs.Standing.{stands, stands-after, firm_of}
 use Rattle.ncp_model.proofs.SenderActs.{sk-ask_send, sk-ask_receive, sk-close, sk-give, sk-take, sk-allocate, sk-call_back, sk-interrupt, sk-rts, sk-cls, sk-all, sk-gvb, sk-inr, sk-cut, sk-taken, sk-not_delivered}
 use Rattle.ncp_model.proofs.ReceiverActs.{rk-ask_send, rk-ask_receive, rk-close, rk-give, rk-take, rk-allocate, rk-call_back, rk-interrupt, rk-str, rk-cls, rk-ret, rk-ins, rk-text}
-use Rattle.ncp_model.proofs.SenderActs as S
 use Rattle.ncp_model.proofs.ReceiverActs as R
 
 -- each end by itself

@@ -1,6 +1,6 @@
 -- What a host's phase lets through to the ends: while it is not up with the peer no call acts but a
 -- reset and the waking of what is held, and no text is taken (this profile's rules).
-use Rattle.std.specs.Prelude.{ℕ, Bool, if◌then◌else◌, List, Option, None, Some, Result, Err}
+use Rattle.std.specs.Prelude.{ℕ, if◌then◌else◌, List, Option, None, Some, Result, Err}
 use Rattle.ncp_control.specs.declared.command.Command.TheVariants as commands
 use Rattle.ncp_model.specs.declared.call_fault.CallFault.{CallFault}
 use Rattle.ncp_model.specs.declared.call_fault.CallFault.TheVariants.{NotUp}

@@ -4,7 +4,7 @@
 use Rattle.std.specs.Prelude.{◌≡◌, ℕ, Bool, true, false, ◌||◌, if◌then◌else◌, List, [], ◌∷◌, take, drop}
 use Rattle.ncp_model.specs.declared.pair.Pair.{Pair}
 use Rattle.ncp_model.specs.End.{is_live}
-use Rattle.ncp_model.specs.Texts.{Answered, Taken, Again, Kept}
+use Rattle.ncp_model.specs.Texts.{Answered, Taken}
 use Rattle.ncp_model.specs.Happenings as all
 use Rattle.ncp_model.specs.Connections.{Text, No_text, Away, Here, Connection, new_connection, sender_does, receiver_does, Event, Sender_calls, Receiver_calls, Comes_to_sender, Comes_to_receiver, Text_goes_out, Text_comes, Text_is_answered, occurs}
 use Rattle.ncp_model.specs.Ledger.{is_out}

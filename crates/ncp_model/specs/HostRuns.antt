@@ -1,6 +1,6 @@
 -- Schedules of two hosts, by which the laws on them are seen to speak of something. Socket 3 of this
 -- host sends to socket 2 of that one.
-use Rattle.std.specs.Prelude.{ℕ, Bool, List, [], ◌∷◌, ◌++◌}
+use Rattle.std.specs.Prelude.{List, [], ◌∷◌, ◌++◌}
 use Rattle.ncp_model.specs.Resets.{Side, This, That}
 use Rattle.ncp_model.specs.Rows.{outward, inward, ones, noughts}
 use Rattle.ncp_model.specs.Hosts.{Event, Step, Calls_reset, Calls, Sends, Sends_text, Hears, Hears_text, Loses_text, Text_dies, Is_answered, Text_is_answered, Wakes, Ask_to_send, Ask_to_receive, Close, Give, Take, Allocate}

@@ -1,7 +1,7 @@
 -- Two hosts with their connections, and the links between them: all that may happen. Each step is
 -- written once, for "this host" and "that host". Every rule is one of an end, of a phase, or of a
 -- message on a link.
-use Rattle.std.specs.Prelude.{ℕ, zero, suc, ◌==◌, Bool, true, false, not, ◌&&◌, ◌||◌, if◌then◌else◌, List, [], ◌∷◌, ◌++◌, Option, None, Some, Result, Ok, Err}
+use Rattle.std.specs.Prelude.{ℕ, zero, suc, ◌==◌, Bool, true, false, ◌&&◌, ◌||◌, if◌then◌else◌, List, [], ◌∷◌, ◌++◌, Option, None, Some, Result, Ok, Err}
 use Rattle.std.specs.FinMap.{FinMap, empty, get, insert, remove}
 use Rattle.ncp_control.specs.declared.command.Command.{Command}
 use Rattle.ncp_control.specs.declared.command.Command.TheVariants.{Eco, Erp, Rst, Rrp}
@@ -13,18 +13,18 @@ use Rattle.ncp_model.specs.declared.outcomes.Heard.TheVariants as heard
 use Rattle.ncp_model.specs.declared.limits.TheConstants.{FIRST_LINK}
 use Rattle.ncp_model.specs.Pairs.{pair_cmp}
 use Rattle.ncp_model.specs.End.{End}
-use Rattle.ncp_model.specs.Act.{Act, answer, made_if_any, made_by_hearing}
+use Rattle.ncp_model.specs.Act.{answer, made_if_any, made_by_hearing}
 use Rattle.ncp_model.specs.Texts.{made_by_text, Taken}
-use Rattle.ncp_model.specs.Ends.{Ends, count, has_asked, free_link, sender_on, receiver_on, end_of, pair_of, leads_to, hear, text_in, cut_in, answered_in, map_after_at, no_ends}
+use Rattle.ncp_model.specs.Ends.{Ends, count, has_asked, free_link, sender_on, receiver_on, pair_of, leads_to, hear, text_in, cut_in, answered_in, map_after_at, no_ends}
 use Rattle.ncp_model.specs.Happenings.{Happening, Outcome, Happened, happens, of_hearing, of_text}
 use Rattle.ncp_model.specs.Happenings as all
 use Rattle.ncp_model.specs.Leading.{comes}
 use Rattle.ncp_model.specs.Connections.{is_violation}
 use Rattle.ncp_model.specs.Histories.{Past, no_past, adds, opens}
-use Rattle.ncp_model.specs.Echo.{Echoes, Error, no_echoes, echo_answer, echo_asked, eco_reply, hear_erp, hear_err, purge_echo}
+use Rattle.ncp_model.specs.Echo.{Echoes, no_echoes, echo_answer, echo_asked, eco_reply, hear_erp, hear_err, purge_echo}
 use Rattle.ncp_model.specs.Phase.{new_phase, is_resetting, Reaction}
 use Rattle.ncp_model.specs.Sending.{is_full}
-use Rattle.ncp_model.specs.Delivery.{Slot, Empty, Ready, Travelling, Held, Subnet, Free, Accepted, Delivered, Lost, Dead, Link, idle, undelivered, answered, woken}
+use Rattle.ncp_model.specs.Delivery.{Slot, Empty, Ready, Travelling, Held, Subnet, Accepted, Delivered, Lost, Dead, Link, idle, undelivered, answered, woken}
 use Rattle.ncp_model.specs.Resets.{Host, is_up, anew, host_resets, host_settles, host_falls, host_makes, host_makes_all, host_hears}
 use Rattle.ncp_model.specs.Resets as resets
 

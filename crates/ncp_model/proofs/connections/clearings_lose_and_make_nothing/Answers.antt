@@ -1,4 +1,4 @@
-use Rattle.ncp_model.specs.Clearings.{Hosted, change}
+use Rattle.ncp_model.specs.Clearings.{change}
 use Rattle.ncp_model.proofs.Outliving.{fit_ever, fit_safe, fit_open, fit_held, fit_begins, fit_opened}
 use Rattle.ncp_model.proofs.connections.clearings_lose_and_make_nothing.Goals as goal
 

@@ -1,7 +1,7 @@
-use Rattle.std.proofs.Common.{List, ◌∷◌, sym, subst}
+use Rattle.std.proofs.Common.{List, subst}
 use Rattle.std.proofs.lemmas.Bool.{lt-ltb}
 use Rattle.ncp_control.specs.declared.command.Command.{Command}
-use Rattle.ncp_model.specs.Connections.{Text, Away, Connection, occur}
+use Rattle.ncp_model.specs.Connections.{Text, occur}
 use Rattle.ncp_model.proofs.Whole.{Inv, ever}
 use Rattle.ncp_model.proofs.InOrder.{sender_in_order, receiver_in_order, text_in_order}
 use Rattle.ncp_model.proofs.connections.what_comes_is_in_order.Goals as goal

@@ -1,11 +1,10 @@
 use Rattle.std.proofs.Common.{ap}
 use Rattle.ncp_model.specs.Ends.{lowest}
 use Rattle.ncp_model.specs.Histories.{Past}
-use Rattle.ncp_model.specs.Resets.{Host}
 use Rattle.ncp_model.specs.Rows.{outward, inward}
 use Rattle.ncp_model.specs.Hosts.{all_empty}
 use Rattle.ncp_model.specs.HostRuns.{closed_by_receiver, over_by_receiver, opened_again, closed_by_sender, over_by_sender}
-use Rattle.ncp_model.proofs.HostsListed.{this-end, that-end, that-past, this-link, this-host, that-host, right}
+use Rattle.ncp_model.proofs.HostsListed.{this-end, that-end, that-past, right}
 use Rattle.ncp_model.proofs.hosts.closing_waits_for_text.Goals as goal
 
 pub returns-clause-late : goal.returns-clause-late

@@ -1,4 +1,4 @@
-use Rattle.std.proofs.Common.{◌≡◌, List}
+use Rattle.std.proofs.Common.{List}
 use Rattle.ncp_model.specs.Hosts.{Event}
 use Rattle.ncp_model.proofs.HostsStand.{ever-stand}
 use Rattle.ncp_model.proofs.hosts.ends_stand_only_while_up.Goals as goal

@@ -5,7 +5,7 @@ use Rattle.ncp_model.specs.Resets.{Host}
 use Rattle.ncp_model.specs.Rows.{outward, inward}
 use Rattle.ncp_model.specs.Hosts.{all_empty}
 use Rattle.ncp_model.specs.HostRuns.{both_reset, reset_under_text, reset_over, asks_again}
-use Rattle.ncp_model.proofs.HostsListed.{this-end, that-end, that-past, this-link, this-host, that-host, right}
+use Rattle.ncp_model.proofs.HostsListed.{this-end, that-end, that-past, this-host, that-host, right}
 use Rattle.ncp_model.proofs.hosts.resets_leave_no_ends.Goals as goal
 
 pub returns-clause-both : goal.returns-clause-both

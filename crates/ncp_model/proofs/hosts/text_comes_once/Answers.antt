@@ -1,11 +1,10 @@
 use Rattle.std.proofs.Common.{ap}
 use Rattle.ncp_model.specs.Ends.{lowest}
 use Rattle.ncp_model.specs.Histories.{Past}
-use Rattle.ncp_model.specs.Resets.{Host}
 use Rattle.ncp_model.specs.Rows.{outward, inward}
 use Rattle.ncp_model.specs.Hosts.{all_empty}
 use Rattle.ncp_model.specs.HostRuns.{lost_twice, held_back, woken_again}
-use Rattle.ncp_model.proofs.HostsListed.{this-end, that-end, that-past, this-link, this-host, that-host, right}
+use Rattle.ncp_model.proofs.HostsListed.{this-end, that-end, that-past, this-link}
 use Rattle.ncp_model.proofs.hosts.text_comes_once.Goals as goal
 
 pub returns-clause-lost_twice : goal.returns-clause-lost_twice

@@ -1,11 +1,10 @@
 use Rattle.std.proofs.Common.{ap}
 use Rattle.ncp_model.specs.Ends.{lowest}
 use Rattle.ncp_model.specs.Histories.{Past}
-use Rattle.ncp_model.specs.Resets.{Host}
 use Rattle.ncp_model.specs.Rows.{outward, inward}
 use Rattle.ncp_model.specs.Hosts.{all_empty}
 use Rattle.ncp_model.specs.HostRuns.{with_text_out, got_and_taken}
-use Rattle.ncp_model.proofs.HostsListed.{this-end, that-end, that-past, this-link, this-host, that-host, right}
+use Rattle.ncp_model.proofs.HostsListed.{this-end, that-end, that-past, this-link, right}
 use Rattle.ncp_model.proofs.hosts.text_comes_over.Goals as goal
 
 pub returns-clause-out : goal.returns-clause-out

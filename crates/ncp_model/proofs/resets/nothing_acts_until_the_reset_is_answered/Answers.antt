@@ -1,9 +1,9 @@
-use Rattle.std.proofs.Common.{◌≡◌, ℕ, Bool, true, false, ◌||◌, List, [], ◌∷◌, refl, sym, ap, ◌∙◌, subst, arith}
+use Rattle.std.proofs.Common.{◌≡◌, ℕ, Bool, true, false, List, [], ◌∷◌, refl, ap, ◌∙◌, arith}
 use Rattle.std.specs.List.{list_any}
 use Rattle.ncp_control.specs.declared.command.Command.{Command}
 use Rattle.ncp_control.specs.declared.command.Command.TheVariants.{Rst, Rrp}
-use Rattle.ncp_model.specs.Phase.{Phase, up, is_rrp, is_reset, is_other, answers, asks, settles, resets, is_resetting, wants_reset, owes_answer, hears_rst, goes_down, Reaction}
-use Rattle.ncp_model.specs.Resets.{Host, is_up, anew, host_resets, host_settles, host_falls, host_makes, host_makes_all, host_hears_other, host_hears, no_reaction, host_hears_all, World, Step, Resets, Makes, Falls, Settles, Sends, Hears, Loses, Dies, Is_answered, Wakes, sends, comes, steps}
+use Rattle.ncp_model.specs.Phase.{Phase, is_rrp, is_reset, settles, owes_answer, Reaction}
+use Rattle.ncp_model.specs.Resets.{Host, is_up, host_resets, host_makes, host_hears_other, host_hears, no_reaction, host_hears_all, World, Step, Resets, Makes, Settles, Sends, Hears, sends, comes, steps}
 use Rattle.ncp_model.specs.Delivery.{Slot, Empty, Ready, Travelling, Held, Subnet, Free, Accepted, Delivered, Lost, Dead}
 use Rattle.ncp_model.proofs.resets.nothing_acts_until_the_reset_is_answered.Goals as goal
 

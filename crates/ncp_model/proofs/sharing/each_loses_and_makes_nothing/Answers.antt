@@ -1,4 +1,4 @@
-use Rattle.ncp_model.specs.Sharing.{Shared, shared, at}
+use Rattle.ncp_model.specs.Sharing.{shared, at}
 use Rattle.ncp_model.proofs.Outliving.{fit_safe, fit_open, fit_held, fit_begins, fit_opened}
 use Rattle.ncp_model.proofs.Projecting.{fits_ever}
 use Rattle.ncp_model.proofs.sharing.each_loses_and_makes_nothing.Goals as goal
