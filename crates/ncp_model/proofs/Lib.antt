@@ -24,6 +24,7 @@ pub mod Linking
 pub mod LinkSteps
 pub mod Found
 pub mod InOrder
+pub mod Named
 pub mod HostsBase
 pub mod EndsGood
 pub mod HostsStand

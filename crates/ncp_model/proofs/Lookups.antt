@@ -9,7 +9,7 @@ use Rattle.std.proofs.lemmas.Map.Views.{tells_apart}
 use Rattle.ncp_model.specs.declared.pair.Pair.{Pair}
 use Rattle.ncp_model.specs.Pairs.{pair_cmp}
 use Rattle.ncp_model.specs.End.{End}
-use Rattle.ncp_model.specs.Ends.{Ends, any, first_by, pair_of}
+use Rattle.ncp_model.specs.Ends.{Ends, any, first_by, pair_of, end_of}
 use Rattle.ncp_model.specs.Leading.{passes}
 use Rattle.ncp_model.proofs.PairOrder.{pairs_exact}
 use Rattle.ncp_model.proofs.LinksLead.{led}
@@ -90,3 +90,31 @@ leads-there test m p t only = go (get m p) refl t
         let q = first-some test (entries m) p e (sym (get-entries m p) ∙ g) t in
         let l = led test m q.0.0 (ap pair_of q.1) in
         ap pair_of q.1 ∙ ap (λ (y : Pair). Some y) (only q.0.0 l.1)
+
+-- The same of an end that is there, by its pair and what it is.
+module _ (test : Pair × End → Bool) (m : Ends) where
+  pub looked-up : (q : Pair) (e : End) → get m q ≡ Some e → test (q, e) ≡ true → ((p : Pair) (x : End) → get m p ≡ Some x → test (p, x) ≡ true → p ≡ q) → first_by test (entries m) ≡ Some (q, e)
+  looked-up q e g t only = found (first_by test (entries m)) refl (leads-there test m q (ap (passes test q) g ∙ t) (λ p h. alone p (get m p) refl h))
+    where
+      alone : (p : Pair) (o : Option End) → get m p ≡ o → passes test p o ≡ true → p ≡ q
+      alone p None f h = absurd (cc h)
+      alone p (Some x) f h = only p x f h
+
+      found : (o : Option (Pair × End)) → first_by test (entries m) ≡ o → pair_of o ≡ Some q → o ≡ Some (q, e)
+      found None f l = absurd (cc l)
+      found (Some x) f l =
+          let same : x.0 ≡ q = cc l in
+          let value : Some e ≡ Some x.1 = sym g ∙ (subst (λ y. get m y ≡ Some x.1) same ((led test m x.0 (ap pair_of f)).0 ∙ ap end_of f)) in
+          let one : e ≡ x.1 = cc value in
+          subst (λ (y : Pair). Some x ≡ Some (y, e)) same (subst (λ (y : End). Some x ≡ Some (x.0, y)) (sym one) refl)
+
+  pub looked-up-none : ((p : Pair) (x : End) → get m p ≡ Some x → test (p, x) ≡ true → ⊥) → any test m ≡ false
+  looked-up-none none = none-any test m (λ p. alone p (get m p) refl)
+    where
+      alone : (p : Pair) (o : Option End) → get m p ≡ o → passes test p o ≡ false
+      alone p None f = refl
+      alone p (Some x) f = go (test (p, x)) refl
+        where
+          go : (b : Bool) → test (p, x) ≡ b → test (p, x) ≡ false
+          go true t = absurd (none p x f t)
+          go false t = t

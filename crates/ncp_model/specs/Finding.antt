@@ -1,10 +1,12 @@
 -- What names a link, or sockets, leads to the end for which it was made.
-use Rattle.std.specs.Prelude.{◌≡◌, ℕ, Bool, true, List, ◌∷◌, Option, None, Some}
+use Rattle.std.specs.Prelude.{◌≡◌, ℕ, Bool, true, false, List, ◌∷◌, Option, None, Some}
 use Rattle.ncp_control.specs.declared.command.Command.{Command}
-use Rattle.ncp_control.specs.declared.command.Command.TheVariants.{Rts, All, Gvb, Ret, Inr, Ins}
+use Rattle.ncp_control.specs.declared.command.Command.TheVariants.{Rts, Str, Cls, All, Gvb, Ret, Inr, Ins}
 use Rattle.ncp_model.specs.declared.pair.Pair.{Pair}
 use Rattle.ncp_model.specs.Pairs.{sends}
 use Rattle.ncp_model.specs.End.{or_new}
+use Rattle.ncp_model.specs.Ends.{Ends, leads_to}
+use Rattle.ncp_model.specs.Connections.{turned}
 use Rattle.ncp_model.specs.Ledger.{is_out}
 use Rattle.ncp_model.specs.Sharing.{Tagged, Shared, hears_at, uses_at}
 
@@ -16,6 +18,23 @@ link_of (Ret on of_messages of_bits) = Some on
 link_of (Inr on) = Some on
 link_of (Ins on) = Some on
 link_of c = None
+
+-- whether it names sockets
+abbrev pub names_sockets : Command → Bool
+names_sockets (Rts receive send on) = true
+names_sockets (Str send receive of_size) = true
+names_sockets (Cls my your) = true
+names_sockets c = false
+
+-- What comes with sockets leads to the pair for which it was made, whatever ends are there.
+
+abbrev pub SocketsFindSender : Shared → Type 0
+SocketsFindSender s = (q : Pair) (c : Command) (rest : List Tagged) (m : Ends) → s.to_senders ≡ record { pair = q; command = c } ∷ rest
+    → sends q ≡ true → names_sockets c ≡ true → leads_to c m ≡ Some q
+
+abbrev pub SocketsFindReceiver : Shared → Type 0
+SocketsFindReceiver s = (q : Pair) (c : Command) (rest : List Tagged) (m : Ends) → s.to_receivers ≡ record { pair = q; command = c } ∷ rest
+    → sends q ≡ true → names_sockets c ≡ true → leads_to c m ≡ Some (turned q)
 
 -- this one, and no other
 abbrev pub Only : (Pair → Bool) → Pair → Type 0

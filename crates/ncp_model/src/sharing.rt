@@ -3,7 +3,7 @@ ghost use Rattle.std.specs.Prelude.{◌≡◌, List, true, false};
 ghost use Rattle.ncp_model.specs.Pairs.{sends};
 ghost use Rattle.ncp_model.specs.Ledger.{BothOpen, MessagesAgree, BitsAgree, Parted, Held, Begins};
 ghost use Rattle.ncp_model.specs.Clearings.{OutStaysOpened};
-ghost use Rattle.ncp_model.specs.Finding.{GrantFinds, ReturnFinds, RequestFits, SenderHoldsLink, ReceiverHoldsLink, SameLink};
+ghost use Rattle.ncp_model.specs.Finding.{SocketsFindSender, SocketsFindReceiver, GrantFinds, ReturnFinds, RequestFits, SenderHoldsLink, ReceiverHoldsLink, SameLink};
 ghost use Rattle.ncp_model.specs.Sharing.{Shared_event, AllMayHappen, new_shared, shared, at, hosted_at};
 
 use crate::pair::Pair;
@@ -18,6 +18,12 @@ pub fn each_loses_and_makes_nothing()
     ensures held { (events : List Shared_event) (p : Pair) → AllMayHappen events new_shared → sends p ≡ true → Held (at p (shared events)) }
     ensures beginning { (events : List Shared_event) (p : Pair) → AllMayHappen events new_shared → sends p ≡ true → Begins (at p (shared events)) }
     ensures opened { (events : List Shared_event) (p : Pair) → AllMayHappen events new_shared → sends p ≡ true → OutStaysOpened (hosted_at p (shared events)) }
+{}
+
+/// What comes with sockets leads to the pair for which it was made.
+pub fn sockets_lead_home()
+    ensures sender { (events : List Shared_event) → SocketsFindSender (shared events) }
+    ensures receiver { (events : List Shared_event) → SocketsFindReceiver (shared events) }
 {}
 
 /// Where receivers ask only with links that no receiving end uses: at a host that was not cleared, what
