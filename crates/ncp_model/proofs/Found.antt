@@ -6,16 +6,17 @@ use Rattle.ncp_control.specs.declared.command.Command.TheVariants.{Rts, Str, Cls
 use Rattle.ncp_model.specs.declared.pair.Pair.{Pair}
 use Rattle.ncp_model.specs.Pairs.{sends}
 use Rattle.ncp_model.specs.End.{End, or_new, is_live}
-use Rattle.ncp_model.specs.Connections.{Connection}
+use Rattle.ncp_model.specs.Histories.{opens}
+use Rattle.ncp_model.specs.Connections.{Text, No_text, Away, Here, Connection}
 use Rattle.ncp_model.specs.Ledger.{is_out}
 use Rattle.ncp_model.specs.Sharing.{Tagged, Shared, same, only, at, hears_at}
-use Rattle.ncp_model.specs.Finding.{link_of, GrantFinds, ReturnFinds, RequestFits, SenderHoldsLink, ReceiverHoldsLink, SameLink}
+use Rattle.ncp_model.specs.Finding.{link_of, link_out, GrantFinds, ReturnFinds, RequestFits, SenderHoldsLink, ReceiverHoldsLink, SenderOpensOn, ReceiverOpensOn, StaysOut}
 use Rattle.ncp_model.proofs.Lines.{Data, Alien, same_number}
-use Rattle.ncp_model.proofs.Joint.{to_sender_kind, to_receiver_kind, kinds, sender_marks, receiver_marks, Place, Together, Sender_ahead, Receiver_ahead, Joint, Firm, live_got}
+use Rattle.ncp_model.proofs.Joint.{to_sender_kind, to_receiver_kind, kinds, sender_marks, receiver_marks, Place, Together, Sender_ahead, Receiver_ahead, Joint, Firm, live_got, Sized}
 use Rattle.ncp_model.proofs.Senders.{s_there}
 use Rattle.ncp_model.proofs.Receivers.{r_there}
 use Rattle.ncp_model.proofs.Whole.{Local, Whole, Inv, s_firm, r_firm, alien_to_sender, alien_to_receiver, out_is_opened}
-use Rattle.ncp_model.proofs.Outliving.{Fit}
+use Rattle.ncp_model.proofs.Outliving.{Fit, fit_opened}
 use Rattle.ncp_model.proofs.Projecting.{same_refl, same_true, AllFit}
 use Rattle.ncp_model.proofs.Linking.{hears_from, hears_parts, uses_from, asks_at, LinkFits}
 use Rattle.ncp_model.proofs.Clear.{Clear}
@@ -78,23 +79,25 @@ module _ (q : Pair) (sq : sends q ≡ true) where
   receiver_fits false c on cs w e k = whole_receiver c on (cs ++ k.lost) (record w { sender = k.ghost; to_sender = k.to_ghost }) e k.inv.local k.inv.core
 
   -- a text is out
-  busy_whole : (w : Connection) → Inv q w → is_out w.text ≡ true → (or_new w.sender.end).heard ≡ true
-  busy_whole w k t = (let f = s_firm q sq w k.local in (f.marks (f.out (k.core.out ∙ t)).0).1)
+  -- it is out on the sender's link
+  linked : (on : ℕ) (t : Text) (size link : ℕ) → Sized size link t → link_out t ≡ Some on → (is_out t ≡ true) × (link ≡ on)
+  linked on No_text size link z e = absurd (cc e)
+  linked on (Away li n bits) size link z e = (refl, sym z.1 ∙ cc e)
+  linked on (Here li) size link z e = (refl, sym z ∙ cc e)
 
-  busy_heard : (b : Bool) (w : Connection) → Fit q true b w → is_out w.text ≡ true → (or_new w.sender.end).heard ≡ true
-  busy_heard true w k t = busy_whole w k t
-  busy_heard false w k t = busy_whole (record w { receiver = k.ghost; to_receiver = k.to_ghost; to_sender = w.to_sender ++ k.lost }) k.inv t
+  busy_whole : (w : Connection) (on : ℕ) → Inv q w → link_out w.text ≡ Some on → ((or_new w.sender.end).heard ≡ true) × ((or_new w.sender.end).link ≡ on)
+  busy_whole w on k t =
+      let f = s_firm q sq w k.local in
+      let u = linked on w.text (or_new w.sender.end).size (or_new w.sender.end).link k.core.sized t in
+      ((f.marks (f.out (k.core.out ∙ u.0)).0).1, u.1)
+
+  busy_heard : (b : Bool) (w : Connection) (on : ℕ) → Fit q true b w → link_out w.text ≡ Some on → ((or_new w.sender.end).heard ≡ true) × ((or_new w.sender.end).link ≡ on)
+  busy_heard true w on k t = busy_whole w on k t
+  busy_heard false w on k t = busy_whole (record w { receiver = k.ghost; to_receiver = k.to_ghost; to_sender = w.to_sender ++ k.lost }) on k.inv t
 
   opened_asked : (o : Option End) → Firm (or_new o) → is_live o ≡ true → (or_new o).asked ≡ true
   opened_asked None f v = absurd (both_ways false refl v)
   opened_asked (Some e) f v = (f.marks v).0
-
-  asked_whole : (w : Connection) → Inv q w → is_out w.text ≡ true → (or_new w.receiver.end).asked ≡ true
-  asked_whole w k t = opened_asked w.receiver.end (r_firm q sq w k.local) (out_is_opened q sq w k t).1
-
-  text_asked : (a : Bool) (w : Connection) → Fit q a true w → is_out w.text ≡ true → (or_new w.receiver.end).asked ≡ true
-  text_asked true w k t = asked_whole w k t
-  text_asked false w k t = asked_whole (record w { sender = k.ghost; to_sender = k.to_ghost; to_receiver = w.to_receiver ++ k.lost }) k.inv t
 
   same_link : (w : Connection) → Inv q w → is_out w.text ≡ true → (or_new w.receiver.end).link ≡ (or_new w.sender.end).link
   same_link w k t = go k.core.place k.core.joint
@@ -109,6 +112,15 @@ module _ (q : Pair) (sq : sends q ≡ true) where
       go Together j = sym (same_number (sender_marks (or_new w.sender.end)) (receiver_marks (or_new w.receiver.end)) (kinds to_receiver_kind w.to_receiver) (kinds to_sender_kind w.to_sender) (f.marks so.0).1 j.0)
       go Sender_ahead j = absurd (both_ways (or_new w.sender.end).heard j.unheard (f.marks so.0).1)
       go Receiver_ahead j = absurd (both_ways (or_new w.sender.end).left so.1 j.left)
+
+  asked_whole : (w : Connection) (on : ℕ) → Inv q w → link_out w.text ≡ Some on → ((or_new w.receiver.end).asked ≡ true) × ((or_new w.receiver.end).link ≡ on)
+  asked_whole w on k t =
+      let u = linked on w.text (or_new w.sender.end).size (or_new w.sender.end).link k.core.sized t in
+      (opened_asked w.receiver.end (r_firm q sq w k.local) (out_is_opened q sq w k u.0).1, same_link w k u.0 ∙ u.1)
+
+  text_asked : (a : Bool) (w : Connection) (on : ℕ) → Fit q a true w → link_out w.text ≡ Some on → ((or_new w.receiver.end).asked ≡ true) × ((or_new w.receiver.end).link ≡ on)
+  text_asked true w on k t = asked_whole w on k t
+  text_asked false w on k t = asked_whole (record w { sender = k.ghost; to_sender = k.to_ghost; to_receiver = w.to_receiver ++ k.lost }) on k.inv t
 
 module _ (s : Shared) (f : AllFit s) (k : LinkFits s) where
   pub grant_finds : s.sends ≡ true → GrantFinds s
@@ -130,17 +142,16 @@ module _ (s : Shared) (f : AllFit s) (k : LinkFits s) where
       (h, λ p m. k.receivers a p q on m h)
 
   pub sender_holds : s.sends ≡ true → SenderHoldsLink s
-  sender_holds a q t sq =
-      let h = hears_from (or_new (s.sender q).end).link q (or_new (s.sender q).end) sq (busy_heard q sq s.receives (at q s) (subst (λ (x : Bool). Fit q x s.receives (at q s)) a (f q sq)) t) refl in
-      (h, λ p m. k.senders a p q (or_new (s.sender q).end).link m h)
+  sender_holds a q on t sq =
+      let u = busy_heard q sq s.receives (at q s) on (subst (λ (x : Bool). Fit q x s.receives (at q s)) a (f q sq)) t in
+      let h = hears_from on q (or_new (s.sender q).end) sq u.0 u.1 in
+      (h, λ p m. k.senders a p q on m h)
 
   pub receiver_holds : s.receives ≡ true → ReceiverHoldsLink s
-  receiver_holds a q t sq =
-      let h = uses_from (or_new (s.receiver q).end).link q (or_new (s.receiver q).end) sq (text_asked q sq s.sends (at q s) (subst (λ (x : Bool). Fit q s.sends x (at q s)) a (f q sq)) t) refl in
-      (h, λ p m. k.receivers a p q (or_new (s.receiver q).end).link m h)
-
-  pub links_same : s.sends ≡ true → s.receives ≡ true → SameLink s
-  links_same a b q t sq = same_link q sq (at q s) (subst (λ (x : Bool). Fit q x true (at q s)) a (subst (λ (x : Bool). Fit q s.sends x (at q s)) b (f q sq))) t
+  receiver_holds a q on t sq =
+      let u = text_asked q sq s.sends (at q s) on (subst (λ (x : Bool). Fit q s.sends x (at q s)) a (f q sq)) t in
+      let h = uses_from on q (or_new (s.receiver q).end) sq u.0 u.1 in
+      (h, λ p m. k.receivers a p q on m h)
 
   pub request_fits : s.sends ≡ true → RequestFits s
   request_fits a q i j on rest e sq p m = go (same q p) refl
@@ -159,3 +170,26 @@ module _ (s : Shared) (f : AllFit s) (k : LinkFits s) where
       go true d = both_ways (or_new (s.sender q).end).heard (rts_fits q sq i j on (only q rest) s.receives (at q s) fit)
           (hears_parts on q (or_new (s.sender q).end) (subst (λ (r : Pair). hears_at s on r ≡ true) (sym (same_true q p d)) m)).1
       go false d = both_ways (hears_at s on p) (free d) m
+
+-- While a text is out, no connection opens on its link.
+
+not_again : (before after : Option End) → is_live before ≡ true → opens before after ≡ true → ⊥
+not_again before after l o = both_ways (opens before after) (rw l refl) o
+
+out_of : (on : ℕ) (t : Text) → link_out t ≡ Some on → is_out t ≡ true
+out_of on No_text e = absurd (cc e)
+out_of on (Away li n bits) e = refl
+out_of on (Here li) e = refl
+
+module _ (s t : Shared) (f : AllFit s) (g : AllFit t) (k : LinkFits t) (on : ℕ) (p q : Pair) (out : StaysOut on q s t) where
+  pub sender_opens_not : s.sends ≡ true → t.sends ≡ true → SenderOpensOn on p s t → ⊥
+  sender_opens_not a b o =
+      let e : p ≡ q = (sender_holds t g k b q on out.2 out.0).1 p o.1 in
+      let l : is_live (s.sender q).end ≡ true = (fit_opened q out.0 s.sends s.receives (at q s) (f q out.0) (out_of on (s.text q) out.1)).0 a in
+      not_again (s.sender p).end (t.sender p).end (subst (λ (r : Pair). is_live (s.sender r).end ≡ true) (sym e) l) o.0
+
+  pub receiver_opens_not : s.receives ≡ true → t.receives ≡ true → ReceiverOpensOn on p s t → ⊥
+  receiver_opens_not a b o =
+      let e : p ≡ q = (receiver_holds t g k b q on out.2 out.0).1 p o.1 in
+      let l : is_live (s.receiver q).end ≡ true = (fit_opened q out.0 s.sends s.receives (at q s) (f q out.0) (out_of on (s.text q) out.1)).1 a in
+      not_again (s.receiver p).end (t.receiver p).end (subst (λ (r : Pair). is_live (s.receiver r).end ≡ true) (sym e) l) o.0

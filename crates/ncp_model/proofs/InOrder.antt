@@ -91,5 +91,5 @@ module _ (pair : Pair) (sd : sends pair ≡ true) (n : ℕ) (few : nat_lt n MAX_
       go Command.Rst k m = absurd (alien_to_receiver pair sd Command.Rst rest w refl k.core)
       go Command.Rrp k m = absurd (alien_to_receiver pair sd Command.Rrp rest w refl k.core)
 
-pub text_in_order : (pair : Pair) (sd : sends pair ≡ true) (head : List Bool) (n : ℕ) (bits : List Bool) (w : Connection) → Inv pair (record w { text = Away n bits }) → is_in_order (happens (turned pair) (all.Text_comes head n bits) w.receiver.end).outcome ≡ true
-text_in_order pair sd head n bits w k = text_fine (turned pair) head n bits w.receiver.end (or_parts w.violated _ (text_comes_keeps pair sd head (Away n bits) w k.local k.core).local.safe).1
+pub text_in_order : (pair : Pair) (sd : sends pair ≡ true) (head : List Bool) (li n : ℕ) (bits : List Bool) (w : Connection) → Inv pair (record w { text = Away li n bits }) → is_in_order (happens (turned pair) (all.Text_comes head n bits) w.receiver.end).outcome ≡ true
+text_in_order pair sd head li n bits w k = text_fine (turned pair) head n bits w.receiver.end (or_parts w.violated _ (text_comes_keeps pair sd head (Away li n bits) w k.local k.core).local.safe).1

@@ -92,15 +92,15 @@ Joint Together s g r h p q t = Same (sender_marks s) (receiver_marks r) (kinds t
 Joint Sender_ahead s g r h p q t = Ahead (sender_marks s) (receiver_marks r) (kinds to_receiver_kind p) (kinds to_sender_kind q)
 Joint Receiver_ahead s g r h p q t = Ahead (receiver_marks r) (sender_marks s) (kinds to_sender_kind q) (kinds to_receiver_kind p)
 
--- the text that is out has the sender's size
-abbrev pub Sized : ℕ → Text → Type 0
-Sized size No_text = ⊤
-Sized size (Away of_size bits) = of_size ≡ size
-Sized size Here = ⊤
+-- the text that is out has the sender's size, and went out on its link
+abbrev pub Sized : ℕ → ℕ → Text → Type 0
+Sized size link No_text = ⊤
+Sized size link (Away li of_size bits) = (of_size ≡ size) × (li ≡ link)
+Sized size link (Here li) = li ≡ link
 
 pub record Core (s : End) (g : List Bool) (r : End) (h : List Bool) (p q : List Command) (t : Text) : Type 0 where
   pub out : s.busy ≡ is_out t
-  pub sized : Sized s.size t
+  pub sized : Sized s.size s.link t
   pub begun : IsBeginning h g
   pub dead : r.opened ≡ false → h ≡ []
   pub place : Place
@@ -168,8 +168,8 @@ receiver_well e f = record {
 
 pub no_text : (s : End) (t : Text) → s.busy ≡ is_out t → s.busy ≡ false → t ≡ No_text
 no_text s No_text k e = refl
-no_text s (Away n bits) k e = absurd (both_ways s.busy e k)
-no_text s Here k e = absurd (both_ways s.busy e k)
+no_text s (Away li n bits) k e = absurd (both_ways s.busy e k)
+no_text s (Here li) k e = absurd (both_ways s.busy e k)
 
 -- an end that did not ask or did not hear has not opened
 pub unasked : (e : End) → Firm e → e.asked ≡ false → e.opened ≡ false
@@ -184,7 +184,7 @@ left_not_busy e f l = false_or e.busy (λ b. both_ways e.left (f.out b).1 l)
 pub begun_empty : (xs : List Bool) → IsBeginning [] xs
 begun_empty xs = (xs, refl)
 
-pub sized_none : (n : ℕ) (t : Text) → t ≡ No_text → Sized n t
-sized_none n No_text e = tt
-sized_none n (Away m bits) e = absurd (cc e)
-sized_none n Here e = tt
+pub sized_none : (n l : ℕ) (t : Text) → t ≡ No_text → Sized n l t
+sized_none n l No_text e = tt
+sized_none n l (Away li m bits) e = absurd (cc e)
+sized_none n l (Here li) e = absurd (cc e)

@@ -118,18 +118,18 @@ module _ (q : Pair) (sq : sends q ≡ true) (s r : Watched) where
   facts Text_goes_out true b t v n = sends_facts all.Text_goes_out t v refl
   facts (Text_comes head) a false t v n = nothing s r [] (text_dropped t) v
   facts (Text_comes head) a true No_text v n = nothing s r [] No_text v
-  facts (Text_comes head) a true (Away m bits) v n = receives_facts (all.Text_comes head m bits) Here v refl
-  facts (Text_comes head) a true Here v n = nothing s r [] Here v
+  facts (Text_comes head) a true (Away li m bits) v n = receives_facts (all.Text_comes head m bits) (Here li) v refl
+  facts (Text_comes head) a true (Here li) v n = nothing s r [] (Here li) v
   facts (Text_is_answered how) false b t v n = nothing s r [] (text_over how t) v
   facts (Text_is_answered Taken) true b No_text v n = nothing s r [] No_text v
-  facts (Text_is_answered Taken) true b (Away m bits) v n = nothing s r [] (Away m bits) v
-  facts (Text_is_answered Taken) true b Here v n = sends_facts (all.Is_answered Taken) No_text v refl
+  facts (Text_is_answered Taken) true b (Away li m bits) v n = nothing s r [] (Away li m bits) v
+  facts (Text_is_answered Taken) true b (Here li) v n = sends_facts (all.Is_answered Taken) No_text v refl
   facts (Text_is_answered Again) true b No_text v n = nothing s r [] No_text v
-  facts (Text_is_answered Again) true b (Away m bits) v n = sends_facts (all.Is_answered Again) (Away m bits) v refl
-  facts (Text_is_answered Again) true b Here v n = nothing s r [] Here v
+  facts (Text_is_answered Again) true b (Away li m bits) v n = sends_facts (all.Is_answered Again) (Away li m bits) v refl
+  facts (Text_is_answered Again) true b (Here li) v n = nothing s r [] (Here li) v
   facts (Text_is_answered Kept) true b No_text v n = nothing s r [] No_text v
-  facts (Text_is_answered Kept) true b (Away m bits) v n = sends_facts (all.Is_answered Kept) (Away m bits) v refl
-  facts (Text_is_answered Kept) true b Here v n = nothing s r [] Here v
+  facts (Text_is_answered Kept) true b (Away li m bits) v n = sends_facts (all.Is_answered Kept) (Away li m bits) v refl
+  facts (Text_is_answered Kept) true b (Here li) v n = nothing s r [] (Here li) v
 
 -- what a calm sender held it held before
 calm_holds : (on : ℕ) (q : Pair) (before after : Option End) → SenderCalm before after → hears_link on (q, or_new after) ≡ true → hears_link on (q, or_new before) ≡ true

@@ -1,5 +1,5 @@
 -- What names sockets names those of the connection for which it was made.
-use Rattle.std.proofs.Common.{◌≡◌, ℕ, ◌==◌, Bool, true, false, not, ◌||◌, ◌&&◌, nat_lt, cond, if◌then◌else◌, List, [], ◌∷◌, ◌++◌, take, Option, None, Some, refl, ap, sym, ◌∙◌, subst, arith, zero, suc}
+use Rattle.std.proofs.Common.{◌≡◌, ℕ, ◌==◌, Bool, true, false, ◌&&◌, nat_lt, if◌then◌else◌, List, [], ◌∷◌, ◌++◌, take, Option, None, Some, refl, subst, arith, zero, suc}
 use Rattle.std.specs.Bool.{⊤}
 use Rattle.std.proofs.lemmas.Bool.{both_ways, and_parts, eqb-true}
 use Rattle.ncp_control.specs.declared.command.Command.{Command}
@@ -9,7 +9,7 @@ use Rattle.ncp_model.specs.declared.limits.TheConstants.{MAX_BY_PEER}
 use Rattle.ncp_model.specs.Pairs.{sends}
 use Rattle.ncp_model.specs.End.{End}
 use Rattle.ncp_model.specs.Ends.{Ends, leads_to}
-use Rattle.ncp_model.specs.Texts.{Answered, Taken, Again, Kept}
+use Rattle.ncp_model.specs.Texts.{Taken, Again, Kept}
 use Rattle.ncp_model.specs.Happenings.{Happening, happens}
 use Rattle.ncp_model.specs.Happenings as all
 use Rattle.ncp_model.specs.Histories.{Watched}
@@ -104,18 +104,18 @@ module _ (q : Pair) (s r : Watched) where
   names Text_goes_out true b t v = sender_names all.Text_goes_out t v
   names (Text_comes head) a false t v = idle (text_dropped t) v
   names (Text_comes head) a true No_text v = idle No_text v
-  names (Text_comes head) a true (Away m bits) v = receiver_names (all.Text_comes head m bits) Here v
-  names (Text_comes head) a true Here v = idle Here v
+  names (Text_comes head) a true (Away li m bits) v = receiver_names (all.Text_comes head m bits) (Here li) v
+  names (Text_comes head) a true (Here li) v = idle (Here li) v
   names (Text_is_answered how) false b t v = idle (text_over how t) v
   names (Text_is_answered Taken) true b No_text v = idle No_text v
-  names (Text_is_answered Taken) true b (Away m bits) v = idle (Away m bits) v
-  names (Text_is_answered Taken) true b Here v = sender_names (all.Is_answered Taken) No_text v
+  names (Text_is_answered Taken) true b (Away li m bits) v = idle (Away li m bits) v
+  names (Text_is_answered Taken) true b (Here li) v = sender_names (all.Is_answered Taken) No_text v
   names (Text_is_answered Again) true b No_text v = idle No_text v
-  names (Text_is_answered Again) true b (Away m bits) v = sender_names (all.Is_answered Again) (Away m bits) v
-  names (Text_is_answered Again) true b Here v = idle Here v
+  names (Text_is_answered Again) true b (Away li m bits) v = sender_names (all.Is_answered Again) (Away li m bits) v
+  names (Text_is_answered Again) true b (Here li) v = idle (Here li) v
   names (Text_is_answered Kept) true b No_text v = idle No_text v
-  names (Text_is_answered Kept) true b (Away m bits) v = sender_names (all.Is_answered Kept) (Away m bits) v
-  names (Text_is_answered Kept) true b Here v = idle Here v
+  names (Text_is_answered Kept) true b (Away li m bits) v = sender_names (all.Is_answered Kept) (Away li m bits) v
+  names (Text_is_answered Kept) true b (Here li) v = idle (Here li) v
 
   by_happening : (o : Option Happening) (t : Text) (v : Bool) → Names q (sender_hears q o (record { sender = s; receiver = r; to_receiver = []; to_sender = []; text = t; violated = v }))
   by_happening None t v = idle t v

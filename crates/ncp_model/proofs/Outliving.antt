@@ -117,32 +117,32 @@ module _ (pair : Pair) (sd : sends pair ≡ true) where
   pub fit_text_is_answered : (how : Answered) (b : Bool) (t : Text) (w : Connection) → Fit pair true b (record w { text = t }) → Fit pair true b (text_is_answered pair how t (record w { text = t }))
   fit_text_is_answered how true t w k = text_is_answered_keeps pair sd how t w k.local k.core
   fit_text_is_answered Taken false No_text w k = k
-  fit_text_is_answered Taken false (Away n bits) w k = k
-  fit_text_is_answered Taken false Here w k = record {
+  fit_text_is_answered Taken false (Away li n bits) w k = k
+  fit_text_is_answered Taken false (Here li) w k = record {
     gone = k.gone;
     ghost = k.ghost;
     to_ghost = k.to_ghost ++ (happens pair (all.Is_answered Taken) w.sender.end).made;
     lost = k.lost;
-    inv = text_is_answered_keeps pair sd Taken Here (record w { receiver = k.ghost; to_receiver = k.to_ghost; to_sender = w.to_sender ++ k.lost }) k.inv.local k.inv.core;
+    inv = text_is_answered_keeps pair sd Taken (Here li) (record w { receiver = k.ghost; to_receiver = k.to_ghost; to_sender = w.to_sender ++ k.lost }) k.inv.local k.inv.core;
   }
   fit_text_is_answered Again false No_text w k = k
-  fit_text_is_answered Again false (Away n bits) w k = record {
+  fit_text_is_answered Again false (Away li n bits) w k = record {
     gone = k.gone;
     ghost = k.ghost;
     to_ghost = k.to_ghost ++ [];
     lost = k.lost;
-    inv = text_is_answered_keeps pair sd Again (Away n bits) (record w { receiver = k.ghost; to_receiver = k.to_ghost; to_sender = w.to_sender ++ k.lost }) k.inv.local k.inv.core;
+    inv = text_is_answered_keeps pair sd Again (Away li n bits) (record w { receiver = k.ghost; to_receiver = k.to_ghost; to_sender = w.to_sender ++ k.lost }) k.inv.local k.inv.core;
   }
-  fit_text_is_answered Again false Here w k = k
+  fit_text_is_answered Again false (Here li) w k = k
   fit_text_is_answered Kept false No_text w k = k
-  fit_text_is_answered Kept false (Away n bits) w k = record {
+  fit_text_is_answered Kept false (Away li n bits) w k = record {
     gone = k.gone;
     ghost = k.ghost;
     to_ghost = k.to_ghost ++ [];
     lost = k.lost;
-    inv = text_is_answered_keeps pair sd Kept (Away n bits) (record w { receiver = k.ghost; to_receiver = k.to_ghost; to_sender = w.to_sender ++ k.lost }) k.inv.local k.inv.core;
+    inv = text_is_answered_keeps pair sd Kept (Away li n bits) (record w { receiver = k.ghost; to_receiver = k.to_ghost; to_sender = w.to_sender ++ k.lost }) k.inv.local k.inv.core;
   }
-  fit_text_is_answered Kept false Here w k = k
+  fit_text_is_answered Kept false (Here li) w k = k
 
   -- The receiver's host is there.
 
@@ -169,15 +169,15 @@ module _ (pair : Pair) (sd : sends pair ≡ true) where
   pub fit_text_comes : (head : List Bool) (a : Bool) (t : Text) (w : Connection) → Fit pair a true (record w { text = t }) → Fit pair a true (text_comes pair head t (record w { text = t }))
   fit_text_comes head true t w k = text_comes_keeps pair sd head t w k.local k.core
   fit_text_comes head false No_text w k = k
-  fit_text_comes head false (Away n bits) w k = record {
+  fit_text_comes head false (Away li n bits) w k = record {
     gone = k.gone;
     ghost = k.ghost;
     given = k.given;
     to_ghost = k.to_ghost ++ (happens (turned pair) (all.Text_comes head n bits) w.receiver.end).made;
     lost = k.lost;
-    inv = text_comes_keeps pair sd head (Away n bits) (record w { sender = k.ghost; to_sender = k.to_ghost; to_receiver = w.to_receiver ++ k.lost }) k.inv.local k.inv.core;
+    inv = text_comes_keeps pair sd head (Away li n bits) (record w { sender = k.ghost; to_sender = k.to_ghost; to_receiver = w.to_receiver ++ k.lost }) k.inv.local k.inv.core;
   }
-  fit_text_comes head false Here w k = k
+  fit_text_comes head false (Here li) w k = k
 
   -- The host to which it comes was cleared.
 
@@ -203,8 +203,8 @@ module _ (pair : Pair) (sd : sends pair ≡ true) where
   pub answer_missed : (how : Answered) (b : Bool) (t : Text) (w : Connection) → Fit pair false b (record w { text = t }) → Fit pair false b (record w { text = text_over how t })
   answer_missed how false t w k = record { no_sender = k.no_sender; no_receiver = k.no_receiver; safe = k.safe }
   answer_missed Taken true No_text w k = k
-  answer_missed Taken true (Away n bits) w k = k
-  answer_missed Taken true Here w k =
+  answer_missed Taken true (Away li n bits) w k = k
+  answer_missed Taken true (Here li) w k =
       let made : List Command = (happens pair (all.Is_answered Taken) k.ghost.end).made in
       record {
         gone = k.gone;
@@ -214,30 +214,30 @@ module _ (pair : Pair) (sd : sends pair ≡ true) where
         lost = k.lost ++ made;
         inv = subst (λ (x : List Command). Inv pair (record w { sender = watches pair (all.Is_answered Taken) k.ghost; to_sender = k.to_ghost; to_receiver = x; text = No_text })) (append_assoc w.to_receiver k.lost made)
             (remarked _ w.violated k.inv.local.safe
-            (text_is_answered_keeps pair sd Taken Here (record w { sender = k.ghost; to_sender = k.to_ghost; to_receiver = w.to_receiver ++ k.lost }) k.inv.local k.inv.core));
+            (text_is_answered_keeps pair sd Taken (Here li) (record w { sender = k.ghost; to_sender = k.to_ghost; to_receiver = w.to_receiver ++ k.lost }) k.inv.local k.inv.core));
       }
   answer_missed Again true No_text w k = k
-  answer_missed Again true (Away n bits) w k = k
-  answer_missed Again true Here w k = k
+  answer_missed Again true (Away li n bits) w k = k
+  answer_missed Again true (Here li) w k = k
   answer_missed Kept true No_text w k = k
-  answer_missed Kept true (Away n bits) w k = k
-  answer_missed Kept true Here w k = k
+  answer_missed Kept true (Away li n bits) w k = k
+  answer_missed Kept true (Here li) w k = k
 
   pub text_missed : (head : List Bool) (a : Bool) (t : Text) (w : Connection) → Fit pair a false (record w { text = t }) → Fit pair a false (record w { text = text_dropped t })
   text_missed head false t w k = record { no_sender = k.no_sender; no_receiver = k.no_receiver; safe = k.safe }
   text_missed head true No_text w k = k
-  text_missed head true (Away n bits) w k =
+  text_missed head true (Away li n bits) w k =
       let made : List Command = (happens (turned pair) (all.Text_comes head n bits) k.ghost.end).made in
       record {
         gone = k.gone;
         ghost = watches (turned pair) (all.Text_comes head n bits) k.ghost;
         to_ghost = k.to_ghost;
         lost = k.lost ++ made;
-        inv = subst (λ (x : List Command). Inv pair (record w { receiver = watches (turned pair) (all.Text_comes head n bits) k.ghost; to_receiver = k.to_ghost; to_sender = x; text = Here })) (append_assoc w.to_sender k.lost made)
+        inv = subst (λ (x : List Command). Inv pair (record w { receiver = watches (turned pair) (all.Text_comes head n bits) k.ghost; to_receiver = k.to_ghost; to_sender = x; text = Here li })) (append_assoc w.to_sender k.lost made)
             (remarked _ w.violated k.inv.local.safe
-            (text_comes_keeps pair sd head (Away n bits) (record w { receiver = k.ghost; to_receiver = k.to_ghost; to_sender = w.to_sender ++ k.lost }) k.inv.local k.inv.core));
+            (text_comes_keeps pair sd head (Away li n bits) (record w { receiver = k.ghost; to_receiver = k.to_ghost; to_sender = w.to_sender ++ k.lost }) k.inv.local k.inv.core));
       }
-  text_missed head true Here w k = k
+  text_missed head true (Here li) w k = k
 
   -- Every change.
 
@@ -283,8 +283,8 @@ module _ (pair : Pair) (sd : sends pair ≡ true) where
       go true b k = k
       go false true k = k
       go false false k = fit_fresh pair sd h.connection e k
-  fit_starts (Away n bits) h e k = k
-  fit_starts Here h e k = k
+  fit_starts (Away li n bits) h e k = k
+  fit_starts (Here li) h e k = k
 
   fit_changes : (c : Change) (h : Hosted) → FitHosted h → FitHosted (changes pair c h)
   fit_changes (Occurs e) h k = fit_occurs e h.sends h.receives h.connection k

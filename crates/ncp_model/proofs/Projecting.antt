@@ -103,21 +103,21 @@ module _ (pair : Pair) (sd : sends pair ≡ true) (p q : List Command) where
     where
       go : (t : Text) → Fit pair a true (with p q (record w { text = t })) → Fit pair a true (onto p q (text_comes pair head t (with [] [] (record w { text = t }))))
       go No_text k = none a true (record w { text = No_text }) k
-      go (Away n bits) k = back a true (receiver_does pair (all.Text_comes head n bits) (record w { text = Here })) (happens (turned pair) (all.Text_comes head n bits) w.receiver.end).made (fit_text_comes pair sd head a (Away n bits) (with p q w) k)
-      go Here k = none a true (record w { text = Here }) k
+      go (Away li n bits) k = back a true (receiver_does pair (all.Text_comes head n bits) (record w { text = Here li })) (happens (turned pair) (all.Text_comes head n bits) w.receiver.end).made (fit_text_comes pair sd head a (Away li n bits) (with p q w) k)
+      go (Here li) k = none a true (record w { text = Here li }) k
   framed (Text_is_answered how) false b w k = none false b (record w { text = text_over how w.text }) (answer_missed pair sd how b w.text (with p q w) k)
   framed (Text_is_answered how) true b w k = go how w.text k
     where
       go : (how : Answered) (t : Text) → Fit pair true b (with p q (record w { text = t })) → Fit pair true b (onto p q (text_is_answered pair how t (with [] [] (record w { text = t }))))
       go Taken No_text k = none true b (record w { text = No_text }) k
-      go Taken (Away n bits) k = none true b (record w { text = Away n bits }) k
-      go Taken Here k = there true b (sender_does pair (all.Is_answered Taken) (record w { text = No_text })) (happens pair (all.Is_answered Taken) w.sender.end).made (fit_text_is_answered pair sd Taken b Here (with p q w) k)
+      go Taken (Away li n bits) k = none true b (record w { text = Away li n bits }) k
+      go Taken (Here li) k = there true b (sender_does pair (all.Is_answered Taken) (record w { text = No_text })) (happens pair (all.Is_answered Taken) w.sender.end).made (fit_text_is_answered pair sd Taken b (Here li) (with p q w) k)
       go Again No_text k = none true b (record w { text = No_text }) k
-      go Again (Away n bits) k = there true b (sender_does pair (all.Is_answered Again) (record w { text = Away n bits })) [] (fit_text_is_answered pair sd Again b (Away n bits) (with p q w) k)
-      go Again Here k = none true b (record w { text = Here }) k
+      go Again (Away li n bits) k = there true b (sender_does pair (all.Is_answered Again) (record w { text = Away li n bits })) [] (fit_text_is_answered pair sd Again b (Away li n bits) (with p q w) k)
+      go Again (Here li) k = none true b (record w { text = Here li }) k
       go Kept No_text k = none true b (record w { text = No_text }) k
-      go Kept (Away n bits) k = there true b (sender_does pair (all.Is_answered Kept) (record w { text = Away n bits })) [] (fit_text_is_answered pair sd Kept b (Away n bits) (with p q w) k)
-      go Kept Here k = none true b (record w { text = Here }) k
+      go Kept (Away li n bits) k = there true b (sender_does pair (all.Is_answered Kept) (record w { text = Away li n bits })) [] (fit_text_is_answered pair sd Kept b (Away li n bits) (with p q w) k)
+      go Kept (Here li) k = none true b (record w { text = Here li }) k
 
   pub framed_to_sender : (n : ℕ) (c : Command) (a b : Bool) (w : Connection) → nat_lt n MAX_BY_PEER ≡ true → Fit pair a b (with p (c ∷ q) w) → Fit pair a b (onto p q (if a then (if nat_lt n MAX_BY_PEER then comes_to_sender pair n (c ∷ []) (with [] (c ∷ []) w) else with [] (c ∷ []) w) else with [] [] w))
   framed_to_sender n c false b w few k = none false b w (missed_by_sender pair sd b q (with p (c ∷ q) w) k)

@@ -279,16 +279,16 @@ module _ (pair : Pair) (rd : receives pair ≡ true) (past : Past) (s : End) (g 
 
 -- A text comes.
 
-module _ (pair : Pair) (rd : receives pair ≡ true) (past : Past) (s : End) (g : List Bool) (p q : List Command) (fs : Firm s) (head : List Bool) (n : ℕ) (bits : List Bool) where
-  pub rk-text : (before : Option End) → Firm (or_new before) → Core s g (or_new before) (live_got before past) p q (Away n bits)
-      → Keeps (all.Text_comes head n bits) before past s g p q Here (made_by_text head bits) of_text (hear_text n bits before)
-  rk-text None fr k = absurd (both_ways false refl (text_opened s g new_end [] p q fs fr n bits k))
+module _ (pair : Pair) (rd : receives pair ≡ true) (past : Past) (s : End) (g : List Bool) (p q : List Command) (fs : Firm s) (head : List Bool) (li n : ℕ) (bits : List Bool) where
+  pub rk-text : (before : Option End) → Firm (or_new before) → Core s g (or_new before) (live_got before past) p q (Away li n bits)
+      → Keeps (all.Text_comes head n bits) before past s g p q (Here li) (made_by_text head bits) of_text (hear_text n bits before)
+  rk-text None fr k = absurd (both_ways false refl (text_opened s g new_end [] p q fs fr li n bits k))
   rk-text (Some e) fr k =
-      choose (is_going e) (λ v. stays _ refl refl (λ x. append-nil x.got) (text_late s g e (live_got (Some e) past) p q fs fr n bits v k)) (λ v.
-      let o : e.opened ≡ true = text_opened s g e (live_got (Some e) past) p q fs fr n bits k in
+      choose (is_going e) (λ v. stays _ refl refl (λ x. append-nil x.got) (text_late s g e (live_got (Some e) past) p q fs fr li n bits v k)) (λ v.
+      let o : e.opened ≡ true = text_opened s g e (live_got (Some e) past) p q fs fr li n bits k in
       choose (not e.opened) (λ c. absurd (both_ways e.opened (not-true e.opened c) o)) (λ _.
-      let w = text_within s g e (live_got (Some e) past) p q fs fr n bits v k in
+      let w = text_within s g e (live_got (Some e) past) p q fs fr li n bits v k in
       let w0 = w.0 in let w1 = w.1 in let w2 = w.2 in
       choose (not (n == e.size)) (λ c. absurd (both_ways (not (n == e.size)) (grind arith) c)) (λ _.
       choose (e.messages == 0 || nat_lt e.bits (length bits)) (λ c. absurd (both_ways (e.messages == 0 || nat_lt e.bits (length bits)) (grind arith) c)) (λ _.
-      admits (record e { messages = e.messages - 1; bits = e.bits - length bits; stored = e.stored ++ bits }) took.Admitted bits refl (not_over e v) o o (λ _. refl) (rw (append-nil q) (text_admitted s g e (live_got (Some e) past) p q fs fr n bits v k))))))
+      admits (record e { messages = e.messages - 1; bits = e.bits - length bits; stored = e.stored ++ bits }) took.Admitted bits refl (not_over e v) o o (λ _. refl) (rw (append-nil q) (text_admitted s g e (live_got (Some e) past) p q fs fr li n bits v k))))))

@@ -110,7 +110,7 @@ module _ (s : End) (g : List Bool) (r : End) (h : List Bool) (p q : List Command
       joint Receiver_ahead k2 = rw (kinds_more to_sender_kind q (Cls i j ∷ [])) (ahead_leaves (receiver_marks r) (sender_marks s) (kinds to_sender_kind q) (kinds to_receiver_kind p) l e k2)
 
   -- no receiver, and nothing got
-  gone : (d : Place) (p' q' : List Command) → s.busy ≡ is_out t → Sized s.size t → Joint d s g new_end [] p' q' t → Core s g new_end [] p' q' t
+  gone : (d : Place) (p' q' : List Command) → s.busy ≡ is_out t → Sized s.size s.link t → Joint d s g new_end [] p' q' t → Core s g new_end [] p' q' t
   gone d p' q' out z k2 = record { out = out; sized = z; begun = begun_empty g; dead = λ e. refl; place = d; joint = k2 }
 
   -- and a CLS had come: the end is there no more
@@ -351,11 +351,11 @@ module _ (s : End) (g : List Bool) (r : End) (h : List Bool) (p q : List Command
 
 -- A text comes.
 
-module _ (s : End) (g : List Bool) (r : End) (h : List Bool) (p q : List Command) (fs : Firm s) (fr : Firm r) (n : ℕ) (bits : List Bool) where
-  pub text_late : is_going r ≡ true → Core s g r h p q (Away n bits) → Core s g r h p q Here
-  text_late v k = record { out = k.out; sized = tt; begun = k.begun; dead = k.dead; place = k.place; joint = joint k.place k.joint }
+module _ (s : End) (g : List Bool) (r : End) (h : List Bool) (p q : List Command) (fs : Firm s) (fr : Firm r) (li n : ℕ) (bits : List Bool) where
+  pub text_late : is_going r ≡ true → Core s g r h p q (Away li n bits) → Core s g r h p q (Here li)
+  text_late v k = record { out = k.out; sized = k.sized.1; begun = k.begun; dead = k.dead; place = k.place; joint = joint k.place k.joint }
     where
-      joint : (d : Place) → Joint d s g r h p q (Away n bits) → Joint d s g r h p q Here
+      joint : (d : Place) → Joint d s g r h p q (Away li n bits) → Joint d s g r h p q (Here li)
       joint Together k2 = (
         k2.0,
         record {
@@ -375,25 +375,25 @@ module _ (s : End) (g : List Bool) (r : End) (h : List Bool) (p q : List Command
       joint Receiver_ahead k2 = k2
 
   -- an end to which a text comes has opened
-  pub text_opened : Core s g r h p q (Away n bits) → r.opened ≡ true
+  pub text_opened : Core s g r h p q (Away li n bits) → r.opened ≡ true
   text_opened k = go k.place k.joint
     where
       from : (b : Bool) → r.opened ≡ b → (r.opened ≡ false → s.busy ≡ false) → b ≡ true
       from true e f = refl
       from false e f = absurd (both_ways s.busy (f e) k.out)
 
-      go : (d : Place) → Joint d s g r h p q (Away n bits) → r.opened ≡ true
+      go : (d : Place) → Joint d s g r h p q (Away li n bits) → r.opened ≡ true
       go Together k2 = from r.opened refl (λ c. (k2.1.early c).2)
       go Sender_ahead k2 = absurd (both_ways s.heard k2.unheard (fs.marks (fs.out k.out).0).1)
       go Receiver_ahead k2 = absurd (both_ways s.left (fs.out k.out).1 k2.left)
 
-  pub text_fits : is_going r ≡ false → Core s g r h p q (Away n bits) → Fits s g r h p p q (Away n bits)
+  pub text_fits : is_going r ≡ false → Core s g r h p q (Away li n bits) → Fits s g r h p p q (Away li n bits)
   text_fits v k = go k.place k.joint
     where
       o : r.opened ≡ true
       o = text_opened k
 
-      go : (d : Place) → Joint d s g r h p q (Away n bits) → Fits s g r h p p q (Away n bits)
+      go : (d : Place) → Joint d s g r h p q (Away li n bits) → Fits s g r h p p q (Away li n bits)
       go Together k2 = record {
         opened = o;
         same = k2.0;
@@ -405,19 +405,19 @@ module _ (s : End) (g : List Bool) (r : End) (h : List Bool) (p q : List Command
       go Receiver_ahead k2 = absurd (both_ways s.left (fs.out k.out).1 k2.left)
 
   -- it is of the end's size, and within what is outstanding
-  pub text_within : is_going r ≡ false → Core s g r h p q (Away n bits) → (n ≡ r.size) × (1 ≤ r.messages) × (length bits ≤ r.bits)
+  pub text_within : is_going r ≡ false → Core s g r h p q (Away li n bits) → (n ≡ r.size) × (1 ≤ r.messages) × (length bits ≤ r.bits)
   text_within v k =
       let f = text_fits v k in
-      (k.sized ∙ f.size, omega (arith, f.books.enough_messages v), omega (arith, f.books.enough_bits v))
+      (k.sized.0 ∙ f.size, omega (arith, f.books.enough_messages v), omega (arith, f.books.enough_bits v))
 
-  pub text_admitted : is_going r ≡ false → Core s g r h p q (Away n bits)
-      → Core s g (record r { messages = r.messages - 1; bits = r.bits - length bits; stored = r.stored ++ bits }) (h ++ bits) p q Here
+  pub text_admitted : is_going r ≡ false → Core s g r h p q (Away li n bits)
+      → Core s g (record r { messages = r.messages - 1; bits = r.bits - length bits; stored = r.stored ++ bits }) (h ++ bits) p q (Here li)
   text_admitted v k =
       let f = text_fits v k in
       let w = text_within v k in
       record {
         out = k.out;
-        sized = tt;
+        sized = k.sized.1;
         begun = f.books.coming v;
         dead = λ e. absurd (both_ways r.opened e f.opened);
         place = Together;

@@ -53,7 +53,7 @@ opens_again (Some x) = opens_same (Some x) x refl
 -- after an act at the sender's end
 pub record Keeps {A : Type 0} (what : Happening) (before : Option End) (past : Past) (r : End) (h : List Bool) (p q : List Command) (t : Text) (made_by : A → List Command) (of : A → Outcome) (act : Act A) : Type 0 where
   pub fine : is_violation (of (answer act)) ≡ false
-  pub core : Core (or_new (end_after before act)) (adds what (of (answer act)) (if opens before (end_after before act) then no_past else past)).given r h (p ++ made_by (answer act)) q (text_after (of (answer act)) t)
+  pub core : Core (or_new (end_after before act)) (adds what (of (answer act)) (if opens before (end_after before act) then no_past else past)).given r h (p ++ made_by (answer act)) q (text_after (or_new before).link (of (answer act)) t)
 
 -- nothing is made
 quiet : {A : Type 0} (r : End) (h : List Bool) (p q : List Command) (made_by : A → List Command) (e : End) (g : List Bool) (a : A) (u : Text) → made_by a ≡ [] → Core e g r h p q u → Core e g r h (p ++ made_by a) q u
@@ -64,47 +64,47 @@ module _ {A : Type 0} {what : Happening} {before : Option End} {past : Past} {r 
   choose true k m = k refl
   choose false k m = m refl
 
-  stays : (a : A) → is_violation (of a) ≡ false → made_by a ≡ [] → text_after (of a) t ≡ t → ((x : Past) → (adds what (of a) x).given ≡ x.given) → Core (or_new before) past.given r h p q t
+  stays : (a : A) → is_violation (of a) ≡ false → made_by a ≡ [] → text_after (or_new before).link (of a) t ≡ t → ((x : Past) → (adds what (of a) x).given ≡ x.given) → Core (or_new before) past.given r h p q t
       → Keeps what before past r h p q t made_by of (Stays a)
   stays a f m u g k = record {
     fine = f;
-    core = quiet r h p q made_by (or_new before) (adds what (of a) (if opens before before then no_past else past)).given a (text_after (of a) t) m
+    core = quiet r h p q made_by (or_new before) (adds what (of a) (if opens before before then no_past else past)).given a (text_after (or_new before).link (of a) t) m
         (subst (λ (x : Text). Core (or_new before) (adds what (of a) (if opens before before then no_past else past)).given r h p q x) (sym u)
         (subst (λ (b : Bool). Core (or_new before) (adds what (of a) (if b then no_past else past)).given r h p q t) (sym (opens_again before))
         (subst (λ (x : List Bool). Core (or_new before) x r h p q t) (sym (g past)) k)));
   }
 
   -- the end stays as open as it was
-  becomes : (e : End) (a : A) → is_violation (of a) ≡ false → is_over e ≡ false → e.opened ≡ (or_new before).opened → Core e (adds what (of a) past).given r h (p ++ made_by a) q (text_after (of a) t)
+  becomes : (e : End) (a : A) → is_violation (of a) ≡ false → is_over e ≡ false → e.opened ≡ (or_new before).opened → Core e (adds what (of a) past).given r h (p ++ made_by a) q (text_after (or_new before).link (of a) t)
       → Keeps what before past r h p q t made_by of (Becomes e a)
   becomes e a f o w k = record {
     fine = f;
-    core = subst (λ (x : Option End). Core (or_new x) (adds what (of a) (if opens before x then no_past else past)).given r h (p ++ made_by a) q (text_after (of a) t)) (sym (ap (λ (b : Bool). cond b None (Some e)) o))
-        (subst (λ (b : Bool). Core e (adds what (of a) (if b then no_past else past)).given r h (p ++ made_by a) q (text_after (of a) t)) (sym (opens_same before e w)) k);
+    core = subst (λ (x : Option End). Core (or_new x) (adds what (of a) (if opens before x then no_past else past)).given r h (p ++ made_by a) q (text_after (or_new before).link (of a) t)) (sym (ap (λ (b : Bool). cond b None (Some e)) o))
+        (subst (λ (b : Bool). Core e (adds what (of a) (if b then no_past else past)).given r h (p ++ made_by a) q (text_after (or_new before).link (of a) t)) (sym (opens_same before e w)) k);
   }
 
   -- it is a CLS that is made, or one that came: the end may be over
   closes : (e : End) (a : A) → is_violation (of a) ≡ false → e.opened ≡ (or_new before).opened
-      → (is_over e ≡ true → Core new_end (adds what (of a) past).given r h (p ++ made_by a) q (text_after (of a) t))
-      → (is_over e ≡ false → Core e (adds what (of a) past).given r h (p ++ made_by a) q (text_after (of a) t))
+      → (is_over e ≡ true → Core new_end (adds what (of a) past).given r h (p ++ made_by a) q (text_after (or_new before).link (of a) t))
+      → (is_over e ≡ false → Core e (adds what (of a) past).given r h (p ++ made_by a) q (text_after (or_new before).link (of a) t))
       → Keeps what before past r h p q t made_by of (Becomes e a)
   closes e a f w k m = go (is_over e) refl
     where
       go : (b : Bool) → is_over e ≡ b → Keeps what before past r h p q t made_by of (Becomes e a)
       go true o = record {
         fine = f;
-        core = subst (λ (x : Option End). Core (or_new x) (adds what (of a) (if opens before x then no_past else past)).given r h (p ++ made_by a) q (text_after (of a) t)) (sym (ap (λ (b : Bool). cond b None (Some e)) o))
-            (subst (λ (b : Bool). Core new_end (adds what (of a) (if b then no_past else past)).given r h (p ++ made_by a) q (text_after (of a) t)) (sym (opens_none before)) (k o));
+        core = subst (λ (x : Option End). Core (or_new x) (adds what (of a) (if opens before x then no_past else past)).given r h (p ++ made_by a) q (text_after (or_new before).link (of a) t)) (sym (ap (λ (b : Bool). cond b None (Some e)) o))
+            (subst (λ (b : Bool). Core new_end (adds what (of a) (if b then no_past else past)).given r h (p ++ made_by a) q (text_after (or_new before).link (of a) t)) (sym (opens_none before)) (k o));
       }
       go false o = becomes e a f o w (m o)
 
   -- the end may open
   begins : (e : End) (a : A) → is_violation (of a) ≡ false → is_over e ≡ false → (or_new before).opened ≡ false → ((x : Past) → (adds what (of a) x).given ≡ x.given)
-      → ((g : List Bool) → (e.opened ≡ true → g ≡ []) → (e.opened ≡ false → g ≡ past.given) → Core e g r h (p ++ made_by a) q (text_after (of a) t))
+      → ((g : List Bool) → (e.opened ≡ true → g ≡ []) → (e.opened ≡ false → g ≡ past.given) → Core e g r h (p ++ made_by a) q (text_after (or_new before).link (of a) t))
       → Keeps what before past r h p q t made_by of (Becomes e a)
   begins e a f o w g k = record {
     fine = f;
-    core = subst (λ (x : Option End). Core (or_new x) (adds what (of a) (if opens before x then no_past else past)).given r h (p ++ made_by a) q (text_after (of a) t)) (sym (ap (λ (b : Bool). cond b None (Some e)) o))
+    core = subst (λ (x : Option End). Core (or_new x) (adds what (of a) (if opens before x then no_past else past)).given r h (p ++ made_by a) q (text_after (or_new before).link (of a) t)) (sym (ap (λ (b : Bool). cond b None (Some e)) o))
         (k (adds what (of a) (if opens before (Some e) then no_past else past)).given (λ x. again ∙ go e.opened x (opens_new before e w)) (λ x. again ∙ went (opens_new before e w ∙ x)));
   }
     where
@@ -307,14 +307,14 @@ module _ (pair : Pair) (sd : sends pair ≡ true) (past : Past) (r : End) (h : L
 
 -- The answer to a text.
 
-module _ (pair : Pair) (past : Past) (r : End) (h : List Bool) (p q : List Command) (fr : Firm r) where
-  pub sk-taken : sends pair ≡ true → (before : Option End) → Firm (or_new before) → Core (or_new before) past.given r h p q Here
+module _ (pair : Pair) (past : Past) (r : End) (h : List Bool) (p q : List Command) (li : ℕ) (fr : Firm r) where
+  pub sk-taken : sends pair ≡ true → (before : Option End) → Firm (or_new before) → Core (or_new before) past.given r h p q (Here li)
       → Keeps (all.Is_answered Taken) before past r h p q No_text made_if_any (λ _. all.Accepted) (answered pair Taken before)
   sk-taken sd None fs k = absurd (both_ways false refl k.out)
   sk-taken sd (Some e) fs k =
       let e2 : End = record e { busy = false } in
       let fs2 = answered_firm e fs in
-      let k2 = s_answered e past.given r h p q fs k in
+      let k2 = s_answered e past.given r h p q li fs k in
       choose (not (sends pair)) (λ n. absurd (cc (n, sd)))
       (λ _. choose e.leaving
       (λ v. let f = fs.leaving v in

@@ -59,7 +59,7 @@ module _ (s : End) (g : List Bool) (r : End) (h : List Bool) (p q : List Command
       → Core s g r h p q t → Core (asked_to_send n room s) g' r h (p ++ Str i j n ∷ []) q t
   s_asks n room i j g' a v z anew same k = record {
     out = k.out;
-    sized = sized_none n t none;
+    sized = sized_none n s.link t none;
     begun = begun s'.opened refl;
     dead = k.dead;
     place = k.place;
@@ -115,7 +115,7 @@ module _ (s : End) (g : List Bool) (r : End) (h : List Bool) (p q : List Command
       → Core s g r h p (Rts i j on ∷ q) t → Core (met (record s { heard = true; link = on })) g' r h p q t
   s_hears i j on g' anew same k = record {
     out = k.out;
-    sized = k.sized;
+    sized = sized_none s.size on t none;
     begun = begun s'.opened refl;
     dead = k.dead;
     place = k.place;
@@ -168,7 +168,7 @@ module _ (s : End) (g : List Bool) (r : End) (h : List Bool) (p q : List Command
 
   -- no sender, and no text
   gone : (d : Place) (p' q' : List Command) → s.busy ≡ false → s.busy ≡ is_out t → IsBeginning h g → (r.opened ≡ false → h ≡ []) → Joint d new_end g r h p' q' t → Core new_end g r h p' q' t
-  gone d p' q' y out b e j2 = record { out = sym y ∙ out; sized = sized_none 0 t (no_text s t out y); begun = b; dead = e; place = d; joint = j2 }
+  gone d p' q' y out b e j2 = record { out = sym y ∙ out; sized = sized_none 0 0 t (no_text s t out y); begun = b; dead = e; place = d; joint = j2 }
 
   -- and a CLS had come: the end is there no more
   pub s_ends : (i j : ℕ) → s.busy ≡ false → s.left ≡ false → s.cls ≡ true → Core s g r h p q t → Core new_end g r h (p ++ Cls i j ∷ []) q t
@@ -183,7 +183,7 @@ module _ (s : End) (g : List Bool) (r : End) (h : List Bool) (p q : List Command
   -- the CLS is due while a text is out
   pub s_leaving : (s' : End) → s.busy ≡ true → sender_marks s' ≡ sender_marks s → is_going s' ≡ true → s'.opened ≡ s.opened → s'.messages ≡ s.messages → s'.busy ≡ s.busy → s'.size ≡ s.size
       → Core s g r h p q t → Core s' g r h p q t
-  s_leaving s' y m v o n b z k = record { out = b ∙ k.out; sized = subst (λ (x : ℕ). Sized x t) (sym z) k.sized; begun = k.begun; dead = k.dead; place = k.place; joint = joint k.place k.joint }
+  s_leaving s' y m v o n b z k = record { out = b ∙ k.out; sized = subst (λ (x : ℕ). Sized x s'.link t) (sym z) (subst (λ (x : ℕ). Sized s.size x t) (sym (ap (λ (x : Marks). x.its) m)) k.sized); begun = k.begun; dead = k.dead; place = k.place; joint = joint k.place k.joint }
     where
       joint : (d : Place) → Joint d s g r h p q t → Joint d s' g r h p q t
       joint Together j2 = (
@@ -229,7 +229,7 @@ module _ (s : End) (g : List Bool) (r : End) (h : List Bool) (p q : List Command
   -- the CLS is due: a text is out, or was due before
   pub s_shut : (i j : ℕ) (s' : End) → s.left ≡ false → s.opened ≡ true → sender_marks s' ≡ record (sender_marks s) { cls = true } → is_going s' ≡ true → s'.opened ≡ s.opened → s'.messages ≡ s.messages → s'.busy ≡ s.busy → s'.size ≡ s.size
       → Core s g r h p (Cls i j ∷ q) t → Core s' g r h p q t
-  s_shut i j s' l o m v w n b z k = record { out = b ∙ k.out; sized = subst (λ (x : ℕ). Sized x t) (sym z) k.sized; begun = k.begun; dead = k.dead; place = k.place; joint = joint k.place k.joint }
+  s_shut i j s' l o m v w n b z k = record { out = b ∙ k.out; sized = subst (λ (x : ℕ). Sized x s'.link t) (sym z) (subst (λ (x : ℕ). Sized s.size x t) (sym (ap (λ (x : Marks). x.its) m)) k.sized); begun = k.begun; dead = k.dead; place = k.place; joint = joint k.place k.joint }
     where
       joint : (d : Place) → Joint d s g r h p (Cls i j ∷ q) t → Joint d s' g r h p q t
       joint Together j2 = (
@@ -428,7 +428,7 @@ module _ (s : End) (g : List Bool) (r : End) (h : List Bool) (p q : List Command
       }
 
   pub s_cuts : (n : ℕ) → is_going s ≡ false → s.asked ≡ true → s.heard ≡ true → s.busy ≡ false → 1 ≤ s.messages → n ≤ length s.stored → n ≤ s.bits
-      → Core s g r h p q t → Core (record s { messages = s.messages - 1; bits = s.bits - n; stored = drop n s.stored; busy = true }) g r h p q (Away s.size (take n s.stored))
+      → Core s g r h p q t → Core (record s { messages = s.messages - 1; bits = s.bits - n; stored = drop n s.stored; busy = true }) g r h p q (Away s.link s.size (take n s.stored))
   s_cuts n v a o y m l b k =
       let f = open_same k.place o (going_parts s v).1 k.joint in
       let none : t ≡ No_text = no_text s t k.out y in
@@ -439,7 +439,7 @@ module _ (s : End) (g : List Bool) (r : End) (h : List Bool) (p q : List Command
       let part : take n s.stored ++ drop n s.stored ≡ s.stored = take-append-drop n s.stored in
       record {
         out = refl;
-        sized = refl;
+        sized = (refl, refl);
         begun = k.begun;
         dead = k.dead;
         place = Together;
@@ -477,10 +477,10 @@ module _ (s : End) (g : List Bool) (r : End) (h : List Bool) (p q : List Command
       }
 
 -- the RFNM came
-pub s_answered : (s : End) (g : List Bool) (r : End) (h : List Bool) (p q : List Command) → Firm s → Core s g r h p q Here → Core (record s { busy = false }) g r h p q No_text
-s_answered s g r h p q fs k = record { out = refl; sized = tt; begun = k.begun; dead = k.dead; place = k.place; joint = joint k.place k.joint }
+pub s_answered : (s : End) (g : List Bool) (r : End) (h : List Bool) (p q : List Command) (li : ℕ) → Firm s → Core s g r h p q (Here li) → Core (record s { busy = false }) g r h p q No_text
+s_answered s g r h p q li fs k = record { out = refl; sized = tt; begun = k.begun; dead = k.dead; place = k.place; joint = joint k.place k.joint }
   where
-    joint : (d : Place) → Joint d s g r h p q Here → Joint d (record s { busy = false }) g r h p q No_text
+    joint : (d : Place) → Joint d s g r h p q (Here li) → Joint d (record s { busy = false }) g r h p q No_text
     joint Together j2 = (
       j2.0,
       record { messages = j2.1.messages; bits = j2.1.bits; enough_messages = j2.1.enough_messages; enough_bits = j2.1.enough_bits; within_messages = j2.1.within_messages; within_bits = j2.1.within_bits; parted = j2.1.parted; coming = j2.1.coming; unopened = j2.1.unopened; early = λ c. (let e = j2.1.early c in (e.0, e.1, refl)) },

@@ -1,6 +1,6 @@
 -- A connection whose hosts may be cleared at any moment: by a reset, by an RST that comes, by going
--- down. A host that was cleared is silent, and drops what comes, until both were cleared and the
--- connection starts anew.
+-- down (NIC 8246, RST and RRP). A host that was cleared is silent, and drops what comes, until both
+-- were cleared and the connection starts anew.
 use Rattle.std.specs.Prelude.{◌≡◌, ℕ, Bool, true, false, ◌||◌, if◌then◌else◌, List, [], ◌∷◌, take, drop}
 use Rattle.ncp_model.specs.declared.pair.Pair.{Pair}
 use Rattle.ncp_model.specs.End.{is_live}
@@ -29,12 +29,12 @@ is_at_sender (Text_is_answered how) = true
 
 -- a text that comes
 abbrev pub text_dropped : Text → Text
-text_dropped (Away of_size bits) = Here
+text_dropped (Away on of_size bits) = Here on
 text_dropped text = text
 
 -- a text that is answered
 abbrev pub text_over : Answered → Text → Text
-text_over Taken Here = No_text
+text_over Taken (Here on) = No_text
 text_over how text = text
 
 -- at a host that was cleared: what comes is dropped, and nothing else happens

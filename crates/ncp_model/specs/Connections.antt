@@ -1,13 +1,13 @@
 -- One connection between two hosts that stay up: an end at the sender's host and one at the
 -- receiver's, what is underway between them, and at most one text that is out. All that happens at
--- an end is an act; what it makes joins what is underway. A control link keeps order, so the
--- commands of each host come in the order in which they were made.
+-- an end is an act; what it makes joins what is underway. A control link keeps order (BBN 1822,
+-- section 3), so the commands of each host come in the order in which they were made.
 use Rattle.std.specs.Prelude.{◌≡◌, ℕ, Bool, true, false, ◌||◌, nat_lt, if◌then◌else◌, List, [], ◌∷◌, ◌++◌, Option, None, Some}
 use Rattle.ncp_control.specs.declared.command.Command.{Command}
 use Rattle.ncp_control.specs.declared.command.Command.TheVariants.{Rts, Str, Cls, All, Gvb, Ret, Inr, Ins}
 use Rattle.ncp_model.specs.declared.pair.Pair.{Pair}
 use Rattle.ncp_model.specs.declared.limits.TheConstants.{MAX_BY_PEER}
-use Rattle.ncp_model.specs.End.{End}
+use Rattle.ncp_model.specs.End.{End, or_new}
 use Rattle.ncp_model.specs.Act.{is_data_link}
 use Rattle.ncp_model.specs.Texts.{Answered, Taken, Again, Kept}
 use Rattle.ncp_model.specs.Happenings.{Happening, Outcome, Happened, happens}
@@ -18,11 +18,12 @@ use Rattle.ncp_model.specs.Histories.{Watched, no_past, watches}
 abbrev pub turned : Pair → Pair
 turned pair = record { local = pair.remote; remote = pair.local }
 
--- the one text that may be out, from its output to its RFNM
+-- the one text that may be out, from its output to its RFNM (BBN 1822, section 3: a link takes one
+-- message at a time)
 pub data Text : Type 0 where
   No_text : Text
-  Away : (of_size : ℕ) → (bits : List Bool) → Text  -- it went out and has not come
-  Here : Text  -- it came and has had no RFNM
+  Away : (on : ℕ) → (of_size : ℕ) → (bits : List Bool) → Text  -- it went out on this link and has not come
+  Here : (on : ℕ) → Text  -- it came and has had no RFNM
 
 pub record Connection : Type 0 where
   pub sender : Watched  -- the end at the sender's host, with the history of the pair
@@ -30,7 +31,7 @@ pub record Connection : Type 0 where
   pub to_receiver : List Command  -- underway: made, and not come
   pub to_sender : List Command
   pub text : Text
-  pub violated : Bool  -- an end answered a command or a text of its peer as against the protocol
+  pub violated : Bool  -- an end made an ERR for a command of its peer, or refused its text
 
 abbrev pub no_end : Watched
 no_end = record { end = None; past = no_past }
@@ -38,7 +39,8 @@ no_end = record { end = None; past = no_past }
 abbrev pub new_connection : Connection
 new_connection = record { sender = no_end; receiver = no_end; to_receiver = []; to_sender = []; text = No_text; violated = false }
 
--- an ERR is made, or a text is answered as one that the peer may not send
+-- an ERR is made, or a text is refused: its size is wrong, it is beyond the allocation, or no end
+-- there is open; a text that is late is not refused
 abbrev pub is_violation : Outcome → Bool
 is_violation (all.Erred error) = true
 is_violation all.WrongSize = true
@@ -46,12 +48,12 @@ is_violation all.Over = true
 is_violation all.NotOpen = true
 is_violation outcome = false
 
--- the text that is out once this happened at the sender's end
-abbrev pub text_after : Outcome → Text → Text
-text_after (all.Sent of_size bits) text = Away of_size bits
-text_after outcome text = text
+-- the text that is out once this happened at a sender's end with this link
+abbrev pub text_after : ℕ → Outcome → Text → Text
+text_after on (all.Sent of_size bits) text = Away on of_size bits
+text_after on outcome text = text
 
--- This happens at an end, which the sender's host names by this pair. What is made is underway.
+-- This happens at an end. The pair is named as the sender's host has it. What is made is underway.
 
 abbrev pub sender_does : Pair → Happening → Connection → Connection
 sender_does pair what w =
@@ -59,7 +61,7 @@ sender_does pair what w =
     record w {
       sender = watches pair what w.sender;
       to_receiver = w.to_receiver ++ did.made;
-      text = text_after did.outcome w.text;
+      text = text_after (or_new w.sender.end).link did.outcome w.text;
       violated = w.violated || is_violation did.outcome;
     }
 
@@ -84,8 +86,9 @@ is_call (all.Calls_back of_messages of_bits full) = true
 is_call (all.Interrupts full) = true
 is_call what = false
 
--- What a command is to the end to which it comes, where no other end there has its link, and so
--- many ends are there by the peer's request alone.
+-- What its coming is to the end for which it was made. That a request names no link that another
+-- end heard is what the law on links says; by_peer: so many ends are there by the peer's request
+-- alone.
 abbrev pub command_comes : ℕ → Command → Option Happening
 command_comes by_peer (Rts receive send on) = Some (all.Rts_comes on false by_peer)
 command_comes by_peer (Str send receive of_size) = Some (all.Str_comes of_size by_peer)
@@ -126,15 +129,15 @@ comes_to_receiver pair by_peer (c ∷ rest) w = receiver_hears pair (command_com
 
 abbrev pub text_comes : Pair → List Bool → Text → Connection → Connection
 text_comes pair head No_text w = w
-text_comes pair head (Away of_size bits) w = receiver_does pair (all.Text_comes head of_size bits) (record w { text = Here })
-text_comes pair head Here w = w
+text_comes pair head (Away on of_size bits) w = receiver_does pair (all.Text_comes head of_size bits) (record w { text = Here on })
+text_comes pair head (Here on) w = w
 
 -- A text that came is answered by RFNM. One that has not come is answered as not delivered: it is
 -- still out, and goes out again.
 abbrev pub text_is_answered : Pair → Answered → Text → Connection → Connection
-text_is_answered pair Taken Here w = sender_does pair (all.Is_answered Taken) (record w { text = No_text })
-text_is_answered pair Again (Away of_size bits) w = sender_does pair (all.Is_answered Again) w
-text_is_answered pair Kept (Away of_size bits) w = sender_does pair (all.Is_answered Kept) w
+text_is_answered pair Taken (Here on) w = sender_does pair (all.Is_answered Taken) (record w { text = No_text })
+text_is_answered pair Again (Away on of_size bits) w = sender_does pair (all.Is_answered Again) w
+text_is_answered pair Kept (Away on of_size bits) w = sender_does pair (all.Is_answered Kept) w
 text_is_answered pair how text w = w
 
 abbrev pub occurs : Pair → Event → Connection → Connection

@@ -4,10 +4,9 @@ use Rattle.ncp_control.specs.declared.command.Command.{Command}
 use Rattle.ncp_control.specs.declared.command.Command.TheVariants.{Rts, Str, Cls, All, Gvb, Ret, Inr, Ins}
 use Rattle.ncp_model.specs.declared.pair.Pair.{Pair}
 use Rattle.ncp_model.specs.Pairs.{sends}
-use Rattle.ncp_model.specs.End.{or_new}
 use Rattle.ncp_model.specs.Ends.{Ends, leads_to}
-use Rattle.ncp_model.specs.Connections.{turned}
-use Rattle.ncp_model.specs.Ledger.{is_out}
+use Rattle.ncp_model.specs.Histories.{opens}
+use Rattle.ncp_model.specs.Connections.{turned, Text, No_text, Away, Here}
 use Rattle.ncp_model.specs.Sharing.{Tagged, Shared, hears_at, uses_at}
 
 -- the link that a command names, if it names no sockets
@@ -18,6 +17,12 @@ link_of (Ret on of_messages of_bits) = Some on
 link_of (Inr on) = Some on
 link_of (Ins on) = Some on
 link_of c = None
+
+-- the link on which a text went out that has had no RFNM
+abbrev pub link_out : Text → Option ℕ
+link_out No_text = None
+link_out (Away on of_size bits) = Some on
+link_out (Here on) = Some on
 
 -- whether it names sockets
 abbrev pub names_sockets : Command → Bool
@@ -55,13 +60,22 @@ abbrev pub RequestFits : Shared → Type 0
 RequestFits s = (q : Pair) (receive send on : ℕ) (rest : List Tagged) → s.to_senders ≡ record { pair = q; command = Rts receive send on } ∷ rest
     → sends q ≡ true → (p : Pair) → hears_at s on p ≡ true → ⊥
 
--- While a text is out: at each host that was not cleared its end holds its link, and no other does.
+-- From the output of a text on a link to its RFNM: at each host that was not cleared the end of its
+-- connection holds that link, and no other does. So no other connection opens on it there.
 
 abbrev pub SenderHoldsLink : Shared → Type 0
-SenderHoldsLink s = (q : Pair) → is_out (s.text q) ≡ true → sends q ≡ true → Only (hears_at s (or_new (s.sender q).end).link) q
+SenderHoldsLink s = (q : Pair) (on : ℕ) → link_out (s.text q) ≡ Some on → sends q ≡ true → Only (hears_at s on) q
 
 abbrev pub ReceiverHoldsLink : Shared → Type 0
-ReceiverHoldsLink s = (q : Pair) → is_out (s.text q) ≡ true → sends q ≡ true → Only (uses_at s (or_new (s.receiver q).end).link) q
+ReceiverHoldsLink s = (q : Pair) (on : ℕ) → link_out (s.text q) ≡ Some on → sends q ≡ true → Only (uses_at s on) q
 
-abbrev pub SameLink : Shared → Type 0
-SameLink s = (q : Pair) → is_out (s.text q) ≡ true → sends q ≡ true → (or_new (s.receiver q).end).link ≡ (or_new (s.sender q).end).link
+-- between these two moments this connection opens on this link, at the senders' host or at the receivers'
+abbrev pub SenderOpensOn : ℕ → Pair → Shared → Shared → Type 0
+SenderOpensOn on p s t = (opens (s.sender p).end (t.sender p).end ≡ true) × (hears_at t on p ≡ true)
+
+abbrev pub ReceiverOpensOn : ℕ → Pair → Shared → Shared → Type 0
+ReceiverOpensOn on p s t = (opens (s.receiver p).end (t.receiver p).end ≡ true) × (uses_at t on p ≡ true)
+
+-- a text of this connection is out on this link at both moments
+abbrev pub StaysOut : ℕ → Pair → Shared → Shared → Type 0
+StaysOut on q s t = (sends q ≡ true) × (link_out (s.text q) ≡ Some on) × (link_out (t.text q) ≡ Some on)

@@ -30,19 +30,19 @@ sum_of f (c ∷ cs) = f c + sum_of f cs
 -- a text that went out and has not come
 abbrev pub text_messages : Text → ℕ
 text_messages No_text = 0
-text_messages (Away of_size bits) = 1
-text_messages Here = 0
+text_messages (Away on of_size bits) = 1
+text_messages (Here on) = 0
 
 abbrev pub text_bits : Text → List Bool
 text_bits No_text = []
-text_bits (Away of_size bits) = bits
-text_bits Here = []
+text_bits (Away on of_size bits) = bits
+text_bits (Here on) = []
 
 -- from its output to its RFNM
 abbrev pub is_out : Text → Bool
 is_out No_text = false
-is_out (Away of_size bits) = true
-is_out Here = true
+is_out (Away on of_size bits) = true
+is_out (Here on) = true
 
 abbrev pub sending : Connection → End
 sending w = or_new w.sender.end
@@ -54,7 +54,7 @@ abbrev pub BothOpen : Connection → Type 0
 BothOpen w = (is_open (sending w) ≡ true) × (is_open (receiving w) ≡ true)
 
 -- What is outstanding at the receiver is what the sender's counters hold, and what ALL underway,
--- the text that has not come and RET underway carry.
+-- the text that has not come and RET underway carry (NIC 8246, ALL, GVB and RET).
 
 abbrev pub MessagesAgree : Connection → Type 0
 MessagesAgree w =

@@ -1,5 +1,5 @@
--- Runs of the connection from host 1's socket 3 to the peer's socket 2, and of one more, which show
--- that the laws speak of something.
+-- Runs of the connection from socket 3 to the peer's socket 2, and of one more, which show that the
+-- laws speak of something.
 use Rattle.std.specs.Prelude.{false, List, [], ◌∷◌, ◌++◌}
 use Rattle.ncp_model.specs.declared.pair.Pair.{Pair}
 use Rattle.ncp_model.specs.Texts.{Taken, Again}

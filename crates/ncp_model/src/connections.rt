@@ -29,7 +29,7 @@ pub fn nothing_is_lost_or_made()
 pub fn what_comes_is_in_order()
     ensures to_sender { (pair : Pair) (events : List Event) (c : Command) (rest : List Command) (by_peer : ℕ) → sends pair ≡ true → by_peer < MAX_BY_PEER → (occur pair events).to_sender ≡ c ∷ rest → ComesInOrder pair (command_comes by_peer c) (occur pair events).sender.end }
     ensures to_receiver { (pair : Pair) (events : List Event) (c : Command) (rest : List Command) (by_peer : ℕ) → sends pair ≡ true → by_peer < MAX_BY_PEER → (occur pair events).to_receiver ≡ c ∷ rest → ComesInOrder (turned pair) (command_comes by_peer c) (occur pair events).receiver.end }
-    ensures text { (pair : Pair) (events : List Event) (head : List Bool) (of_size : ℕ) (bits : List Bool) → sends pair ≡ true → (occur pair events).text ≡ Away of_size bits → is_in_order (happens (turned pair) (all.Text_comes head of_size bits) (occur pair events).receiver.end).outcome ≡ true }
+    ensures text { (pair : Pair) (events : List Event) (head : List Bool) (on of_size : ℕ) (bits : List Bool) → sends pair ≡ true → (occur pair events).text ≡ Away on of_size bits → is_in_order (happens (turned pair) (all.Text_comes head of_size bits) (occur pair events).receiver.end).outcome ≡ true }
 {}
 
 /// The same where either host may be cleared at any moment, and where a connection starts anew once

@@ -11,7 +11,7 @@ ghost use Rattle.ncp_model.specs.Runs.{opening, text_out, text_got, receiver_clo
 /// Both ends open, two bytes of three go out, and are got; what is outstanding agrees with the counters.
 pub fn a_text_is_got()
     ensures open { BothOpen (occur outward text_got) }
-    ensures out { (occur outward text_out).text ≡ Away 8 (ones 16) }
+    ensures out { (occur outward text_out).text ≡ Away 2 8 (ones 16) }
     ensures got { (occur outward text_got).receiver.past.got ≡ ones 16 }
     ensures waiting { (sending (occur outward text_got)).stored ≡ noughts 8 }
     ensures outstanding { ((receiving (occur outward text_got)).messages ≡ 1) × ((receiving (occur outward text_got)).bits ≡ 0) }
@@ -46,7 +46,7 @@ pub fn a_pair_opens_again_on_its_link()
 /// A host is cleared while a text is out: the sender's end is still busy, and after both were cleared
 /// a connection opens anew.
 pub fn a_host_is_cleared_with_a_text_out()
-    ensures cleared { ((change outward receiver_cleared).connection.receiver.end ≡ None) × ((change outward receiver_cleared).connection.text ≡ Away 8 (ones 16)) × ((sending (change outward receiver_cleared).connection).busy ≡ true) }
+    ensures cleared { ((change outward receiver_cleared).connection.receiver.end ≡ None) × ((change outward receiver_cleared).connection.text ≡ Away 2 8 (ones 16)) × ((sending (change outward receiver_cleared).connection).busy ≡ true) }
     ensures anew { BothOpen (change outward opened_anew).connection }
 {}
 

@@ -1,10 +1,10 @@
 //! Many connections over the same two lists of commands.
-ghost use Rattle.std.specs.Prelude.{◌≡◌, List, true, false};
+ghost use Rattle.std.specs.Prelude.{◌≡◌, ℕ, List, true, false};
 ghost use Rattle.ncp_model.specs.Pairs.{sends};
 ghost use Rattle.ncp_model.specs.Ledger.{BothOpen, MessagesAgree, BitsAgree, Parted, Held, Begins};
 ghost use Rattle.ncp_model.specs.Clearings.{OutStaysOpened};
-ghost use Rattle.ncp_model.specs.Finding.{SocketsFindSender, SocketsFindReceiver, GrantFinds, ReturnFinds, RequestFits, SenderHoldsLink, ReceiverHoldsLink, SameLink};
-ghost use Rattle.ncp_model.specs.Sharing.{Shared_event, AllMayHappen, new_shared, shared, at, hosted_at};
+ghost use Rattle.ncp_model.specs.Finding.{SocketsFindSender, SocketsFindReceiver, GrantFinds, ReturnFinds, RequestFits, SenderHoldsLink, ReceiverHoldsLink, SenderOpensOn, ReceiverOpensOn, StaysOut};
+ghost use Rattle.ncp_model.specs.Sharing.{Shared_event, MayHappen, AllMayHappen, new_shared, shared, shared_occurs, at, hosted_at};
 
 use crate::pair::Pair;
 
@@ -28,13 +28,20 @@ pub fn sockets_lead_home()
 
 /// Where receivers ask only with links that no receiving end uses: at a host that was not cleared, what
 /// comes with a link leads to the end for which it was made, and to no other; no RTS comes with a link
-/// in use; and from the output of a text to its RFNM its link is held by the ends of its connection
-/// and by no others, so that no other opens on it.
+/// in use; and from the output of a text on a link to its RFNM that link is held by the ends of its
+/// connection and by no others, so that a text leads to the end for which it was given, and no other
+/// connection opens on its link.
 pub fn links_lead_home()
     ensures grant { (events : List Shared_event) → AllMayHappen events new_shared → (shared events).sends ≡ true → GrantFinds (shared events) }
     ensures give_back { (events : List Shared_event) → AllMayHappen events new_shared → (shared events).receives ≡ true → ReturnFinds (shared events) }
     ensures request { (events : List Shared_event) → AllMayHappen events new_shared → (shared events).sends ≡ true → RequestFits (shared events) }
     ensures sender { (events : List Shared_event) → AllMayHappen events new_shared → (shared events).sends ≡ true → SenderHoldsLink (shared events) }
     ensures receiver { (events : List Shared_event) → AllMayHappen events new_shared → (shared events).receives ≡ true → ReceiverHoldsLink (shared events) }
-    ensures text { (events : List Shared_event) → AllMayHappen events new_shared → (shared events).sends ≡ true → (shared events).receives ≡ true → SameLink (shared events) }
+{}
+
+/// In no step from the output of a text to its RFNM does a connection open on its link, at either host
+/// that is there before and after the step.
+pub fn none_opens_on_a_busy_link()
+    ensures sender { (events : List Shared_event) (e : Shared_event) (p q : Pair) (on : ℕ) → AllMayHappen events new_shared → MayHappen e (shared events) → StaysOut on q (shared events) (shared_occurs e (shared events)) → (shared events).sends ≡ true → (shared_occurs e (shared events)).sends ≡ true → SenderOpensOn on p (shared events) (shared_occurs e (shared events)) → ⊥ }
+    ensures receiver { (events : List Shared_event) (e : Shared_event) (p q : Pair) (on : ℕ) → AllMayHappen events new_shared → MayHappen e (shared events) → StaysOut on q (shared events) (shared_occurs e (shared events)) → (shared events).receives ≡ true → (shared_occurs e (shared events)).receives ≡ true → ReceiverOpensOn on p (shared events) (shared_occurs e (shared events)) → ⊥ }
 {}

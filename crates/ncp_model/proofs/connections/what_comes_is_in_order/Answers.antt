@@ -13,4 +13,4 @@ pub returns-clause-to_receiver : goal.returns-clause-to_receiver
 returns-clause-to_receiver c = λ pair events d rest n sd few e. receiver_in_order pair sd n (lt-ltb n 64 few) d rest (occur pair events) (subst (λ (q : List Command). Inv pair (record (occur pair events) { to_receiver = q })) e (ever pair sd events))
 
 pub returns-clause-text : goal.returns-clause-text
-returns-clause-text c = λ pair events head n bits sd e. text_in_order pair sd head n bits (occur pair events) (subst (λ (t : Text). Inv pair (record (occur pair events) { text = t })) e (ever pair sd events))
+returns-clause-text c = λ pair events head li n bits sd e. text_in_order pair sd head li n bits (occur pair events) (subst (λ (t : Text). Inv pair (record (occur pair events) { text = t })) e (ever pair sd events))

@@ -1,7 +1,7 @@
 use Rattle.ncp_model.specs.Sharing.{shared}
 use Rattle.ncp_model.proofs.Projecting.{fits_ever}
 use Rattle.ncp_model.proofs.LinkSteps.{links_ever}
-use Rattle.ncp_model.proofs.Found.{grant_finds, return_finds, request_fits, sender_holds, receiver_holds, links_same}
+use Rattle.ncp_model.proofs.Found.{grant_finds, return_finds, request_fits, sender_holds, receiver_holds}
 use Rattle.ncp_model.proofs.sharing.links_lead_home.Goals as goal
 
 pub returns-clause-grant : goal.returns-clause-grant
@@ -18,6 +18,3 @@ returns-clause-sender c = λ events m. sender_holds (shared events) (fits_ever e
 
 pub returns-clause-receiver : goal.returns-clause-receiver
 returns-clause-receiver c = λ events m. receiver_holds (shared events) (fits_ever events m) (links_ever events m)
-
-pub returns-clause-text : goal.returns-clause-text
-returns-clause-text c = λ events m. links_same (shared events) (fits_ever events m) (links_ever events m)
