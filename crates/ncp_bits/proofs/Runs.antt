@@ -1,6 +1,6 @@
 -- Runs of bits in bytes.
 use Rattle.std.proofs.Common.{◌≡◌, ℕ, suc, zero, ◌+◌, ◌*◌, ◌/◌, ◌%◌, ◌-◌, ◌^◌, ◌<◌, ◌≤◌, Bool, true, false, eqb, bit_and, List, [], ◌∷◌, ◌++◌, length, take, drop, get_or, slice_range, replicate, not, Ok, refl, sym, ap, ◌∙◌, arith}
-use Rattle.std.proofs.lemmas.List.{take_all, take-take, drop-take, length-take-le, length-drop, drop-drop, take-append-le, drop-append-le, take-append-drop, get_or-take, get_or-drop, append-nil}
+use Rattle.std.proofs.lemmas.List.{take_all, take-take, drop-take, length-take-le, length-drop, drop-drop, take-append-le, drop-append-le, take-append-drop, get_or-take, get_or-drop, append-nil, take-replicate, replicate-append-replicate}
 use Rattle.std.specs.List.{list_any}
 use Rattle.std.specs.Int.{w64, to_be_bytes}
 use Rattle.std.proofs.lemmas.List.Concat.{flat_map-append, get_or-flat_map}
@@ -191,6 +191,18 @@ packed_copy bytes len used small is_used long none =
       long = omega arith;
       spare = sym (take-append-drop len (bits_of_bytes (take used bytes))) ∙ ap (λ bits. take len (bits_of_bytes (take used bytes)) ++ bits) (none_set (drop len (bits_of_bytes (take used bytes))) none ∙ ap (λ (n : ℕ). replicate n false) spare);
     }
+
+-- bytes of zero
+bits_of_zeros : (n : ℕ) → bits_of_bytes (replicate n 0) ≡ replicate (8 * n) false
+unfolding byte_bits bits_of
+bits_of_zeros zero = refl
+bits_of_zeros (suc n) =
+    let more : replicate 8 false ++ replicate (8 * n) false ≡ replicate (8 * suc n) false = replicate-append-replicate 8 (8 * n) false ∙ ap (λ (k : ℕ). replicate k false) (omega arith) in
+    ap (λ bits. replicate 8 false ++ bits) (bits_of_zeros n) ∙ more
+
+pub run-zeros : (n len : ℕ) → len ≤ 8 * n → run (replicate n 0) 0 len ≡ replicate len false
+unfolding run
+run-zeros n len h = ap (take len) (bits_of_zeros n) ∙ take-replicate len (8 * n) false h
 
 -- one byte more of a number
 byte_more : (b v : ℕ) (rest : List Bool) → rest ≡ bits_of b v → byte_bits (v / 2 ^ b % 256) ++ rest ≡ bits_of (8 + b) v

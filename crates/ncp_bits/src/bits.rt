@@ -16,6 +16,9 @@ pub const MAX_BITS: usize = 8192;
 // How many bytes these take.
 const MAX_BYTES: usize = MAX_BITS / 8;
 
+// How many bits a number has.
+const NUMBER_BITS: usize = u64::BITS as usize;
+
 // What bytes are before bits are written into them.
 static ZEROS: [u8; MAX_BYTES] = [0; MAX_BYTES];
 
@@ -157,20 +160,25 @@ impl Bits {
         self.whole().to_bytes(out)
     }
 
-    /// Appends a number in `width` bits, the most significant first. `TooLong` where they do not
-    /// fit.
+    /// Appends a number in `width` bits, the most significant first. In more than 64 bits it is
+    /// zeros, and then its 64 bits. `TooLong` where they do not fit.
     ///
     /// It costs what `append` does of a part of so many bits.
     pub fn push_number(&mut self, value: u64, width: usize) -> Result<(), BitsFault>
-        requires width { width ≤ 64 }
         requires value { value < 2 ^ width }
         ensures variant { IsOk result ↔ (length self.old + width ≤ MAX_BITS) }
         ensures ok { OnOk result (self.new ≡ self.old ++ bits_of width value) }
         ensures len { OnOk result (length self.new ≡ length self.old + width) }
         ensures err { OnErr result ((result ≡ Err BitsFault.TooLong) × (self.new ≡ self.old)) }
     {
+        if width > MAX_BITS - self.len {
+            return Err(BitsFault::TooLong);
+        }
+        let spelled = width.min(NUMBER_BITS);
+        self.append(Part::of_bytes(&ZEROS, 0, width - spelled))
+            .unwrap();
         let bytes = value.to_be_bytes();
-        self.append(Part::of_bytes(&bytes, u64::BITS as usize - width, width))
+        self.append(Part::of_bytes(&bytes, NUMBER_BITS - spelled, spelled))
     }
 
     /// Appends a part. `TooLong` where it does not fit.

@@ -102,6 +102,23 @@ fn appends_parts(rt: HostRuntime) -> Result<(), Fail> {
 }
 
 #[test]
+fn pads_wide_numbers(rt: HostRuntime) -> Result<(), Fail> {
+    let mut bits = bits_in(&rt, "101");
+    bits.push_number(u64::MAX, 70)?;
+    bits.push_number(6, 100)?;
+    assert_eq!(rt; bits.len(), 173);
+    assert_eq!(rt; bits.number(0, 9), 0b101_000_000);
+    assert_eq!(rt; bits.number(9, 64), u64::MAX);
+    assert_eq!(rt; bits.number(73, 60), 0);
+    assert_eq!(rt; bits.number(133, 40), 6);
+    assert!(rt; bits.push_number(0, 8192 - 172) == Err(BitsFault::TooLong));
+    assert_eq!(rt; bits.len(), 173);
+    bits.push_number(1, 8192 - 173)?;
+    assert_eq!(rt; bits.number(8128, 64), 1);
+    Ok(())
+}
+
+#[test]
 fn refuses_what_does_not_fit(rt: HostRuntime) -> Result<(), Fail> {
     let mut bits = Bits::from_bytes(&[0u8; 1024], 8190)?;
     assert!(rt; bits.push_number(7, 3) == Err(BitsFault::TooLong));
