@@ -1,5 +1,5 @@
 //! `Bits`.
-ghost use Rattle.std.specs.Prelude.{◌≡◌, ◌+◌, ◌<◌, ◌≤◌, ◌^◌, ◌++◌, ◌↔◌, IsTrue, [], length, take, drop, slice_range, slice_get, Some, IfOk, OnOk, OnErr, IsOk};
+ghost use Rattle.std.specs.Prelude.{◌≡◌, ◌+◌, ◌<◌, ◌≤◌, ◌^◌, ◌++◌, ◌↔◌, IsTrue, [], length, take, drop, slice_range, slice_get, Some, Ok, Err, IfOk, IfErr, OnOk, OnErr, IsOk};
 ghost use Rattle.ncp_bits.specs.Numbers.{number_of, bits_of};
 ghost use Rattle.ncp_bits.specs.Bits.{read_bytes, bytes_for, bytes_of};
 
@@ -79,10 +79,25 @@ impl Bits {
     /// Refused, in this order: `TooLong` (over [`MAX_BITS`]), `ShortBytes`, `SpareNotZero` (a bit
     /// after `len` in the last byte used).
     ///
-    /// It copies the bytes.
+    /// It costs a new [`Bits`] and a copy of the bytes.
     pub fn from_bytes(bytes: &[u8], len: usize) -> Result<Bits, BitsFault>
         ensures read { result ≡ read_bytes bytes.now len }
         ensures len { IfOk result (λ bits. length bits ≡ len) }
+    {
+        let mut bits = Bits::new();
+        bits.copy_from_bytes(bytes, len)?;
+        Ok(bits)
+    }
+
+    /// Becomes the first `len` bits of bytes, where `from_bytes` does not refuse them. A refusal
+    /// changes nothing.
+    ///
+    /// It writes in place the bytes that it had, and those that it copies. So who reads one message
+    /// after the other keeps one [`Bits`] for all of them.
+    pub fn copy_from_bytes(&mut self, bytes: &[u8], len: usize) -> Result<(), BitsFault>
+        ensures ok { OnOk result (read_bytes bytes.now len ≡ Ok self.new) }
+        ensures len { OnOk result (length self.new ≡ len) }
+        ensures err { IfErr result (λ fault. (read_bytes bytes.now len ≡ Err fault) × (self.new ≡ self.old)) }
     {
         if len > MAX_BITS {
             return Err(BitsFault::TooLong);
@@ -95,9 +110,10 @@ impl Bits {
         if is_spare_set(front, len) {
             return Err(BitsFault::SpareNotZero);
         }
-        let mut copy = ArrayVec::new();
-        copy.try_extend_from_slice(front).unwrap();
-        Ok(Bits { bytes: copy, len })
+        self.bytes.clear();
+        self.bytes.try_extend_from_slice(front).unwrap();
+        self.len = len;
+        Ok(())
     }
 
     /// How many bits there are.
@@ -194,10 +210,10 @@ impl Bits {
         if part.len() > MAX_BITS - self.len {
             return Err(BitsFault::TooLong);
         }
-        let len = self.len + part.len();
-        lengthen(&mut self.bytes, len.div_ceil(8));
+        let total = self.len + part.len();
+        lengthen(&mut self.bytes, total.div_ceil(8));
         write_behind(self.bytes.as_mut_slice(), self.len, &part);
-        self.len = len;
+        self.len = total;
         Ok(())
     }
 }

@@ -47,6 +47,21 @@ fn reads_and_writes_bytes(rt: HostRuntime) -> Result<(), Fail> {
 }
 
 #[test]
+fn takes_one_message_after_the_other(rt: HostRuntime) -> Result<(), Fail> {
+    let mut bits = Bits::new();
+    bits.copy_from_bytes(&LONG_BYTE, 108)?;
+    bits.copy_from_bytes(b"\xa0\x7f", 4)?;
+    assert!(rt; is_spelled(&bits, "1010"));
+    assert!(rt; bits.copy_from_bytes(b"\xa0\x7f", 12) == Err(BitsFault::SpareNotZero));
+    assert!(rt; bits.copy_from_bytes(b"\xa0\x7f", 17) == Err(BitsFault::ShortBytes));
+    assert!(rt; bits.copy_from_bytes(b"\xa0\x7f", 8193) == Err(BitsFault::TooLong));
+    assert!(rt; is_spelled(&bits, "1010"));
+    bits.copy_from_bytes(&LONG_BYTE, 108)?;
+    assert_eq!(rt; bits.number(72, 36), 0x123456789);
+    Ok(())
+}
+
+#[test]
 fn names_faults_in_order(rt: HostRuntime) {
     let mut spare = LONG_BYTE;
     spare[13] = 0x91;

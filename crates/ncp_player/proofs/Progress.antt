@@ -16,14 +16,14 @@ use Rattle.ncp_player.proofs.Contents.{next_record-front, holds_some}
 -- ---- one record
 
 -- nothing was read that could be shown
-pub next_ends : (direction : Direction) (number : ℕ) (bytes was said window page : List ℕ) (left written : Option (List ℕ)) (fault : FileFault)
-    → ReadsRecord bytes (Err fault) window left → Said was page written said → ShowsNext direction number bytes was said (Err fault) window left page written
-next_ends direction number bytes was said window page left written BadHeader h k = (h, k)
-next_ends direction number bytes was said window page left written Truncated h k = (h, k)
-next_ends direction number bytes was said window page left written TooLong h k = (h, k)
-next_ends direction number bytes was said window page left written SpareNotZero h k = (h, k)
-next_ends direction number bytes was said window page left written ReadFailed h k = (h, k)
-next_ends direction number bytes was said window page left written WriteFailed h k = absurd h
+pub next_ends : (direction : Direction) (number : ℕ) (bytes was said window page : List ℕ) (message : List Bool) (left written : Option (List ℕ)) (fault : FileFault)
+    → ReadsRecord bytes (Err fault) message window left → Said was page written said → ShowsNext direction number bytes was said (Err fault) window left page written
+next_ends direction number bytes was said window page message left written BadHeader h k = (h, k)
+next_ends direction number bytes was said window page message left written Truncated h k = (h, k)
+next_ends direction number bytes was said window page message left written TooLong h k = (h, k)
+next_ends direction number bytes was said window page message left written SpareNotZero h k = (h, k)
+next_ends direction number bytes was said window page message left written ReadFailed h k = (h, k)
+next_ends direction number bytes was said window page message left written WriteFailed h k = absurd h
 
 -- ---- records from a number on
 

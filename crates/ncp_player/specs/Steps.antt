@@ -29,12 +29,12 @@ abbrev pub CutOff : List ℕ → List ℕ → Option (List ℕ) → Type 0
 CutOff bytes window left =
     (fault : Option FileFault) × IsInside fault × (next_record window ≡ ending fault) × Ahead window left bytes
 
--- a record was read, or none was there, or the fault stands there
-abbrev pub ReadsRecord : List ℕ → Result (Option (List Bool)) FileFault → List ℕ → Option (List ℕ) → Type 0
-ReadsRecord bytes (Ok (Some message)) window left =
+-- this message was read, or no record was there, or the fault stands there
+abbrev pub ReadsRecord : List ℕ → Result Bool FileFault → List Bool → List ℕ → Option (List ℕ) → Type 0
+ReadsRecord bytes (Ok true) message window left =
     (rest : List ℕ) × (next_record bytes ≡ Ok (Some (message, rest))) × Ahead window left rest
-ReadsRecord bytes (Ok None) window left = next_record bytes ≡ Ok None
-ReadsRecord bytes (Err fault) window left = MatchFault (λ f. next_record bytes ≡ Err f) (CutOff bytes window left) ⊥ fault
+ReadsRecord bytes (Ok false) message window left = next_record bytes ≡ Ok None
+ReadsRecord bytes (Err fault) message window left = MatchFault (λ f. next_record bytes ≡ Err f) (CutOff bytes window left) ⊥ fault
 
 -- no line was said, since no record begins
 abbrev pub EndsWith : List ℕ → Option FileFault → List ℕ → List ℕ → List ℕ → Option (List ℕ) → Type 0

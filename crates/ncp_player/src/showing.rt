@@ -11,11 +11,13 @@ use crate::outgoing::Outgoing;
 use crate::record::say_record;
 use crate::sink::Sink;
 use crate::source::Source;
+use ncp_bits::Bits;
 
-// Shows the next record, and answers whether there was one.
+// Reads the next record into `message` and shows it, and answers whether there was one.
 fn show_next<S: Source, W: Sink>(
     window: &mut Incoming,
     source: &mut S,
+    message: &mut Bits,
     page: &mut Outgoing,
     sink: &mut W,
     direction: Direction,
@@ -28,10 +30,10 @@ fn show_next<S: Source, W: Sink>(
     ensures sink_mark { W.has_failed sink.new ≡ (W.has_failed sink.old || is_write_failed result) }
     ensures effort { IfOk result (λ more. more ≡ true → effort (S.reads source.new) window.new < effort (S.reads source.old) window.old) }
 {
-    let Some(message) = read_record(window, source)? else {
+    if !read_record(window, source, message)? {
         return Ok(false);
-    };
-    match say_record(page, sink, direction, number, &message) {
+    }
+    match say_record(page, sink, direction, number, message) {
         Ok(()) => Ok(true),
         Err(_) => Err(FileFault::WriteFailed),
     }
@@ -51,8 +53,9 @@ fn show_records<S: Source, W: Sink>(
     ensures source_mark { S.has_failed source.new ≡ (S.has_failed source.old || is_read_failed result) }
     ensures sink_mark { W.has_failed sink.new ≡ (W.has_failed sink.old || is_write_failed result) }
 {
+    let mut message = Bits::new();
     let mut number = 1u32;
-    while show_next(window, source, page, sink, direction, number)? {
+    while show_next(window, source, &mut message, page, sink, direction, number)? {
         number = number.saturating_add(1);
     }
     Ok(())
