@@ -1,7 +1,7 @@
 //! `show`: what a message file holds, line by line.
 ghost use Rattle.std.specs.Prelude.{◌≡◌, ℕ, ◌<◌, ◌||◌, [], List, Some, true, false, IfOk};
 ghost use Rattle.ncp_player.specs.Results.{is_read_failed, is_write_failed};
-ghost use Rattle.ncp_player.specs.Streams.{Ahead, Said, effort};
+ghost use Rattle.ncp_player.specs.Streams.{Ahead, SaidSoFar, effort};
 ghost use Rattle.ncp_player.specs.Steps.{ShowsNext, ShowsFrom, ShowsFile};
 ghost use Rattle.ncp_player.specs.Shown.{Shown};
 
@@ -24,7 +24,7 @@ fn show_next<S: Source, W: Sink>(
     number: u32,
 ) -> Result<bool, FileFault>
     ensures told { (bytes : List ℕ) (was : List ℕ) (said : List ℕ)
-        → Ahead window.old (S.left source.old) bytes → Said was page.old (W.written sink.old) said
+        → Ahead window.old (S.left source.old) bytes → SaidSoFar was page.old (W.written sink.old) said
         → ShowsNext direction number bytes was said result window.new (S.left source.new) page.new (W.written sink.new) }
     ensures source_mark { S.has_failed source.new ≡ (S.has_failed source.old || is_read_failed result) }
     ensures sink_mark { W.has_failed sink.new ≡ (W.has_failed sink.old || is_write_failed result) }
@@ -48,7 +48,7 @@ fn show_records<S: Source, W: Sink>(
     direction: Direction,
 ) -> Result<(), FileFault>
     ensures told { (bytes : List ℕ) (was : List ℕ) (said : List ℕ)
-        → Ahead window.old (S.left source.old) bytes → Said was page.old (W.written sink.old) said
+        → Ahead window.old (S.left source.old) bytes → SaidSoFar was page.old (W.written sink.old) said
         → ShowsFrom direction 1 bytes was said result (S.left source.new) page.new (W.written sink.new) }
     ensures source_mark { S.has_failed source.new ≡ (S.has_failed source.old || is_read_failed result) }
     ensures sink_mark { W.has_failed sink.new ≡ (W.has_failed sink.old || is_write_failed result) }
