@@ -92,12 +92,13 @@ impl Bits {
     /// Becomes the first `len` bits of bytes, where `from_bytes` does not refuse them. A refusal
     /// changes nothing.
     ///
-    /// It writes in place the bytes that it had, and those that it copies. So who reads one message
-    /// after the other keeps one [`Bits`] for all of them.
+    /// It zeroes the bytes that were there and copies those that come, in place, where a new
+    /// [`Bits`] writes all its bytes. So one [`Bits`] takes one message after the other.
     pub fn copy_from_bytes(&mut self, bytes: &[u8], len: usize) -> Result<(), BitsFault>
         ensures ok { OnOk result (read_bytes bytes.now len ≡ Ok self.new) }
         ensures len { OnOk result (length self.new ≡ len) }
-        ensures err { IfErr result (λ fault. (read_bytes bytes.now len ≡ Err fault) × (self.new ≡ self.old)) }
+        ensures err { IfErr result (λ fault. read_bytes bytes.now len ≡ Err fault) }
+        ensures stays { OnErr result (self.new ≡ self.old) }
     {
         if len > MAX_BITS {
             return Err(BitsFault::TooLong);

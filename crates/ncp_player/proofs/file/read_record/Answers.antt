@@ -83,4 +83,4 @@ returns-in-Err-clause-told g c = λ bytes a.
     rw c.fault_of.ensures (
     told_fault bytes c.need-2.new.self c.copy_from_bytes.new.self (g.S.Source.left c.need-2.new.source) c.in-Err.fault
     (next_told c.need-2.new.self ahead.0 bytes c.unread-3.result.now c.from-len.result c.div_ceil-used.result (Err c.in-Err.fault) (omega (arith, there-2))
-    (len ∙ sym (number_grows c.need.new.self grows.0 c.need-2.new.self grows.1 there)) c.div_ceil-used.ensures there-2 ahead.2 c.unread-3.ensures.bytes (sym c.in-Err.ensures.err.0)))
+    (len ∙ sym (number_grows c.need.new.self grows.0 c.need-2.new.self grows.1 there)) c.div_ceil-used.ensures there-2 ahead.2 c.unread-3.ensures.bytes (sym c.in-Err.ensures.err)))
