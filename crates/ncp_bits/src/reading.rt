@@ -73,5 +73,9 @@ pub(crate) fn is_spare_set(bytes: &[u8], len: usize) -> bool
     requires counted { 8 * length bytes.now < 2 ^ 64 }
     ensures { result ≡ list_any (λ bit. bit) (drop len (bits_of_bytes bytes.now)) }
 {
-    number_in(bytes, len, 8 * bytes.len() - len) != 0
+    let spare = 8 * bytes.len() - len;
+    if spare == 0 {
+        return false;
+    }
+    bits_in(bytes[len / 8], len % 8, spare) != 0
 }
