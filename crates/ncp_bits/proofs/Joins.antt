@@ -1,16 +1,17 @@
 -- Bits that are written behind other bits.
-use Rattle.std.proofs.Common.{◌≡◌, ℕ, ◌+◌, ◌*◌, ◌-◌, ◌^◌, ◌<◌, ◌≤◌, Bool, false, List, [], ◌∷◌, ◌++◌, length, take, drop, get_or, set, replicate, min, ◌⊎◌, inl, inr, refl, sym, ap, ◌∙◌, arith}
-use Rattle.std.proofs.lemmas.List.{length-append, length-replicate, take_all, take_at, take-take, drop-take, drop_all, length-take-le, length-drop, take-append-drop, drop-append-le, append_assoc, append-nil, take_more_set, length-set}
+use Rattle.std.proofs.Common.{◌≡◌, ℕ, ◌+◌, ◌*◌, ◌-◌, ◌^◌, ◌<◌, ◌≤◌, Bool, false, List, [], ◌∷◌, ◌++◌, length, take, drop, get_or, set, suc, zero, Ok, replicate, min, ◌⊎◌, inl, inr, refl, sym, ap, ◌∙◌, arith}
+use Rattle.std.proofs.lemmas.List.{length-append, length-replicate, take_all, take_at, drop_at, take-take, drop-take, drop_all, length-take-le, length-drop, take-append-drop, drop-append-le, append_assoc, append-nil, take_more_set, length-set}
+use Rattle.std.specs.List.{list_any}
 use Rattle.std.proofs.lemmas.List.Concat.{flat_map-append}
 use Rattle.std.proofs.lemmas.List.FromFn.{length-map-range_with_len}
 use Rattle.std.proofs.lemmas.Bool.{cases_lt}
 use Rattle.std.proofs.lemmas.Nat.{pow-add}
 use Rattle.std.proofs.Math.Seq.{take-add}
 use Rattle.ncp_bits.specs.Numbers.{number_of, bits_of}
-use Rattle.ncp_bits.specs.Bits.{byte_bits, bits_of_bytes, bytes_for, spare_for, byte_of, bytes_of}
+use Rattle.ncp_bits.specs.Bits.{byte_bits, bits_of_bytes, bytes_for, spare_for, byte_of, bytes_of, read_bytes}
 use Rattle.ncp_bits.specs.Packed.{run, IsPacked}
 use Rattle.ncp_bits.proofs.Numbers.{bits_of-number_of}
-use Rattle.ncp_bits.proofs.Bytes.{length-bits_of_bytes, number_of-zeros}
+use Rattle.ncp_bits.proofs.Bytes.{length-bits_of_bytes, number_of-zeros, read_bytes-ok}
 use Rattle.ncp_bits.proofs.Packing.{bits_of_bytes-bytes_of}
 use Rattle.ncp_bits.proofs.Shifts.{number_of-append}
 use Rattle.ncp_bits.proofs.Runs.{length-byte_bits, run_in_byte}
@@ -187,3 +188,23 @@ module _ (out tail old post : List ℕ) (part : List Bool) (first kept count byt
 -- the lesser of two is one of them
 pub min_is : (a b n : ℕ) → n ≡ min a b → (n ≡ a) ⊎ (n ≡ b)
 min_is a b n e = elim (cases_lt a b) [ inl h ↦ inl (omega arith) | inr h ↦ inr (omega arith) ]
+
+no_bit_set : (k : ℕ) → list_any (λ (bit : Bool). bit) (replicate k false) ≡ false
+no_bit_set zero = refl
+no_bit_set (suc k) = no_bit_set k
+
+-- bytes that were written are read as the bits that they were written of
+pub read_bytes-bytes_of : (bits : List Bool) → length bits ≤ 8192 → read_bytes (bytes_of bits) (length bits) ≡ Ok bits
+read_bytes-bytes_of bits h =
+    let used = bytes_for (length bits) in
+    let spare = replicate (spare_for (length bits)) false in
+    let long : length (bytes_of bits) ≡ used = length-bytes_of bits in
+    let back : bits_of_bytes (bytes_of bits) ≡ bits ++ spare = bits_of_bytes-bytes_of bits in
+    let whole : take used (bytes_of bits) ≡ bytes_of bits = take_all used (bytes_of bits) (omega arith) in
+    let none : list_any (λ (bit : Bool). bit) (drop (length bits) (bits_of_bytes (take used (bytes_of bits)))) ≡ false =
+    ap (λ bytes. list_any (λ (bit : Bool). bit) (drop (length bits) (bits_of_bytes bytes))) whole
+    ∙ ap (λ xs. list_any (λ (bit : Bool). bit) (drop (length bits) xs)) back
+    ∙ ap (list_any (λ (bit : Bool). bit)) (drop_at bits spare (length bits) refl)
+    ∙ no_bit_set (spare_for (length bits)) in
+    read_bytes-ok (bytes_of bits) (length bits) used h refl (omega arith) none
+    ∙ ap Ok (ap (take (length bits)) back ∙ take_at bits spare (length bits) refl)

@@ -1,8 +1,8 @@
 -- The number that bits spell, and the bits of a number.
-use Rattle.std.proofs.Common.{◌≡◌, ℕ, suc, zero, ◌+◌, ◌*◌, ◌/◌, ◌%◌, ◌^◌, ◌<◌, ◌≤◌, Bool, true, false, cond, eqb, bit_and, ◌-◌, add-one, take, get_or, slice_range, List, [], ◌∷◌, ◌++◌, length, refl, sym, ap, ◌∙◌, arith}
+use Rattle.std.proofs.Common.{◌≡◌, ℕ, suc, zero, ◌+◌, ◌*◌, ◌/◌, ◌%◌, ◌^◌, ◌<◌, ◌≤◌, Bool, true, false, cond, eqb, bit_and, ◌-◌, add-one, take, get_or, slice_range, replicate, List, [], ◌∷◌, ◌++◌, length, ◌⊎◌, inl, inr, refl, sym, ap, ◌∙◌, arith}
 use Rattle.std.proofs.lemmas.List.{length_push, length-take, take_more, append_assoc, append-nil}
 use Rattle.std.proofs.lemmas.Nat.{mod-pow-add, mod_below, and_mask, pow-add, pow_pos, div-mul-add}
-use Rattle.std.proofs.Math.Nat.{add-mul-div_right}
+use Rattle.std.proofs.Math.Nat.{add-mul-div_right, div-eq_of_lt}
 use Rattle.std.proofs.Math.Pow.{pow_mono}
 use Rattle.std.specs.Int.{from_bool}
 use Rattle.ncp_bits.specs.Numbers.{number_of, bits_of, bit_of}
@@ -107,6 +107,25 @@ bits_of-low (suc width) more a r =
     let b : bit_of (r + a * 2 ^ (suc width + more)) width ≡ bit_of r width = ap (λ (n : ℕ). eqb (n % 2) 1) q ∙ ap (λ (n : ℕ). eqb n 1) (omega arith) in
     let t : bits_of width (r + a * 2 ^ (suc width + more)) ≡ bits_of width r = ap (λ (n : ℕ). bits_of width (r + a * 2 ^ n)) (suc_second width more) ∙ bits_of-low width (suc more) a r in
     ap (λ bit. bit ∷ bits_of width (r + a * 2 ^ (suc width + more))) b ∙ ap (λ bits. bit_of r width ∷ bits) t
+
+-- a number in more bits than it needs: zeros in front
+pub bits_of-wide : (more width v : ℕ) → v < 2 ^ width → bits_of (more + width) v ≡ replicate more false ++ bits_of width v
+unfolding bits_of
+bits_of-wide zero width v h = ap (λ (n : ℕ). bits_of n v) (omega arith)
+bits_of-wide (suc more) width v h =
+    let e : suc more + width ≡ suc (more + width) = omega arith in
+    let room : 2 ^ width ≤ 2 ^ (more + width) = pow_mono (omega arith) in
+    let none : v / 2 ^ (more + width) ≡ 0 = div-eq_of_lt (omega arith) in
+    rw e (ap (λ (n : ℕ). eqb (n % 2) 1 ∷ bits_of (more + width) v) none ∙ ap (λ bits. false ∷ bits) (bits_of-wide more width v h))
+
+-- a number of so many bits in any width
+pub bits_of-spelled : (width least spelled v : ℕ) → (spelled ≡ width) ⊎ (spelled ≡ least) → spelled ≤ width → v < 2 ^ least → replicate (width - spelled) false ++ bits_of spelled v ≡ bits_of width v
+bits_of-spelled width least spelled v (inl e) h fits =
+    let none : width - spelled ≡ 0 = omega arith in
+    rw (none, e) refl
+bits_of-spelled width least spelled v (inr e) h fits =
+    let whole : width - least + least ≡ width = omega arith in
+    rw e (sym (bits_of-wide (width - least) least v fits) ∙ ap (λ (n : ℕ). bits_of n v) whole)
 
 -- bits are those of the number that they spell
 pub bits_of-number_of : (bits : List Bool) → bits_of (length bits) (number_of bits) ≡ bits

@@ -1,19 +1,20 @@
 -- Runs of bits in bytes.
-use Rattle.std.proofs.Common.{◌≡◌, ℕ, suc, zero, ◌+◌, ◌*◌, ◌/◌, ◌%◌, ◌-◌, ◌^◌, ◌<◌, ◌≤◌, Bool, true, false, eqb, bit_and, List, [], ◌∷◌, ◌++◌, length, take, drop, get_or, slice_range, replicate, not, Ok, refl, sym, ap, ◌∙◌, arith}
-use Rattle.std.proofs.lemmas.List.{take_all, take-take, drop-take, length-take-le, length-drop, drop-drop, take-append-le, drop-append-le, take-append-drop, get_or-take, get_or-drop, append-nil}
+use Rattle.std.proofs.Common.{◌≡◌, ℕ, suc, zero, ◌+◌, ◌*◌, ◌/◌, ◌%◌, ◌-◌, ◌^◌, ◌<◌, ◌≤◌, Bool, true, false, eqb, bit_and, bit_or, Fits, List, [], ◌∷◌, ◌++◌, length, take, drop, get_or, slice_range, replicate, not, Ok, refl, sym, ap, ◌∙◌, arith}
+use Rattle.std.proofs.lemmas.List.{take_all, take-take, drop-take, length-take-le, length-drop, drop-drop, take-append-le, drop-append-le, take-append-drop, get_or-take, get_or-drop, append-nil, take-replicate, replicate-append-replicate}
 use Rattle.std.specs.List.{list_any}
-use Rattle.std.specs.Int.{w64, to_be_bytes}
+use Rattle.std.specs.Int.{w8, w64, to_be_bytes}
 use Rattle.std.proofs.lemmas.List.Concat.{flat_map-append, get_or-flat_map}
-use Rattle.std.proofs.lemmas.Nat.{and_mask, pow_pos}
+use Rattle.std.proofs.lemmas.Nat.{and_mask, pow_pos, or_shifted, shl_whole}
+use Rattle.std.proofs.Math.Nat.{mod-eq_of_lt}
 use Rattle.std.proofs.lemmas.Bool.{ne_eqb}
 use Rattle.std.proofs.Math.Seq.{drop-cons, take-add}
 use Rattle.ncp_bits.specs.Numbers.{number_of, bits_of, bit_of}
 use Rattle.ncp_bits.specs.Bits.{byte_bits, bits_of_bytes, bytes_for, spare_for, byte_of, read_bytes}
 use Rattle.ncp_bits.specs.Packed.{run, IsPart, IsPacked, HoldsRun}
-use Rattle.ncp_bits.proofs.Numbers.{length-bits_of}
-use Rattle.ncp_bits.proofs.Bytes.{length-bits_of_bytes, byte_of-long, byte_of-short, read_bytes-ok, take-bits_of_bytes}
+use Rattle.ncp_bits.proofs.Numbers.{length-bits_of, number_of-bits_of, number_of-below}
+use Rattle.ncp_bits.proofs.Bytes.{length-bits_of_bytes, bits_of_bytes-more, byte_of-long, byte_of-short, read_bytes-ok, take-bits_of_bytes}
 use Rattle.ncp_bits.proofs.Packing.{drop-bits_of_bytes}
-use Rattle.ncp_bits.proofs.Shifts.{drop-bits_of, take-bits_of, bits_of-mod}
+use Rattle.ncp_bits.proofs.Shifts.{drop-bits_of, take-bits_of, bits_of-mod, number_of-append}
 
 pub length-byte_bits : (byte : ℕ) → length (byte_bits byte) ≡ 8
 unfolding byte_bits
@@ -110,6 +111,35 @@ run_in_byte bytes k skip n h i =
     ∙ ap (take n) (drop-append-le skip (byte_bits (get_or bytes k 0)) (bits_of_bytes (drop (suc k) bytes)) (omega arith))
     ∙ take-append-le n (drop skip (byte_bits (get_or bytes k 0))) (bits_of_bytes (drop (suc k) bytes)) (simp length-drop (omega arith))
 
+-- the number of some bytes and one more
+pub number_of_bytes-more : (bytes : List ℕ) (i number byte : ℕ) → length bytes ≤ 8 → i < length bytes → Fits w8 (get_or bytes i 0) → byte ≡ get_or bytes i 0 → number ≡ number_of (bits_of_bytes (take i bytes))
+    → bit_or (number * 256 % 18446744073709551616) byte ≡ number_of (bits_of_bytes (take (i + 1) bytes))
+number_of_bytes-more bytes i number byte few h small b n =
+    let fits : byte < 2 ^ 8 = omega arith in
+    let long : length (bits_of_bytes (take i bytes)) ≡ 8 * i = length-bits_of_bytes (take i bytes) ∙ ap (λ (k : ℕ). 8 * k) (length-take-le i bytes (omega arith)) in
+    let below : number < 2 ^ (8 * i) = rw n (number_of-below (bits_of_bytes (take i bytes)) (8 * i) (omega arith)) in
+    let same : number_of (bits_of 8 byte) ≡ byte = number_of-bits_of 8 byte ∙ mod-eq_of_lt fits in
+    ap (λ (k : ℕ). bit_or k byte) (shl_whole number (8 * i) 8 64 below (omega arith))
+    ∙ or_shifted number 8 byte fits
+    ∙ ap (λ (k : ℕ). k * 2 ^ 8 + byte) n
+    ∙ ap (λ (k : ℕ). number_of (bits_of_bytes (take i bytes)) * 2 ^ 8 + k) (sym same)
+    ∙ ap (λ (k : ℕ). number_of (bits_of_bytes (take i bytes)) * 2 ^ k + number_of (bits_of 8 byte)) (sym (length-bits_of 8 byte))
+    ∙ sym (number_of-append (bits_of_bytes (take i bytes)) (bits_of 8 byte))
+    ∙ ap (λ (k : ℕ). number_of (bits_of_bytes (take i bytes) ++ bits_of 8 k)) b
+    ∙ ap number_of (bits_of_bytes-more [] bytes i h)
+
+-- a run of whole bytes
+pub run_of_bytes : (bytes : List ℕ) (from width : ℕ) → from % 8 ≡ 0 → width % 8 ≡ 0 → from + width ≤ 8 * length bytes → bits_of_bytes (slice_range bytes (from / 8) ((from + width) / 8)) ≡ run bytes from width
+run_of_bytes bytes from width a b h =
+    let count : (from + width) / 8 - from / 8 ≡ width / 8 = omega arith in
+    let inside : width / 8 ≤ length (drop (from / 8) bytes) = simp length-drop (omega arith) in
+    let long : length (take (width / 8) (drop (from / 8) bytes)) ≡ width / 8 = length-take-le (width / 8) (drop (from / 8) bytes) inside in
+    ap (λ (k : ℕ). bits_of_bytes (take k (drop (from / 8) bytes))) count
+    ∙ sym (run_all (take (width / 8) (drop (from / 8) bytes)) width (omega arith))
+    ∙ run-take (drop (from / 8) bytes) (width / 8) 0 width inside (omega arith)
+    ∙ run-drop bytes (from / 8) 0 width (omega arith)
+    ∙ ap (λ (k : ℕ). run bytes k width) (omega arith)
+
 -- a whole byte
 pub run_of_byte : (bytes : List ℕ) (k : ℕ) → k < length bytes → run bytes (8 * k) 8 ≡ byte_bits (get_or bytes k 0)
 run_of_byte bytes k h =
@@ -191,6 +221,18 @@ packed_copy bytes len used small is_used long none =
       long = omega arith;
       spare = sym (take-append-drop len (bits_of_bytes (take used bytes))) ∙ ap (λ bits. take len (bits_of_bytes (take used bytes)) ++ bits) (none_set (drop len (bits_of_bytes (take used bytes))) none ∙ ap (λ (n : ℕ). replicate n false) spare);
     }
+
+-- bytes of zero
+bits_of_zeros : (n : ℕ) → bits_of_bytes (replicate n 0) ≡ replicate (8 * n) false
+unfolding byte_bits bits_of
+bits_of_zeros zero = refl
+bits_of_zeros (suc n) =
+    let more : replicate 8 false ++ replicate (8 * n) false ≡ replicate (8 * suc n) false = replicate-append-replicate 8 (8 * n) false ∙ ap (λ (k : ℕ). replicate k false) (omega arith) in
+    ap (λ bits. replicate 8 false ++ bits) (bits_of_zeros n) ∙ more
+
+pub run-zeros : (n len : ℕ) → len ≤ 8 * n → run (replicate n 0) 0 len ≡ replicate len false
+unfolding run
+run-zeros n len h = ap (take len) (bits_of_zeros n) ∙ take-replicate len (8 * n) false h
 
 -- one byte more of a number
 byte_more : (b v : ℕ) (rest : List Bool) → rest ≡ bits_of b v → byte_bits (v / 2 ^ b % 256) ++ rest ≡ bits_of (8 + b) v

@@ -1,5 +1,5 @@
 //! `Bits`.
-ghost use Rattle.std.specs.Prelude.{◌≡◌, ◌+◌, ◌<◌, ◌≤◌, ◌^◌, ◌++◌, ◌↔◌, IsTrue, [], length, take, drop, slice_range, slice_get, Some, IfOk, OnOk, OnErr, IsOk};
+ghost use Rattle.std.specs.Prelude.{◌≡◌, ◌+◌, ◌<◌, ◌≤◌, ◌^◌, ◌++◌, ◌↔◌, IsTrue, [], length, take, drop, slice_range, slice_get, Some, Ok, Err, IfOk, IfErr, OnOk, OnErr, IsOk};
 ghost use Rattle.ncp_bits.specs.Numbers.{number_of, bits_of};
 ghost use Rattle.ncp_bits.specs.Bits.{read_bytes, bytes_for, bytes_of};
 
@@ -15,6 +15,9 @@ pub const MAX_BITS: usize = 8192;
 
 // How many bytes these take.
 const MAX_BYTES: usize = MAX_BITS / 8;
+
+// How many bits a number has.
+const NUMBER_BITS: usize = u64::BITS as usize;
 
 // What bytes are before bits are written into them.
 static ZEROS: [u8; MAX_BYTES] = [0; MAX_BYTES];
@@ -76,10 +79,26 @@ impl Bits {
     /// Refused, in this order: `TooLong` (over [`MAX_BITS`]), `ShortBytes`, `SpareNotZero` (a bit
     /// after `len` in the last byte used).
     ///
-    /// It copies the bytes.
+    /// It costs a new [`Bits`] and a copy of the bytes.
     pub fn from_bytes(bytes: &[u8], len: usize) -> Result<Bits, BitsFault>
         ensures read { result ≡ read_bytes bytes.now len }
         ensures len { IfOk result (λ bits. length bits ≡ len) }
+    {
+        let mut bits = Bits::new();
+        bits.copy_from_bytes(bytes, len)?;
+        Ok(bits)
+    }
+
+    /// Becomes the first `len` bits of bytes, where `from_bytes` does not refuse them. A refusal
+    /// changes nothing.
+    ///
+    /// It zeroes the bytes that were there and copies those that come, in place, where a new
+    /// [`Bits`] writes all its bytes. So one [`Bits`] takes one message after the other.
+    pub fn copy_from_bytes(&mut self, bytes: &[u8], len: usize) -> Result<(), BitsFault>
+        ensures ok { OnOk result (read_bytes bytes.now len ≡ Ok self.new) }
+        ensures len { OnOk result (length self.new ≡ len) }
+        ensures err { IfErr result (λ fault. read_bytes bytes.now len ≡ Err fault) }
+        ensures stays { OnErr result (self.new ≡ self.old) }
     {
         if len > MAX_BITS {
             return Err(BitsFault::TooLong);
@@ -92,9 +111,10 @@ impl Bits {
         if is_spare_set(front, len) {
             return Err(BitsFault::SpareNotZero);
         }
-        let mut copy = ArrayVec::new();
-        copy.try_extend_from_slice(front).unwrap();
-        Ok(Bits { bytes: copy, len })
+        self.bytes.clear();
+        self.bytes.try_extend_from_slice(front).unwrap();
+        self.len = len;
+        Ok(())
     }
 
     /// How many bits there are.
@@ -157,20 +177,25 @@ impl Bits {
         self.whole().to_bytes(out)
     }
 
-    /// Appends a number in `width` bits, the most significant first. `TooLong` where they do not
-    /// fit.
+    /// Appends a number in `width` bits, the most significant first. In more than 64 bits it is
+    /// zeros, and then its 64 bits. `TooLong` where they do not fit.
     ///
     /// It costs what `append` does of a part of so many bits.
     pub fn push_number(&mut self, value: u64, width: usize) -> Result<(), BitsFault>
-        requires width { width ≤ 64 }
         requires value { value < 2 ^ width }
         ensures variant { IsOk result ↔ (length self.old + width ≤ MAX_BITS) }
         ensures ok { OnOk result (self.new ≡ self.old ++ bits_of width value) }
         ensures len { OnOk result (length self.new ≡ length self.old + width) }
         ensures err { OnErr result ((result ≡ Err BitsFault.TooLong) × (self.new ≡ self.old)) }
     {
+        if width > MAX_BITS - self.len {
+            return Err(BitsFault::TooLong);
+        }
+        let spelled = width.min(NUMBER_BITS);
+        self.append(Part::of_bytes(&ZEROS, 0, width - spelled))
+            .unwrap();
         let bytes = value.to_be_bytes();
-        self.append(Part::of_bytes(&bytes, u64::BITS as usize - width, width))
+        self.append(Part::of_bytes(&bytes, NUMBER_BITS - spelled, spelled))
     }
 
     /// Appends a part. `TooLong` where it does not fit.
@@ -186,10 +211,10 @@ impl Bits {
         if part.len() > MAX_BITS - self.len {
             return Err(BitsFault::TooLong);
         }
-        let len = self.len + part.len();
-        lengthen(&mut self.bytes, len.div_ceil(8));
+        let total = self.len + part.len();
+        lengthen(&mut self.bytes, total.div_ceil(8));
         write_behind(self.bytes.as_mut_slice(), self.len, &part);
-        self.len = len;
+        self.len = total;
         Ok(())
     }
 }

@@ -1,7 +1,9 @@
 //! Laws about bits, numbers and bytes, each the contract of a function that does nothing.
-ghost use Rattle.std.specs.Prelude.{◌≡◌, ℕ, List, Bool, false, ◌<◌, ◌^◌, ◌++◌, length, replicate, All};
+ghost use Rattle.std.specs.Prelude.{◌≡◌, ℕ, List, Bool, false, ◌<◌, ◌≤◌, ◌^◌, ◌++◌, length, replicate, All, Ok};
 ghost use Rattle.ncp_bits.specs.Numbers.{number_of, bits_of};
-ghost use Rattle.ncp_bits.specs.Bits.{bits_of_bytes, bytes_of, spare_for};
+ghost use Rattle.ncp_bits.specs.Bits.{bits_of_bytes, bytes_of, spare_for, read_bytes};
+
+use crate::bits::MAX_BITS;
 
 /// A number's bits and the bits' number undo each other.
 pub fn numbers_are_bits()
@@ -11,8 +13,10 @@ pub fn numbers_are_bits()
     ensures fits { (bits : List Bool) → number_of bits < 2 ^ length bits }
 {}
 
-/// Bytes and their bits undo each other; bits that fill no whole byte gain the spare zeros.
+/// Bytes and their bits undo each other; bits that fill no whole byte gain the spare zeros. Of as
+/// many bits as a message has at most, the bytes are read as these bits.
 pub fn bytes_are_bits()
     ensures bytes { (bytes : List ℕ) → All (λ byte. byte < 256) bytes → bytes_of (bits_of_bytes bytes) ≡ bytes }
     ensures bits { (bits : List Bool) → bits_of_bytes (bytes_of bits) ≡ bits ++ replicate (spare_for (length bits)) false }
+    ensures read { (bits : List Bool) → length bits ≤ MAX_BITS → read_bytes (bytes_of bits) (length bits) ≡ Ok bits }
 {}

@@ -22,8 +22,20 @@ fn bits_in(byte: u8, skip: usize, count: usize) -> u8
     (byte << skip) >> (8 - count)
 }
 
-/// The number that a run spells. Each byte that the run touches is read once.
-pub(crate) fn number_in(bytes: &[u8], from: usize, width: usize) -> u64
+// The number that whole bytes spell.
+fn number_of_bytes(bytes: &[u8]) -> u64
+    requires { length bytes.now ≤ 8 }
+    ensures { result ≡ number_of (bits_of_bytes bytes.now) }
+{
+    let mut number = 0;
+    for byte in bytes {
+        number = (number << 8) | u64::from(*byte);
+    }
+    number
+}
+
+// The number that a run at any bit spells.
+fn number_across(bytes: &[u8], from: usize, width: usize) -> u64
     requires width { width ≤ 64 }
     requires inside { from + width ≤ 8 * length bytes.now }
     requires counted { from + width < 2 ^ 64 }
@@ -41,11 +53,29 @@ pub(crate) fn number_in(bytes: &[u8], from: usize, width: usize) -> u64
     number
 }
 
+/// The number that a run spells. Each byte that the run touches is read once, and most cheaply
+/// where the run is of whole bytes.
+pub(crate) fn number_in(bytes: &[u8], from: usize, width: usize) -> u64
+    requires width { width ≤ 64 }
+    requires inside { from + width ≤ 8 * length bytes.now }
+    requires counted { from + width < 2 ^ 64 }
+    ensures { result ≡ number_of (run bytes.now from width) }
+{
+    if from % 8 == 0 && width % 8 == 0 {
+        return number_of_bytes(&bytes[from / 8..(from + width) / 8]);
+    }
+    number_across(bytes, from, width)
+}
+
 /// Whether a bit behind the first `len` is set, in bytes that these bits just need.
 pub(crate) fn is_spare_set(bytes: &[u8], len: usize) -> bool
     requires used { length bytes.now ≡ bytes_for len }
     requires counted { 8 * length bytes.now < 2 ^ 64 }
     ensures { result ≡ list_any (λ bit. bit) (drop len (bits_of_bytes bytes.now)) }
 {
-    number_in(bytes, len, 8 * bytes.len() - len) != 0
+    let spare = 8 * bytes.len() - len;
+    if spare == 0 {
+        return false;
+    }
+    bits_in(bytes[len / 8], len % 8, spare) != 0
 }

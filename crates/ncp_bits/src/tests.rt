@@ -47,6 +47,21 @@ fn reads_and_writes_bytes(rt: HostRuntime) -> Result<(), Fail> {
 }
 
 #[test]
+fn takes_one_message_after_the_other(rt: HostRuntime) -> Result<(), Fail> {
+    let mut bits = Bits::new();
+    bits.copy_from_bytes(&LONG_BYTE, 108)?;
+    bits.copy_from_bytes(b"\xa0\x7f", 4)?;
+    assert!(rt; is_spelled(&bits, "1010"));
+    assert!(rt; bits.copy_from_bytes(b"\xa0\x7f", 12) == Err(BitsFault::SpareNotZero));
+    assert!(rt; bits.copy_from_bytes(b"\xa0\x7f", 17) == Err(BitsFault::ShortBytes));
+    assert!(rt; bits.copy_from_bytes(b"\xa0\x7f", 8193) == Err(BitsFault::TooLong));
+    assert!(rt; is_spelled(&bits, "1010"));
+    bits.copy_from_bytes(&LONG_BYTE, 108)?;
+    assert_eq!(rt; bits.number(72, 36), 0x123456789);
+    Ok(())
+}
+
+#[test]
 fn names_faults_in_order(rt: HostRuntime) {
     let mut spare = LONG_BYTE;
     spare[13] = 0x91;
@@ -98,6 +113,23 @@ fn appends_parts(rt: HostRuntime) -> Result<(), Fail> {
     let mut out = [0u8; 5];
     assert_eq!(rt; text.to_bytes(&mut out), 5);
     assert!(rt; out == [0x12, 0x34, 0x56, 0x78, 0x90]);
+    Ok(())
+}
+
+#[test]
+fn pads_wide_numbers(rt: HostRuntime) -> Result<(), Fail> {
+    let mut bits = bits_in(&rt, "101");
+    bits.push_number(u64::MAX, 70)?;
+    bits.push_number(6, 100)?;
+    assert_eq!(rt; bits.len(), 173);
+    assert_eq!(rt; bits.number(0, 9), 0b101_000_000);
+    assert_eq!(rt; bits.number(9, 64), u64::MAX);
+    assert_eq!(rt; bits.number(73, 60), 0);
+    assert_eq!(rt; bits.number(133, 40), 6);
+    assert!(rt; bits.push_number(0, 8192 - 172) == Err(BitsFault::TooLong));
+    assert_eq!(rt; bits.len(), 173);
+    bits.push_number(1, 8192 - 173)?;
+    assert_eq!(rt; bits.number(8128, 64), 1);
     Ok(())
 }
 

@@ -4,16 +4,16 @@ use Rattle.std.proofs.lemmas.List.{append-nil}
 use Rattle.ncp_player.specs.declared.file.FileFault.{FileFault}
 use Rattle.ncp_player.specs.declared.file.FileFault.TheVariants.{BadHeader, Truncated, TooLong, SpareNotZero, ReadFailed, WriteFailed}
 use Rattle.ncp_player.specs.declared.tally.Tally.{Tally}
-use Rattle.ncp_player.specs.Streams.{Said, Says, SaysBeginning}
+use Rattle.ncp_player.specs.Streams.{SaidSoFar, SaysText, SaysBeginning}
 use Rattle.ncp_player.specs.Checked.{tally_of, tally_line, is_sound, Checked}
 use Rattle.ncp_player.specs.Tallies.{TalliesFile}
 
 -- what is said where a page with the line is all that there is
-fresh : (was line page : List ℕ) (written : Option (List ℕ)) → written ≡ Some was → page ≡ line → Said was page written line
+fresh : (was line page : List ℕ) (written : Option (List ℕ)) → written ≡ Some was → page ≡ line → SaidSoFar was page written line
 fresh was line page written e p = ([], e ∙ ap Some (sym (append-nil was)), p)
 
 pub checked_ok : (bytes was page last : List ℕ) (written now : Option (List ℕ)) (tally : Tally) (good : Bool) → TalliesFile bytes (Ok tally) → written ≡ Some was → page ≡ tally_line tally
-    → (last ≡ []) × Says page written [] last now → good ≡ is_sound tally → Checked bytes was now (Ok good)
+    → (last ≡ []) × SaysText page written [] last now → good ≡ is_sound tally → Checked bytes was now (Ok good)
 checked_ok bytes was page last written now tally good h e p k g =
     let line = tally_line (tally_of h.0) in
     let said = k.1 was line (fresh was line page written e (p ∙ ap tally_line h.2)) in

@@ -1,15 +1,21 @@
 -- What bytes behind a header hold.
-use Rattle.std.proofs.Common.{◌≡◌, ℕ, suc, zero, ◌+◌, ◌≤◌, Bool, true, false, cond, ltb, List, [], ◌∷◌, ◌++◌, length, take, drop, slice_range, Option, Some, None, Result, Ok, Err, refl, sym, ap, ◌∙◌, arith, subst}
-use Rattle.std.proofs.lemmas.List.{length-append, length-drop, drop-drop, take-append-drop, length-take-le}
+use Rattle.std.proofs.Common.{◌≡◌, ℕ, suc, zero, ◌+◌, ◌≤◌, Bool, true, false, cond, ltb, List, [], ◌∷◌, ◌++◌, length, take, drop, slice_range, Option, Some, None, Result, Ok, Err, refl, sym, ap, ◌∙◌, arith, subst, All}
+use Rattle.std.proofs.lemmas.List.{length-append, length-drop, drop-drop, take-append-drop, length-take-le, append_assoc, drop_at}
 use Rattle.std.proofs.lemmas.Bool.{ltb-false}
+use Rattle.std.specs.List.{flat_map}
 use Rattle.std.proofs.Math.ListN.{drop_of_length-le}
-use Rattle.byteorder.specs.Endian.{big_number}
-use Rattle.byteorder.specs.Numbers.{big_from-append}
-use Rattle.ncp_bits.specs.Bits.{read_bytes, bytes_for}
+use Rattle.byteorder.specs.Endian.{big_number, big_bytes}
+use Rattle.byteorder.specs.Numbers.{big_from-append, big_number-reads_back}
+use Rattle.ncp_bits.specs.Bits.{read_bytes, bytes_for, bytes_of}
 use Rattle.ncp_bits.specs.declared.bits.BitsFault.{BitsFault}
 use Rattle.ncp_bits.specs.declared.bits.BitsFault.TheVariants as bits
+use Rattle.ncp_bits.proofs.Bytes.{read_bytes-append}
+use Rattle.ncp_bits.proofs.Joins.{length-bytes_of, read_bytes-bytes_of}
 use Rattle.ncp_player.specs.declared.file.FileFault.{FileFault}
-use Rattle.ncp_player.specs.File.{Next, next_record, record_of, ending, Holds}
+use Rattle.ncp_player.specs.declared.file.Direction.{Direction}
+use Rattle.ncp_player.specs.declared.file.Direction.TheVariants.{ToImp, FromImp}
+use Rattle.ncp_player.specs.File.{Next, next_record, record_of, ending, Holds, direction_of, record_bytes, file_bytes}
+use Rattle.ncp_player.specs.Checked.{FileHolds}
 use Rattle.ncp_player.proofs.Files.{next_none, next_read, next_whole, behind_record}
 
 -- ---- a record at the front
@@ -104,3 +110,43 @@ holds_once bytes (first ∷ messages) (second ∷ others) fault other h k =
     let same = same_record first second h.0 k.0 (next_record bytes) h.1 k.1 in
     let rest = holds_once h.0 messages others fault other h.2 (subst (λ xs. Holds xs others other) (sym same.1) k.2) in
     (ap (λ m. m ∷ messages) same.0 ∙ ap (λ ms. second ∷ ms) rest.0, rest.1)
+
+-- ---- written files
+
+length-record : (message : List Bool) (rest : List ℕ) → length (record_bytes message ++ rest) ≡ 2 + bytes_for (length message) + length rest
+length-record message rest = let l : length (bytes_of message) ≡ bytes_for (length message) = length-bytes_of message in simp length-append (omega arith)
+
+-- a record that was written is read, whatever stands behind it
+pub next_record-written : (message : List Bool) (rest : List ℕ) → length message ≤ 8192 → next_record (record_bytes message ++ rest) ≡ Ok (Some (message, rest))
+next_record-written message rest h =
+    let len = length message in
+    let bytes = record_bytes message ++ rest in
+    let long : length (bytes_of message) ≡ bytes_for len = length-bytes_of message in
+    let number : big_number 2 bytes ≡ len = ap (big_number 2) (append_assoc (big_bytes 2 len) (bytes_of message) rest) ∙ big_number-reads_back 2 len (bytes_of message ++ rest) (omega arith) in
+    let behind : drop 2 bytes ≡ bytes_of message ++ rest = ap (drop 2) (append_assoc (big_bytes 2 len) (bytes_of message) rest) ∙ drop_at (big_bytes 2 len) (bytes_of message ++ rest) 2 refl in
+    next_read bytes (omega (arith, length-record message rest))
+    ∙ ap (λ n. record_of n (drop 2 bytes) (read_bytes (drop 2 bytes) n)) number
+    ∙ ap (λ xs. record_of len xs (read_bytes xs len)) behind
+    ∙ ap (record_of len (bytes_of message ++ rest)) (read_bytes-append (bytes_of message) rest len long ∙ read_bytes-bytes_of message h)
+    ∙ ap (λ xs. Ok (Some (message, xs))) (drop_at (bytes_of message) rest (bytes_for len) long)
+
+holds_written : (messages : List (List Bool)) → All (λ message. length message ≤ 8192) messages → Holds (flat_map record_bytes messages) messages None
+holds_written [] h = next_none [] refl
+holds_written (message ∷ messages) h =
+    let rest = flat_map record_bytes messages in
+    (rest, next_record-written message rest (h 0 message (omega arith)), holds_written messages (λ k d less. h (suc k) d (omega arith)))
+
+pub direction_of-written : (direction : Direction) (messages : List (List Bool)) → direction_of (file_bytes direction messages) ≡ Some direction
+direction_of-written ToImp messages = refl
+direction_of-written FromImp messages = refl
+
+-- a file that was written holds its messages
+pub file_holds_written : (direction : Direction) (messages : List (List Bool)) → All (λ message. length message ≤ 8192) messages → FileHolds (file_bytes direction messages) messages None
+file_holds_written ToImp messages h = holds_written messages h
+file_holds_written FromImp messages h = holds_written messages h
+
+-- and nothing else
+pub file_holds_only : (direction : Direction) (messages others : List (List Bool)) (fault : Option FileFault) → All (λ message. length message ≤ 8192) messages
+    → FileHolds (file_bytes direction messages) others fault → (others ≡ messages) × (fault ≡ None)
+file_holds_only ToImp messages others fault h k = holds_once (flat_map record_bytes messages) others messages fault None k (holds_written messages h)
+file_holds_only FromImp messages others fault h k = holds_once (flat_map record_bytes messages) others messages fault None k (holds_written messages h)

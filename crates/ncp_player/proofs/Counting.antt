@@ -78,13 +78,13 @@ tallies_more bytes rest message tally (Err SpareNotZero) h k = (message ∷ k.0,
 tallies_more bytes rest message tally (Err ReadFailed) h k = tt
 tallies_more bytes rest message tally (Err WriteFailed) h k = k
 
-pub tallies_fault : (bytes window : List ℕ) (left : Option (List ℕ)) (tally : Tally) (fault : FileFault) → ReadsRecord bytes (Err fault) window left → TalliesFrom bytes tally (Err fault)
-tallies_fault bytes window left tally BadHeader h = ([], h)
-tallies_fault bytes window left tally Truncated h = ([], h)
-tallies_fault bytes window left tally TooLong h = ([], h)
-tallies_fault bytes window left tally SpareNotZero h = ([], h)
-tallies_fault bytes window left tally ReadFailed h = tt
-tallies_fault bytes window left tally WriteFailed h = h
+pub tallies_fault : (bytes window : List ℕ) (message : List Bool) (left : Option (List ℕ)) (tally : Tally) (fault : FileFault) → ReadsRecord bytes (Err fault) message window left → TalliesFrom bytes tally (Err fault)
+tallies_fault bytes window message left tally BadHeader h = ([], h)
+tallies_fault bytes window message left tally Truncated h = ([], h)
+tallies_fault bytes window message left tally TooLong h = ([], h)
+tallies_fault bytes window message left tally SpareNotZero h = ([], h)
+tallies_fault bytes window message left tally ReadFailed h = tt
+tallies_fault bytes window message left tally WriteFailed h = h
 
 pub tallies_end : (bytes : List ℕ) (tally : Tally) → next_record bytes ≡ Ok None → TalliesFrom bytes tally (Ok tally)
 tallies_end bytes tally h = ([], h, refl)

@@ -110,10 +110,10 @@ pub number_grows : (was more now : List ℕ) → now ≡ was ++ more → 2 ≤ l
 number_grows was more now e h = ap (big_number 2) e ∙ big_from-append 2 was more h
 
 -- a fault that stands where a record should begin
-pub told_fault : (bytes window : List ℕ) (left : Option (List ℕ)) (fault : BitsFault) → next_record bytes ≡ Err (fault_of_bits fault) → ReadsRecord bytes (Err (fault_of_bits fault)) window left
-told_fault bytes window left bits.TooLong h = h
-told_fault bytes window left bits.ShortBytes h = h
-told_fault bytes window left bits.SpareNotZero h = h
+pub told_fault : (bytes window : List ℕ) (message : List Bool) (left : Option (List ℕ)) (fault : BitsFault) → next_record bytes ≡ Err (fault_of_bits fault) → ReadsRecord bytes (Err (fault_of_bits fault)) message window left
+told_fault bytes window message left bits.TooLong h = h
+told_fault bytes window message left bits.ShortBytes h = h
+told_fault bytes window message left bits.SpareNotZero h = h
 
 -- what was read behind a length is the next record, or its fault
 pub next_told : (window rest bytes piece : List ℕ) (len used : ℕ) (read : Result (List Bool) BitsFault) → 2 ≤ length window → len ≡ big_number 2 window → used ≡ bytes_for len → 2 + used ≤ length window

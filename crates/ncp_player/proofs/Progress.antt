@@ -7,7 +7,7 @@ use Rattle.ncp_player.specs.declared.file.FileFault.TheVariants.{BadHeader, Trun
 use Rattle.ncp_player.specs.File.{direction_of, next_record, ending, Holds}
 use Rattle.ncp_player.specs.Lines.{record_lines, lines_from, number_after}
 use Rattle.ncp_player.specs.Results.{is_write_failed}
-use Rattle.ncp_player.specs.Streams.{Said, Says, SaysBeginning}
+use Rattle.ncp_player.specs.Streams.{SaidSoFar, SaysText, SaysBeginning}
 use Rattle.ncp_player.specs.Shown.{IsCut, ShownAs, ShowsAll, ShowsBeginning, Shown}
 use Rattle.ncp_player.specs.Steps.{IsInside, ReadsHeader, ReadsRecord, ShowsNext, SaysLines, ShowsFrom, SaysFile, ShowsFile}
 use Rattle.ncp_player.proofs.Files.{direction_of-short, direction_of-take, direction_of-append}
@@ -16,14 +16,14 @@ use Rattle.ncp_player.proofs.Contents.{next_record-front, holds_some}
 -- ---- one record
 
 -- nothing was read that could be shown
-pub next_ends : (direction : Direction) (number : ℕ) (bytes was said window page : List ℕ) (left written : Option (List ℕ)) (fault : FileFault)
-    → ReadsRecord bytes (Err fault) window left → Said was page written said → ShowsNext direction number bytes was said (Err fault) window left page written
-next_ends direction number bytes was said window page left written BadHeader h k = (h, k)
-next_ends direction number bytes was said window page left written Truncated h k = (h, k)
-next_ends direction number bytes was said window page left written TooLong h k = (h, k)
-next_ends direction number bytes was said window page left written SpareNotZero h k = (h, k)
-next_ends direction number bytes was said window page left written ReadFailed h k = (h, k)
-next_ends direction number bytes was said window page left written WriteFailed h k = absurd h
+pub next_ends : (direction : Direction) (number : ℕ) (bytes was said window page : List ℕ) (message : List Bool) (left written : Option (List ℕ)) (fault : FileFault)
+    → ReadsRecord bytes (Err fault) message window left → SaidSoFar was page written said → ShowsNext direction number bytes was said (Err fault) window left page written
+next_ends direction number bytes was said window page message left written BadHeader h k = (h, k)
+next_ends direction number bytes was said window page message left written Truncated h k = (h, k)
+next_ends direction number bytes was said window page message left written TooLong h k = (h, k)
+next_ends direction number bytes was said window page message left written SpareNotZero h k = (h, k)
+next_ends direction number bytes was said window page message left written ReadFailed h k = (h, k)
+next_ends direction number bytes was said window page message left written WriteFailed h k = absurd h
 
 -- ---- records from a number on
 
@@ -32,13 +32,13 @@ pub from_end : (direction : Direction) (number : ℕ) (bytes was said window pag
     → ShowsFrom direction number bytes was said (Ok tt) left page written
 from_end direction number bytes was said window page left written h = ([], h.0, (h.1.0, h.1.1, h.1.2 ∙ sym (append-nil said)))
 
-no_lines : (direction : Direction) (number : ℕ) (bytes was said page : List ℕ) (written : Option (List ℕ)) (fault : Option FileFault) → next_record bytes ≡ ending fault → Said was page written said
+no_lines : (direction : Direction) (number : ℕ) (bytes was said page : List ℕ) (written : Option (List ℕ)) (fault : Option FileFault) → next_record bytes ≡ ending fault → SaidSoFar was page written said
     → SaysLines direction number bytes was said fault page written
 no_lines direction number bytes was said page written fault h k = ([], h, (k.0, k.1, k.2 ∙ sym (append-nil said)))
 
 -- a failed write in a record: its lines and those behind it are not all said
 from_broken : (direction : Direction) (number : ℕ) (bytes was said : List ℕ) (written : Option (List ℕ)) (message : List Bool) (rest lost : List ℕ) → next_record bytes ≡ Ok (Some (message, rest))
-    → Said was lost written (said ++ record_lines direction number message) → (fault : Option FileFault) × (lost : List ℕ) × SaysLines direction number bytes was said fault lost written
+    → SaidSoFar was lost written (said ++ record_lines direction number message) → (fault : Option FileFault) × (lost : List ℕ) × SaysLines direction number bytes was said fault lost written
 from_broken direction number bytes was said written message rest lost h k =
     let behind = holds_some rest in
     let lines = lines_from direction (number_after number) behind.0 in (
@@ -95,11 +95,11 @@ from_more direction number bytes rest was said page left written message (Err Wr
 
 -- ---- the whole file
 
-no_header : (bytes was page : List ℕ) (written : Option (List ℕ)) → direction_of bytes ≡ None → Said was page written [] → SaysFile bytes was (Some BadHeader) page written
+no_header : (bytes was page : List ℕ) (written : Option (List ℕ)) → direction_of bytes ≡ None → SaidSoFar was page written [] → SaysFile bytes was (Some BadHeader) page written
 no_header bytes was page written h k = ([], (let e : direction_of bytes ≡ None = h in rw e (refl, refl)), k)
 
 -- a header that was not read
-pub file_ends : (bytes was window page : List ℕ) (left written : Option (List ℕ)) (fault : FileFault) → ReadsHeader bytes (Err fault) window left → Said was page written [] → ShowsFile bytes was (Err fault) left page written
+pub file_ends : (bytes was window page : List ℕ) (left written : Option (List ℕ)) (fault : FileFault) → ReadsHeader bytes (Err fault) window left → SaidSoFar was page written [] → ShowsFile bytes was (Err fault) left page written
 file_ends bytes was window page left written BadHeader h k = no_header bytes was page written h.1 k
 file_ends bytes was window page left written Truncated h k = let e : ⊥ = cc (h.0) in absurd e
 file_ends bytes was window page left written TooLong h k = let e : ⊥ = cc (h.0) in absurd e
@@ -150,7 +150,7 @@ file_shown bytes was page left written direction (Err WriteFailed) h k = (k.0, k
 
 -- ---- what was written
 
-shows_all : (bytes was page last : List ℕ) (written now : Option (List ℕ)) (fault : Option FileFault) → SaysFile bytes was fault page written → (last ≡ []) × Says page written [] last now → ShowsAll bytes was now fault
+shows_all : (bytes was page last : List ℕ) (written now : Option (List ℕ)) (fault : Option FileFault) → SaysFile bytes was fault page written → (last ≡ []) × SaysText page written [] last now → ShowsAll bytes was now fault
 shows_all bytes was page last written now fault h k =
     let said = k.1 was h.0 h.2 in
     let same : said.0 ≡ h.0 = sym (append-nil said.0) ∙ ap (λ xs. said.0 ++ xs) (sym k.0) ∙ said.2 ∙ append-nil h.0 in
@@ -225,7 +225,7 @@ shown_broken bytes was page left written now (Err ReadFailed) h k n =
 shown_broken bytes was page left written now (Err WriteFailed) h k n = absurd (let e : ⊥ = cc in e)
 
 -- the page was written
-pub shown_flushed : (bytes was page last : List ℕ) (left written now : Option (List ℕ)) (r : Result Unit FileFault) → ShowsFile bytes was r left page written → (last ≡ []) × Says page written [] last now → is_write_failed r ≡ false
+pub shown_flushed : (bytes was page last : List ℕ) (left written now : Option (List ℕ)) (r : Result Unit FileFault) → ShowsFile bytes was r left page written → (last ≡ []) × SaysText page written [] last now → is_write_failed r ≡ false
     → Shown bytes was left now r
 shown_flushed bytes was page last left written now (Ok done) h k n = shows_all bytes was page last written now _ h k
 shown_flushed bytes was page last left written now (Err BadHeader) h k n = shows_all bytes was page last written now _ h k

@@ -1,9 +1,10 @@
 -- A message file: four header bytes, then records to the end. A record is a number of bits in two
 -- bytes, the first the most significant, and the bytes of these bits, the spare bits zero.
-use Rattle.std.specs.Prelude.{◌≡◌, ℕ, ◌==◌, Bool, List, [], ◌∷◌, take, drop, Option, Some, None, Result, Ok, Err, length, nat_lt, codes, if◌then◌else◌}
+use Rattle.std.specs.Prelude.{◌≡◌, ℕ, ◌==◌, Bool, List, [], ◌∷◌, ◌++◌, take, drop, Option, Some, None, Result, Ok, Err, length, nat_lt, codes, if◌then◌else◌}
 use Rattle.std.specs.Str.{bytes_eq}
-use Rattle.byteorder.specs.Endian.{big_number}
-use Rattle.ncp_bits.specs.Bits.{read_bytes, bytes_for}
+use Rattle.std.specs.List.{flat_map}
+use Rattle.byteorder.specs.Endian.{big_number, big_bytes}
+use Rattle.ncp_bits.specs.Bits.{read_bytes, bytes_for, bytes_of}
 use Rattle.ncp_bits.specs.declared.bits.BitsFault.{BitsFault}
 use Rattle.ncp_bits.specs.declared.bits.BitsFault.TheVariants as bits
 use Rattle.ncp_player.specs.declared.file.Direction.{Direction}
@@ -50,6 +51,22 @@ abbrev pub Holds : List ℕ → List (List Bool) → Option FileFault → Type 0
 Holds bytes [] fault = next_record bytes ≡ ending fault
 Holds bytes (message ∷ messages) fault =
     (rest : List ℕ) × (next_record bytes ≡ Ok (Some (message, rest))) × Holds rest messages fault
+
+-- ---- written files
+
+abbrev pub header_of : Direction → List ℕ
+header_of ToImp = codes "NCPH"
+header_of FromImp = codes "NCPI"
+
+-- a message's number of bits in 16 bits, then its bytes, the spare bits zero
+abbrev pub record_bytes : List Bool → List ℕ
+record_bytes message = big_bytes 2 (length message) ++ bytes_of message
+
+-- a file of these messages
+abbrev pub file_bytes : Direction → List (List Bool) → List ℕ
+file_bytes direction messages = header_of direction ++ flat_map record_bytes messages
+
+-- ---- names
 
 -- the names that a program prints
 abbrev pub name_of_fault : FileFault → List ℕ

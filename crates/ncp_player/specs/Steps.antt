@@ -6,7 +6,7 @@ use Rattle.ncp_player.specs.declared.file.FileFault.TheVariants.{BadHeader, Trun
 use Rattle.ncp_player.specs.Results.{MatchFault}
 use Rattle.ncp_player.specs.File.{direction_of, next_record, ending, Holds}
 use Rattle.ncp_player.specs.Lines.{record_lines, lines_from}
-use Rattle.ncp_player.specs.Streams.{Ahead, Said}
+use Rattle.ncp_player.specs.Streams.{Ahead, SaidSoFar}
 use Rattle.ncp_player.specs.Shown.{IsCut, ShownAs}
 
 -- a read failed inside the header: no byte is lost
@@ -29,41 +29,41 @@ abbrev pub CutOff : List ℕ → List ℕ → Option (List ℕ) → Type 0
 CutOff bytes window left =
     (fault : Option FileFault) × IsInside fault × (next_record window ≡ ending fault) × Ahead window left bytes
 
--- a record was read, or none was there, or the fault stands there
-abbrev pub ReadsRecord : List ℕ → Result (Option (List Bool)) FileFault → List ℕ → Option (List ℕ) → Type 0
-ReadsRecord bytes (Ok (Some message)) window left =
+-- this message was read, or no record was there, or the fault stands there
+abbrev pub ReadsRecord : List ℕ → Result Bool FileFault → List Bool → List ℕ → Option (List ℕ) → Type 0
+ReadsRecord bytes (Ok true) message window left =
     (rest : List ℕ) × (next_record bytes ≡ Ok (Some (message, rest))) × Ahead window left rest
-ReadsRecord bytes (Ok None) window left = next_record bytes ≡ Ok None
-ReadsRecord bytes (Err fault) window left = MatchFault (λ f. next_record bytes ≡ Err f) (CutOff bytes window left) ⊥ fault
+ReadsRecord bytes (Ok false) message window left = next_record bytes ≡ Ok None
+ReadsRecord bytes (Err fault) message window left = MatchFault (λ f. next_record bytes ≡ Err f) (CutOff bytes window left) ⊥ fault
 
 -- no line was said, since no record begins
 abbrev pub EndsWith : List ℕ → Option FileFault → List ℕ → List ℕ → List ℕ → Option (List ℕ) → Type 0
-EndsWith bytes fault was said page written = (next_record bytes ≡ ending fault) × Said was page written said
+EndsWith bytes fault was said page written = (next_record bytes ≡ ending fault) × SaidSoFar was page written said
 
 -- the next record's lines were said
 abbrev pub SaysRecord : Direction → ℕ → List ℕ → List ℕ → List ℕ → List ℕ → Option (List ℕ) → List ℕ → Option (List ℕ) → Type 0
 SaysRecord direction number bytes was said window left page written =
     (message : List Bool) × (rest : List ℕ) × (next_record bytes ≡ Ok (Some (message, rest))) × Ahead window left rest
-    × Said was page written (said ++ record_lines direction number message)
+    × SaidSoFar was page written (said ++ record_lines direction number message)
 
 -- a beginning of them was said
 abbrev pub BreaksRecord : Direction → ℕ → List ℕ → List ℕ → List ℕ → Option (List ℕ) → Type 0
 BreaksRecord direction number bytes was said written =
     (message : List Bool) × (rest : List ℕ) × (lost : List ℕ) × (next_record bytes ≡ Ok (Some (message, rest)))
-    × Said was lost written (said ++ record_lines direction number message)
+    × SaidSoFar was lost written (said ++ record_lines direction number message)
 
 -- the next record's lines were said, or there is none, or a fault stands there
 abbrev pub ShowsNext : Direction → ℕ → List ℕ → List ℕ → List ℕ → Result Bool FileFault → List ℕ → Option (List ℕ) → List ℕ → Option (List ℕ) → Type 0
 ShowsNext direction number bytes was said (Ok true) window left page written = SaysRecord direction number bytes was said window left page written
 ShowsNext direction number bytes was said (Ok false) window left page written = EndsWith bytes None was said page written
 ShowsNext direction number bytes was said (Err fault) window left page written =
-    MatchFault (λ f. EndsWith bytes (Some f) was said page written) (CutOff bytes window left × Said was page written said)
+    MatchFault (λ f. EndsWith bytes (Some f) was said page written) (CutOff bytes window left × SaidSoFar was page written said)
     (BreaksRecord direction number bytes was said written) fault
 
 -- the lines were said of all records, and then the file ends, or the fault stands there
 abbrev pub SaysLines : Direction → ℕ → List ℕ → List ℕ → List ℕ → Option FileFault → List ℕ → Option (List ℕ) → Type 0
 SaysLines direction number bytes was said fault page written =
-    (messages : List (List Bool)) × Holds bytes messages fault × Said was page written (said ++ lines_from direction number messages)
+    (messages : List (List Bool)) × Holds bytes messages fault × SaidSoFar was page written (said ++ lines_from direction number messages)
 
 -- the lines were said of those records that came whole before a read failed
 abbrev pub SaysCut : Direction → ℕ → List ℕ → List ℕ → List ℕ → Option (List ℕ) → List ℕ → Option (List ℕ) → Type 0
@@ -85,7 +85,7 @@ ShowsFrom direction number bytes was said (Err fault) left page written =
 
 -- the lines of a file were said
 abbrev pub SaysFile : List ℕ → List ℕ → Option FileFault → List ℕ → Option (List ℕ) → Type 0
-SaysFile bytes was fault page written = (text : List ℕ) × ShownAs bytes text fault × Said was page written text
+SaysFile bytes was fault page written = (text : List ℕ) × ShownAs bytes text fault × SaidSoFar was page written text
 
 -- the lines were said of a file that is cut off where a read failed
 abbrev pub SaysCutFile : List ℕ → List ℕ → Option (List ℕ) → List ℕ → Option (List ℕ) → Type 0

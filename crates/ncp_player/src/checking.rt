@@ -11,6 +11,7 @@ use crate::outgoing::Outgoing;
 use crate::sink::Sink;
 use crate::source::Source;
 use crate::tally::{Tally, push_tally};
+use ncp_bits::Bits;
 
 // Counts the messages behind the header.
 fn tally_records<S: Source>(window: &mut Incoming, source: &mut S) -> Result<Tally, FileFault>
@@ -18,8 +19,9 @@ fn tally_records<S: Source>(window: &mut Incoming, source: &mut S) -> Result<Tal
     ensures mark { S.has_failed source.new ≡ (S.has_failed source.old || is_read_failed result) }
     ensures other { is_write_failed result ≡ false }
 {
+    let mut message = Bits::new();
     let mut tally = Tally::new();
-    while let Some(message) = read_record(window, source)? {
+    while read_record(window, source, &mut message)? {
         tally = tally.count(&message);
     }
     Ok(tally)

@@ -3,14 +3,14 @@ ghost use Rattle.std.specs.Prelude.{◌≡◌, ◌+◌, ◌≤◌, ◌||◌, ◌
 ghost use Rattle.ncp_bits.specs.Bits.{bytes_of};
 ghost use Rattle.ncp_leader.specs.Message.{message_in};
 ghost use Rattle.ncp_player.specs.Lines.{field, hex_of, command_words, bad_words, item_line, control_lines, text_word, text_line, is_control, size_line, fault_line, text_lines, message_lines};
-ghost use Rattle.ncp_player.specs.Streams.{Tells};
+ghost use Rattle.ncp_player.specs.Streams.{SaysTextOrBeginning};
 
 use crate::line::{LONGEST_LINE, push_field};
 use crate::outgoing::{Outgoing, PAGE};
 use crate::sink::Sink;
 use crate::source::Failed;
 use ncp_bits::{Bits, MAX_BITS, Part};
-use ncp_control::{Command, CommandFault, Commands};
+use ncp_control::{Command, CommandFault, Commands, ERROR_DATA};
 use ncp_leader::{MessageFault, Regular, read_regular};
 
 // How many bytes the words of a command have at most.
@@ -65,7 +65,7 @@ fn push_three(page: &mut Outgoing, name: &[u8; 3], one: Field<'_>, two: Field<'_
 }
 
 // Appends a name of three letters, a code and data.
-fn push_error(page: &mut Outgoing, name: &[u8; 3], code: u8, bytes: &[u8; 10])
+fn push_error(page: &mut Outgoing, name: &[u8; 3], code: u8, bytes: &[u8; ERROR_DATA])
     requires { length page.old + LONGEST_WORDS ≤ PAGE }
     ensures bytes { page.new ≡ page.old ++ (name.now ++ field (codes " code=") code ++ codes " data=" ++ hex_of bytes.now) }
     ensures len { length page.new ≤ length page.old + LONGEST_WORDS }
@@ -162,7 +162,7 @@ fn push_item(page: &mut Outgoing, item: &Result<Command, CommandFault>)
 // Says a line for each command of a control text, and one for its fault.
 fn say_commands<W: Sink>(page: &mut Outgoing, sink: &mut W, text: Part<'_>) -> Result<(), Failed>
     requires { length text % 8 ≡ 0 }
-    ensures told { Tells page.old (W.written sink.old) (control_lines (bytes_of text.entry)) result page.new (W.written sink.new) }
+    ensures told { SaysTextOrBeginning page.old (W.written sink.old) (control_lines (bytes_of text.entry)) result page.new (W.written sink.new) }
     ensures mark { W.has_failed sink.new ≡ (W.has_failed sink.old || is_err result) }
 {
     for item in Commands::new(text) {
@@ -182,10 +182,10 @@ fn push_text_word(page: &mut Outgoing, text: &Part<'_>)
         return;
     }
     let mut bytes = [0u8; MAX_BITS / 8];
-    let used = text.len().div_ceil(8);
-    text.to_bytes(&mut bytes);
+    let used = &mut bytes[..text.len().div_ceil(8)];
+    text.to_bytes(used);
     page.push(b' ');
-    page.push_hex(&bytes[..used]);
+    page.push_hex(used);
 }
 
 // Appends the line of a text.
@@ -220,7 +220,7 @@ fn push_fault(page: &mut Outgoing, fault: MessageFault)
 
 // Says the line of a text.
 fn say_text<W: Sink>(page: &mut Outgoing, sink: &mut W, text: &Part<'_>) -> Result<(), Failed>
-    ensures told { Tells page.old (W.written sink.old) (text_line text.now) result page.new (W.written sink.new) }
+    ensures told { SaysTextOrBeginning page.old (W.written sink.old) (text_line text.now) result page.new (W.written sink.new) }
     ensures mark { W.has_failed sink.new ≡ (W.has_failed sink.old || is_err result) }
 {
     page.make_room(sink, LONGEST_TEXT_LINE)?;
@@ -230,7 +230,7 @@ fn say_text<W: Sink>(page: &mut Outgoing, sink: &mut W, text: &Part<'_>) -> Resu
 
 // Says the line of a message's size and count.
 fn say_size<W: Sink>(page: &mut Outgoing, sink: &mut W, message: &Regular<'_>) -> Result<(), Failed>
-    ensures told { Tells page.old (W.written sink.old) (size_line message.now) result page.new (W.written sink.new) }
+    ensures told { SaysTextOrBeginning page.old (W.written sink.old) (size_line message.now) result page.new (W.written sink.new) }
     ensures mark { W.has_failed sink.new ≡ (W.has_failed sink.old || is_err result) }
 {
     page.make_room(sink, LONGEST_LINE)?;
@@ -240,7 +240,7 @@ fn say_size<W: Sink>(page: &mut Outgoing, sink: &mut W, message: &Regular<'_>) -
 
 // Says the line of a message's fault.
 fn say_fault<W: Sink>(page: &mut Outgoing, sink: &mut W, fault: MessageFault) -> Result<(), Failed>
-    ensures told { Tells page.old (W.written sink.old) (fault_line fault) result page.new (W.written sink.new) }
+    ensures told { SaysTextOrBeginning page.old (W.written sink.old) (fault_line fault) result page.new (W.written sink.new) }
     ensures mark { W.has_failed sink.new ≡ (W.has_failed sink.old || is_err result) }
 {
     page.make_room(sink, LONGEST_LINE)?;
@@ -261,7 +261,7 @@ fn say_message<W: Sink>(
     sink: &mut W,
     message: &Regular<'_>,
 ) -> Result<(), Failed>
-    ensures told { Tells page.old (W.written sink.old) (size_line message.now ++ text_lines message.now) result page.new (W.written sink.new) }
+    ensures told { SaysTextOrBeginning page.old (W.written sink.old) (size_line message.now ++ text_lines message.now) result page.new (W.written sink.new) }
     ensures mark { W.has_failed sink.new ≡ (W.has_failed sink.old || is_err result) }
 {
     say_size(page, sink, message)?;
@@ -278,7 +278,7 @@ pub(crate) fn say_details<W: Sink>(
     sink: &mut W,
     bits: &Bits,
 ) -> Result<(), Failed>
-    ensures told { Tells page.old (W.written sink.old) (message_lines (message_in bits.now)) result page.new (W.written sink.new) }
+    ensures told { SaysTextOrBeginning page.old (W.written sink.old) (message_lines (message_in bits.now)) result page.new (W.written sink.new) }
     ensures mark { W.has_failed sink.new ≡ (W.has_failed sink.old || is_err result) }
 {
     match read_regular(bits) {

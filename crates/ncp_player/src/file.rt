@@ -1,5 +1,5 @@
 //! A message file: its header, its records and its faults.
-ghost use Rattle.std.specs.Prelude.{◌≡◌, ℕ, ◌<◌, ◌≤◌, ◌||◌, List, false, length, IfOk, IsSome};
+ghost use Rattle.std.specs.Prelude.{◌≡◌, ℕ, ◌<◌, ◌≤◌, ◌||◌, List, true, false, length, IfOk};
 ghost use Rattle.ncp_player.specs.File.{direction_of, name_of_fault, fault_of_bits};
 ghost use Rattle.ncp_player.specs.Results.{is_read_failed, is_write_failed};
 ghost use Rattle.ncp_player.specs.Steps.{ReadsHeader, ReadsRecord};
@@ -114,19 +114,20 @@ fn fault_of(fault: BitsFault) -> FileFault
     }
 }
 
-/// Reads the next record, if there is one.
+/// Reads the next record into `message`, and answers whether there was one.
 pub(crate) fn read_record<S: Source>(
     window: &mut Incoming,
     source: &mut S,
-) -> Result<Option<Bits>, FileFault>
-    ensures told { (bytes : List ℕ) → Ahead window.old (S.left source.old) bytes → ReadsRecord bytes result window.new (S.left source.new) }
+    message: &mut Bits,
+) -> Result<bool, FileFault>
+    ensures told { (bytes : List ℕ) → Ahead window.old (S.left source.old) bytes → ReadsRecord bytes result message.new window.new (S.left source.new) }
     ensures mark { S.has_failed source.new ≡ (S.has_failed source.old || is_read_failed result) }
     ensures other { is_write_failed result ≡ false }
-    ensures effort { IfOk result (λ found. IsSome found → effort (S.reads source.new) window.new < effort (S.reads source.old) window.old) }
+    ensures effort { IfOk result (λ found. found ≡ true → effort (S.reads source.new) window.new < effort (S.reads source.old) window.old) }
 {
     if !window.need(source, LENGTH)? {
         return if window.unread().is_empty() {
-            Ok(None)
+            Ok(false)
         } else {
             Err(FileFault::Truncated)
         };
@@ -139,10 +140,10 @@ pub(crate) fn read_record<S: Source>(
     if !window.need(source, used)? {
         return Err(FileFault::Truncated);
     }
-    match Bits::from_bytes(&window.unread()[LENGTH..used], len) {
-        Ok(message) => {
+    match message.copy_from_bytes(&window.unread()[LENGTH..used], len) {
+        Ok(()) => {
             window.skip(used);
-            Ok(Some(message))
+            Ok(true)
         }
         Err(fault) => Err(fault_of(fault)),
     }

@@ -12,6 +12,9 @@ pub(crate) const LONGEST_LINE: usize = 128;
 /// The type of a regular message.
 pub(crate) const REGULAR: u8 = 0;
 
+// How many bytes stand behind the number of a record at most.
+const LONGEST_SUMMARY: usize = LONGEST_LINE - LONGEST_NUMBER;
+
 // How many bytes the longest name of a type has.
 const LONGEST_KIND: usize = 15;
 
@@ -60,7 +63,7 @@ fn push_extras(page: &mut Outgoing, leader: &Leader)
 
 // Appends what stands behind the number of a record.
 fn push_leader(page: &mut Outgoing, direction: Direction, leader: &Leader)
-    requires { length page.old + 100 ≤ PAGE }
+    requires { length page.old + LONGEST_SUMMARY ≤ PAGE }
     ensures { page.new ≡ page.old ++ summary direction (Ok leader.now) }
 {
     page.push(b' ');

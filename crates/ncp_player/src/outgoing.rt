@@ -2,7 +2,7 @@
 ghost use Rattle.std.specs.Prelude.{◌≡◌, ℕ, ◌+◌, ◌*◌, ◌<◌, ◌≤◌, ◌||◌, [], ◌∷◌, ◌++◌, length, take, decimal, is_err, OnOk, OnErr};
 ghost use Rattle.std.specs.Io.KnownBytes.{Appends};
 ghost use Rattle.ncp_player.specs.Lines.{hex_digit, hex_of};
-ghost use Rattle.ncp_player.specs.Streams.{Says, SaysBeginning};
+ghost use Rattle.ncp_player.specs.Streams.{SaysText, SaysBeginning};
 
 use crate::sink::Sink;
 use crate::source::Failed;
@@ -91,7 +91,7 @@ impl Outgoing {
 
     /// Writes the page, which is empty then.
     pub(crate) fn flush<W: Sink>(&mut self, sink: &mut W) -> Result<(), Failed>
-        ensures ok { OnOk result ((self.new ≡ []) × Says self.old (W.written sink.old) [] self.new (W.written sink.new)) }
+        ensures ok { OnOk result ((self.new ≡ []) × SaysText self.old (W.written sink.old) [] self.new (W.written sink.new)) }
         ensures err { OnErr result (SaysBeginning self.old (W.written sink.old) [] (W.written sink.new)) }
         ensures mark { W.has_failed sink.new ≡ (W.has_failed sink.old || is_err result) }
     {
@@ -104,7 +104,7 @@ impl Outgoing {
     pub(crate) fn make_room<W: Sink>(&mut self, sink: &mut W, count: usize) -> Result<(), Failed>
         requires { count ≤ PAGE }
         ensures room { OnOk result (length self.new + count ≤ PAGE) }
-        ensures ok { OnOk result (Says self.old (W.written sink.old) [] self.new (W.written sink.new)) }
+        ensures ok { OnOk result (SaysText self.old (W.written sink.old) [] self.new (W.written sink.new)) }
         ensures err { OnErr result (SaysBeginning self.old (W.written sink.old) [] (W.written sink.new)) }
         ensures mark { W.has_failed sink.new ≡ (W.has_failed sink.old || is_err result) }
     {

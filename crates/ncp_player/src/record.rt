@@ -1,7 +1,7 @@
 //! The lines of a record.
 ghost use Rattle.std.specs.Prelude.{◌≡◌, ◌||◌, ◌++◌, decimal, is_err};
 ghost use Rattle.ncp_player.specs.Lines.{summary, is_regular, record_lines};
-ghost use Rattle.ncp_player.specs.Streams.{Tells};
+ghost use Rattle.ncp_player.specs.Streams.{SaysTextOrBeginning};
 
 use crate::detail::say_details;
 use crate::file::Direction;
@@ -20,7 +20,7 @@ fn say_first_line<W: Sink>(
     number: u32,
     leader: &Result<Leader, Short>,
 ) -> Result<(), Failed>
-    ensures told { Tells page.old (W.written sink.old) (decimal number ++ summary direction leader.now) result page.new (W.written sink.new) }
+    ensures told { SaysTextOrBeginning page.old (W.written sink.old) (decimal number ++ summary direction leader.now) result page.new (W.written sink.new) }
     ensures mark { W.has_failed sink.new ≡ (W.has_failed sink.old || is_err result) }
 {
     page.make_room(sink, LONGEST_LINE)?;
@@ -46,7 +46,7 @@ pub(crate) fn say_record<W: Sink>(
     number: u32,
     message: &Bits,
 ) -> Result<(), Failed>
-    ensures told { Tells page.old (W.written sink.old) (record_lines direction number message.now) result page.new (W.written sink.new) }
+    ensures told { SaysTextOrBeginning page.old (W.written sink.old) (record_lines direction number message.now) result page.new (W.written sink.new) }
     ensures mark { W.has_failed sink.new ≡ (W.has_failed sink.old || is_err result) }
 {
     let leader = read_leader(message);

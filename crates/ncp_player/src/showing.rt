@@ -1,7 +1,7 @@
 //! `show`: what a message file holds, line by line.
 ghost use Rattle.std.specs.Prelude.{◌≡◌, ℕ, ◌<◌, ◌||◌, [], List, Some, true, false, IfOk};
 ghost use Rattle.ncp_player.specs.Results.{is_read_failed, is_write_failed};
-ghost use Rattle.ncp_player.specs.Streams.{Ahead, Said, effort};
+ghost use Rattle.ncp_player.specs.Streams.{Ahead, SaidSoFar, effort};
 ghost use Rattle.ncp_player.specs.Steps.{ShowsNext, ShowsFrom, ShowsFile};
 ghost use Rattle.ncp_player.specs.Shown.{Shown};
 
@@ -11,27 +11,29 @@ use crate::outgoing::Outgoing;
 use crate::record::say_record;
 use crate::sink::Sink;
 use crate::source::Source;
+use ncp_bits::Bits;
 
-// Shows the next record, and answers whether there was one.
+// Reads the next record into `message` and shows it, and answers whether there was one.
 fn show_next<S: Source, W: Sink>(
     window: &mut Incoming,
     source: &mut S,
+    message: &mut Bits,
     page: &mut Outgoing,
     sink: &mut W,
     direction: Direction,
     number: u32,
 ) -> Result<bool, FileFault>
     ensures told { (bytes : List ℕ) (was : List ℕ) (said : List ℕ)
-        → Ahead window.old (S.left source.old) bytes → Said was page.old (W.written sink.old) said
+        → Ahead window.old (S.left source.old) bytes → SaidSoFar was page.old (W.written sink.old) said
         → ShowsNext direction number bytes was said result window.new (S.left source.new) page.new (W.written sink.new) }
     ensures source_mark { S.has_failed source.new ≡ (S.has_failed source.old || is_read_failed result) }
     ensures sink_mark { W.has_failed sink.new ≡ (W.has_failed sink.old || is_write_failed result) }
     ensures effort { IfOk result (λ more. more ≡ true → effort (S.reads source.new) window.new < effort (S.reads source.old) window.old) }
 {
-    let Some(message) = read_record(window, source)? else {
+    if !read_record(window, source, message)? {
         return Ok(false);
-    };
-    match say_record(page, sink, direction, number, &message) {
+    }
+    match say_record(page, sink, direction, number, message) {
         Ok(()) => Ok(true),
         Err(_) => Err(FileFault::WriteFailed),
     }
@@ -46,13 +48,14 @@ fn show_records<S: Source, W: Sink>(
     direction: Direction,
 ) -> Result<(), FileFault>
     ensures told { (bytes : List ℕ) (was : List ℕ) (said : List ℕ)
-        → Ahead window.old (S.left source.old) bytes → Said was page.old (W.written sink.old) said
+        → Ahead window.old (S.left source.old) bytes → SaidSoFar was page.old (W.written sink.old) said
         → ShowsFrom direction 1 bytes was said result (S.left source.new) page.new (W.written sink.new) }
     ensures source_mark { S.has_failed source.new ≡ (S.has_failed source.old || is_read_failed result) }
     ensures sink_mark { W.has_failed sink.new ≡ (W.has_failed sink.old || is_write_failed result) }
 {
+    let mut message = Bits::new();
     let mut number = 1u32;
-    while show_next(window, source, page, sink, direction, number)? {
+    while show_next(window, source, &mut message, page, sink, direction, number)? {
         number = number.saturating_add(1);
     }
     Ok(())

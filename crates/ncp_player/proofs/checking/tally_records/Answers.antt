@@ -5,34 +5,34 @@ use Rattle.ncp_player.specs.Tallies.{TalliesFrom}
 use Rattle.ncp_player.proofs.Counting.{tallies_more, tallies_fault, tallies_end}
 use Rattle.ncp_player.proofs.checking.tally_records.Goals as goal
 
-pub loop-message-init : goal.loop-message-init
-loop-message-init g c = record {
+pub loop-tally-init : goal.loop-tally-init
+loop-tally-init g c = record {
   told = λ bytes a. (bytes, a, λ r h. subst (λ tally. TalliesFrom bytes tally r) c.new-tally.ensures h);
   mark = refl;
 }
 
-pub returns-in_err-message-clause-told : goal.returns-in_err-message-clause-told
-returns-in_err-message-clause-told g c = λ bytes a.
+pub returns-in_err-read_record-clause-told : goal.returns-in_err-read_record-clause-told
+returns-in_err-read_record-clause-told g c = λ bytes a.
     let p = err_from_is_err_and c.from_residual.result c.from_residual.ensures.1 in
-    let before = c.loop-message.invariant.told bytes a in
+    let before = c.loop-tally.invariant.told bytes a in
     rw (p.1, p.2) (
-    before.2 (Err c.in_err-message.field-0.0) (
-    tallies_fault before.0 c.read_record.new.window (g.S.Source.left c.read_record.new.source) c.loop-message.tally c.in_err-message.field-0.0 (c.in_err-message.ensures.told before.0 before.1)))
+    before.2 (Err c.in_err-read_record.field-0.0) (
+    tallies_fault before.0 c.read_record.new.window c.read_record.new.message (g.S.Source.left c.read_record.new.source) c.loop-tally.tally c.in_err-read_record.field-0.0 (c.in_err-read_record.ensures.told before.0 before.1)))
 
-pub loop-message-preserved : goal.loop-message-preserved
-loop-message-preserved g c = record {
+pub loop-tally-preserved : goal.loop-tally-preserved
+loop-tally-preserved g c = record {
   told = λ bytes a.
-      let before = c.loop-message.invariant.told bytes a in
-      let read = rw c.in-Some.is at (c.in_ok-message.ensures.told before.0 before.1) in (
+      let before = c.loop-tally.invariant.told bytes a in
+      let read = rw c.if-branch.true at (c.in_ok-read_record.ensures.told before.0 before.1) in (
         read.0,
         read.2,
-        λ r h. before.2 r (tallies_more before.0 read.0 c.in-Some.message c.loop-message.tally r read.1 (subst (λ tally. TalliesFrom read.0 tally r) c.count-tally.ensures h)),
+        λ r h. before.2 r (tallies_more before.0 read.0 c.read_record.new.message c.loop-tally.tally r read.1 (subst (λ tally. TalliesFrom read.0 tally r) c.count-tally.ensures h)),
       );
-  mark = c.in_ok-message.ensures.mark ∙ or-false _ ∙ c.loop-message.invariant.mark;
+  mark = c.in_ok-read_record.ensures.mark ∙ or-false _ ∙ c.loop-tally.invariant.mark;
 }
 
 pub returns-clause-told : goal.returns-clause-told
 returns-clause-told g c = λ bytes a.
-    let before = c.loop-message.invariant.told bytes a in
-    let none = rw c.in_default.is at (c.in_ok-message.ensures.told before.0 before.1) in
-    before.2 (Ok c.loop-message.tally) (tallies_end before.0 c.loop-message.tally none)
+    let before = c.loop-tally.invariant.told bytes a in
+    let none = rw c.if-branch.false at (c.in_ok-read_record.ensures.told before.0 before.1) in
+    before.2 (Ok c.loop-tally.tally) (tallies_end before.0 c.loop-tally.tally none)

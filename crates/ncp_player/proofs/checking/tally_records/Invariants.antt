@@ -5,8 +5,8 @@ use Rattle.ncp_player.specs.Streams.{Ahead, effort}
 use Rattle.ncp_player.specs.Tallies.{no_messages, TalliesFrom}
 use Rattle.ncp_player.proofs.checking.tally_records.Given as goal
 
-abbrev pub invariant-loop-message : goal.invariant-loop-message
-invariant-loop-message g l =
+abbrev pub invariant-loop-tally : goal.invariant-loop-tally
+invariant-loop-tally g l =
     let s = g.S.Source in
     record {
       told : (bytes : List ℕ) → Ahead l.initial.window (s.left l.initial.source) bytes
@@ -14,5 +14,5 @@ invariant-loop-message g l =
       mark : s.has_failed l.source ≡ s.has_failed l.initial.source;
     }
 
-abbrev pub decreases-loop-message : goal.decreases-loop-message
-decreases-loop-message g l = effort (g.S.Source.reads l.source) l.window
+abbrev pub decreases-loop-tally : goal.decreases-loop-tally
+decreases-loop-tally g l = effort (g.S.Source.reads l.source) l.window

@@ -4,8 +4,8 @@ use Rattle.std.proofs.Math.Bool.{or-false}
 use Rattle.std.proofs.lemmas.List.{append_assoc}
 use Rattle.ncp_player.specs.Lines.{item_line, control_lines}
 use Rattle.ncp_bits.specs.Bits.{bytes_of}
-use Rattle.ncp_player.specs.Streams.{Says, SaysBeginning}
-use Rattle.ncp_player.proofs.Saying.{tells_broken}
+use Rattle.ncp_player.specs.Streams.{SaysText, SaysBeginning}
+use Rattle.ncp_player.proofs.Saying.{answers_broken}
 use Rattle.ncp_player.proofs.Saying.{says_none, says_item, says_items, says_items_broken}
 use Rattle.ncp_player.proofs.detail.say_commands.Goals as goal
 
@@ -22,7 +22,7 @@ pub returns-in_err-make_room-clause-told : goal.returns-in_err-make_room-clause-
 returns-in_err-make_room-clause-told g c =
     let w = g.W.Sink in
     let all = c.into_iter-item-iterator.ensures.into_iter_gives ∙ c.new-item-items.ensures.items in
-    tells_broken c.args.page.now (control_lines (bytes_of c.args.text)) (w.written c.args.sink.now) (w.written c.make_room.new.sink) c.make_room.new.self c.from_residual.result c.from_residual.ensures.0 (
+    answers_broken c.args.page.now (control_lines (bytes_of c.args.text)) (w.written c.args.sink.now) (w.written c.make_room.new.sink) c.make_room.new.self c.from_residual.result c.from_residual.ensures.0 (
     subst (λ items. SaysBeginning c.args.page.now (w.written c.args.sink.now) (flat_map item_line items) (w.written c.make_room.new.sink)) all
     (says_items_broken item_line c.args.page.now c.loop-item.page (w.written c.args.sink.now) (w.written c.loop-item.sink) (w.written c.make_room.new.sink) c.loop-item.yielded c.loop-item.item-iterator c.into_iter-item-iterator.result
     c.loop-item.invariant.said c.in_err-make_room.ensures.err c.loop-item.invariant.items))
@@ -43,6 +43,6 @@ pub returns-clause-told : goal.returns-clause-told
 returns-clause-told g c =
     let w = g.W.Sink in
     let all = c.into_iter-item-iterator.ensures.into_iter_gives ∙ c.new-item-items.ensures.items in
-    subst (λ items. Says c.args.page.now (w.written c.args.sink.now) (flat_map item_line items) c.loop-item.page (w.written c.loop-item.sink)) all
+    subst (λ items. SaysText c.args.page.now (w.written c.args.sink.now) (flat_map item_line items) c.loop-item.page (w.written c.loop-item.sink)) all
     (says_items item_line c.args.page.now c.loop-item.page (w.written c.args.sink.now) (w.written c.loop-item.sink) c.loop-item.yielded c.loop-item.item-iterator c.into_iter-item-iterator.result c.loop-item.invariant.said
     c.loop-item.invariant.items c.in-None.ensures.steps.0)

@@ -1,7 +1,7 @@
 use Rattle.std.proofs.Common.{◌≡◌, ◌++◌}
 use Rattle.std.specs.List.{flat_map}
 use Rattle.ncp_player.specs.Lines.{item_line}
-use Rattle.ncp_player.specs.Streams.{Says}
+use Rattle.ncp_player.specs.Streams.{SaysText}
 use Rattle.ncp_player.proofs.detail.say_commands.Given as goal
 
 abbrev pub invariant-loop-item : goal.invariant-loop-item
@@ -11,6 +11,6 @@ invariant-loop-item g l =
       can : (goal.iterator-loop-item g).can_next l.item-iterator;
       ends : (goal.iterator-loop-item g).is_finite l.item-iterator;
       items : l.yielded ++ l.item-iterator ≡ l.initial.item-iterator;
-      said : Says l.initial.page (w.written l.initial.sink) (flat_map item_line l.yielded) l.page (w.written l.sink);
+      said : SaysText l.initial.page (w.written l.initial.sink) (flat_map item_line l.yielded) l.page (w.written l.sink);
       mark : w.has_failed l.sink ≡ w.has_failed l.initial.sink;
     }

@@ -68,8 +68,8 @@ returns-in-Ok-clause-told g c = λ bytes a.
     let ahead = c.in_ok-need-2.ensures.moved bytes (c.in_ok-need.ensures.moved bytes a) in
     let len : c.from-len.result ≡ big_number 2 c.need.new.self = c.from-len.ensures ∙ c.read_u16.ensures ∙ ap (big_number 2) c.unread-2.ensures.bytes in (
       drop (bytes_for c.from-len.result) (drop 2 bytes),
-      next_told c.need-2.new.self ahead.0 bytes c.unread-3.result.now c.from-len.result c.div_ceil-used.result (Ok c.in-Ok.message) (omega (arith, there-2))
-          (len ∙ sym (number_grows c.need.new.self grows.0 c.need-2.new.self grows.1 there)) c.div_ceil-used.ensures there-2 ahead.2 c.unread-3.ensures.bytes c.in-Ok.ensures.read,
+      next_told c.need-2.new.self ahead.0 bytes c.unread-3.result.now c.from-len.result c.div_ceil-used.result (Ok c.copy_from_bytes.new.self) (omega (arith, there-2))
+          (len ∙ sym (number_grows c.need.new.self grows.0 c.need-2.new.self grows.1 there)) c.div_ceil-used.ensures there-2 ahead.2 c.unread-3.ensures.bytes (sym c.in-Ok.ensures.ok),
       ahead_behind c.need-2.new.self c.skip.new.self bytes (g.S.Source.left c.need-2.new.source) c.from-len.result c.div_ceil-used.result c.div_ceil-used.ensures there-2 c.skip.ensures ahead,
     )
 
@@ -81,6 +81,6 @@ returns-in-Err-clause-told g c = λ bytes a.
     let ahead = c.in_ok-need-2.ensures.moved bytes (c.in_ok-need.ensures.moved bytes a) in
     let len : c.from-len.result ≡ big_number 2 c.need.new.self = c.from-len.ensures ∙ c.read_u16.ensures ∙ ap (big_number 2) c.unread-2.ensures.bytes in
     rw c.fault_of.ensures (
-    told_fault bytes c.need-2.new.self (g.S.Source.left c.need-2.new.source) c.in-Err.fault
+    told_fault bytes c.need-2.new.self c.copy_from_bytes.new.self (g.S.Source.left c.need-2.new.source) c.in-Err.fault
     (next_told c.need-2.new.self ahead.0 bytes c.unread-3.result.now c.from-len.result c.div_ceil-used.result (Err c.in-Err.fault) (omega (arith, there-2))
-    (len ∙ sym (number_grows c.need.new.self grows.0 c.need-2.new.self grows.1 there)) c.div_ceil-used.ensures there-2 ahead.2 c.unread-3.ensures.bytes c.in-Err.ensures.read))
+    (len ∙ sym (number_grows c.need.new.self grows.0 c.need-2.new.self grows.1 there)) c.div_ceil-used.ensures there-2 ahead.2 c.unread-3.ensures.bytes (sym c.in-Err.ensures.err)))

@@ -1,6 +1,6 @@
 use Rattle.std.proofs.Common.{◌≡◌, ℕ, List, Option, Result}
 use Rattle.ncp_player.specs.declared.file.FileFault.{FileFault}
-use Rattle.ncp_player.specs.Streams.{Ahead, Said, effort}
+use Rattle.ncp_player.specs.Streams.{Ahead, SaidSoFar, effort}
 use Rattle.ncp_player.specs.Steps.{ShowsFrom}
 use Rattle.ncp_player.proofs.showing.show_records.Given as goal
 
@@ -8,8 +8,8 @@ abbrev pub invariant-loop-number : goal.invariant-loop-number
 invariant-loop-number g l =
     let s = g.S.Source in let w = g.W.Sink in
     record {
-      told : (bytes was said : List ℕ) → Ahead l.initial.window (s.left l.initial.source) bytes → Said was l.initial.page (w.written l.initial.sink) said
-          → (now now_said : List ℕ) × Ahead l.window (s.left l.source) now × Said was l.page (w.written l.sink) now_said
+      told : (bytes was said : List ℕ) → Ahead l.initial.window (s.left l.initial.source) bytes → SaidSoFar was l.initial.page (w.written l.initial.sink) said
+          → (now now_said : List ℕ) × Ahead l.window (s.left l.source) now × SaidSoFar was l.page (w.written l.sink) now_said
           × ((r : Result Unit FileFault) (left : Option (List ℕ)) (page : List ℕ) (written : Option (List ℕ)) → ShowsFrom l.direction l.number now was now_said r left page written
           → ShowsFrom l.direction 1 bytes was said r left page written);
       source_mark : s.has_failed l.source ≡ s.has_failed l.initial.source;
