@@ -8,6 +8,8 @@ mod entries;
 mod entry;
 mod record;
 mod table;
+#[cfg(test)]
+mod tests;
 
 pub use ncp_model::{CallFault, Heard, Pair, Took};
 pub use record::{End, Record};
