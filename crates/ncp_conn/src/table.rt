@@ -1,10 +1,9 @@
 //! The connections with one peer.
-ghost use Rattle.std.specs.Prelude.{◌≡◌, OnErr, IfOk, IfErr, [], ◌≤◌};
+ghost use Rattle.std.specs.Prelude.{◌≡◌, ℕ, ◌≤◌, OnErr, IfOk};
 ghost use Rattle.std.specs.FinMap.{get};
-ghost use Rattle.ncp_model.specs.declared.limits.TheConstants.{MAX_ROOM};
 ghost use Rattle.ncp_model.specs.Act.{answer};
 ghost use Rattle.ncp_model.specs.Calls.{close};
-ghost use Rattle.ncp_model.specs.Ends.{map_after, no_ends};
+ghost use Rattle.ncp_model.specs.Ends.{count, has_asked, is_by_peer, hears_link, uses_link, map_after, no_ends};
 ghost use Rattle.ncp_conn.specs.Records.{record_in};
 
 mod asking;
@@ -61,6 +60,18 @@ impl<S: BitStore> Table<S> {
         ensures { self.new ≡ no_ends }
     {
         self.entries.clear();
+    }
+
+    /// What holds of every table: at most [`MAX_OWN`] ends have an own request, at most
+    /// [`MAX_BY_PEER`] are there by the peer's alone, and on each link there is at most one sending
+    /// end that heard it and one receiving end that uses it. It does nothing.
+    pub fn keeps_its_limits(&self)
+        ensures own { count has_asked self.now ≤ MAX_OWN }
+        ensures by_peer { count is_by_peer self.now ≤ MAX_BY_PEER }
+        ensures hears { (on : ℕ) → count (hears_link on) self.now ≤ 1 }
+        ensures uses { (on : ℕ) → count (uses_link on) self.now ≤ 1 }
+    {
+        let _entries = &self.entries;
     }
 
     /// A copy of what is known of a connection.

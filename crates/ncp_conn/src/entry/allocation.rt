@@ -136,14 +136,14 @@ impl<S: BitStore> Entry<S> {
         if !self.opened {
             return refused(SOCKET_NOT_CONNECTED, &Command::Gvb { link, fm, fb });
         }
-        let messages = part_back(u32::from(self.messages), fm) as u16;
-        let bits = part_back(self.bits, fb);
-        self.messages -= messages;
-        self.bits -= bits;
+        let messages_back = part_back(u32::from(self.messages), fm) as u16;
+        let bits_back = part_back(self.bits, fb);
+        self.messages -= messages_back;
+        self.bits -= bits_back;
         Heard::Reply(Command::Ret {
             link,
-            messages,
-            bits,
+            messages: messages_back,
+            bits: bits_back,
         })
     }
 
