@@ -138,28 +138,32 @@ fn keeps_counters_within_limits(rt: HostRuntime) -> Result<(), Fail> {
 }
 
 #[test]
-fn refuses_to_allocate(rt: HostRuntime) -> Result<(), Fail> {
+fn allocates_at_open_receivers_only(rt: HostRuntime) -> Result<(), Fail> {
     let mut table = new_table(rt.alloc())?;
     assert!(rt; refusal(table.allocate(INWARD, 1, 1, true)) == Some(CallFault::NoEntry));
     table.ask_receive(INWARD, ROOM, false)?;
     assert!(rt; refusal(table.allocate(INWARD, 1, ROOM + 1, true)) == Some(CallFault::NotOpen));
+    table.close(INWARD, false)?;
+    assert!(rt; refusal(table.allocate(INWARD, 1, ROOM + 1, true)) == Some(CallFault::Closing));
     let mut table = sender(rt.alloc(), 8, ROOM)?;
     assert!(rt; refusal(table.allocate(OUTWARD, 1, ROOM + 1, true)) == Some(CallFault::WrongEnd));
+    Ok(())
+}
+
+#[test]
+fn allocates_no_more_than_fits(rt: HostRuntime) -> Result<(), Fail> {
     let mut table = receiver(rt.alloc(), 8, ROOM)?;
     assert!(rt; refusal(table.allocate(INWARD, 1, ROOM + 1, true)) == Some(CallFault::TooMuch));
     assert!(rt; refusal(table.allocate(INWARD, 1, ROOM, true)) == Some(CallFault::QueueFull));
     let all = table.allocate(INWARD, MAX_MESSAGES, ROOM, false)?;
-    assert!(rt;
-        all == Command::All {
-            link: 2,
-            messages: MAX_MESSAGES,
-            bits: ROOM
-        }
-    );
+    let made = Command::All {
+        link: 2,
+        messages: MAX_MESSAGES,
+        bits: ROOM,
+    };
+    assert!(rt; all == made);
     assert!(rt; refusal(table.allocate(INWARD, 1, 0, false)) == Some(CallFault::TooMuch));
     assert!(rt; refusal(table.allocate(INWARD, 0, 1, false)) == Some(CallFault::TooMuch));
-    table.close(INWARD, false)?;
-    assert!(rt; refusal(table.allocate(INWARD, 1, ROOM + 1, true)) == Some(CallFault::Closing));
     Ok(())
 }
 
@@ -179,16 +183,22 @@ fn counts_held_bits(rt: HostRuntime) -> Result<(), Fail> {
 }
 
 #[test]
-fn calls_back_once_at_a_time(rt: HostRuntime) -> Result<(), Fail> {
+fn calls_back_at_open_receivers_only(rt: HostRuntime) -> Result<(), Fail> {
     let mut table = new_table(rt.alloc())?;
     assert!(rt; refusal(table.call_back(INWARD, 1, 1, true)) == Some(CallFault::NoEntry));
     table.ask_receive(INWARD, ROOM, false)?;
     assert!(rt; refusal(table.call_back(INWARD, 1, 1, true)) == Some(CallFault::NotOpen));
+    table.close(INWARD, false)?;
+    assert!(rt; refusal(table.call_back(INWARD, 1, 1, true)) == Some(CallFault::Closing));
     let mut table = sender(rt.alloc(), 8, ROOM)?;
     assert!(rt; refusal(table.call_back(OUTWARD, 1, 1, true)) == Some(CallFault::WrongEnd));
+    Ok(())
+}
+
+#[test]
+fn calls_back_once_at_a_time(rt: HostRuntime) -> Result<(), Fail> {
     let mut table = receiver(rt.alloc(), 8, ROOM)?;
     assert!(rt; refusal(table.call_back(INWARD, 64, 1, true)) == Some(CallFault::QueueFull));
-    table.allocate(INWARD, 5, 1000, false)?;
     let gvb = table.call_back(INWARD, 64, 1, false)?;
     assert!(rt;
         gvb == Command::Gvb {
@@ -198,14 +208,29 @@ fn calls_back_once_at_a_time(rt: HostRuntime) -> Result<(), Fail> {
         }
     );
     assert!(rt; refusal(table.call_back(INWARD, 64, 1, true)) == Some(CallFault::Busy));
-    // A RET of more than is outstanding answers nothing.
     assert!(rt;
         table.hear(&Command::Ret {
             link: 2,
-            messages: 6,
+            messages: 0,
             bits: 0
-        }) == err(3, &[6, 2, 0, 6, 0, 0, 0, 0])
+        }) == Heard::Nothing
     );
+    table.call_back(INWARD, 200, 0, false)?;
+    Ok(())
+}
+
+// A RET of more than is outstanding answers nothing, and one that comes late neither.
+#[test]
+fn takes_back_what_is_outstanding(rt: HostRuntime) -> Result<(), Fail> {
+    let mut table = receiver(rt.alloc(), 8, ROOM)?;
+    table.allocate(INWARD, 5, 1000, false)?;
+    table.call_back(INWARD, 64, 1, false)?;
+    let too_much = Command::Ret {
+        link: 2,
+        messages: 6,
+        bits: 0,
+    };
+    assert!(rt; table.hear(&too_much) == err(3, &[6, 2, 0, 6, 0, 0, 0, 0]));
     assert!(rt; known(&rt, &table, INWARD).recall);
     assert!(rt;
         table.hear(&Command::Ret {
@@ -216,9 +241,7 @@ fn calls_back_once_at_a_time(rt: HostRuntime) -> Result<(), Fail> {
     );
     let outstanding = known(&rt, &table, INWARD);
     assert!(rt; outstanding.messages == 2 && outstanding.bits == 992 && !outstanding.recall);
-    table.call_back(INWARD, 200, 0, false)?;
     table.close(INWARD, false)?;
-    assert!(rt; refusal(table.call_back(INWARD, 1, 1, true)) == Some(CallFault::Closing));
     assert!(rt;
         table.hear(&Command::Ret {
             link: 2,

@@ -17,7 +17,7 @@ fn refuses_to_close(rt: HostRuntime) -> Result<(), Fail> {
     Ok(())
 }
 
-// A CLS is matched by one from the other side: each order ends the connection.
+// A CLS is matched by one from the other side: in either order the connection ends.
 #[test]
 fn ends_when_both_have_closed(rt: HostRuntime) -> Result<(), Fail> {
     let mut table = receiver(rt.alloc(), 8, ROOM)?;
@@ -27,6 +27,11 @@ fn ends_when_both_have_closed(rt: HostRuntime) -> Result<(), Fail> {
     assert!(rt; table.hear(&cls_for(INWARD)) == Heard::Nothing);
     assert!(rt; table.record(INWARD).is_none());
     assert!(rt; table.hear(&cls_for(INWARD)) == err(4, &[3, 0, 0, 0, 3, 0, 0, 0, 2]));
+    Ok(())
+}
+
+#[test]
+fn answers_cls_by_cls(rt: HostRuntime) -> Result<(), Fail> {
     let mut table = sender(rt.alloc(), 8, ROOM)?;
     assert!(rt; table.hear(&cls_for(OUTWARD)) == Heard::Reply(cls_of(OUTWARD)));
     assert!(rt; table.record(OUTWARD).is_none());
@@ -42,6 +47,13 @@ fn opens_nothing_that_is_left(rt: HostRuntime) -> Result<(), Fail> {
     assert!(rt; table.hear(&rts_for(OUTWARD, 2)) == Heard::Nothing);
     let left = known(&rt, &table, OUTWARD);
     assert!(rt; left.heard && left.link == 2 && left.left && !left.opened);
+    Ok(())
+}
+
+#[test]
+fn keeps_a_heard_link_until_the_end(rt: HostRuntime) -> Result<(), Fail> {
+    let mut table = sender(rt.alloc(), 8, ROOM)?;
+    table.close(OUTWARD, false)?;
     // Commands on its link come late, and the link stays taken.
     assert!(rt;
         table.hear(&Command::All {
@@ -143,7 +155,12 @@ fn closes_behind_held_bits(rt: HostRuntime) -> Result<(), Fail> {
     let (second, command) = table.take(INWARD, 4)?;
     assert!(rt; second.len() == 16 && command == Some(cls_of(INWARD)));
     assert!(rt; table.record(INWARD).is_none());
-    // A user who closes drops them.
+    Ok(())
+}
+
+// A user who closes a leaving receiver drops what it holds.
+#[test]
+fn drops_held_bits(rt: HostRuntime) -> Result<(), Fail> {
     let mut table = receiver(rt.alloc(), 8, ROOM)?;
     table.allocate(INWARD, 1, 48, false)?;
     assert!(rt; table.text(2, 8, text(48)?.whole()) == Took::Admitted);

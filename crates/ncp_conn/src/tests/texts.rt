@@ -1,5 +1,7 @@
 //! Text.
-use super::{INWARD, OUTWARD, ROOM, are_same, known, new_table, receiver, refusal, sender, text};
+use super::{
+    INWARD, OUTWARD, ROOM, are_same, known, new_table, receiver, refusal, rts_for, sender, text,
+};
 use crate::{CallFault, Heard, Took};
 use ncp_bits::Bits;
 use ncp_control::Command;
@@ -21,11 +23,9 @@ fn carries(rt: &impl Abort, alloc: Global, size: u8, len: usize) -> Result<(), F
     assert!(rt; to.text(2, cut_size, out.whole()) == Took::Admitted);
     let (taken, command) = to.take(INWARD, u32::from(MAX_MESSAGES))?;
     assert!(rt; are_same(&taken, &given) && command.is_none());
-    assert!(rt; from.answered(2).is_none());
     let spent = known(rt, &from, OUTWARD);
-    assert!(rt; spent.messages == 0 && spent.stored == 0 && !spent.busy);
     let used = known(rt, &to, INWARD);
-    assert!(rt; used.messages == 0 && used.stored == 0 && used.bits == spent.bits);
+    assert!(rt; spent.messages == 0 && used.messages == 0 && used.bits == spent.bits);
     Ok(())
 }
 
@@ -95,14 +95,22 @@ fn cuts_what_is_allocated(rt: HostRuntime) -> Result<(), Fail> {
 }
 
 #[test]
-fn refuses_what_is_given(rt: HostRuntime) -> Result<(), Fail> {
+fn gives_to_open_senders_only(rt: HostRuntime) -> Result<(), Fail> {
     let odd = text(12)?;
     let mut table = new_table(rt.alloc())?;
     assert!(rt; refusal(table.give(OUTWARD, &odd)) == Some(CallFault::NoEntry));
     table.ask_send(OUTWARD, 8, 8, false)?;
     assert!(rt; refusal(table.give(OUTWARD, &odd)) == Some(CallFault::NotOpen));
+    table.close(OUTWARD, false)?;
+    assert!(rt; refusal(table.give(OUTWARD, &odd)) == Some(CallFault::Closing));
     let mut table = receiver(rt.alloc(), 8, 8)?;
     assert!(rt; refusal(table.give(INWARD, &odd)) == Some(CallFault::WrongEnd));
+    Ok(())
+}
+
+#[test]
+fn gives_whole_bytes_that_fit(rt: HostRuntime) -> Result<(), Fail> {
+    let odd = text(12)?;
     let mut table = sender(rt.alloc(), 8, 8)?;
     assert!(rt; refusal(table.give(OUTWARD, &odd)) == Some(CallFault::NotWhole));
     assert!(rt; refusal(table.give(OUTWARD, &text(16)?)) == Some(CallFault::NoRoom));
@@ -110,17 +118,20 @@ fn refuses_what_is_given(rt: HostRuntime) -> Result<(), Fail> {
     assert!(rt; refusal(table.give(OUTWARD, &text(8)?)) == Some(CallFault::NoRoom));
     table.give(OUTWARD, &Bits::new())?;
     assert!(rt; known(&rt, &table, OUTWARD).stored == 8);
-    table.close(OUTWARD, false)?;
-    assert!(rt; refusal(table.give(OUTWARD, &odd)) == Some(CallFault::Closing));
     Ok(())
 }
 
 #[test]
-fn refuses_to_take(rt: HostRuntime) -> Result<(), Fail> {
+fn takes_what_was_opened(rt: HostRuntime) -> Result<(), Fail> {
     let mut table = new_table(rt.alloc())?;
     assert!(rt; refusal(table.take(INWARD, 1)) == Some(CallFault::NoEntry));
     table.ask_send(OUTWARD, 8, ROOM, false)?;
     assert!(rt; refusal(table.take(OUTWARD, 1)) == Some(CallFault::NotOpen));
+    Ok(())
+}
+
+#[test]
+fn takes_at_receivers_only(rt: HostRuntime) -> Result<(), Fail> {
     let mut table = sender(rt.alloc(), 8, ROOM)?;
     assert!(rt; refusal(table.take(OUTWARD, 1)) == Some(CallFault::WrongEnd));
     let mut table = receiver(rt.alloc(), 8, ROOM)?;
@@ -131,14 +142,23 @@ fn refuses_to_take(rt: HostRuntime) -> Result<(), Fail> {
     Ok(())
 }
 
-// Which of two reasons a text is not held for comes first.
+// An end that is left and never opened takes texts as late, too.
 #[test]
-fn refuses_texts(rt: HostRuntime) -> Result<(), Fail> {
+fn takes_texts_at_open_receivers_only(rt: HostRuntime) -> Result<(), Fail> {
     let byte = text(8)?;
     let mut table = new_table(rt.alloc())?;
     assert!(rt; table.text(2, 8, byte.whole()) == Took::NotOpen);
     table.ask_receive(INWARD, ROOM, false)?;
     assert!(rt; table.text(2, 8, byte.whole()) == Took::NotOpen);
+    table.close(INWARD, false)?;
+    assert!(rt; table.text(2, 8, byte.whole()) == Took::Late);
+    Ok(())
+}
+
+// Which of two reasons a text is not held for comes first.
+#[test]
+fn admits_what_is_allocated(rt: HostRuntime) -> Result<(), Fail> {
+    let byte = text(8)?;
     let mut table = receiver(rt.alloc(), 8, ROOM)?;
     assert!(rt; table.text(2, 4, byte.whole()) == Took::WrongSize);
     assert!(rt; table.text(2, 8, byte.whole()) == Took::Over);
@@ -149,11 +169,6 @@ fn refuses_texts(rt: HostRuntime) -> Result<(), Fail> {
     assert!(rt; table.text(2, 8, byte.whole()) == Took::Admitted);
     table.close(INWARD, false)?;
     assert!(rt; table.text(2, 4, byte.whole()) == Took::Late);
-    // One that is left and never opened takes them as late too.
-    let mut table = new_table(rt.alloc())?;
-    table.ask_receive(INWARD, ROOM, false)?;
-    table.close(INWARD, false)?;
-    assert!(rt; table.text(2, 8, byte.whole()) == Took::Late);
     Ok(())
 }
 
@@ -198,8 +213,6 @@ fn stores_65_536_bits(rt: HostRuntime) -> Result<(), Fail> {
 fn interrupts(rt: HostRuntime) -> Result<(), Fail> {
     let mut from = sender(rt.alloc(), 8, ROOM)?;
     let mut to = receiver(rt.alloc(), 8, ROOM)?;
-    assert!(rt; refusal(from.interrupt(INWARD, true)) == Some(CallFault::NoEntry));
-    assert!(rt; refusal(from.interrupt(OUTWARD, true)) == Some(CallFault::QueueFull));
     let ins = from.interrupt(OUTWARD, false)?;
     assert!(rt; ins == Command::Ins { link: 2 } && to.hear(&ins) == Heard::Nothing);
     let inr = to.interrupt(INWARD, false)?;
@@ -207,11 +220,19 @@ fn interrupts(rt: HostRuntime) -> Result<(), Fail> {
     assert!(rt; from.hear(&inr) == Heard::Nothing);
     assert!(rt; known(&rt, &from, OUTWARD).interrupts == 2);
     assert!(rt; known(&rt, &to, INWARD).interrupts == 1);
-    to.close(INWARD, false)?;
-    assert!(rt; refusal(to.interrupt(INWARD, true)) == Some(CallFault::Closing));
-    assert!(rt; to.hear(&ins) == Heard::Late);
-    let mut asked = new_table(rt.alloc())?;
-    asked.ask_send(OUTWARD, 8, ROOM, false)?;
-    assert!(rt; refusal(asked.interrupt(OUTWARD, true)) == Some(CallFault::NotOpen));
+    Ok(())
+}
+
+#[test]
+fn interrupts_open_connections_only(rt: HostRuntime) -> Result<(), Fail> {
+    let mut table = new_table(rt.alloc())?;
+    assert!(rt; refusal(table.interrupt(OUTWARD, true)) == Some(CallFault::NoEntry));
+    table.ask_send(OUTWARD, 8, ROOM, false)?;
+    assert!(rt; refusal(table.interrupt(OUTWARD, true)) == Some(CallFault::NotOpen));
+    let _ = table.hear(&rts_for(OUTWARD, 2));
+    assert!(rt; refusal(table.interrupt(OUTWARD, true)) == Some(CallFault::QueueFull));
+    table.close(OUTWARD, false)?;
+    assert!(rt; refusal(table.interrupt(OUTWARD, true)) == Some(CallFault::Closing));
+    assert!(rt; table.hear(&Command::Inr { link: 2 }) == Heard::Late);
     Ok(())
 }
