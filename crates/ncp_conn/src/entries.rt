@@ -1,5 +1,5 @@
 //! Finding and counting entries.
-ghost use Rattle.std.specs.Prelude.{◌≡◌, ℕ, ◌<◌, ◌≤◌, ◌+◌, ◌-◌, Bool, not, nat_lt, IfSome, Some, slice_get, length, vec_len, vec_capacity};
+ghost use Rattle.std.specs.Prelude.{◌≡◌, ◌<◌, ◌≤◌, ◌+◌, ◌-◌, not, nat_lt, IfSome, Some, slice_get, length, vec_len, vec_capacity};
 ghost use Rattle.std.specs.List.{position, count_by};
 ghost use Rattle.ncp_model.specs.End.{End};
 ghost use Rattle.ncp_model.specs.Ends.{has_asked, is_by_peer, hears_link, uses_link, lowest};

@@ -1,9 +1,9 @@
 //! What a table keeps of one connection.
-ghost use Rattle.std.specs.Prelude.{◌≡◌, ℕ, ◌+◌, ◌/◌, ◌≤◌, ◌==◌, Bool, [], length, take, drop};
+ghost use Rattle.std.specs.Prelude.{◌≡◌, ◌/◌, ◌≤◌, [], length, take, drop};
 ghost use Rattle.ncp_model.specs.End.{new_end, is_going, is_over, is_open};
 ghost use Rattle.ncp_model.specs.Act.{met};
 ghost use Rattle.ncp_model.specs.Ends.{hears_link, uses_link};
-ghost use Rattle.ncp_conn.specs.Changes.{with_end, putting, with_text};
+ghost use Rattle.ncp_conn.specs.Changes.{with_end};
 ghost use Rattle.ncp_conn.specs.Entries.{same_pair};
 ghost use Rattle.ncp_conn.specs.Records.{record_of, end_here};
 
@@ -14,9 +14,9 @@ mod requests;
 mod texts;
 
 use crate::record::{End, Record};
-use ncp_bits::{BitStore, Bits, MAX_BITS, Part};
+use ncp_bits::{BitStore, Bits, MAX_BITS};
 use ncp_control::{Command, error_for};
-use ncp_model::{CallFault, Heard, MAX_ROOM, Pair};
+use ncp_model::{Heard, MAX_ROOM, Pair};
 use std::marker::Model;
 
 /// A pair of sockets, and what is known of its connection here.

@@ -3,7 +3,7 @@ ghost use Rattle.std.specs.Prelude.{◌≡◌, OnErr, true, false, Some, ◌+◌
 ghost use Rattle.ncp_model.specs.Pairs.{sends};
 ghost use Rattle.ncp_model.specs.Act.{answer};
 ghost use Rattle.ncp_model.specs.Calls.{bits_to_take, give_end, take_end};
-ghost use Rattle.ncp_model.specs.Texts.{Answered, Taken, hear_text, bytes_to_send, may_send, cut, answered};
+ghost use Rattle.ncp_model.specs.Texts.{Taken, hear_text, bytes_to_send, may_send, cut, answered};
 ghost use Rattle.ncp_conn.specs.Changes.{after, with_end, putting, with_text, marks};
 
 use crate::entry::{Entry, whole_bytes};

@@ -1,5 +1,5 @@
 //! What comes: the commands of connections.
-ghost use Rattle.std.specs.Prelude.{◌≡◌, Bool, not, ◌||◌, ◌==◌, nat_le};
+ghost use Rattle.std.specs.Prelude.{◌≡◌, not, ◌||◌, ◌==◌, nat_le};
 ghost use Rattle.std.specs.FinMap.{get};
 ghost use Rattle.ncp_model.specs.Pairs.{sends, receives};
 ghost use Rattle.ncp_model.specs.End.{or_new};
