@@ -1,5 +1,5 @@
 -- How many entries pass a test, and the first that does: in the list and in the map.
-use Rattle.std.proofs.Common.{◌≡◌, ℕ, zero, suc, ◌+◌, ◌<◌, ◌≤◌, Bool, true, false, cond, not, List, [], ◌∷◌, ◌++◌, Option, Some, None, refl, sym, ap, ◌∙◌, subst, arith}
+use Rattle.std.proofs.Common.{◌≡◌, ℕ, zero, suc, ◌+◌, ◌≤◌, Bool, true, false, cond, not, List, [], ◌∷◌, ◌++◌, Option, Some, None, refl, sym, ap, ◌∙◌, subst, arith}
 use Rattle.std.specs.Prelude.{slice_get, slice_set, length}
 use Rattle.std.specs.declared.cmp.Ordering.{Ordering}
 use Rattle.std.specs.declared.cmp.Ordering.TheVariants.{Less, Equal, Greater}
@@ -11,8 +11,8 @@ use Rattle.std.proofs.lemmas.List.Sums.{count_by-le-length, sum_by-cons}
 use Rattle.ncp_model.specs.declared.pair.Pair.{Pair}
 use Rattle.ncp_model.specs.Pairs.{pair_cmp}
 use Rattle.ncp_model.specs.End.{End}
-use Rattle.ncp_model.specs.Ends.{Ends, count, has_asked, is_by_peer, first_by}
-use Rattle.ncp_model.proofs.PairOrder.{pairs_total, pairs_exact}
+use Rattle.ncp_model.specs.Ends.{count, has_asked, is_by_peer, first_by}
+use Rattle.ncp_model.proofs.PairOrder.{pairs_total}
 use Rattle.ncp_conn.specs.Entries.{AreEntries, FoundBy}
 
 abbrev pub one : Bool → ℕ

@@ -1,25 +1,24 @@
 -- Requests: what a table is after them, and what their acts are by their tests.
-use Rattle.std.proofs.Common.{◌≡◌, ℕ, ◌+◌, ◌<◌, ◌≤◌, ◌⊎◌, inl, inr, Bool, true, false, cond, not, ◌&&◌, ◌||◌, ◌==◌, nat_lt, nat_le, List, [], ◌∷◌, Option, Some, None, is_none, Result, Ok, Err, refl, sym, ap, ◌∙◌, subst, arith}
+use Rattle.std.proofs.Common.{◌≡◌, ℕ, ◌+◌, ◌<◌, ◌≤◌, inl, inr, Bool, true, false, cond, not, ◌&&◌, ◌||◌, ◌==◌, nat_le, List, Option, Some, None, is_none, Result, Ok, Err, refl, sym, ap, ◌∙◌, subst, arith}
 use Rattle.std.specs.Prelude.{slice_get, slice_set}
 use Rattle.std.specs.List.{count_by}
-use Rattle.std.specs.FinMap.{get, from_entries, insert, remove}
+use Rattle.std.specs.FinMap.{get, insert, remove}
 use Rattle.std.proofs.lemmas.Bool.{eqb-true}
 use Rattle.std.proofs.lemmas.Bool.Decides.{nat_tests}
-use Rattle.ncp_control.specs.declared.command.Command.{Command}
 use Rattle.ncp_control.specs.declared.command.Command.TheVariants.{Rts, Str}
 use Rattle.ncp_model.specs.declared.pair.Pair.{Pair}
 use Rattle.ncp_model.specs.declared.call_fault.CallFault.{CallFault}
-use Rattle.ncp_model.specs.declared.call_fault.CallFault.TheVariants.{BadSex, BadSize, BadRoom, AlreadyAsked, Closing, TableFull, QueueFull}
-use Rattle.ncp_model.specs.declared.outcomes.Heard.TheVariants.{Nothing, Reply, Full}
-use Rattle.ncp_model.specs.Pairs.{pair_cmp, sends, receives}
+use Rattle.ncp_model.specs.declared.call_fault.CallFault.TheVariants.{AlreadyAsked, Closing, TableFull, QueueFull}
+use Rattle.ncp_model.specs.declared.outcomes.Heard.TheVariants.{Nothing, Full}
+use Rattle.ncp_model.specs.Pairs.{sends, receives}
 use Rattle.ncp_model.specs.End.{End, new_end, or_new, is_going, is_over}
-use Rattle.ncp_model.specs.Act.{Act, Stays, Becomes, answer, is_room, is_data_link, wrong_parameters}
+use Rattle.ncp_model.specs.Act.{Act, Stays, Becomes, is_room, is_data_link, wrong_parameters}
 use Rattle.ncp_model.specs.Calls.{asked_to_send, asked_to_receive}
 use Rattle.ncp_model.specs.Commands.{errs}
 use Rattle.ncp_model.specs.Ends.{Ends, count, any, has_asked, is_by_peer, hears_link, uses_link, free_link, ask_send_in, ask_receive_in, map_after}
 use Rattle.ncp_conn.specs.Entries.{IsTable}
 use Rattle.ncp_conn.specs.Changes.{with_end, heard_link, heard_size}
-use Rattle.ncp_conn.specs.Asking.{Enters, MayAsk, may_ask, end_to_ask, hear_rts_in, hear_str_in}
+use Rattle.ncp_conn.specs.Asking.{Enters, may_ask, end_to_ask, hear_rts_in, hear_str_in}
 use Rattle.ncp_conn.proofs.Counts.{one}
 use Rattle.ncp_conn.proofs.Tables.{changed, Settles, new_is, table_changed, hears_sends, uses_receives, not_receives, not_sends}
 

@@ -8,17 +8,16 @@ use Rattle.std.specs.FinMap.{find, get, from_entries, insert}
 use Rattle.std.proofs.lemmas.Bool.{eqb-true}
 use Rattle.std.proofs.lemmas.Bool.Decides.{nat_tests}
 use Rattle.ncp_model.specs.declared.pair.Pair.{Pair}
-use Rattle.ncp_model.specs.declared.limits.TheConstants.{MAX_OWN, MAX_BY_PEER}
 use Rattle.ncp_model.specs.Pairs.{pair_cmp, sends, receives, is_proper}
 use Rattle.ncp_model.specs.End.{End, is_over}
 use Rattle.ncp_model.specs.Act.{Act, Stays, Becomes, answer}
-use Rattle.ncp_model.specs.Ends.{Ends, count, has_asked, is_by_peer, hears_link, uses_link, first_by, sender_on, receiver_on, end_of, pair_of, map_after, map_after_at}
+use Rattle.ncp_model.specs.Ends.{Ends, count, has_asked, is_by_peer, hears_link, uses_link, first_by, sender_on, receiver_on, pair_of, map_after, map_after_at}
 use Rattle.ncp_model.specs.Commands.{hear_cls, hear_cls_at}
 use Rattle.ncp_conn.specs.Asking.{Enters as NewAmong}
 use Rattle.ncp_conn.specs.Entries.{AreEntries, IsTable, Found, FoundBy, settled}
-use Rattle.ncp_conn.specs.Changes.{after, with_end, marks}
+use Rattle.ncp_conn.specs.Changes.{after, marks}
 use Rattle.ncp_conn.proofs.Finding.{found, are_set, are_remove, are_push, map_set, map_remove, map_push, get_is, get_set, set_same, remove_set, not_over}
-use Rattle.ncp_conn.proofs.Counts.{one, count_set, count_remove, count_push, count_is, count_both, first_is, first_passes}
+use Rattle.ncp_conn.proofs.Counts.{one, count_set, count_remove, count_push, count_is, count_both, first_is}
 
 -- the entries after the one at a place became f
 abbrev pub changed : List (Pair × End) → ℕ → Pair × End → List (Pair × End)

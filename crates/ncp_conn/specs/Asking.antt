@@ -1,5 +1,5 @@
 -- Whether an own request may be made, and what a new entry needs.
-use Rattle.std.specs.Prelude.{ℕ, ◌≡◌, ◌<◌, ◌⊎◌, Bool, true, false, not, ◌&&◌, nat_le, if◌then◌else◌, Option, None, Result, Ok, Err, IsOk}
+use Rattle.std.specs.Prelude.{ℕ, ◌≡◌, ◌<◌, ◌⊎◌, Bool, true, false, not, ◌&&◌, nat_le, if◌then◌else◌, None, Result, Ok, Err, IsOk}
 use Rattle.std.specs.FinMap.{get}
 use Rattle.ncp_model.specs.declared.pair.Pair.{Pair}
 use Rattle.ncp_model.specs.declared.outcomes.Heard.{Heard}

@@ -1,5 +1,5 @@
 -- How a table keeps its connections: a list of pairs with their ends.
-use Rattle.std.specs.Prelude.{◌≡◌, ℕ, ◌+◌, ◌≤◌, Bool, false, true, ◌&&◌, ◌==◌, if◌then◌else◌, List, [], ◌∷◌, Option, None, Some, slice_get}
+use Rattle.std.specs.Prelude.{◌≡◌, ℕ, ◌+◌, ◌≤◌, Bool, false, ◌&&◌, ◌==◌, if◌then◌else◌, List, [], ◌∷◌, Option, None, Some, slice_get}
 use Rattle.std.specs.List.{count_by, remove}
 use Rattle.std.specs.FinMap.{find}
 use Rattle.ncp_model.specs.declared.pair.Pair.{Pair}

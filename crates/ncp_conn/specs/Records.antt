@@ -1,5 +1,5 @@
 -- What a user is told of a connection.
-use Rattle.std.specs.Prelude.{Bool, if◌then◌else◌, length, Option, None, Some}
+use Rattle.std.specs.Prelude.{if◌then◌else◌, length, Option, None, Some}
 use Rattle.std.specs.FinMap.{get}
 use Rattle.ncp_model.specs.declared.pair.Pair.{Pair}
 use Rattle.ncp_model.specs.Pairs.{is_send}

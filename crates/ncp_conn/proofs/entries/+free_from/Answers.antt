@@ -1,4 +1,4 @@
-use Rattle.std.proofs.Common.{◌≡◌, ◌-◌, ◌+◌, ℕ, suc, Bool, not, nat_lt, true, false, sym, ap, ◌∙◌, arith, add-one}
+use Rattle.std.proofs.Common.{◌≡◌, ◌-◌, ◌+◌, not, nat_lt, true, false, sym, ap, ◌∙◌, arith, add-one}
 use Rattle.std.specs.List.{count_by}
 use Rattle.ncp_model.specs.Ends.{lowest, uses_link}
 use Rattle.ncp_conn.proofs.Asking.{lowest_end, lowest_yes, lowest_no, lt_yes, lt_no}

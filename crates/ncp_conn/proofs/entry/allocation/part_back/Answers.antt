@@ -1,4 +1,4 @@
-use Rattle.std.proofs.Common.{◌≡◌, ◌≤◌, ◌*◌, ℕ, sym, subst}
+use Rattle.std.proofs.Common.{◌≤◌, ◌*◌, ℕ, sym, subst}
 use Rattle.std.specs.Int.{div_ceil}
 use Rattle.std.proofs.Math.Nat.{min-le_left}
 use Rattle.ncp_model.specs.Amounts.{back}

@@ -3,7 +3,7 @@ use Rattle.ncp_model.specs.declared.pair.Pair.{Pair}
 use Rattle.ncp_model.specs.End.{End}
 use Rattle.ncp_model.specs.Texts.{Taken}
 use Rattle.ncp_model.specs.Ends.{answered_at}
-use Rattle.ncp_model.specs.Ends.{hears_link, sender_on, end_of}
+use Rattle.ncp_model.specs.Ends.{hears_link, sender_on}
 use Rattle.ncp_conn.proofs.Counts.{first_passes}
 use Rattle.ncp_conn.proofs.Tables.{there_by, no_sender, sender_is, map_acted, table_acted, link_answer, link_table, hears_sends}
 use Rattle.ncp_conn.proofs.table.Table.answered.Goals as goal

@@ -1,8 +1,8 @@
-use Rattle.std.proofs.Common.{◌≡◌, ◌<◌, true, false, refl, sym, ap, subst, ◌∙◌, arith, Option}
+use Rattle.std.proofs.Common.{◌≡◌, ◌<◌, true, refl, sym, ap, subst, ◌∙◌, arith, Option}
 use Rattle.std.specs.List.{count_by}
 use Rattle.ncp_model.specs.declared.pair.Pair.{Pair}
 use Rattle.ncp_model.specs.Pairs.{receives}
-use Rattle.ncp_model.specs.End.{End, or_new, new_end}
+use Rattle.ncp_model.specs.End.{End, or_new}
 use Rattle.ncp_model.specs.Act.{Becomes}
 use Rattle.ncp_model.specs.Calls.{asked_to_receive}
 use Rattle.ncp_model.specs.Ends.{count, has_asked, uses_link}

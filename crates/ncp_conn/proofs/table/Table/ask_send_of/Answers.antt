@@ -1,13 +1,13 @@
-use Rattle.std.proofs.Common.{◌≡◌, ◌<◌, true, false, refl, sym, ap, subst, ◌∙◌, arith, Option}
+use Rattle.std.proofs.Common.{◌≡◌, ◌<◌, true, refl, sym, ap, subst, ◌∙◌, arith, Option}
 use Rattle.std.specs.List.{count_by}
 use Rattle.ncp_model.specs.declared.pair.Pair.{Pair}
 use Rattle.ncp_model.specs.Pairs.{sends}
-use Rattle.ncp_model.specs.End.{End, or_new, new_end}
+use Rattle.ncp_model.specs.End.{End, or_new}
 use Rattle.ncp_model.specs.Act.{Becomes}
 use Rattle.ncp_model.specs.Calls.{asked_to_send}
-use Rattle.ncp_model.specs.Ends.{count, has_asked, uses_link}
+use Rattle.ncp_model.specs.Ends.{count, has_asked}
 use Rattle.ncp_conn.specs.Asking.{Enters}
-use Rattle.ncp_conn.proofs.Tables.{there, its_pair, got, got_none, counted, zero_from, map_acted, pair_table}
+use Rattle.ncp_conn.proofs.Tables.{there, its_pair, got, got_none, counted, map_acted, pair_table}
 use Rattle.ncp_conn.proofs.Requests.{new_sender, new_entry, entered, table_asks_send}
 use Rattle.ncp_conn.proofs.table.Table.ask_send_of.Goals as goal
 

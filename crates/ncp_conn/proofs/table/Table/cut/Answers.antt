@@ -2,7 +2,7 @@ use Rattle.std.proofs.Common.{refl, Option, None, Some}
 use Rattle.ncp_model.specs.declared.pair.Pair.{Pair}
 use Rattle.ncp_model.specs.End.{End}
 use Rattle.ncp_model.specs.Ends.{cut_at}
-use Rattle.ncp_model.specs.Ends.{hears_link, sender_on, end_of}
+use Rattle.ncp_model.specs.Ends.{hears_link, sender_on}
 use Rattle.ncp_conn.proofs.Tables.{there_by, no_sender, sender_is, map_acted, table_acted, link_answer, link_table}
 use Rattle.ncp_conn.proofs.table.Table.cut.Goals as goal
 

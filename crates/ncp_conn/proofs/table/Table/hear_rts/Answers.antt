@@ -3,7 +3,7 @@ use Rattle.ncp_model.specs.declared.pair.Pair.{Pair}
 use Rattle.ncp_model.specs.declared.outcomes.Heard.{Heard}
 use Rattle.ncp_model.specs.declared.outcomes.Heard.TheVariants.{Nothing}
 use Rattle.ncp_model.specs.Pairs.{sends}
-use Rattle.ncp_model.specs.End.{End, or_new, new_end}
+use Rattle.ncp_model.specs.End.{End, or_new}
 use Rattle.ncp_model.specs.Act.{Becomes, answer}
 use Rattle.ncp_model.specs.Ends.{count, is_by_peer, hears_link, map_after}
 use Rattle.ncp_conn.specs.Asking.{Enters}

@@ -3,12 +3,12 @@ use Rattle.ncp_model.specs.declared.pair.Pair.{Pair}
 use Rattle.ncp_model.specs.declared.outcomes.Heard.{Heard}
 use Rattle.ncp_model.specs.declared.outcomes.Heard.TheVariants.{Nothing}
 use Rattle.ncp_model.specs.Pairs.{receives}
-use Rattle.ncp_model.specs.End.{End, or_new, new_end}
+use Rattle.ncp_model.specs.End.{End, or_new}
 use Rattle.ncp_model.specs.Act.{Becomes, answer}
-use Rattle.ncp_model.specs.Ends.{count, is_by_peer, hears_link, map_after}
+use Rattle.ncp_model.specs.Ends.{count, is_by_peer, map_after}
 use Rattle.ncp_conn.specs.Asking.{Enters}
 use Rattle.ncp_conn.specs.Changes.{heard_size}
-use Rattle.ncp_conn.proofs.Tables.{there, its_pair, got, got_none, counted, zero_from, map_acted, pair_table}
+use Rattle.ncp_conn.proofs.Tables.{there, its_pair, got, got_none, map_acted, pair_table}
 use Rattle.ncp_conn.proofs.Requests.{new_heard_size, new_entry, entered, table_hears_size, wrong_str, right_str, str_wrong, str_full, str_new, str_more}
 use Rattle.ncp_conn.proofs.table.Table.hear_str.Goals as goal
 

@@ -1,4 +1,4 @@
-use Rattle.std.proofs.Common.{◌≡◌, ◌≤◌, ℕ, sym, subst}
+use Rattle.std.proofs.Common.{◌≤◌, ℕ, sym, subst}
 use Rattle.ncp_model.specs.Ends.{has_asked, is_by_peer, hears_link, uses_link}
 use Rattle.ncp_conn.proofs.Tables.{counted}
 use Rattle.ncp_conn.proofs.table.Table.keeps_its_limits.Goals as goal

@@ -1,7 +1,6 @@
-use Rattle.std.proofs.Common.{◌≡◌, ℕ, ◌<◌, Bool, true, false, cond, nat_le, refl, sym, ap, ◌∙◌, arith, Ok, Err}
+use Rattle.std.proofs.Common.{◌≡◌, ◌<◌, true, false, nat_le, sym, ap, ◌∙◌, arith}
 use Rattle.std.specs.List.{count_by}
 use Rattle.std.specs.FinMap.{get}
-use Rattle.ncp_model.specs.declared.call_fault.CallFault.TheVariants.{TableFull, QueueFull}
 use Rattle.ncp_model.specs.End.{or_new}
 use Rattle.ncp_model.specs.Ends.{count, has_asked}
 use Rattle.ncp_conn.proofs.Asking.{le_yes, le_no}
