@@ -9,7 +9,7 @@ use Rattle.ncp_model.specs.declared.limits.TheConstants.{MAX_OWN, MAX_BY_PEER}
 use Rattle.ncp_model.specs.End.{End, or_new, is_going, is_over}
 use Rattle.ncp_model.specs.Act.{Act, answer}
 use Rattle.ncp_model.specs.Commands.{hear_rts, hear_str}
-use Rattle.ncp_model.specs.Ends.{Ends, count, any, has_asked, is_by_peer, hears_link, uses_link}
+use Rattle.ncp_model.specs.Ends.{Ends, count, any, has_asked, is_by_peer, hears_link, uses_link, map_after}
 
 -- why an end may not ask
 abbrev pub end_to_ask : End → Result (Unit {0}) CallFault
@@ -45,8 +45,8 @@ hear_rts_in pair on m = hear_rts pair on (any (hears_link on) m) (count is_by_pe
 abbrev pub hear_str_in : Pair → ℕ → Ends → Act Heard
 hear_str_in pair of_size m = hear_str pair of_size (count is_by_peer m) (get m pair)
 
--- what a call that takes memory may do: the act, or nothing where there is no memory for what it
--- would do
-abbrev pub DoneOrNoMemory : {A : Type 0} → Act (Result A CallFault) → Ends → Result A CallFault → Ends → Ends → Type 0
-DoneOrNoMemory act after result before now =
-    ((result ≡ answer act) × (now ≡ after)) ⊎ ((result ≡ Err OutOfMemory) × IsOk (answer act) × (now ≡ before))
+-- what a call that takes memory may do: the act at its pair, or nothing where there is no memory
+-- for what it would do
+abbrev pub DoneOrNoMemory : {A : Type 0} → Pair → Act (Result A CallFault) → Result A CallFault → Ends → Ends → Type 0
+DoneOrNoMemory pair act result before now =
+    ((result ≡ answer act) × (now ≡ map_after before pair act)) ⊎ ((result ≡ Err OutOfMemory) × IsOk (answer act) × (now ≡ before))

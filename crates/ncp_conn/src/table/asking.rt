@@ -5,7 +5,7 @@ ghost use Rattle.ncp_model.specs.Pairs.{sends, receives};
 ghost use Rattle.ncp_model.specs.End.{or_new};
 ghost use Rattle.ncp_model.specs.Act.{is_room};
 ghost use Rattle.ncp_model.specs.Calls.{asked_to_send, asked_to_receive};
-ghost use Rattle.ncp_model.specs.Ends.{any, uses_link, free_link, ask_send_in, ask_receive_in, map_after};
+ghost use Rattle.ncp_model.specs.Ends.{any, uses_link, free_link, ask_send_in, ask_receive_in};
 ghost use Rattle.ncp_conn.specs.Changes.{map_with};
 ghost use Rattle.ncp_conn.specs.Asking.{end_to_ask, may_ask, MayAsk, Enters, DoneOrNoMemory};
 
@@ -98,7 +98,7 @@ impl<S: BitStore> Table<S> {
         room: u32,
         full: bool,
     ) -> Result<Command, CallFault>
-        ensures done { DoneOrNoMemory (ask_send_in pair size room full self.old) (map_after self.old pair (ask_send_in pair size room full self.old)) result self.old self.new }
+        ensures done { DoneOrNoMemory pair (ask_send_in pair size room full self.old) result self.old self.new }
         ensures err { OnErr result (self.new ≡ self.old) }
     {
         if !pair.sends() {
@@ -153,7 +153,7 @@ impl<S: BitStore> Table<S> {
     /// Refused, in this order: `BadSex`, `BadRoom`, `AlreadyAsked`, `Closing`, `TableFull`,
     /// `QueueFull`, `OutOfMemory`, each as in [`Table::ask_send`].
     pub fn ask_receive(&mut self, pair: Pair, room: u32, full: bool) -> Result<Command, CallFault>
-        ensures done { DoneOrNoMemory (ask_receive_in pair room full self.old) (map_after self.old pair (ask_receive_in pair room full self.old)) result self.old self.new }
+        ensures done { DoneOrNoMemory pair (ask_receive_in pair room full self.old) result self.old self.new }
         ensures err { OnErr result (self.new ≡ self.old) }
     {
         if !pair.receives() {
