@@ -1,0 +1,269 @@
+-- Requests: what a table is after them, and what their acts are by their tests.
+use Rattle.std.proofs.Common.{◌≡◌, ℕ, ◌+◌, ◌<◌, ◌≤◌, inl, inr, Bool, true, false, cond, not, ◌&&◌, ◌||◌, ◌==◌, nat_le, List, Option, Some, None, is_none, Result, Ok, Err, refl, sym, ap, ◌∙◌, subst, arith}
+use Rattle.std.specs.Prelude.{slice_get, slice_set}
+use Rattle.std.specs.List.{count_by}
+use Rattle.std.specs.FinMap.{get, insert, remove}
+use Rattle.std.proofs.lemmas.Bool.{eqb-true}
+use Rattle.std.proofs.lemmas.Bool.Decides.{nat_tests}
+use Rattle.ncp_control.specs.declared.command.Command.TheVariants.{Rts, Str}
+use Rattle.ncp_model.specs.declared.pair.Pair.{Pair}
+use Rattle.ncp_model.specs.declared.call_fault.CallFault.{CallFault}
+use Rattle.ncp_model.specs.declared.call_fault.CallFault.TheVariants.{AlreadyAsked, Closing, TableFull, QueueFull}
+use Rattle.ncp_model.specs.declared.outcomes.Heard.TheVariants.{Nothing, Full}
+use Rattle.ncp_model.specs.Pairs.{sends, receives}
+use Rattle.ncp_model.specs.End.{End, new_end, or_new, is_going, is_over}
+use Rattle.ncp_model.specs.Act.{Act, Stays, Becomes, is_room, is_data_link, wrong_parameters}
+use Rattle.ncp_model.specs.Calls.{asked_to_send, asked_to_receive}
+use Rattle.ncp_model.specs.Commands.{errs}
+use Rattle.ncp_model.specs.Ends.{Ends, count, any, has_asked, is_by_peer, hears_link, uses_link, free_link, ask_send_in, ask_receive_in, map_after}
+use Rattle.ncp_conn.specs.Entries.{IsTable}
+use Rattle.ncp_conn.specs.Changes.{with_end, heard_link, heard_size}
+use Rattle.ncp_conn.specs.Asking.{Enters, may_ask, end_to_ask, hear_rts_in, hear_str_in}
+use Rattle.ncp_conn.proofs.Counts.{one}
+use Rattle.ncp_conn.proofs.Tables.{changed, Settles, new_is, table_changed, hears_sends, uses_receives, not_receives, not_sends}
+
+last_of : (a b : Bool) → (a && b) ≡ true → b ≡ true
+last_of true b h = h
+last_of false b h = absurd (cc)
+
+never : {A : Type 0} → (b : Bool) → b ≡ true → b ≡ false → A
+never b h g = let t : true ≡ false = sym h ∙ g in absurd (cc)
+
+no_use : {A : Type 0} → (on : ℕ) (p : Pair × End) → sends p.0 ≡ true → uses_link on p ≡ true → A
+no_use on p s h = never (receives p.0) (uses_receives on p h) (not_receives p.0 s)
+
+no_hearing : {A : Type 0} → (on : ℕ) (p : Pair × End) → receives p.0 ≡ true → hears_link on p ≡ true → A
+no_hearing on p s h = never (sends p.0) (hears_sends on p h) (not_sends p.0 s)
+
+-- the link that an entry is on
+its_link : (a : Bool) (here on : ℕ) → (a && here == on) ≡ true → here ≡ on
+its_link a here on h = eqb-true here on (last_of a (here == on) h)
+
+-- The table after a request, in turn the own one of a sender and of a receiver, and the peer's.
+
+module _ (es : List (Pair × End)) (i : ℕ) (r f : Pair × End) (new : List (Pair × End)) (capacity : ℕ) (t : IsTable es capacity) (is : slice_get es i ≡ Some r) (s : Settles (slice_set es i f) i new) where
+  pub table_asks_send : (of_size room : ℕ) → f ≡ with_end r (asked_to_send of_size room r.1) → sends r.0 ≡ true → count_by has_asked es < 64 → IsTable new capacity
+  table_asks_send of_size room e sender less =
+      let own : count_by has_asked es + 1 ≤ 64 + one r.1.asked = omega (arith, less) in
+      let by_peer : count_by is_by_peer es + 0 ≤ 64 + one (not r.1.asked) = let x = t.by_peer in omega (arith, x) in
+      rw (new_is es i r f new is s ∙ ap (changed es i) e)
+      (table_changed es i r (with_end r (asked_to_send of_size room r.1)) capacity t is refl own by_peer (λ on p. inl p) (λ on p. no_use on (with_end r (asked_to_send of_size room r.1)) sender p))
+
+  pub table_asks_receive : (on room : ℕ) → f ≡ with_end r (asked_to_receive on room r.1) → receives r.0 ≡ true → count_by has_asked es < 64 → count_by (uses_link on) es ≡ 0 → IsTable new capacity
+  table_asks_receive on room e receiver less free =
+      let own : count_by has_asked es + 1 ≤ 64 + one r.1.asked = omega (arith, less) in
+      let by_peer : count_by is_by_peer es + 0 ≤ 64 + one (not r.1.asked) = let x = t.by_peer in omega (arith, x) in
+      rw (new_is es i r f new is s ∙ ap (changed es i) e)
+      (table_changed es i r (with_end r (asked_to_receive on room r.1)) capacity t is refl own by_peer
+      (λ other p. no_hearing other (with_end r (asked_to_receive on room r.1)) receiver p)
+      (λ other p. inr (subst (λ (n : ℕ). count_by (uses_link n) es ≡ 0) (its_link (receives r.0 && true) on other p) free)))
+
+  pub table_hears_link : (on : ℕ) → f ≡ with_end r (heard_link on r.1) → sends r.0 ≡ true → count_by (hears_link on) es ≡ 0 → IsTable new capacity
+  table_hears_link on e sender free =
+      let own : count_by has_asked es + one r.1.asked ≤ 64 + one r.1.asked = let x = t.own in omega (arith, x) in
+      let by_peer : count_by is_by_peer es + one (not r.1.asked) ≤ 64 + one (not r.1.asked) = let x = t.by_peer in omega (arith, x) in
+      rw (new_is es i r f new is s ∙ ap (changed es i) e)
+      (table_changed es i r (with_end r (heard_link on r.1)) capacity t is refl own by_peer
+      (λ other p. inr (subst (λ (n : ℕ). count_by (hears_link n) es ≡ 0) (its_link (sends r.0 && true) on other p) free))
+      (λ other p. no_use other (with_end r (heard_link on r.1)) sender p))
+
+  pub table_hears_size : (of_size : ℕ) → f ≡ with_end r (heard_size of_size r.1) → receives r.0 ≡ true → IsTable new capacity
+  table_hears_size of_size e receiver =
+      let own : count_by has_asked es + one r.1.asked ≤ 64 + one r.1.asked = let x = t.own in omega (arith, x) in
+      let by_peer : count_by is_by_peer es + one (not r.1.asked) ≤ 64 + one (not r.1.asked) = let x = t.by_peer in omega (arith, x) in
+      rw (new_is es i r f new is s ∙ ap (changed es i) e)
+      (table_changed es i r (with_end r (heard_size of_size r.1)) capacity t is refl own by_peer (λ on p. no_hearing on (with_end r (heard_size of_size r.1)) receiver p) (λ on p. inl p))
+
+pub when : {A : Type 0} (b : Bool) (x y : A) → b ≡ true → cond b x y ≡ x
+when true x y h = refl
+when false x y h = absurd (cc)
+
+pub unless : {A : Type 0} (b : Bool) (x y : A) → b ≡ false → cond b x y ≡ y
+unless true x y h = absurd (cc)
+unless false x y h = refl
+
+-- A new entry by a request.
+
+pub new_entry : (p q : Pair × End) (k : Pair) (act : End → End) → p ≡ with_end q (act q.1) → q ≡ (k, new_end) → p ≡ (k, act new_end)
+new_entry p q k act h g = h ∙ ap (λ (x : Pair × End). with_end x (act x.1)) g
+
+not_both : {A : Type 0} → (a b : Bool) → ((a && false) && b) ≡ true → A
+not_both true b h = absurd (cc)
+not_both false b h = absurd (cc)
+
+below : (n : ℕ) → nat_le 64 n ≡ false → n < 64
+below n h = grind (arith, nat_tests)
+
+module _ (m : Ends) (k : Pair) (none : get m k ≡ None) where
+  pub new_sender : (of_size room : ℕ) → sends k ≡ true → count has_asked m < 64 → Enters m (k, asked_to_send of_size room new_end)
+  new_sender of_size room sender less = record {
+    none = none;
+    over = refl;
+    own = λ _. less;
+    by_peer = λ h. absurd (cc);
+    hears = λ on h. not_both (sends k) (0 == on) h;
+    uses = λ on h. no_use on (k, asked_to_send of_size room new_end) sender h;
+  }
+
+  pub new_receiver : (on room : ℕ) → receives k ≡ true → count has_asked m < 64 → any (uses_link on) m ≡ false → Enters m (k, asked_to_receive on room new_end)
+  new_receiver on room receiver less free = record {
+    none = none;
+    over = refl;
+    own = λ _. less;
+    by_peer = λ h. absurd (cc);
+    hears = λ other h. not_both (sends k) (on == other) h;
+    uses = λ other h. subst (λ (n : ℕ). any (uses_link n) m ≡ false) (its_link (receives k && true) on other h) free;
+  }
+
+  pub new_heard_link : (on : ℕ) → sends k ≡ true → nat_le 64 (count is_by_peer m) ≡ false → any (hears_link on) m ≡ false → Enters m (k, heard_link on new_end)
+  new_heard_link on sender room free = record {
+    none = none;
+    over = refl;
+    own = λ h. absurd (cc);
+    by_peer = λ _. below (count is_by_peer m) room;
+    hears = λ other h. subst (λ (n : ℕ). any (hears_link n) m ≡ false) (its_link (sends k && true) on other h) free;
+    uses = λ other h. not_both (receives k) (on == other) h;
+  }
+
+  pub new_heard_size : (of_size : ℕ) → receives k ≡ true → nat_le 64 (count is_by_peer m) ≡ false → Enters m (k, heard_size of_size new_end)
+  new_heard_size of_size receiver room = record {
+    none = none;
+    over = refl;
+    own = λ h. absurd (cc);
+    by_peer = λ _. below (count is_by_peer m) room;
+    hears = λ on h. no_hearing on (k, heard_size of_size new_end) receiver h;
+    uses = λ on h. not_both (receives k) (0 == on) h;
+  }
+
+pub entered : {A : Type 0} → (m new : Ends) (k : Pair) (p : Pair × End) (act : End → End) (a : A) → is_over (act new_end) ≡ false → get m k ≡ None → p ≡ (k, act new_end) → new ≡ insert m p.0 p.1 → new ≡ map_after m k (Becomes (act (or_new (get m k))) a)
+entered m new k p act a over none is h =
+    h ∙ ap (λ (x : Pair × End). insert m x.0 x.1) is ∙ sym (unless (is_over (act new_end)) (remove m k) (insert m k (act new_end)) over) ∙ ap (λ (o : Option End). map_after m k (Becomes (act (or_new o)) a)) (sym none)
+
+-- What the acts are.
+
+-- what is known where an or is false
+pub neither : (a b : Bool) → (a || b) ≡ false → (a ≡ false) × (b ≡ false)
+neither true b h = absurd (cc)
+neither false b h = (refl, h)
+
+pub really : (a : Bool) → not a ≡ false → a ≡ true
+really true h = refl
+really false h = absurd (cc)
+
+-- whether an RTS is wrong, and an STR
+abbrev pub wrong_rts : Pair → ℕ → Ends → Bool
+wrong_rts k on m = not (sends k) || not (is_data_link on) || (or_new (get m k)).heard || any (hears_link on) m
+
+abbrev pub wrong_str : Pair → ℕ → Ends → Bool
+wrong_str k of_size m = not (receives k) || of_size == 0 || (or_new (get m k)).heard
+
+pub right_rts : (k : Pair) (on : ℕ) (m : Ends) → wrong_rts k on m ≡ false → (sends k ≡ true) × (any (hears_link on) m ≡ false)
+right_rts k on m h =
+    let a = neither (not (sends k) || not (is_data_link on) || (or_new (get m k)).heard) (any (hears_link on) m) h in
+    let b = neither (not (sends k) || not (is_data_link on)) (or_new (get m k)).heard a.0 in
+    let d = neither (not (sends k)) (not (is_data_link on)) b.0 in
+    (really (sends k) d.0, a.1)
+
+pub right_str : (k : Pair) (of_size : ℕ) (m : Ends) → wrong_str k of_size m ≡ false → receives k ≡ true
+right_str k of_size m h =
+    let a = neither (not (receives k) || of_size == 0) (or_new (get m k)).heard h in
+    let b = neither (not (receives k)) (of_size == 0) a.0 in
+    really (receives k) b.0
+
+pub rts_wrong : (k : Pair) (on : ℕ) (m : Ends) → wrong_rts k on m ≡ true → hear_rts_in k on m ≡ errs wrong_parameters (Rts k.remote k.local on)
+rts_wrong k on m h = when (wrong_rts k on m) _ _ h
+
+pub str_wrong : (k : Pair) (of_size : ℕ) (m : Ends) → wrong_str k of_size m ≡ true → hear_str_in k of_size m ≡ errs wrong_parameters (Str k.remote k.local of_size)
+str_wrong k of_size m h = when (wrong_str k of_size m) _ _ h
+
+module _ (k : Pair) (on : ℕ) (m : Ends) (right : wrong_rts k on m ≡ false) where
+  pub rts_full : get m k ≡ None → nat_le 64 (count is_by_peer m) ≡ true → hear_rts_in k on m ≡ Stays Full
+  rts_full none n = unless (wrong_rts k on m) _ _ right ∙ ap (λ (o : Option End). cond (is_none o && nat_le 64 (count is_by_peer m)) (Stays Full) (Becomes (heard_link on (or_new o)) Nothing)) none ∙ when (nat_le 64 (count is_by_peer m)) (Stays Full) _ n
+
+  pub rts_new : get m k ≡ None → nat_le 64 (count is_by_peer m) ≡ false → hear_rts_in k on m ≡ Becomes (heard_link on new_end) Nothing
+  rts_new none n = unless (wrong_rts k on m) _ _ right ∙ ap (λ (o : Option End). cond (is_none o && nat_le 64 (count is_by_peer m)) (Stays Full) (Becomes (heard_link on (or_new o)) Nothing)) none ∙ unless (nat_le 64 (count is_by_peer m)) (Stays Full) _ n
+
+  pub rts_more : (e : End) → get m k ≡ Some e → hear_rts_in k on m ≡ Becomes (heard_link on e) Nothing
+  rts_more e there = unless (wrong_rts k on m) _ _ right ∙ ap (λ (o : Option End). cond (is_none o && nat_le 64 (count is_by_peer m)) (Stays Full) (Becomes (heard_link on (or_new o)) Nothing)) there
+
+module _ (k : Pair) (of_size : ℕ) (m : Ends) (right : wrong_str k of_size m ≡ false) where
+  pub str_full : get m k ≡ None → nat_le 64 (count is_by_peer m) ≡ true → hear_str_in k of_size m ≡ Stays Full
+  str_full none n = unless (wrong_str k of_size m) _ _ right ∙ ap (λ (o : Option End). cond (is_none o && nat_le 64 (count is_by_peer m)) (Stays Full) (Becomes (heard_size of_size (or_new o)) Nothing)) none ∙ when (nat_le 64 (count is_by_peer m)) (Stays Full) _ n
+
+  pub str_new : get m k ≡ None → nat_le 64 (count is_by_peer m) ≡ false → hear_str_in k of_size m ≡ Becomes (heard_size of_size new_end) Nothing
+  str_new none n = unless (wrong_str k of_size m) _ _ right ∙ ap (λ (o : Option End). cond (is_none o && nat_le 64 (count is_by_peer m)) (Stays Full) (Becomes (heard_size of_size (or_new o)) Nothing)) none ∙ unless (nat_le 64 (count is_by_peer m)) (Stays Full) _ n
+
+  pub str_more : (e : End) → get m k ≡ Some e → hear_str_in k of_size m ≡ Becomes (heard_size of_size e) Nothing
+  str_more e there = unless (wrong_str k of_size m) _ _ right ∙ ap (λ (o : Option End). cond (is_none o && nat_le 64 (count is_by_peer m)) (Stays Full) (Becomes (heard_size of_size (or_new o)) Nothing)) there
+
+-- the own requests: what the tests of the pair give is what the act gives
+
+chain_err : {A : Type 0} (a b c d : Bool) (f : CallFault) (w : Act (Result A CallFault)) → cond a (Err AlreadyAsked) (cond b (Err Closing) (cond c (Err TableFull) (cond d (Err QueueFull) (Ok (tt {0}))))) ≡ Err f → cond a (Stays (Err AlreadyAsked)) (cond b (Stays (Err Closing)) (cond c (Stays (Err TableFull)) (cond d (Stays (Err QueueFull)) w))) ≡ Stays (Err f)
+chain_err true b c d f w h = let g : AlreadyAsked ≡ f = cc in ap (λ (x : CallFault). Stays (Err x)) g
+chain_err false true c d f w h = let g : Closing ≡ f = cc in ap (λ (x : CallFault). Stays (Err x)) g
+chain_err false false true d f w h = let g : TableFull ≡ f = cc in ap (λ (x : CallFault). Stays (Err x)) g
+chain_err false false false true f w h = let g : QueueFull ≡ f = cc in ap (λ (x : CallFault). Stays (Err x)) g
+chain_err false false false false f w h = absurd (cc)
+
+chain_ok : {A : Type 0} (a b c d : Bool) (w : Act (Result A CallFault)) → cond a (Err AlreadyAsked) (cond b (Err Closing) (cond c (Err TableFull) (cond d (Err QueueFull) (Ok (tt {0}))))) ≡ Ok (tt {0}) → cond a (Stays (Err AlreadyAsked)) (cond b (Stays (Err Closing)) (cond c (Stays (Err TableFull)) (cond d (Stays (Err QueueFull)) w))) ≡ w
+chain_ok true b c d w h = absurd (cc)
+chain_ok false true c d w h = absurd (cc)
+chain_ok false false true d w h = absurd (cc)
+chain_ok false false false true w h = absurd (cc)
+chain_ok false false false false w h = refl
+
+abbrev going : Ends → Pair → Bool
+going m k = is_going (or_new (get m k))
+
+abbrev again : Ends → Pair → Bool
+again m k = (or_new (get m k)).asked && not (going m k)
+
+module _ (k : Pair) (of_size room : ℕ) (full : Bool) (m : Ends) (ps : sends k ≡ true) (pz : (of_size == 0) ≡ false) (pr : is_room room ≡ true) where
+  send_tested : ask_send_in k of_size room full m ≡ cond (again m k) (Stays (Err AlreadyAsked)) (cond (going m k) (Stays (Err Closing)) (cond (nat_le 64 (count has_asked m)) (Stays (Err TableFull)) (cond full (Stays (Err QueueFull)) (Becomes (asked_to_send of_size room (or_new (get m k))) (Ok (Str k.local k.remote of_size))))))
+  send_tested = unless (not (sends k)) _ _ (ap not ps) ∙ unless (of_size == 0) _ _ pz ∙ unless (not (is_room room)) _ _ (ap not pr)
+
+  pub send_err : (f : CallFault) → may_ask k full m ≡ Err f → ask_send_in k of_size room full m ≡ Stays (Err f)
+  send_err f h = send_tested ∙ chain_err (again m k) (going m k) (nat_le 64 (count has_asked m)) full f _ h
+
+  pub send_ok : may_ask k full m ≡ Ok tt → ask_send_in k of_size room full m ≡ Becomes (asked_to_send of_size room (or_new (get m k))) (Ok (Str k.local k.remote of_size))
+  send_ok h = send_tested ∙ chain_ok (again m k) (going m k) (nat_le 64 (count has_asked m)) full _ h
+
+module _ (k : Pair) (room : ℕ) (full : Bool) (m : Ends) (ps : receives k ≡ true) (pr : is_room room ≡ true) where
+  receive_tested : ask_receive_in k room full m ≡ cond (again m k) (Stays (Err AlreadyAsked)) (cond (going m k) (Stays (Err Closing)) (cond (nat_le 64 (count has_asked m)) (Stays (Err TableFull)) (cond full (Stays (Err QueueFull)) (Becomes (asked_to_receive (free_link m) room (or_new (get m k))) (Ok (Rts k.local k.remote (free_link m)))))))
+  receive_tested = unless (not (receives k)) _ _ (ap not ps) ∙ unless (not (is_room room)) _ _ (ap not pr)
+
+  pub receive_err : (f : CallFault) → may_ask k full m ≡ Err f → ask_receive_in k room full m ≡ Stays (Err f)
+  receive_err f h = receive_tested ∙ chain_err (again m k) (going m k) (nat_le 64 (count has_asked m)) full f _ h
+
+  pub receive_ok : may_ask k full m ≡ Ok tt → ask_receive_in k room full m ≡ Becomes (asked_to_receive (free_link m) room (or_new (get m k))) (Ok (Rts k.local k.remote (free_link m)))
+  receive_ok h = receive_tested ∙ chain_ok (again m k) (going m k) (nat_le 64 (count has_asked m)) full _ h
+
+-- and whether a pair may ask, by its end, the table and the queue
+
+ask_chain_err : (a b c d : Bool) (f : CallFault) → cond a (Err AlreadyAsked) (cond b (Err Closing) (Ok (tt {0}))) ≡ Err f → cond a (Err AlreadyAsked) (cond b (Err Closing) (cond c (Err TableFull) (cond d (Err QueueFull) (Ok (tt {0}))))) ≡ Err f
+ask_chain_err true b c d f h = h
+ask_chain_err false true c d f h = h
+ask_chain_err false false c d f h = absurd (cc)
+
+ask_chain_ok : (a b c d : Bool) → cond a (Err AlreadyAsked) (cond b (Err Closing) (Ok (tt {0}))) ≡ Ok (tt {0}) → cond a (Err AlreadyAsked) (cond b (Err Closing) (cond c (Err TableFull) (cond d (Err QueueFull) (Ok (tt {0}))))) ≡ cond c (Err TableFull) (cond d (Err QueueFull) (Ok (tt {0})))
+ask_chain_ok true b c d h = absurd (cc)
+ask_chain_ok false true c d h = absurd (cc)
+ask_chain_ok false false c d h = refl
+
+pub may_err : (k : Pair) (full : Bool) (m : Ends) (f : CallFault) → end_to_ask (or_new (get m k)) ≡ Err f → may_ask k full m ≡ Err f
+may_err k full m f h = ask_chain_err (again m k) (going m k) (nat_le 64 (count has_asked m)) full f h
+
+pub may_room : (k : Pair) (full : Bool) (m : Ends) → end_to_ask (or_new (get m k)) ≡ Ok tt → may_ask k full m ≡ cond (nat_le 64 (count has_asked m)) (Err TableFull) (cond full (Err QueueFull) (Ok tt))
+may_room k full m h = ask_chain_ok (again m k) (going m k) (nat_le 64 (count has_asked m)) full h
+
+not_asked : (a b c : Bool) → cond (a && not (b || c)) (Err AlreadyAsked) (cond (b || c) (Err Closing) (Ok (tt {0}))) ≡ Ok (tt {0}) → a ≡ false
+not_asked true true c h = absurd (cc)
+not_asked true false true h = absurd (cc)
+not_asked true false false h = absurd (cc)
+not_asked false b c h = refl
+
+pub may_first : (e : End) → end_to_ask e ≡ Ok tt → e.asked ≡ false
+may_first e h = not_asked e.asked e.leaving e.left h
+
+pub not_zero : (n : ℕ) → (n ≡ 0 → ⊥) → (n == 0) ≡ false
+not_zero n h = grind (arith, nat_tests)

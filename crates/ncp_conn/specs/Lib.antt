@@ -1,0 +1,5 @@
+pub mod Stores
+pub mod Records
+pub mod Changes
+pub mod Entries
+pub mod Asking

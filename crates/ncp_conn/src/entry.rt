@@ -1,0 +1,244 @@
+//! What a table keeps of one connection.
+ghost use Rattle.std.specs.Prelude.{◌≡◌, ◌/◌, ◌≤◌, [], length, take, drop};
+ghost use Rattle.ncp_model.specs.End.{new_end, is_going, is_over, is_open};
+ghost use Rattle.ncp_model.specs.Act.{met};
+ghost use Rattle.ncp_model.specs.Ends.{hears_link, uses_link};
+ghost use Rattle.ncp_conn.specs.Changes.{with_end};
+ghost use Rattle.ncp_conn.specs.Entries.{same_pair};
+ghost use Rattle.ncp_conn.specs.Records.{record_of, end_here};
+
+mod allocation;
+mod closing;
+mod interrupts;
+mod requests;
+mod texts;
+
+use crate::record::{End, Record};
+use ncp_bits::{BitStore, Bits, MAX_BITS};
+use ncp_control::{Command, error_for};
+use ncp_model::{Heard, MAX_ROOM, Pair};
+use std::marker::Model;
+
+/// A pair of sockets, and what is known of its connection here.
+#[derive(Drop)]
+pub(crate) struct Entry<S: BitStore> {
+    pair: Pair,
+    asked: bool,
+    heard: bool,
+    opened: bool,
+    leaving: bool,
+    left: bool,
+    cls: bool,
+    link: u8,
+    size: u8,
+    messages: u16,
+    bits: u32,
+    // Made by the own request.
+    store: Option<S>,
+    busy: bool,
+    recall: bool,
+    interrupts: u32,
+}
+
+impl<S: BitStore> Model for Entry<S> {
+    ghost use Rattle.std.specs.Coded.{coded×};
+    ghost use Rattle.ncp_model.specs.declared.pair.Pair.{Pair};
+    ghost use Rattle.ncp_model.specs.Pairs.{coded_pair};
+    ghost use Rattle.ncp_model.specs.End.{End as Ended, coded_end};
+    ghost use Rattle.ncp_conn.specs.Stores.{stored_in, room_in, Fits};
+
+    ghost Value = { Pair × Ended };
+
+    ghost coded = { coded× coded_pair coded_end };
+
+    ghost view = { λ e. (e.pair, record { asked = e.asked; heard = e.heard; opened = e.opened; leaving = e.leaving; left = e.left; cls = e.cls; link = e.link; size = e.size; messages = e.messages; bits = e.bits; stored = stored_in S.held e.store; room = room_in S.capacity e.store; busy = e.busy; recall = e.recall; interrupts = e.interrupts }) };
+
+    ghost invariant = { λ e. Fits e.pair e.asked e.bits (stored_in S.held e.store) (room_in S.capacity e.store) };
+}
+
+// The ERR about a command that came.
+pub(crate) fn refused(code: u8, command: &Command) -> Heard
+    ensures { result ≡ Heard.Reply (Rattle.ncp_model.specs.Act.error_of code command.now) }
+{
+    Heard::Reply(error_for(code, command))
+}
+
+// How many whole bytes so many bits are; none where a byte has no bits.
+fn whole_bytes(bits: usize, size: u8) -> usize
+    ensures { result ≡ bits / size }
+{
+    if size == 0 {
+        return 0;
+    }
+    bits / usize::from(size)
+}
+
+impl<S: BitStore> Entry<S> {
+    /// What an entry begins as.
+    pub(crate) fn new(pair: Pair) -> Self
+        ensures { result ≡ (pair, new_end) }
+    {
+        Entry {
+            pair,
+            asked: false,
+            heard: false,
+            opened: false,
+            leaving: false,
+            left: false,
+            cls: false,
+            link: 0,
+            size: 0,
+            messages: 0,
+            bits: 0,
+            store: None,
+            busy: false,
+            recall: false,
+            interrupts: 0,
+        }
+    }
+
+    /// Whether it is the entry of a pair.
+    pub(crate) fn is_for(&self, pair: Pair) -> bool
+        ensures { result ≡ same_pair self.now.0 pair }
+    {
+        self.pair.local == pair.local && self.pair.remote == pair.remote
+    }
+
+    /// Whether the own request was made.
+    pub(crate) fn is_asked(&self) -> bool
+        ensures { result ≡ self.now.1.asked }
+    {
+        self.asked
+    }
+
+    /// Whether the peer's request came.
+    pub(crate) fn is_heard(&self) -> bool
+        ensures { result ≡ self.now.1.heard }
+    {
+        self.heard
+    }
+
+    /// Whether it sends, and heard a link.
+    pub(crate) fn hears(&self, link: u8) -> bool
+        ensures { result ≡ hears_link link self.now }
+    {
+        self.pair.sends() && self.heard && self.link == link
+    }
+
+    /// Whether it receives, and asked with a link.
+    pub(crate) fn uses(&self, link: u8) -> bool
+        ensures { result ≡ uses_link link self.now }
+    {
+        self.pair.receives() && self.asked && self.link == link
+    }
+
+    /// Whether its CLS was made and one came.
+    pub(crate) fn is_over(&self) -> bool
+        ensures { result ≡ is_over self.now.1 }
+    {
+        self.left && self.cls
+    }
+
+    // Whether it is on its way out.
+    fn is_going(&self) -> bool
+        ensures { result ≡ is_going self.now.1 }
+    {
+        self.leaving || self.left
+    }
+
+    // Whether both requests are there, and it is not on its way out.
+    fn is_open(&self) -> bool
+        ensures { result ≡ is_open self.now.1 }
+    {
+        self.asked && self.heard && !self.is_going()
+    }
+
+    // How many bits are stored.
+    fn stored(&self) -> usize
+        ensures len { result ≡ length self.now.1.stored }
+        ensures fits { result ≤ self.now.1.room }
+        ensures small { result ≤ MAX_ROOM }
+    {
+        match &self.store {
+            Some(store) => {
+                let _room = store.room();
+                store.len()
+            }
+            None => 0,
+        }
+    }
+
+    // For how many bits there is room in all.
+    fn room(&self) -> usize
+        ensures room { result ≡ self.now.1.room }
+        ensures small { result ≤ MAX_ROOM }
+    {
+        match &self.store {
+            Some(store) => store.room() + store.len(),
+            None => 0,
+        }
+    }
+
+    // Opens the connection where both requests are there.
+    fn meet(&mut self)
+        ensures { self.new ≡ with_end self.old (met self.old.1) }
+    {
+        self.opened = self.opened || (self.asked && self.heard && !(self.leaving || self.left));
+    }
+
+    // Drops the stored bits.
+    fn drop_stored(&mut self)
+        ensures { self.new ≡ with_end self.old (record self.old.1 { stored = [] }) }
+    {
+        if let Some(store) = &mut self.store {
+            store.clear();
+        }
+    }
+
+    // Takes the first `count` stored bits.
+    fn take_stored(&mut self, count: usize) -> Bits
+        requires held { count ≤ length self.old.1.stored }
+        requires fits { count ≤ MAX_BITS }
+        ensures bits { result ≡ take count self.old.1.stored }
+        ensures entry { self.new ≡ with_end self.old (record self.old.1 { stored = drop count self.old.1.stored }) }
+    {
+        match &mut self.store {
+            Some(store) => store.take(count),
+            None => Bits::new(),
+        }
+    }
+
+    /// A copy of what is known.
+    pub(crate) fn record(&self) -> Record
+        ensures { result ≡ record_of self.now.0 self.now.1 }
+    {
+        Record {
+            end: end_at(self.pair),
+            asked: self.asked,
+            heard: self.heard,
+            opened: self.opened,
+            leaving: self.leaving,
+            left: self.left,
+            cls: self.cls,
+            link: self.link,
+            size: self.size,
+            messages: self.messages,
+            bits: self.bits,
+            stored: self.stored() as u32,
+            busy: self.busy,
+            recall: self.recall,
+            interrupts: self.interrupts,
+        }
+    }
+}
+
+// Which end is here.
+fn end_at(pair: Pair) -> End
+    ensures { result ≡ end_here pair }
+{
+    if pair.local % 2 == 1 {
+        End::Send
+    } else {
+        End::Receive
+    }
+}

@@ -1,0 +1,51 @@
+//! Interrupts.
+ghost use Rattle.std.specs.Prelude.{◌≡◌, OnErr, Some};
+ghost use Rattle.ncp_model.specs.Act.{answer};
+ghost use Rattle.ncp_model.specs.Calls.{interrupt_end};
+ghost use Rattle.ncp_model.specs.Commands.{at_open, interrupted};
+ghost use Rattle.ncp_conn.specs.Changes.{after, marks};
+
+use crate::entry::{Entry, refused};
+use ncp_bits::BitStore;
+use ncp_control::{Command, SOCKET_NOT_CONNECTED};
+use ncp_model::{CallFault, Heard};
+
+impl<S: BitStore> Entry<S> {
+    /// An interrupt of the other side: INS from a sender, INR from a receiver.
+    pub(crate) fn interrupt(&mut self, full: bool) -> Result<Command, CallFault>
+        ensures answer { result ≡ answer (interrupt_end self.old.0 full self.old.1) }
+        ensures entry { self.new ≡ after self.old (interrupt_end self.old.0 full self.old.1) }
+        ensures err { OnErr result (self.new ≡ self.old) }
+        ensures marks { marks self.new ≡ marks self.old }
+    {
+        if self.is_going() {
+            return Err(CallFault::Closing);
+        }
+        if !(self.asked && self.heard) {
+            return Err(CallFault::NotOpen);
+        }
+        if full {
+            return Err(CallFault::QueueFull);
+        }
+        if self.pair.sends() {
+            return Ok(Command::Ins { link: self.link });
+        }
+        Ok(Command::Inr { link: self.link })
+    }
+
+    /// An INR or INS came.
+    pub(crate) fn hear_interrupt(&mut self, command: &Command) -> Heard
+        ensures answer { result ≡ answer (at_open command.now interrupted (Some self.old.1)) }
+        ensures entry { self.new ≡ after self.old (at_open command.now interrupted (Some self.old.1)) }
+        ensures marks { marks self.new ≡ marks self.old }
+    {
+        if self.is_going() {
+            return Heard::Late;
+        }
+        if !self.opened {
+            return refused(SOCKET_NOT_CONNECTED, command);
+        }
+        self.interrupts = self.interrupts.saturating_add(1);
+        Heard::Nothing
+    }
+}

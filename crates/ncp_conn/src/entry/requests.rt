@@ -1,0 +1,68 @@
+//! The requests of either side.
+ghost use Rattle.std.specs.Prelude.{◌≡◌, ◌≤◌, false, []};
+ghost use Rattle.ncp_model.specs.Calls.{asked_to_send, asked_to_receive};
+ghost use Rattle.ncp_conn.specs.Changes.{with_end, heard_link, heard_size};
+ghost use Rattle.ncp_conn.specs.Asking.{end_to_ask};
+
+use crate::entry::Entry;
+use ncp_bits::BitStore;
+use ncp_model::{CallFault, MAX_ROOM};
+
+impl<S: BitStore> Entry<S> {
+    /// Whether the own request may be made, as far as this entry goes.
+    pub(crate) fn may_ask(&self) -> Result<(), CallFault>
+        ensures { result ≡ end_to_ask self.now.1 }
+    {
+        if self.asked && !self.is_going() {
+            return Err(CallFault::AlreadyAsked);
+        }
+        if self.is_going() {
+            return Err(CallFault::Closing);
+        }
+        Ok(())
+    }
+
+    /// The own request of a sender.
+    pub(crate) fn ask_send(&mut self, size: u8, store: S)
+        requires first { self.old.1.asked ≡ false }
+        requires empty { S.held store ≡ [] }
+        requires small { S.capacity store ≤ MAX_ROOM }
+        ensures { self.new ≡ with_end self.old (asked_to_send size (S.capacity store) self.old.1) }
+    {
+        self.asked = true;
+        self.size = size;
+        self.store = Some(store);
+        self.meet();
+    }
+
+    /// The own request of a receiver.
+    pub(crate) fn ask_receive(&mut self, link: u8, store: S)
+        requires first { self.old.1.asked ≡ false }
+        requires empty { S.held store ≡ [] }
+        requires small { S.capacity store ≤ MAX_ROOM }
+        ensures { self.new ≡ with_end self.old (asked_to_receive link (S.capacity store) self.old.1) }
+    {
+        self.asked = true;
+        self.link = link;
+        self.store = Some(store);
+        self.meet();
+    }
+
+    /// The request of a receiver came.
+    pub(crate) fn hear_link(&mut self, link: u8)
+        ensures { self.new ≡ with_end self.old (heard_link link self.old.1) }
+    {
+        self.heard = true;
+        self.link = link;
+        self.meet();
+    }
+
+    /// The request of a sender came.
+    pub(crate) fn hear_size(&mut self, size: u8)
+        ensures { self.new ≡ with_end self.old (heard_size size self.old.1) }
+    {
+        self.heard = true;
+        self.size = size;
+        self.meet();
+    }
+}

@@ -1,0 +1,170 @@
+//! Text: given, sent, admitted and taken.
+ghost use Rattle.std.specs.Prelude.{◌≡◌, OnErr, true, false, Some, ◌+◌, ◌≤◌, ◌%◌, ◌==◌, length};
+ghost use Rattle.ncp_model.specs.Pairs.{sends};
+ghost use Rattle.ncp_model.specs.Act.{answer};
+ghost use Rattle.ncp_model.specs.Calls.{bits_to_take, give_end, take_end};
+ghost use Rattle.ncp_model.specs.Texts.{Taken, hear_text, bytes_to_send, may_send, cut, answered};
+ghost use Rattle.ncp_conn.specs.Changes.{after, with_end, putting, with_text, marks};
+
+use crate::entry::{Entry, whole_bytes};
+use ncp_bits::{BitStore, Bits, Part};
+use ncp_control::Command;
+use ncp_model::{CallFault, MAX_TEXT, Took};
+
+impl<S: BitStore> Entry<S> {
+    // Stores a text behind what is stored, or nothing where there is no room.
+    fn put_stored(&mut self, text: Part<'_>) -> Result<(), CallFault>
+        requires outstanding { sends self.old.0 ≡ false → self.old.1.bits + length self.old.1.stored + length text ≤ self.old.1.room }
+        ensures answer { result ≡ putting text.entry self.old.1 }
+        ensures entry { self.new ≡ with_end self.old (with_text text.entry self.old.1) }
+    {
+        match &mut self.store {
+            Some(store) => store.put(text).map_err(|_| CallFault::NoRoom),
+            None if text.is_empty() => Ok(()),
+            None => Err(CallFault::NoRoom),
+        }
+    }
+
+    /// Text to send.
+    pub(crate) fn give(&mut self, text: &Bits) -> Result<(), CallFault>
+        ensures answer { result ≡ answer (give_end self.old.0 text.now self.old.1) }
+        ensures entry { self.new ≡ after self.old (give_end self.old.0 text.now self.old.1) }
+        ensures err { OnErr result (self.new ≡ self.old) }
+        ensures marks { marks self.new ≡ marks self.old }
+    {
+        if self.is_going() {
+            return Err(CallFault::Closing);
+        }
+        if !(self.asked && self.heard) {
+            return Err(CallFault::NotOpen);
+        }
+        if !self.pair.sends() {
+            return Err(CallFault::WrongEnd);
+        }
+        if !is_whole(text.len(), self.size) {
+            return Err(CallFault::NotWhole);
+        }
+        self.put_stored(text.whole())
+    }
+
+    // How many bits are taken where so many bytes are asked for.
+    fn bits_to_take(&self, bytes: u32) -> usize
+        ensures bits { result ≡ bits_to_take bytes self.now.1 }
+        ensures held { result ≤ length self.now.1.stored }
+        ensures fits { result ≤ MAX_TEXT }
+    {
+        let held = whole_bytes(self.stored(), self.size);
+        let most = whole_bytes(MAX_TEXT as usize, self.size);
+        (bytes as usize).min(held.min(most)) * usize::from(self.size)
+    }
+
+    /// Takes held text.
+    pub(crate) fn take(&mut self, bytes: u32) -> Result<(Bits, Option<Command>), CallFault>
+        ensures answer { result ≡ answer (take_end self.old.0 bytes self.old.1) }
+        ensures entry { self.new ≡ after self.old (take_end self.old.0 bytes self.old.1) }
+        ensures err { OnErr result (self.new ≡ self.old) }
+        ensures marks { marks self.new ≡ marks self.old }
+    {
+        if self.left {
+            return Err(CallFault::Closing);
+        }
+        if !self.opened {
+            return Err(CallFault::NotOpen);
+        }
+        if !self.pair.receives() {
+            return Err(CallFault::WrongEnd);
+        }
+        let count = self.bits_to_take(bytes);
+        let text = self.take_stored(count);
+        if self.leaving && self.stored() == 0 {
+            return Ok((text, Some(self.leave())));
+        }
+        Ok((text, None))
+    }
+
+    /// A text came to a receiver.
+    pub(crate) fn hear_text(&mut self, size: u8, text: Part<'_>) -> Took
+        requires { sends self.old.0 ≡ false }
+        ensures answer { result ≡ answer (hear_text size text.entry (Some self.old.1)) }
+        ensures entry { self.new ≡ after self.old (hear_text size text.entry (Some self.old.1)) }
+        ensures marks { marks self.new ≡ marks self.old }
+    {
+        if self.is_going() {
+            return Took::Late;
+        }
+        if !self.opened {
+            return Took::NotOpen;
+        }
+        if size != self.size {
+            return Took::WrongSize;
+        }
+        if self.messages == 0 || text.len() as u64 > u64::from(self.bits) {
+            return Took::Over;
+        }
+        self.messages -= 1;
+        self.bits -= text.len() as u32;
+        self.put_stored(text).unwrap();
+        Took::Admitted
+    }
+
+    // How many bytes go out in a message.
+    fn bytes_to_send(&self) -> usize
+        ensures bytes { result ≡ bytes_to_send self.now.1 }
+    {
+        let waiting = whole_bytes(self.stored(), self.size);
+        let allowed = whole_bytes(self.bits as usize, self.size);
+        let most = whole_bytes(MAX_TEXT as usize, self.size);
+        waiting.min(allowed.min(most))
+    }
+
+    // Whether a text may go out now.
+    fn may_send(&self) -> bool
+        ensures { result ≡ may_send self.now.0 self.now.1 }
+    {
+        self.pair.sends()
+            && self.is_open()
+            && !self.busy
+            && self.bytes_to_send() >= 1
+            && self.messages >= 1
+    }
+
+    /// The text that goes out next, if any, with its byte size.
+    pub(crate) fn cut(&mut self) -> Option<(u8, Bits)>
+        ensures answer { result ≡ answer (cut self.old.0 (Some self.old.1)) }
+        ensures entry { self.new ≡ after self.old (cut self.old.0 (Some self.old.1)) }
+        ensures marks { marks self.new ≡ marks self.old }
+    {
+        if !self.may_send() {
+            return None;
+        }
+        let count = self.bytes_to_send() * usize::from(self.size);
+        self.messages -= 1;
+        self.bits -= count as u32;
+        self.busy = true;
+        Some((self.size, self.take_stored(count)))
+    }
+
+    /// The text that went out was taken.
+    pub(crate) fn answered(&mut self) -> Option<Command>
+        requires { sends self.old.0 ≡ true }
+        ensures answer { result ≡ answer (answered self.old.0 Taken (Some self.old.1)) }
+        ensures entry { self.new ≡ after self.old (answered self.old.0 Taken (Some self.old.1)) }
+        ensures marks { marks self.new ≡ marks self.old }
+    {
+        self.busy = false;
+        if self.leaving {
+            return Some(self.leave());
+        }
+        None
+    }
+}
+
+// Whether so many bits are whole bytes: none are, but no bits, where a byte has no bits.
+fn is_whole(bits: usize, size: u8) -> bool
+    ensures { result ≡ (bits % size == 0) }
+{
+    if size == 0 {
+        return bits == 0;
+    }
+    bits % usize::from(size) == 0
+}

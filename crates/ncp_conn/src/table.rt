@@ -1,0 +1,104 @@
+//! The connections with one peer.
+ghost use Rattle.std.specs.Prelude.{◌≡◌, ℕ, ◌≤◌, OnErr, IfOk};
+ghost use Rattle.std.specs.FinMap.{get};
+ghost use Rattle.ncp_model.specs.Act.{answer};
+ghost use Rattle.ncp_model.specs.Calls.{close};
+ghost use Rattle.ncp_model.specs.Ends.{count, has_asked, is_by_peer, hears_link, uses_link, map_after, no_ends};
+ghost use Rattle.ncp_conn.specs.Records.{record_in};
+
+mod asking;
+mod hearing;
+mod texts;
+
+use crate::entries::{find, settle};
+use crate::entry::Entry;
+use crate::record::Record;
+use ncp_bits::BitStore;
+use ncp_control::Command;
+use ncp_model::{CallFault, MAX_BY_PEER, MAX_OWN, Pair};
+use std::alloc::{AllocError, Global};
+use std::marker::Model;
+
+/// The connections with one peer.
+#[derive(Drop)]
+pub struct Table<S: BitStore> {
+    alloc: Global,
+    entries: Vec<Entry<S>>,
+}
+
+impl<S: BitStore> Model for Table<S> {
+    ghost use Rattle.std.specs.Prelude.{vec_capacity};
+    ghost use Rattle.std.specs.FinMap.{code, from_entries};
+    ghost use Rattle.ncp_model.specs.Pairs.{coded_pair};
+    ghost use Rattle.ncp_model.specs.End.{coded_end};
+    ghost use Rattle.ncp_model.specs.Ends.{Ends};
+    ghost use Rattle.ncp_conn.specs.Entries.{IsTable};
+
+    ghost Value = { Ends };
+
+    ghost coded = { code coded_pair coded_end };
+
+    ghost view = { λ t. from_entries t.entries.items };
+
+    ghost invariant = { λ t. IsTable t.entries.items (vec_capacity t.entries) };
+}
+
+impl<S: BitStore> Table<S> {
+    /// No connections. Later calls but `ask_send` and `ask_receive` take no memory, and these only
+    /// for the store.
+    pub fn new(alloc: Global) -> Result<Self, AllocError>
+        ensures { IfOk result (λ table. table ≡ no_ends) }
+    {
+        Ok(Table {
+            alloc,
+            entries: Vec::with_capacity(alloc, MAX_OWN + MAX_BY_PEER)?,
+        })
+    }
+
+    /// Removes all connections.
+    pub fn purge(&mut self)
+        ensures { self.new ≡ no_ends }
+    {
+        self.entries.clear();
+    }
+
+    /// What holds of every table: at most [`MAX_OWN`] ends have an own request, at most
+    /// [`MAX_BY_PEER`] are there by the peer's alone, and on each link there is at most one sending
+    /// end that heard it and one receiving end that uses it. It does nothing.
+    pub fn keeps_its_limits(&self)
+        ensures own { count has_asked self.now ≤ MAX_OWN }
+        ensures by_peer { count is_by_peer self.now ≤ MAX_BY_PEER }
+        ensures hears { (on : ℕ) → count (hears_link on) self.now ≤ 1 }
+        ensures uses { (on : ℕ) → count (uses_link on) self.now ≤ 1 }
+    {
+        let _entries = &self.entries;
+    }
+
+    /// A copy of what is known of a connection.
+    pub fn record(&self, pair: Pair) -> Option<Record>
+        ensures { result ≡ record_in pair self.now }
+    {
+        let Some(place) = find(&self.entries, pair) else {
+            return None;
+        };
+        Some(self.entries[place].record())
+    }
+
+    /// Closes this side of a connection. The command, if any, is to be queued: while a text is out
+    /// the CLS is only due. `full` says that the commands that wait leave no place for a call's.
+    ///
+    /// Refused, in this order: `NoEntry`, `Closing` (left, or leaving at a sending end),
+    /// `QueueFull` (also where no command would be queued).
+    pub fn close(&mut self, pair: Pair, full: bool) -> Result<Option<Command>, CallFault>
+        ensures answer { result ≡ answer (close pair full (get self.old pair)) }
+        ensures table { self.new ≡ map_after self.old pair (close pair full (get self.old pair)) }
+        ensures err { OnErr result (self.new ≡ self.old) }
+    {
+        let Some(place) = find(&self.entries, pair) else {
+            return Err(CallFault::NoEntry);
+        };
+        let answer = self.entries[place].close(full);
+        settle(&mut self.entries, place);
+        answer
+    }
+}

@@ -1,0 +1,175 @@
+//! The own requests.
+ghost use Rattle.std.specs.Prelude.{◌≡◌, ◌≤◌, true, false, IfOk, IfErr, OnOk, OnErr, []};
+ghost use Rattle.std.specs.FinMap.{get, insert};
+ghost use Rattle.ncp_model.specs.Pairs.{sends, receives};
+ghost use Rattle.ncp_model.specs.End.{or_new};
+ghost use Rattle.ncp_model.specs.Act.{is_room};
+ghost use Rattle.ncp_model.specs.Calls.{asked_to_send, asked_to_receive};
+ghost use Rattle.ncp_model.specs.Ends.{any, uses_link, free_link, ask_send_in, ask_receive_in};
+ghost use Rattle.ncp_conn.specs.Changes.{map_with};
+ghost use Rattle.ncp_conn.specs.Asking.{end_to_ask, may_ask, MayAsk, Enters, DoneOrNoMemory};
+
+use crate::entries::{find, free_from, own_requests, settle};
+use crate::entry::Entry;
+use crate::table::Table;
+use ncp_bits::BitStore;
+use ncp_control::Command;
+use ncp_model::{CallFault, FIRST_LINK, MAX_OWN, MAX_ROOM, Pair};
+use std::alloc::Global;
+
+// Whether a store may have so many bits.
+fn is_room(room: u32) -> bool
+    ensures { result ≡ is_room room }
+{
+    room >= 1 && room <= MAX_ROOM
+}
+
+// A store for so many bits.
+fn make_store<S: BitStore>(alloc: Global, room: u32) -> Result<S, CallFault>
+    ensures held { IfOk result (λ store. S.held store ≡ []) }
+    ensures capacity { IfOk result (λ store. S.capacity store ≡ room) }
+    ensures err { IfErr result (λ fault. fault ≡ CallFault.OutOfMemory) }
+{
+    S::with_room(alloc, room as usize).map_err(|_| CallFault::OutOfMemory)
+}
+
+impl<S: BitStore> Table<S> {
+    // Whether a pair's end may ask, if it has one.
+    fn end_may_ask(&self, pair: Pair) -> Result<(), CallFault>
+        ensures { result ≡ end_to_ask (or_new (get self.now pair)) }
+    {
+        let Some(place) = find(&self.entries, pair) else {
+            return Ok(());
+        };
+        self.entries[place].may_ask()
+    }
+
+    // Whether a pair may ask.
+    fn may_ask(&self, pair: Pair, full: bool) -> Result<(), CallFault>
+        ensures told { result ≡ may_ask pair full self.now }
+        ensures ok { OnOk result (MayAsk pair self.now) }
+    {
+        self.end_may_ask(pair)?;
+        if own_requests(&self.entries) >= MAX_OWN {
+            return Err(CallFault::TableFull);
+        }
+        if full {
+            return Err(CallFault::QueueFull);
+        }
+        Ok(())
+    }
+
+    // Makes an entry for a pair that has none.
+    pub(crate) fn enter(&mut self, entry: Entry<S>)
+        requires enters { Enters self.old entry }
+        ensures { self.new ≡ insert self.old entry.0 entry.1 }
+    {
+        self.entries.push_reserved(entry);
+    }
+
+    // The own request of a sender that may ask.
+    fn ask_send_of(&mut self, pair: Pair, size: u8, store: S)
+        requires sends { sends pair ≡ true }
+        requires may { MayAsk pair self.old }
+        requires empty { S.held store ≡ [] }
+        requires small { S.capacity store ≤ MAX_ROOM }
+        ensures { self.new ≡ map_with self.old pair (asked_to_send size (S.capacity store) (or_new (get self.old pair))) }
+    {
+        let Some(place) = find(&self.entries, pair) else {
+            let mut entry = Entry::new(pair);
+            entry.ask_send(size, store);
+            self.enter(entry);
+            return;
+        };
+        self.entries[place].ask_send(size, store);
+        settle(&mut self.entries, place);
+    }
+
+    /// Asks to send, with so many bits a byte and room for so many bits that wait. The STR is to
+    /// be queued. `full` says that the commands that wait leave no place for a call's.
+    ///
+    /// Refused, in this order: `BadSex` (a sender's socket is odd, a receiver's even), `BadSize`
+    /// (0), `BadRoom` (outside 1 to `MAX_ROOM`), `AlreadyAsked`, `Closing`, `TableFull`
+    /// (`MAX_OWN` connections have an own request), `QueueFull`, `OutOfMemory`.
+    pub fn ask_send(
+        &mut self,
+        pair: Pair,
+        size: u8,
+        room: u32,
+        full: bool,
+    ) -> Result<Command, CallFault>
+        ensures done { DoneOrNoMemory pair (ask_send_in pair size room full self.old) result self.old self.new }
+        ensures err { OnErr result (self.new ≡ self.old) }
+    {
+        if !pair.sends() {
+            return Err(CallFault::BadSex);
+        }
+        if size == 0 {
+            return Err(CallFault::BadSize);
+        }
+        if !is_room(room) {
+            return Err(CallFault::BadRoom);
+        }
+        self.may_ask(pair, full)?;
+        let store = make_store(self.alloc, room)?;
+        self.ask_send_of(pair, size, store);
+        Ok(Command::Str {
+            send: pair.local,
+            receive: pair.remote,
+            size,
+        })
+    }
+
+    // The lowest link that no receiving end uses.
+    fn free_link(&self) -> u8
+        ensures { result ≡ free_link self.now }
+    {
+        free_from(&self.entries, FIRST_LINK)
+    }
+
+    // The own request of a receiver that may ask.
+    fn ask_receive_of(&mut self, pair: Pair, link: u8, store: S)
+        requires receives { receives pair ≡ true }
+        requires may { MayAsk pair self.old }
+        requires link { any (uses_link link) self.old ≡ false }
+        requires empty { S.held store ≡ [] }
+        requires small { S.capacity store ≤ MAX_ROOM }
+        ensures { self.new ≡ map_with self.old pair (asked_to_receive link (S.capacity store) (or_new (get self.old pair))) }
+    {
+        let Some(place) = find(&self.entries, pair) else {
+            let mut entry = Entry::new(pair);
+            entry.ask_receive(link, store);
+            self.enter(entry);
+            return;
+        };
+        self.entries[place].ask_receive(link, store);
+        settle(&mut self.entries, place);
+    }
+
+    /// Asks to receive, with room for so many bits that are held, on the lowest link that no
+    /// receiving end uses. The RTS is to be queued. `full` says that the commands that wait leave
+    /// no place for a call's.
+    ///
+    /// Refused, in this order: `BadSex`, `BadRoom`, `AlreadyAsked`, `Closing`, `TableFull`,
+    /// `QueueFull`, `OutOfMemory`, each as in [`Table::ask_send`].
+    pub fn ask_receive(&mut self, pair: Pair, room: u32, full: bool) -> Result<Command, CallFault>
+        ensures done { DoneOrNoMemory pair (ask_receive_in pair room full self.old) result self.old self.new }
+        ensures err { OnErr result (self.new ≡ self.old) }
+    {
+        if !pair.receives() {
+            return Err(CallFault::BadSex);
+        }
+        if !is_room(room) {
+            return Err(CallFault::BadRoom);
+        }
+        self.may_ask(pair, full)?;
+        let store = make_store(self.alloc, room)?;
+        let link = self.free_link();
+        self.ask_receive_of(pair, link, store);
+        Ok(Command::Rts {
+            receive: pair.local,
+            send: pair.remote,
+            link,
+        })
+    }
+}

@@ -1,0 +1,268 @@
+//! What comes: the commands of connections.
+ghost use Rattle.std.specs.Prelude.{◌≡◌, not, ◌||◌, ◌==◌, nat_le};
+ghost use Rattle.std.specs.FinMap.{get};
+ghost use Rattle.ncp_model.specs.Pairs.{sends, receives};
+ghost use Rattle.ncp_model.specs.End.{or_new};
+ghost use Rattle.ncp_model.specs.Act.{answer, is_data_link};
+ghost use Rattle.ncp_model.specs.Commands.{hear_cls, hear_all, hear_gvb, hear_ret, hear_inr, hear_ins};
+ghost use Rattle.ncp_model.specs.Ends.{any, count, is_by_peer, hears_link, sender_on, receiver_on, end_of, pair_of, hear, leads_to, map_after, map_after_at};
+ghost use Rattle.ncp_conn.specs.Asking.{hear_rts_in, hear_str_in};
+
+use crate::entries::{find, find_receiver, find_sender, hearing, peer_requests, settle};
+use crate::entry::{Entry, refused};
+use crate::table::Table;
+use ncp_bits::BitStore;
+use ncp_control::{Command, ERRONEOUS_PARAMETERS, NONEXISTENT_SOCKET, SOCKET_NOT_CONNECTED};
+use ncp_model::{FIRST_LINK, Heard, LAST_LINK, MAX_BY_PEER, Pair};
+
+// Whether a link carries connections.
+fn is_data_link(link: u8) -> bool
+    ensures { result ≡ is_data_link link }
+{
+    link >= FIRST_LINK && link <= LAST_LINK
+}
+
+impl<S: BitStore> Table<S> {
+    // Whether the peer's request for a pair came before.
+    fn is_heard(&self, pair: Pair) -> bool
+        ensures { result ≡ (or_new (get self.now pair)).heard }
+    {
+        let Some(place) = find(&self.entries, pair) else {
+            return false;
+        };
+        self.entries[place].is_heard()
+    }
+
+    // Whether a sending end heard a link.
+    fn is_taken(&self, link: u8) -> bool
+        ensures { result ≡ any (hears_link link) self.now }
+    {
+        hearing(&self.entries, link) > 0
+    }
+
+    // Whether there is no place for another request of the peer alone.
+    fn is_full(&self) -> bool
+        ensures { result ≡ nat_le MAX_BY_PEER (count is_by_peer self.now) }
+    {
+        peer_requests(&self.entries) >= MAX_BY_PEER
+    }
+
+    // Whether an RTS has parameters that it may not have.
+    fn is_wrong_rts(&self, pair: Pair, link: u8) -> bool
+        ensures { result ≡ (not (sends pair) || not (is_data_link link) || (or_new (get self.now pair)).heard || any (hears_link link) self.now) }
+    {
+        !pair.sends() || !is_data_link(link) || self.is_heard(pair) || self.is_taken(link)
+    }
+
+    // The request of a receiver came.
+    fn hear_rts(&mut self, pair: Pair, link: u8) -> Heard
+        ensures answer { result ≡ answer (hear_rts_in pair link self.old) }
+        ensures table { self.new ≡ map_after self.old pair (hear_rts_in pair link self.old) }
+    {
+        if self.is_wrong_rts(pair, link) {
+            let command = Command::Rts {
+                receive: pair.remote,
+                send: pair.local,
+                link,
+            };
+            return refused(ERRONEOUS_PARAMETERS, &command);
+        }
+        let Some(place) = find(&self.entries, pair) else {
+            if self.is_full() {
+                return Heard::Full;
+            }
+            let mut entry = Entry::new(pair);
+            entry.hear_link(link);
+            self.enter(entry);
+            return Heard::Nothing;
+        };
+        self.entries[place].hear_link(link);
+        settle(&mut self.entries, place);
+        Heard::Nothing
+    }
+
+    // Whether an STR has parameters that it may not have.
+    fn is_wrong_str(&self, pair: Pair, size: u8) -> bool
+        ensures { result ≡ (not (receives pair) || size == 0 || (or_new (get self.now pair)).heard) }
+    {
+        !pair.receives() || size == 0 || self.is_heard(pair)
+    }
+
+    // The request of a sender came.
+    fn hear_str(&mut self, pair: Pair, size: u8) -> Heard
+        ensures answer { result ≡ answer (hear_str_in pair size self.old) }
+        ensures table { self.new ≡ map_after self.old pair (hear_str_in pair size self.old) }
+    {
+        if self.is_wrong_str(pair, size) {
+            let command = Command::Str {
+                send: pair.remote,
+                receive: pair.local,
+                size,
+            };
+            return refused(ERRONEOUS_PARAMETERS, &command);
+        }
+        let Some(place) = find(&self.entries, pair) else {
+            if self.is_full() {
+                return Heard::Full;
+            }
+            let mut entry = Entry::new(pair);
+            entry.hear_size(size);
+            self.enter(entry);
+            return Heard::Nothing;
+        };
+        self.entries[place].hear_size(size);
+        settle(&mut self.entries, place);
+        Heard::Nothing
+    }
+
+    // The peer's CLS came.
+    fn hear_cls(&mut self, pair: Pair) -> Heard
+        ensures answer { result ≡ answer (hear_cls pair (get self.old pair)) }
+        ensures table { self.new ≡ map_after self.old pair (hear_cls pair (get self.old pair)) }
+    {
+        let command = Command::Cls {
+            my: pair.remote,
+            your: pair.local,
+        };
+        if !pair.is_proper() {
+            return refused(ERRONEOUS_PARAMETERS, &command);
+        }
+        let Some(place) = find(&self.entries, pair) else {
+            return refused(NONEXISTENT_SOCKET, &command);
+        };
+        let answer = self.entries[place].hear_cls();
+        settle(&mut self.entries, place);
+        answer
+    }
+
+    // An ALL came.
+    fn hear_all(&mut self, link: u8, messages: u16, bits: u32) -> Heard
+        ensures answer { result ≡ answer (hear_all link messages bits (end_of (sender_on link self.old))) }
+        ensures table { self.new ≡ map_after_at self.old (pair_of (sender_on link self.old)) (hear_all link messages bits (end_of (sender_on link self.old))) }
+    {
+        let Some(place) = find_sender(&self.entries, link) else {
+            let command = Command::All {
+                link,
+                messages,
+                bits,
+            };
+            return refused(SOCKET_NOT_CONNECTED, &command);
+        };
+        let answer = self.entries[place].hear_all(link, messages, bits);
+        settle(&mut self.entries, place);
+        answer
+    }
+
+    // A GVB came.
+    fn hear_gvb(&mut self, link: u8, fm: u8, fb: u8) -> Heard
+        ensures answer { result ≡ answer (hear_gvb link fm fb (end_of (sender_on link self.old))) }
+        ensures table { self.new ≡ map_after_at self.old (pair_of (sender_on link self.old)) (hear_gvb link fm fb (end_of (sender_on link self.old))) }
+    {
+        let Some(place) = find_sender(&self.entries, link) else {
+            return refused(SOCKET_NOT_CONNECTED, &Command::Gvb { link, fm, fb });
+        };
+        let answer = self.entries[place].hear_gvb(link, fm, fb);
+        settle(&mut self.entries, place);
+        answer
+    }
+
+    // A RET came.
+    fn hear_ret(&mut self, link: u8, messages: u16, bits: u32) -> Heard
+        ensures answer { result ≡ answer (hear_ret link messages bits (end_of (receiver_on link self.old))) }
+        ensures table { self.new ≡ map_after_at self.old (pair_of (receiver_on link self.old)) (hear_ret link messages bits (end_of (receiver_on link self.old))) }
+    {
+        let Some(place) = find_receiver(&self.entries, link) else {
+            let command = Command::Ret {
+                link,
+                messages,
+                bits,
+            };
+            return refused(SOCKET_NOT_CONNECTED, &command);
+        };
+        let answer = self.entries[place].hear_ret(link, messages, bits);
+        settle(&mut self.entries, place);
+        answer
+    }
+
+    // An INR came.
+    fn hear_inr(&mut self, link: u8) -> Heard
+        ensures answer { result ≡ answer (hear_inr link (end_of (sender_on link self.old))) }
+        ensures table { self.new ≡ map_after_at self.old (pair_of (sender_on link self.old)) (hear_inr link (end_of (sender_on link self.old))) }
+    {
+        let command = Command::Inr { link };
+        let Some(place) = find_sender(&self.entries, link) else {
+            return refused(SOCKET_NOT_CONNECTED, &command);
+        };
+        let answer = self.entries[place].hear_interrupt(&command);
+        settle(&mut self.entries, place);
+        answer
+    }
+
+    // An INS came.
+    fn hear_ins(&mut self, link: u8) -> Heard
+        ensures answer { result ≡ answer (hear_ins link (end_of (receiver_on link self.old))) }
+        ensures table { self.new ≡ map_after_at self.old (pair_of (receiver_on link self.old)) (hear_ins link (end_of (receiver_on link self.old))) }
+    {
+        let command = Command::Ins { link };
+        let Some(place) = find_receiver(&self.entries, link) else {
+            return refused(SOCKET_NOT_CONNECTED, &command);
+        };
+        let answer = self.entries[place].hear_interrupt(&command);
+        settle(&mut self.entries, place);
+        answer
+    }
+
+    /// A command came while the host is up with the peer. Commands that are not of connections
+    /// (NOP, ECO, ERP, ERR, RST, RRP) do nothing here.
+    ///
+    /// A wrong request, and a CLS, ALL or RET of wrong numbers, is answered by ERR 3, a CLS for no
+    /// connection by ERR 4, a command on a link that is not connected by ERR 5. `Full` says that
+    /// `MAX_BY_PEER` connections are there by the peer's request alone.
+    pub fn hear(&mut self, command: &Command) -> Heard
+        ensures answer { result ≡ answer (hear command.now self.old) }
+        ensures table { self.new ≡ map_after_at self.old (leads_to command.now self.old) (hear command.now self.old) }
+    {
+        match *command {
+            Command::Rts {
+                receive,
+                send,
+                link,
+            } => self.hear_rts(
+                Pair {
+                    local: send,
+                    remote: receive,
+                },
+                link,
+            ),
+            Command::Str {
+                send,
+                receive,
+                size,
+            } => self.hear_str(
+                Pair {
+                    local: receive,
+                    remote: send,
+                },
+                size,
+            ),
+            Command::Cls { my, your } => self.hear_cls(Pair {
+                local: your,
+                remote: my,
+            }),
+            Command::All {
+                link,
+                messages,
+                bits,
+            } => self.hear_all(link, messages, bits),
+            Command::Gvb { link, fm, fb } => self.hear_gvb(link, fm, fb),
+            Command::Ret {
+                link,
+                messages,
+                bits,
+            } => self.hear_ret(link, messages, bits),
+            Command::Inr { link } => self.hear_inr(link),
+            Command::Ins { link } => self.hear_ins(link),
+            _ => Heard::Nothing,
+        }
+    }
+}
