@@ -1,4 +1,4 @@
--- What holds of all the ends of a host: each is sound, and no two are on one link.
+-- What holds of all the ends of a host: each is sound and in its limits, and no two are on one link.
 use Rattle.std.proofs.Common.{◌≡◌, ◌⊎◌, inl, inr, ℕ, ◌==◌, ◌≤◌, Bool, true, false, cond, not, ◌&&◌, ◌||◌, nat_le, Option, None, Some, refl, sym, ap, ◌∙◌, subst, arith}
 use Rattle.std.specs.FinMap.{get, get-empty, get-insert, get-remove}
 use Rattle.std.specs.Ordering.{eq_by_cmp}
@@ -13,19 +13,22 @@ use Rattle.ncp_model.specs.Act.{Act, end_after}
 use Rattle.ncp_model.specs.Ends.{Ends, count, any, has_asked, is_by_peer, hears_link, uses_link, free_link, map_after, no_ends}
 use Rattle.ncp_model.specs.Happenings.{Happening, Happened, happens}
 use Rattle.ncp_model.specs.Happenings as all
-use Rattle.ncp_model.specs.Leading.{passes, comes}
+use Rattle.ncp_model.specs.Leading.{suits, passes, comes}
+use Rattle.ncp_model.specs.Limits.{InLimitsAt}
 use Rattle.ncp_model.specs.Sound.{SoundAt}
-use Rattle.ncp_model.specs.Hosts.{Call, Ask_to_receive, called, put}
+use Rattle.ncp_model.specs.Hosts.{Call, Ask_to_send, Ask_to_receive, Close, Give, Take, Allocate, Call_back, Interrupt, called, put}
 use Rattle.ncp_model.proofs.PairOrder.{pairs_exact, pairs_total}
 use Rattle.ncp_model.proofs.EndsAfter.{after-at, after-elsewhere}
 use Rattle.ncp_model.proofs.FreeLinks.{free-free, free-room}
 use Rattle.ncp_model.proofs.LinksLead.{itself}
+use Rattle.ncp_model.proofs.LimitsKept.{limits-after}
 use Rattle.ncp_model.proofs.LinksStay.{brings_link, takes_link, heard-by, asked-by}
 use Rattle.ncp_model.proofs.Lookups.{any-none}
 use Rattle.ncp_model.proofs.SoundEnds.{sound-after}
 
 pub record Good (m : Ends) : Type 0 where
   pub sound : (pair : Pair) → SoundAt pair (get m pair)
+  pub limits : (pair : Pair) → InLimitsAt pair (get m pair)
   pub heard : (l : ℕ) (p q : Pair) → passes (hears_link l) p (get m p) ≡ true → passes (hears_link l) q (get m q) ≡ true → p ≡ q
   pub asked : (l : ℕ) (p q : Pair) → passes (uses_link l) p (get m p) ≡ true → passes (uses_link l) q (get m q) ≡ true → p ≡ q
 
@@ -35,6 +38,7 @@ none-passes test p = ap (passes test p) (get-empty pair_cmp p)
 pub none-good : Good no_ends
 none-good = record {
   sound = λ pair. subst (SoundAt pair) (sym (get-empty pair_cmp pair)) tt;
+  limits = λ pair. subst (InLimitsAt pair) (sym (get-empty pair_cmp pair)) tt;
   heard = λ l p q h k. absurd (cc (h, none-passes (hears_link l) p));
   asked = λ l p q h k. absurd (cc (h, none-passes (uses_link l) p));
 }
@@ -84,9 +88,10 @@ apart test m n pair same here only p q h k = go (same_or p pair) (same_or q pair
     go (inr e) (inl f) = sym (mixed p e h (subst (λ r. passes test r (get n r) ≡ true) f k)) ∙ sym f
     go (inr e) (inr f) = only p q (was p e h) (was q f k)
 
-pub good-after : (m n : Ends) (pair : Pair) (what : Happening) → Changes m n pair what → Fresh m what → Good m → Good n
-good-after m n pair what c f g = record {
+pub good-after : (m n : Ends) (pair : Pair) (what : Happening) → suits pair what ≡ true → Changes m n pair what → Fresh m what → Good m → Good n
+good-after m n pair what s c f g = record {
   sound = λ q. sound_at q (same_or q pair);
+  limits = λ q. limits_at q (same_or q pair);
   heard = λ l. apart (hears_link l) m n pair c.elsewhere (heard_here l) (g.heard l);
   asked = λ l. apart (uses_link l) m n pair c.elsewhere (asked_here l) (g.asked l);
 }
@@ -94,6 +99,10 @@ good-after m n pair what c f g = record {
     sound_at : (q : Pair) → (q ≡ pair) ⊎ ((q ≡ pair) → ⊥) → SoundAt q (get n q)
     sound_at q (inl e) = subst (λ r. SoundAt r (get n r)) (sym e) (subst (SoundAt pair) (sym c.there) (sound-after pair what (get m pair) (g.sound pair)))
     sound_at q (inr d) = subst (SoundAt q) (sym (c.elsewhere q d)) (g.sound q)
+
+    limits_at : (q : Pair) → (q ≡ pair) ⊎ ((q ≡ pair) → ⊥) → InLimitsAt q (get n q)
+    limits_at q (inl e) = subst (λ r. InLimitsAt r (get n r)) (sym e) (subst (InLimitsAt pair) (sym c.there) (limits-after pair what (get m pair) s (g.sound pair) (g.limits pair)))
+    limits_at q (inr d) = subst (InLimitsAt q) (sym (c.elsewhere q d)) (g.limits q)
 
     heard_here : (l : ℕ) → passes (hears_link l) pair (get n pair) ≡ true → (passes (hears_link l) pair (get m pair) ≡ true) ⊎ (any (hears_link l) m ≡ false)
     heard_here l h = by_cause (or_parts (passes (hears_link l) pair (get m pair)) (brings_link l what) (heard-by l pair what (get m pair) (g.sound pair) (ap (passes (hears_link l) pair) (sym c.there) ∙ h)))
@@ -132,7 +141,17 @@ put-changes m pair what = record { there = at_it (happens pair what (get m pair)
 pub act-changes : {A : Type 0} → (m : Ends) (pair : Pair) (what : Happening) (act : Act A) → (happens pair what (get m pair)).after ≡ end_after (get m pair) act → Changes m (map_after m pair act) pair what
 act-changes m pair what act e = record { there = after-at m pair act ∙ sym e; elsewhere = λ q d. after-elsewhere m pair q act d }
 
--- What happens brings no link that another end has.
+-- What happens suits its pair, and brings no link that another end has.
+
+pub called-suits : (pair : Pair) (call : Call) (full : Bool) (m : Ends) → suits pair (called call full m) ≡ true
+called-suits pair (Ask_to_send of_size with_room) full m = refl
+called-suits pair (Ask_to_receive with_room) full m = refl
+called-suits pair Close full m = refl
+called-suits pair (Give text) full m = refl
+called-suits pair (Take bytes) full m = refl
+called-suits pair (Allocate of_messages of_bits) full m = refl
+called-suits pair (Call_back of_messages of_bits) full m = refl
+called-suits pair Interrupt full m = refl
 
 pub none-fresh : (m : Ends) (what : Happening) → ((l : ℕ) → brings_link l what ≡ false) → ((l : ℕ) → takes_link l what ≡ false) → Fresh m what
 none-fresh m what b t = record { heard = λ l h. absurd (cc (h, b l)); asked = λ l h. absurd (cc (h, t l)) }

@@ -81,15 +81,15 @@ hears-control Rst n = refl
 hears-control Rrp n = refl
 hears-control c n = either (λ (m : Node). m.control ≡ n.control) (is_up n.host) (hears_other c n) n refl refl
 
-abbrev reactions : List Command → Node → List Reaction
+abbrev pub reactions : List Command → Node → List Reaction
 reactions [] n = []
 reactions (c ∷ cs) n = reaction c n ∷ reactions cs (hears c n)
 
-hears_all-host : (cs : List Command) (n : Node) → (hears_all cs n).host ≡ host_hears_all cs (reactions cs n) n.host
+pub hears_all-host : (cs : List Command) (n : Node) → (hears_all cs n).host ≡ host_hears_all cs (reactions cs n) n.host
 hears_all-host [] n = refl
 hears_all-host (c ∷ cs) n = hears_all-host cs (hears c n) ∙ ap (host_hears_all cs (reactions cs (hears c n))) (hears-host c n)
 
-hears_all-control : (cs : List Command) (n : Node) → (hears_all cs n).control ≡ n.control
+pub hears_all-control : (cs : List Command) (n : Node) → (hears_all cs n).control ≡ n.control
 hears_all-control [] n = refl
 hears_all-control (c ∷ cs) n = hears_all-control cs (hears c n) ∙ hears-control c n
 

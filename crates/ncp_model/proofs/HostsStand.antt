@@ -1,4 +1,5 @@
--- A host that is not up has no ends; all its ends are sound, and no two are on one link.
+-- A host that is not up has no ends; all its ends are sound and in their limits, and no two are on
+-- one link.
 use Rattle.std.proofs.Common.{◌≡◌, ℕ, Bool, true, false, if◌then◌else◌, List, [], ◌∷◌, Option, None, Some, refl, sym, ap, ◌∙◌, subst, arith}
 use Rattle.std.specs.FinMap.{get, get-empty}
 use Rattle.ncp_control.specs.declared.command.Command.{Command}
@@ -11,15 +12,15 @@ use Rattle.ncp_model.specs.Texts.{hear_text, Taken}
 use Rattle.ncp_model.specs.Ends.{Ends, hears_link, uses_link, sender_on, receiver_on, pair_of, leads_to, hear, text_in, cut_at, cut_in, answered_in, map_after, map_after_at, no_ends}
 use Rattle.ncp_model.specs.Happenings.{Happening, Happened, happens, happened, of_hearing, of_text, of_cut}
 use Rattle.ncp_model.specs.Happenings as all
-use Rattle.ncp_model.specs.Leading.{passes, comes}
+use Rattle.ncp_model.specs.Leading.{suits, passes, comes}
 use Rattle.ncp_model.specs.Phase.{is_resetting}
 use Rattle.ncp_model.specs.Sending.{is_full}
 use Rattle.ncp_model.specs.Delivery.{Slot, Empty, Ready, Travelling, Held, Subnet, Free, Accepted, Delivered, Lost, Dead}
 use Rattle.ncp_model.specs.Resets.{Host, is_up, host_resets, host_settles, host_falls, host_makes_all, host_hears, Side, This, That}
 use Rattle.ncp_model.specs.Resets as resets
 use Rattle.ncp_model.specs.Hosts.{TextOut, Node, quiet, reaction, kept, put, cleared, called, happens_at, echo_called, calls_reset, hears, hears_other, hears_all, takes_text, hears_text, cuts, sends_text, frees, settles, text_answered, text_comes, control_answered, message_comes, World, swap, base, Step, Calls_reset, Calls, Calls_echo, Falls, Sends, Sends_text, Hears, Hears_text, Is_answered, Text_is_answered, steps, Event, at, run_from, run, start}
-use Rattle.ncp_model.proofs.LinksLead.{led, command-led, cut-led, answered-led}
-use Rattle.ncp_model.proofs.EndsGood.{Good, none-good, Fresh, good-after, put-changes, act-changes, none-fresh, called-fresh, comes-fresh}
+use Rattle.ncp_model.proofs.LinksLead.{led, command-led, cut-led, answered-led, suits-led, user-receives}
+use Rattle.ncp_model.proofs.EndsGood.{Good, none-good, Fresh, good-after, put-changes, act-changes, none-fresh, called-suits, called-fresh, comes-fresh}
 
 -- of the ends at a host that is up or not
 abbrev pub Stand : Bool → Ends → Type 0
@@ -44,10 +45,10 @@ staying b c m f p = record { none = λ e. p.none (f e); good = p.good }
 
 -- where a look-up led, the act is what happens to the end there
 looked : {A : Type 0} → (m : Ends) (o : Option Pair) (act : Act A)
-    → ((pair : Pair) → o ≡ Some pair → (what : Happening) × ((happens pair what (get m pair)).after ≡ end_after (get m pair) act) × Fresh m what)
+    → ((pair : Pair) → o ≡ Some pair → (what : Happening) × ((happens pair what (get m pair)).after ≡ end_after (get m pair) act) × Fresh m what × (suits pair what ≡ true))
     → Good m → Good (map_after_at m o act)
 looked m None act f g = g
-looked m (Some pair) act f g = let w = f pair refl in good-after m (map_after m pair act) pair w.0 (act-changes m pair w.0 act w.1) w.2 g
+looked m (Some pair) act f g = let w = f pair refl in good-after m (map_after m pair act) pair w.0 w.3 (act-changes m pair w.0 act w.1) w.2 g
 
 comes-some : (c : Command) (m : Ends) (pair : Pair) → leads_to c m ≡ Some pair → (what : Happening) × (comes c m ≡ Some what)
 comes-some (Command.Rts a b d) m pair e = (_, refl)
@@ -63,29 +64,29 @@ comes-some c m pair e = absurd (cc e)
 command-good : (c : Command) (m : Ends) → Good m → Good (map_after_at m (leads_to c m) (hear c m))
 command-good c m =
     looked m (leads_to c m) (hear c m)
-    (λ pair e. let w = comes-some c m pair e in (w.0, ap (λ (d : Happened). d.after) (command-led m c pair w.0 e w.1).1, comes-fresh c m w.0 w.1))
+    (λ pair e. let w = comes-some c m pair e in let l = command-led m c pair w.0 e w.1 in (w.0, ap (λ (d : Happened). d.after) l.1, comes-fresh c m w.0 w.1, suits-led pair w.0 (get m pair) l.0))
 
 text-good : (m : Ends) (on : ℕ) (of_size : ℕ) (text : List Bool) → Good m → Good (map_after_at m (pair_of (receiver_on on m)) (text_in on of_size text m))
 text-good m on of_size text =
     looked m (pair_of (receiver_on on m)) (text_in on of_size text m)
-    (λ pair e. (all.Text_comes [] of_size text, ap (λ o. end_after (get m pair) (hear_text of_size text o)) (led (uses_link on) m pair e).0, none-fresh m (all.Text_comes [] of_size text) (λ l. refl) (λ l. refl)))
+    (λ pair e. let l = led (uses_link on) m pair e in (all.Text_comes [] of_size text, ap (λ o. end_after (get m pair) (hear_text of_size text o)) l.0, none-fresh m (all.Text_comes [] of_size text) (λ l. refl) (λ l. refl), user-receives on pair (get m pair) l.1))
 
 cut-good : (m : Ends) (on : ℕ) → Good m → Good (map_after_at m (pair_of (sender_on on m)) (cut_in on m))
 cut-good m on =
     looked m (pair_of (sender_on on m)) (cut_in on m)
-    (λ pair e. (all.Text_goes_out, ap (λ (d : Happened). d.after) (cut-led m on pair e).1, none-fresh m all.Text_goes_out (λ l. refl) (λ l. refl)))
+    (λ pair e. (all.Text_goes_out, ap (λ (d : Happened). d.after) (cut-led m on pair e).1, none-fresh m all.Text_goes_out (λ l. refl) (λ l. refl), (cut-led m on pair e).0))
 
 answered-good : (m : Ends) (on : ℕ) → Good m → Good (map_after_at m (pair_of (sender_on on m)) (answered_in on Taken m))
 answered-good m on =
     looked m (pair_of (sender_on on m)) (answered_in on Taken m)
-    (λ pair e. (all.Is_answered Taken, ap (λ (d : Happened). d.after) (answered-led m on Taken pair e).1, none-fresh m (all.Is_answered Taken) (λ l. refl) (λ l. refl)))
+    (λ pair e. (all.Is_answered Taken, ap (λ (d : Happened). d.after) (answered-led m on Taken pair e).1, none-fresh m (all.Is_answered Taken) (λ l. refl) (λ l. refl), (answered-led m on Taken pair e).0))
 
 -- Each step.
 
-happening-stands : (pair : Pair) (what : Happening) (n : Node) → Fresh n.ends what → Stands n → Stands (happens_at pair what n)
-happening-stands pair what n f p =
+happening-stands : (pair : Pair) (what : Happening) (n : Node) → suits pair what ≡ true → Fresh n.ends what → Stands n → Stands (happens_at pair what n)
+happening-stands pair what n s f p =
     let did : Happened = happens pair what (get n.ends pair) in
-    keeping (host_makes_all did.made n.host) (put n.ends pair did.after) (good-after n.ends (put n.ends pair did.after) pair what (put-changes n.ends pair what) f p.good)
+    keeping (host_makes_all did.made n.host) (put n.ends pair did.after) (good-after n.ends (put n.ends pair did.after) pair what s (put-changes n.ends pair what) f p.good)
 
 either : (P : Node → Type 0) (b : Bool) (n m : Node) → P n → P m → P (if b then n else m)
 either P true n m p q = p
@@ -116,7 +117,7 @@ text-stands : (on : ℕ) (head : List Bool) (t : TextOut) (n : Node) → Stands 
 text-stands on head t n p = either Stands (is_up n.host) (takes_text on head t n) n (keeping (takes_text on head t n).host (map_after_at n.ends (pair_of (receiver_on on n.ends)) (text_in on t.of_size t.bits n.ends)) (text-good n.ends on t.of_size t.bits p.good)) p
 
 -- where there are no ends nothing goes out
-nothing_out : (on : ℕ) → answer (cut_in on no_ends) ≡ None
+pub nothing_out : (on : ℕ) → answer (cut_in on no_ends) ≡ None
 nothing_out on = go (sender_on on no_ends) refl
   where
     go : (o : Option (Pair × End)) → sender_on on no_ends ≡ o → answer (cut_at o) ≡ None
@@ -184,11 +185,11 @@ coming-stands Delivered w p = p
 coming-stands Lost w p = p
 coming-stands Dead w p = p
 
-step-stands : (step : Step) (w : World) → BothStand w → BothStand (steps step w)
+pub step-stands : (step : Step) (w : World) → BothStand w → BothStand (steps step w)
 step-stands Calls_reset w p = (resetting-stands w.this p.0, p.1)
 step-stands (Calls pair call) w p =
     let what = called call (is_full w.this.host.phase) w.this.ends in
-    (either Stands (is_up w.this.host) (happens_at pair what w.this) w.this (happening-stands pair what w.this (called-fresh call (is_full w.this.host.phase) w.this.ends) p.0) p.0, p.1)
+    (either Stands (is_up w.this.host) (happens_at pair what w.this) w.this (happening-stands pair what w.this (called-suits pair call (is_full w.this.host.phase) w.this.ends) (called-fresh call (is_full w.this.host.phase) w.this.ends) p.0) p.0, p.1)
 step-stands (Calls_echo byte) w p = (either Stands (is_up w.this.host) (echo_called byte w.this) w.this (echoing-stands byte w.this p.0) p.0, p.1)
 step-stands Falls w p = (cleared-stands (host_falls w.this.host) w.this, p.1)
 step-stands (Sends n) w p =
@@ -201,11 +202,11 @@ step-stands (Text_is_answered on) w p = (text_answered-stands on (w.this.texts o
 step-stands Is_answered w p = (control_answered-stands w.this.control.slot w.this.control.subnet w.this p.0, p.1)
 step-stands step w p = p
 
-side-stands : (side : Side) (step : Step) (w : World) → BothStand w → BothStand (at side step w)
+pub side-stands : (side : Side) (step : Step) (w : World) → BothStand w → BothStand (at side step w)
 side-stands This step w p = step-stands step w p
 side-stands That step w p = let q = step-stands step (swap w) (p.1, p.0) in (q.1, q.0)
 
-run-stands : (es : List Event) (w : World) → BothStand w → BothStand (run_from es w)
+pub run-stands : (es : List Event) (w : World) → BothStand w → BothStand (run_from es w)
 run-stands [] w p = p
 run-stands (e ∷ es) w p = run-stands es (at e.side e.step w) (side-stands e.side e.step w p)
 

@@ -29,3 +29,4 @@ pub mod Finding
 pub mod Runs
 pub mod Hosts
 pub mod HostRuns
+pub mod Headline

@@ -9,6 +9,7 @@
 mod amounts;
 mod call_fault;
 pub mod connections;
+pub mod headline;
 pub mod histories;
 pub mod hosts;
 mod limits;

@@ -1,0 +1,287 @@
+-- What holds of two hosts follows from what holds of the connections between them.
+use Rattle.std.proofs.Common.{◌≡◌, ℕ, ◌+◌, ◌==◌, Bool, true, false, not, ◌&&◌, List, [], ◌∷◌, ◌++◌, length, Option, None, Some, refl, sym, ap, ◌∙◌, subst, arith}
+use Rattle.std.specs.FinMap.{get, get-empty}
+use Rattle.std.proofs.lemmas.Bool.{both_ways, and_parts, not-true}
+use Rattle.ncp_control.specs.declared.command.Command.{Command}
+use Rattle.ncp_control.specs.declared.command.Command.TheVariants.{Rst, Rrp}
+use Rattle.ncp_model.specs.declared.pair.Pair.{Pair}
+use Rattle.ncp_model.specs.Pairs.{pair_cmp, sends}
+use Rattle.ncp_model.specs.End.{End, or_new, is_open, is_live}
+use Rattle.ncp_model.specs.Ends.{Ends, no_ends, hears_link, uses_link}
+use Rattle.ncp_model.specs.Leading.{passes}
+use Rattle.ncp_model.specs.Histories.{Watched, opens}
+use Rattle.ncp_model.specs.Delivery.{Slot, Empty, Ready, Travelling, Held, Subnet, Free, Accepted, Delivered, Lost, Dead, Link, idle}
+use Rattle.ncp_model.specs.Connections.{turned, Text, No_text, Away, Here}
+use Rattle.ncp_model.specs.Ledger.{granted_messages, granted_bits, returned_messages, returned_bits, sum_of, text_messages, text_bits, is_out}
+use Rattle.ncp_model.specs.Ledger as ledger
+use Rattle.ncp_model.specs.Clearings.{OutStaysOpened}
+use Rattle.ncp_model.specs.Sharing.{Shared, only, at, hosted_at}
+use Rattle.ncp_model.specs.Finding.{link_out}
+use Rattle.ncp_model.specs.Resets.{Host, is_up}
+use Rattle.ncp_model.specs.Hosts.{TextOut, Node, World, past_of, is_empty}
+use Rattle.ncp_model.specs.Headline.{BothOpen, sender_at, receiver_at, sum_on, not_come, how_many, bits_of, text_underway, commands_there, commands_back, MessagesAgree, BitsAgree, Parted, Held_all, Begins, StaysOut, SenderOpens, ReceiverOpens}
+use Rattle.ncp_model.proofs.Outliving.{fit_open, fit_held, fit_begins, fit_opened}
+use Rattle.ncp_model.proofs.ResetLists.{bit, rsts, rrps}
+use Rattle.ncp_model.proofs.Lives.{live, fronts}
+use Rattle.ncp_model.proofs.HostsStand.{BothStand}
+use Rattle.ncp_model.proofs.Ties.{Owners, Carried, Owned, Texts, Ties, ties-turned, watched, text_on, in_subnet, commands_of}
+use Rattle.ncp_model.proofs.TiesBase.{all-fit}
+use Rattle.ncp_model.proofs.TiesTexts.{text-out-stands, text-out-stands-here}
+use Rattle.ncp_model.proofs.HostsJoined.{lives, is_alive, up_alive, up_waits}
+use Rattle.ncp_model.proofs.HostsHeld.{Holds, Ever, x, y}
+use Rattle.ncp_model.proofs.HostsSteps.{Follows, owner-of}
+use Rattle.ncp_model.proofs.LinkSums.{granted-all, returned-all}
+
+-- with no RST and no RRP underway, all lives
+fronts_all : (u : List Command) → rsts u ≡ 0 → rrps u ≡ 0 → fronts u ≡ u
+fronts_all [] r p = refl
+fronts_all (Rst ∷ u) r p = absurd (omega arith)
+fronts_all (Rrp ∷ u) r p = absurd (omega arith)
+fronts_all (c ∷ u) r p = ap (λ (l : List Command). c ∷ l) (fronts_all u (omega arith) (omega arith))
+
+-- what has not come of the text on a link
+count_not_come : (on : ℕ) (slot : Slot TextOut) (subnet : Subnet TextOut) → text_messages (text_on on slot subnet) ≡ how_many (not_come slot subnet)
+count_not_come on Empty s = refl
+count_not_come on (Ready t) s = refl
+count_not_come on (Held t) s = refl
+count_not_come on (Travelling t) Free = refl
+count_not_come on (Travelling t) (Accepted u) = refl
+count_not_come on (Travelling t) Delivered = refl
+count_not_come on (Travelling t) Lost = refl
+count_not_come on (Travelling t) Dead = refl
+
+bits_not_come : (on : ℕ) (slot : Slot TextOut) (subnet : Subnet TextOut) → text_bits (text_on on slot subnet) ≡ bits_of (not_come slot subnet)
+bits_not_come on Empty s = refl
+bits_not_come on (Ready t) s = refl
+bits_not_come on (Held t) s = refl
+bits_not_come on (Travelling t) Free = refl
+bits_not_come on (Travelling t) (Accepted u) = refl
+bits_not_come on (Travelling t) Delivered = refl
+bits_not_come on (Travelling t) Lost = refl
+bits_not_come on (Travelling t) Dead = refl
+
+-- an end that is open is there, and holds its link
+
+open-there : (m : Ends) (p : Pair) → is_open (or_new (get m p)) ≡ true → m ≡ no_ends → ⊥
+open-there m p o e = absurd (cc (o, ap (λ (d : Ends). is_open (or_new (get d p))) e ∙ ap (λ (b : Option End). is_open (or_new b)) (get-empty pair_cmp p)))
+
+live-there : (m : Ends) (p : Pair) → is_live (get m p) ≡ true → m ≡ no_ends → ⊥
+live-there m p o e = absurd (cc (o, ap (λ (d : Ends). is_live (get d p)) e ∙ ap is_live (get-empty pair_cmp p)))
+
+open-hears : (p : Pair) (b : Option End) → sends p ≡ true → is_open (or_new b) ≡ true → passes (hears_link (or_new b).link) p b ≡ true
+open-hears p None s o = absurd (cc o)
+open-hears p (Some e) s o = grind arith
+
+hears-once : (on : ℕ) (p : Pair) (b : Option End) → passes (hears_link on) p b ≡ true → (or_new b).link ≡ on
+hears-once on p None h = absurd (cc h)
+hears-once on p (Some e) h = grind arith
+
+by_up : {A : Type 0} (h : Host) → (is_up h ≡ true → A) → (is_up h ≡ false → A) → A
+by_up {A} h f g = go (is_up h) refl
+  where
+    go : (b : Bool) → is_up h ≡ b → A
+    go true e = f e
+    go false e = g e
+
+module _ (own own' : Owners) (w : World) (k : Holds own own' w) (b : BothStand w) (p : Pair) (sp : sends p ≡ true) where
+  abbrev g : Shared
+  g = k.joined.ties.g
+
+  abbrev back : Shared
+  back = k.joined.ties.back
+
+  -- the two ends and their pasts
+  sender_is : g.sender p ≡ watched w.this p
+  sender_is = k.joined.ties.there.sender p sp
+
+  receiver_is : g.receiver p ≡ watched w.that (turned p)
+  receiver_is = k.joined.ties.there.receiver p sp
+
+  pub held_all : Held_all p w
+  held_all = subst (λ (o : Watched). is_live o.end ≡ true → (or_new o.end).left ≡ false → o.past.got ≡ o.past.taken ++ (or_new o.end).stored) receiver_is
+      (fit_held p sp g.sends g.receives (at p g) (all-fit g k.joined.ties.reached p sp))
+
+  pub begins : Begins p w
+  begins = subst (λ (o : Watched). is_live o.end ≡ true → ledger.IsBeginning o.past.got (past_of w.this.pasts p).given) receiver_is
+      (subst (λ (o : Watched). is_live (g.receiver p).end ≡ true → ledger.IsBeginning (g.receiver p).past.got o.past.given) sender_is
+      (fit_begins p sp g.sends g.receives (at p g) (all-fit g k.joined.ties.reached p sp)))
+
+  opened : OutStaysOpened (hosted_at p g)
+  opened = fit_opened p sp g.sends g.receives (at p g) (all-fit g k.joined.ties.reached p sp)
+
+  this_up : is_open (sender_at p w) ≡ true → is_up w.this.host ≡ true
+  this_up o = by_up w.this.host (λ e. e) (λ e. absurd (open-there w.this.ends p o (k.joined.this.none e)))
+
+  that_up : is_open (receiver_at p w) ≡ true → is_up w.that.host ≡ true
+  that_up o = by_up w.that.host (λ e. e) (λ e. absurd (open-there w.that.ends (turned p) o (k.joined.that.none e)))
+
+  alive : is_up w.this.host ≡ true → is_alive w.this w.that (y w) ≡ true
+  alive e = up_alive w.this.host (rrps (y w ++ w.that.host.phase.waiting)) e
+
+  alive_there : is_up w.that.host ≡ true → is_alive w.that w.this (x w) ≡ true
+  alive_there e = up_alive w.that.host (rrps (x w ++ w.this.host.phase.waiting)) e
+
+  -- both are up: all that is underway lives
+
+  lives_there : is_up w.this.host ≡ true → is_up w.that.host ≡ true → lives w.this w.that (x w) ≡ commands_there w
+  lives_there e f = ap (λ (c : Bool). live c (commands_there w)) (up_waits w.that.host f) ∙ fronts_all (commands_there w) (omega (arith, k.joined.kept.there.count, ap (λ (c : Bool). bit c) (up_waits w.this.host e))) (omega (arith, k.joined.kept.here.count, ap (λ (c : Bool). bit c) (up_waits w.that.host f)))
+
+  lives_back : is_up w.this.host ≡ true → is_up w.that.host ≡ true → lives w.that w.this (y w) ≡ commands_back w
+  lives_back e f = ap (λ (c : Bool). live c (commands_back w)) (up_waits w.this.host e) ∙ fronts_all (commands_back w) (omega (arith, k.joined.kept.here.count, ap (λ (c : Bool). bit c) (up_waits w.that.host f))) (omega (arith, k.joined.kept.there.count, ap (λ (c : Bool). bit c) (up_waits w.this.host e)))
+
+  -- the text of the pair is the one on its link
+  module _ (o : is_open (sender_at p w) ≡ true) where
+    abbrev its_link : ℕ
+    its_link = (sender_at p w).link
+
+    stands : (q : Pair) (l : ℕ) → own l ≡ Some q → passes (hears_link l) q (get w.this.ends q) ≡ true
+    stands q l e = text-out-stands-here (is_alive w.this w.that (y w)) (is_alive w.that w.this (x w)) own own' w.this w.that (lives w.this w.that (x w)) (lives w.that w.this (y w)) l q (alive (this_up o)) e k.joined.ties
+
+    text_is : g.text p ≡ text_on its_link (w.this.texts its_link).slot (w.this.texts its_link).subnet
+    text_is = go (own its_link) refl (k.joined.ties.there.texts.owned its_link)
+      where
+        none : own its_link ≡ None → (t : Text) → g.text p ≡ t → t ≡ No_text
+        none e No_text f = refl
+        none e (Away l n bits) f =
+            let h = k.joined.ties.there.texts.out p l (ap link_out f) in
+            let same : its_link ≡ l = hears-once l p (get w.this.ends p) (stands p l h) in
+            absurd (cc (e, ap own same ∙ h))
+        none e (Here l) f =
+            let h = k.joined.ties.there.texts.out p l (ap link_out f) in
+            let same : its_link ≡ l = hears-once l p (get w.this.ends p) (stands p l h) in
+            absurd (cc (e, ap own same ∙ h))
+
+        go : (r : Option Pair) → own its_link ≡ r → Owned its_link r (w.this.texts its_link) g.text → g.text p ≡ text_on its_link (w.this.texts its_link).slot (w.this.texts its_link).subnet
+        go None e l = none e (g.text p) refl ∙ ap (λ (i : Link TextOut). text_on its_link i.slot i.subnet) (sym l)
+        go (Some q) e l =
+            let same : q ≡ p = b.0.good.heard its_link q p (stands q its_link e) (open-hears p (get w.this.ends p) sp o) in
+            subst (λ (r : Pair). g.text r ≡ text_on its_link (w.this.texts its_link).slot (w.this.texts its_link).subnet) same l.text
+
+    messages_out : text_messages (g.text p) ≡ how_many (text_underway p w)
+    messages_out = ap text_messages text_is ∙ count_not_come its_link (w.this.texts its_link).slot (w.this.texts its_link).subnet
+
+    bits_out : text_bits (g.text p) ≡ bits_of (text_underway p w)
+    bits_out = ap text_bits text_is ∙ bits_not_come its_link (w.this.texts its_link).slot (w.this.texts its_link).subnet
+
+  module _ (both : BothOpen p w) where
+    here_up : is_up w.this.host ≡ true
+    here_up = this_up both.0
+
+    there_up : is_up w.that.host ≡ true
+    there_up = that_up both.1
+
+    are_open : ledger.BothOpen (at p g)
+    are_open = (subst (λ (o : Watched). is_open (or_new o.end) ≡ true) (sym sender_is) both.0, subst (λ (o : Watched). is_open (or_new o.end) ≡ true) (sym receiver_is) both.1)
+
+    agree : ledger.MessagesAgree (at p g) × ledger.BitsAgree (at p g) × ledger.Parted (at p g)
+    agree = fit_open p sp g.sends g.receives (at p g) (all-fit g k.joined.ties.reached p sp) are_open
+
+    counted : (f : Command → ℕ) (cs ds : List Command) → cs ≡ ds → sum_on (or_new (g.sender p).end).link f cs ≡ sum_on (sender_at p w).link f ds
+    counted f cs ds e = ap (λ (o : Watched). sum_on (or_new o.end).link f cs) sender_is ∙ ap (sum_on (sender_at p w).link f) e
+
+    -- of ALL, and of RET
+    grants : (sum_of granted_messages (only p g.to_senders) ≡ sum_on (sender_at p w).link granted_messages (commands_back w)) × (sum_of granted_bits (only p g.to_senders) ≡ sum_on (sender_at p w).link granted_bits (commands_back w))
+    grants =
+        let c = k.joined.ties.coming (alive here_up) in
+        let same = c.commands ∙ lives_back here_up there_up in
+        let e = granted-all g back p back.to_receivers k.joined.ties.reached k.joined.ties.reached_back (k.joined.ties.there.alive ∙ alive here_up) (k.joined.ties.there.alive_too ∙ alive_there there_up) (k.joined.ties.here.alive ∙ alive_there there_up) (k.joined.ties.here.alive_too ∙ alive here_up) c.same refl c.apt sp are_open in
+        (sym e.0 ∙ counted granted_messages (commands_of back.to_receivers) (commands_back w) same, sym e.1 ∙ counted granted_bits (commands_of back.to_receivers) (commands_back w) same)
+
+    returns : (sum_of returned_messages (only p g.to_receivers) ≡ sum_on (sender_at p w).link returned_messages (commands_there w)) × (sum_of returned_bits (only p g.to_receivers) ≡ sum_on (sender_at p w).link returned_bits (commands_there w))
+    returns =
+        let c = k.joined.ties.going (alive_there there_up) in
+        let same = c.commands ∙ lives_there here_up there_up in
+        let e = returned-all g back p g.to_receivers k.joined.ties.reached k.joined.ties.reached_back (k.joined.ties.there.alive ∙ alive here_up) (k.joined.ties.there.alive_too ∙ alive_there there_up) (k.joined.ties.here.alive ∙ alive_there there_up) (k.joined.ties.here.alive_too ∙ alive here_up) refl c.same c.apt sp are_open in
+        (sym e.0 ∙ counted returned_messages (commands_of g.to_receivers) (commands_there w) same, sym e.1 ∙ counted returned_bits (commands_of g.to_receivers) (commands_there w) same)
+
+    -- an equation of the machine, said of the hosts
+    said : (r : Watched → ℕ) (s : Watched → ℕ) (a t d a' t' d' : ℕ) → a ≡ a' → t ≡ t' → d ≡ d' → r (g.receiver p) ≡ s (g.sender p) + (a + (t + d)) → r (watched w.that (turned p)) ≡ s (watched w.this p) + (a' + (t' + d'))
+    said r s a t d a' t' d' e f h j =
+        subst (λ (i : ℕ). r (watched w.that (turned p)) ≡ s (watched w.this p) + (a' + (t' + i))) h
+        (subst (λ (i : ℕ). r (watched w.that (turned p)) ≡ s (watched w.this p) + (a' + (i + d))) f
+        (subst (λ (i : ℕ). r (watched w.that (turned p)) ≡ s (watched w.this p) + (i + (t + d))) e
+        (sym (ap r receiver_is) ∙ (j ∙ ap (λ (o : Watched). s o + (a + (t + d))) sender_is))))
+
+  pub messages_agree : MessagesAgree p w
+  messages_agree o = said o (λ v. (or_new v.end).messages) (λ v. (or_new v.end).messages) (sum_of granted_messages (only p g.to_senders)) (text_messages (g.text p)) (sum_of returned_messages (only p g.to_receivers))
+      (sum_on (sender_at p w).link granted_messages (commands_back w)) (how_many (text_underway p w)) (sum_on (sender_at p w).link returned_messages (commands_there w))
+      (grants o).0 (messages_out o.0) (returns o).0 (agree o).0
+
+  pub bits_agree : BitsAgree p w
+  bits_agree o = said o (λ v. (or_new v.end).bits) (λ v. (or_new v.end).bits) (sum_of granted_bits (only p g.to_senders)) (length (text_bits (g.text p))) (sum_of returned_bits (only p g.to_receivers))
+      (sum_on (sender_at p w).link granted_bits (commands_back w)) (length (bits_of (text_underway p w))) (sum_on (sender_at p w).link returned_bits (commands_there w))
+      (grants o).1 (ap length (bits_out o.0)) (returns o).1 (agree o).1
+
+  pub parted : Parted p w
+  parted o =
+      subst (λ (v : Watched). v.past.given ≡ (past_of w.that.pasts (turned p)).got ++ (bits_of (text_underway p w) ++ (or_new v.end).stored)) sender_is
+      (subst (λ (t : List Bool). (g.sender p).past.given ≡ (past_of w.that.pasts (turned p)).got ++ (t ++ (or_new (g.sender p).end).stored)) (bits_out o.0)
+      (subst (λ (v : Watched). (g.sender p).past.given ≡ v.past.got ++ (text_bits (g.text p) ++ (or_new (g.sender p).end).stored)) receiver_is (agree o).2))
+
+-- No pair opens on a link while a text is out on it.
+
+carried_out : (on : ℕ) (slot : Slot TextOut) (subnet : Subnet TextOut) → Carried slot subnet → is_out (text_on on slot subnet) ≡ true
+carried_out on (Ready t) Free c = refl
+carried_out on (Held t) Free c = refl
+carried_out on (Travelling t) (Accepted u) c = refl
+carried_out on (Travelling t) Delivered c = refl
+carried_out on (Travelling t) Lost c = refl
+carried_out on (Travelling t) Dead c = refl
+carried_out on slot subnet c = absurd c
+
+-- the owner of a link whose text is out is live at each host that is up
+module _ (own own' : Owners) (w : World) (k : Holds own own' w) (b : BothStand w) (on : ℕ) (p : Pair) (e : own on ≡ Some p) where
+  is_owned : Owned on (Some p) (w.this.texts on) k.joined.ties.g.text
+  is_owned = subst (λ (o : Option Pair). Owned on o (w.this.texts on) k.joined.ties.g.text) e (k.joined.ties.there.texts.owned on)
+
+  out_opened : (k.joined.ties.g.sends ≡ true → is_live (k.joined.ties.g.sender p).end ≡ true) × (k.joined.ties.g.receives ≡ true → is_live (k.joined.ties.g.receiver p).end ≡ true)
+  out_opened = opened own own' w k b p is_owned.sending (ap is_out is_owned.text ∙ carried_out on (w.this.texts on).slot (w.this.texts on).subnet is_owned.carried)
+
+  sender_live : is_up w.this.host ≡ true → is_live (get w.this.ends p) ≡ true
+  sender_live u = sym (ap (λ (o : Watched). is_live o.end) (sender_is own own' w k b p is_owned.sending)) ∙ out_opened.0 (k.joined.ties.there.alive ∙ alive own own' w k b p is_owned.sending u)
+
+  receiver_live : is_up w.that.host ≡ true → is_live (get w.that.ends (turned p)) ≡ true
+  receiver_live u = sym (ap (λ (o : Watched). is_live o.end) (receiver_is own own' w k b p is_owned.sending)) ∙ out_opened.1 (k.joined.ties.there.alive_too ∙ alive_there own own' w k b p is_owned.sending u)
+
+  sender_has : is_up w.this.host ≡ true → passes (hears_link on) p (get w.this.ends p) ≡ true
+  sender_has u = text-out-stands-here (is_alive w.this w.that (y w)) (is_alive w.that w.this (x w)) own own' w.this w.that (lives w.this w.that (x w)) (lives w.that w.this (y w)) on p (alive own own' w k b p is_owned.sending u) e k.joined.ties
+
+  receiver_has : is_up w.that.host ≡ true → passes (uses_link on) (turned p) (get w.that.ends (turned p)) ≡ true
+  receiver_has u = text-out-stands (is_alive w.that w.this (x w)) (is_alive w.this w.that (y w)) own' own w.that w.this (lives w.that w.this (y w)) (lives w.this w.that (x w)) on p (alive_there own own' w k b p is_owned.sending u) e
+      (ties-turned (is_alive w.this w.that (y w)) (is_alive w.that w.this (x w)) own own' w.this w.that (lives w.this w.that (x w)) (lives w.that w.this (y w)) k.joined.ties)
+
+-- of two worlds, a step apart
+module _ (w after : World) (t : Ever w) (t1 : Ever after) (f : Follows t.own t1.own w.this.texts after.this.texts)
+  (none : w.this.ends ≡ no_ends → (p : Pair) → is_live (get after.this.ends p) ≡ false) (none_there : w.that.ends ≡ no_ends → (p : Pair) → is_live (get after.that.ends p) ≡ false)
+  (on : ℕ) (out : StaysOut on w after) where
+  owner : (p : Pair) × (t.own on ≡ Some p)
+  owner = owner-of t.own w.this.texts t.holds.joined.ties.g.text on t.holds.joined.ties.there.texts (λ z. both_ways (is_empty (w.this.texts on).slot) out.0 (ap is_empty z))
+
+  owner_after : t1.own on ≡ Some owner.0
+  owner_after = f on out.0 out.1 ∙ owner.1
+
+  pub sender-opens-not : (p : Pair) → SenderOpens on p w after → ⊥
+  sender-opens-not p o =
+      let q = owner.0 in
+      let lived = and_parts (not (is_live (get w.this.ends p))) (is_live (get after.this.ends p)) o.0 in
+      by_up w.this.host
+      (λ e. by_up after.this.host
+      (λ d.
+      let same : p ≡ q = t1.stand.0.good.heard on p q o.1 (sender_has t1.own t1.own' after t1.holds t1.stand on q owner_after d) in
+      let before : is_live (get w.this.ends p) ≡ true = subst (λ (r : Pair). is_live (get w.this.ends r) ≡ true) (sym same) (sender_live t.own t.own' w t.holds t.stand on q owner.1 e) in
+      both_ways (is_live (get w.this.ends p)) (not-true (is_live (get w.this.ends p)) lived.0) before)
+      (λ d. live-there after.this.ends p lived.1 (t1.holds.joined.this.none d)))
+      (λ e. both_ways (is_live (get after.this.ends p)) (none (t.holds.joined.this.none e) p) lived.1)
+
+  pub receiver-opens-not : (p : Pair) → ReceiverOpens on p w after → ⊥
+  receiver-opens-not p o =
+      let q = owner.0 in
+      let lived = and_parts (not (is_live (get w.that.ends p))) (is_live (get after.that.ends p)) o.0 in
+      by_up w.that.host
+      (λ e. by_up after.that.host
+      (λ d.
+      let same : p ≡ turned q = t1.stand.1.good.asked on p (turned q) o.1 (receiver_has t1.own t1.own' after t1.holds t1.stand on q owner_after d) in
+      let before : is_live (get w.that.ends p) ≡ true = subst (λ (r : Pair). is_live (get w.that.ends r) ≡ true) (sym same) (receiver_live t.own t.own' w t.holds t.stand on q owner.1 e) in
+      both_ways (is_live (get w.that.ends p)) (not-true (is_live (get w.that.ends p)) lived.0) before)
+      (λ d. live-there after.that.ends p lived.1 (t1.holds.joined.that.none d)))
+      (λ e. both_ways (is_live (get after.that.ends p)) (none_there (t.holds.joined.that.none e) p) lived.1)

@@ -1,0 +1,110 @@
+-- What holds of two hosts, whatever is called, lost, held back or reordered between links, and
+-- whenever a host resets or goes down. Each is said of what goes from this host to that one; for the
+-- other way, of the swapped world. A pair is named as the sender's host has it.
+use Rattle.std.specs.Prelude.{◌≡◌, ℕ, ◌+◌, ◌==◌, Bool, true, false, if◌then◌else◌, List, [], ◌∷◌, ◌++◌, length, Option, None, Some}
+use Rattle.std.specs.FinMap.{get}
+use Rattle.ncp_control.specs.declared.command.Command.{Command}
+use Rattle.ncp_model.specs.declared.pair.Pair.{Pair}
+use Rattle.ncp_model.specs.Pairs.{sends}
+use Rattle.ncp_model.specs.End.{End, is_open, is_live, or_new}
+use Rattle.ncp_model.specs.Ends.{hears_link, uses_link}
+use Rattle.ncp_model.specs.Leading.{passes}
+use Rattle.ncp_model.specs.Histories.{opens}
+use Rattle.ncp_model.specs.Connections.{turned}
+use Rattle.ncp_model.specs.Ledger.{granted_messages, granted_bits, returned_messages, returned_bits, IsBeginning}
+use Rattle.ncp_model.specs.Finding.{link_of}
+use Rattle.ncp_model.specs.Delivery.{Slot, Empty, Ready, Travelling, Held, Subnet, Free, Accepted, Delivered, Lost, Dead, Link}
+use Rattle.ncp_model.specs.Resets.{underway}
+use Rattle.ncp_model.specs.Hosts.{TextOut, Node, World, past_of, is_empty}
+
+-- The two ends of a pair.
+
+abbrev pub sender_at : Pair → World → End
+sender_at pair w = or_new (get w.this.ends pair)
+
+abbrev pub receiver_at : Pair → World → End
+receiver_at pair w = or_new (get w.that.ends (turned pair))
+
+abbrev pub BothOpen : Pair → World → Type 0
+BothOpen pair w = (is_open (sender_at pair w) ≡ true) × (is_open (receiver_at pair w) ≡ true)
+
+-- What is underway on a link: of the commands that name it, and the text that went out and has not
+-- come.
+
+abbrev pub is_it : ℕ → Option ℕ → Bool
+is_it on None = false
+is_it on (Some link) = link == on
+
+abbrev pub sum_on : ℕ → (Command → ℕ) → List Command → ℕ
+sum_on on f [] = 0
+sum_on on f (c ∷ cs) = (if is_it on (link_of c) then f c else 0) + sum_on on f cs
+
+abbrev pub not_come : Slot TextOut → Subnet TextOut → Option TextOut
+not_come Empty s = None
+not_come (Ready t) s = Some t
+not_come (Held t) s = Some t
+not_come (Travelling t) Free = Some t
+not_come (Travelling t) (Accepted u) = Some u
+not_come (Travelling t) Delivered = None
+not_come (Travelling t) Lost = Some t
+not_come (Travelling t) Dead = Some t
+
+abbrev pub how_many : Option TextOut → ℕ
+how_many None = 0
+how_many (Some t) = 1
+
+abbrev pub bits_of : Option TextOut → List Bool
+bits_of None = []
+bits_of (Some t) = t.bits
+
+-- the text that is underway on the pair's link
+abbrev pub text_underway : Pair → World → Option TextOut
+text_underway pair w = let on = (sender_at pair w).link in not_come (w.this.texts on).slot (w.this.texts on).subnet
+
+abbrev pub commands_there : World → List Command
+commands_there w = underway w.this.host w.this.control
+
+abbrev pub commands_back : World → List Command
+commands_back w = underway w.that.host w.that.control
+
+-- While both ends are open: what is outstanding at the receiver is what the sender's counters hold,
+-- and what ALL underway, the text that has not come and RET underway carry, each on the pair's link.
+
+abbrev pub MessagesAgree : Pair → World → Type 0
+MessagesAgree pair w = BothOpen pair w
+    → (receiver_at pair w).messages
+    ≡ (sender_at pair w).messages
+    + (sum_on (sender_at pair w).link granted_messages (commands_back w) + (how_many (text_underway pair w) + sum_on (sender_at pair w).link returned_messages (commands_there w)))
+
+abbrev pub BitsAgree : Pair → World → Type 0
+BitsAgree pair w = BothOpen pair w
+    → (receiver_at pair w).bits
+    ≡ (sender_at pair w).bits
+    + (sum_on (sender_at pair w).link granted_bits (commands_back w) + (length (bits_of (text_underway pair w)) + sum_on (sender_at pair w).link returned_bits (commands_there w)))
+
+-- What was given was got, is out, or waits.
+abbrev pub Parted : Pair → World → Type 0
+Parted pair w = BothOpen pair w
+    → (past_of w.this.pasts pair).given ≡ (past_of w.that.pasts (turned pair)).got ++ (bits_of (text_underway pair w) ++ (sender_at pair w).stored)
+
+-- While the receiver is live and not left, what it got was taken, or is held.
+abbrev pub Held_all : Pair → World → Type 0
+Held_all pair w = is_live (get w.that.ends (turned pair)) ≡ true → (receiver_at pair w).left ≡ false
+    → (past_of w.that.pasts (turned pair)).got ≡ (past_of w.that.pasts (turned pair)).taken ++ (receiver_at pair w).stored
+
+-- While the receiver is live, what it got is a beginning of what was given since the sender last
+-- opened, whatever the sender has done since.
+abbrev pub Begins : Pair → World → Type 0
+Begins pair w = is_live (get w.that.ends (turned pair)) ≡ true → IsBeginning (past_of w.that.pasts (turned pair)).got (past_of w.this.pasts pair).given
+
+-- A text is out on a link, from its output to its RFNM, before a step and after it.
+abbrev pub StaysOut : ℕ → World → World → Type 0
+StaysOut on w after = (is_empty (w.this.texts on).slot ≡ false) × (is_empty (after.this.texts on).slot ≡ false)
+
+-- In the step a pair opens with that link: at the sender's host, or at the receiver's.
+
+abbrev pub SenderOpens : ℕ → Pair → World → World → Type 0
+SenderOpens on pair w after = (opens (get w.this.ends pair) (get after.this.ends pair) ≡ true) × (passes (hears_link on) pair (get after.this.ends pair) ≡ true)
+
+abbrev pub ReceiverOpens : ℕ → Pair → World → World → Type 0
+ReceiverOpens on pair w after = (opens (get w.that.ends pair) (get after.that.ends pair) ≡ true) × (passes (uses_link on) pair (get after.that.ends pair) ≡ true)
