@@ -1,5 +1,5 @@
 -- What holds of two hosts follows from what holds of the connections between them.
-use Rattle.std.proofs.Common.{◌≡◌, ℕ, ◌+◌, ◌==◌, Bool, true, false, not, ◌&&◌, List, [], ◌∷◌, ◌++◌, length, Option, None, Some, refl, sym, ap, ◌∙◌, subst, arith}
+use Rattle.std.proofs.Common.{◌≡◌, ℕ, ◌+◌, Bool, true, false, not, List, [], ◌∷◌, ◌++◌, length, Option, None, Some, refl, sym, ap, ◌∙◌, subst, arith}
 use Rattle.std.specs.FinMap.{get, get-empty}
 use Rattle.std.proofs.lemmas.Bool.{both_ways, and_parts, not-true}
 use Rattle.ncp_control.specs.declared.command.Command.{Command}
@@ -9,8 +9,8 @@ use Rattle.ncp_model.specs.Pairs.{pair_cmp, sends}
 use Rattle.ncp_model.specs.End.{End, or_new, is_open, is_live}
 use Rattle.ncp_model.specs.Ends.{Ends, no_ends, hears_link, uses_link}
 use Rattle.ncp_model.specs.Leading.{passes}
-use Rattle.ncp_model.specs.Histories.{Watched, opens}
-use Rattle.ncp_model.specs.Delivery.{Slot, Empty, Ready, Travelling, Held, Subnet, Free, Accepted, Delivered, Lost, Dead, Link, idle}
+use Rattle.ncp_model.specs.Histories.{Watched}
+use Rattle.ncp_model.specs.Delivery.{Slot, Empty, Ready, Travelling, Held, Subnet, Free, Accepted, Delivered, Lost, Dead, Link}
 use Rattle.ncp_model.specs.Connections.{turned, Text, No_text, Away, Here}
 use Rattle.ncp_model.specs.Ledger.{granted_messages, granted_bits, returned_messages, returned_bits, sum_of, text_messages, text_bits, is_out}
 use Rattle.ncp_model.specs.Ledger as ledger
@@ -18,13 +18,13 @@ use Rattle.ncp_model.specs.Clearings.{OutStaysOpened}
 use Rattle.ncp_model.specs.Sharing.{Shared, only, at, hosted_at}
 use Rattle.ncp_model.specs.Finding.{link_out}
 use Rattle.ncp_model.specs.Resets.{Host, is_up}
-use Rattle.ncp_model.specs.Hosts.{TextOut, Node, World, past_of, is_empty}
+use Rattle.ncp_model.specs.Hosts.{TextOut, World, past_of, is_empty}
 use Rattle.ncp_model.specs.Headline.{BothOpen, sender_at, receiver_at, sum_on, not_come, how_many, bits_of, text_underway, commands_there, commands_back, MessagesAgree, BitsAgree, Parted, Held_all, Begins, StaysOut, SenderOpens, ReceiverOpens}
 use Rattle.ncp_model.proofs.Outliving.{fit_open, fit_held, fit_begins, fit_opened}
 use Rattle.ncp_model.proofs.ResetLists.{bit, rsts, rrps}
 use Rattle.ncp_model.proofs.Lives.{live, fronts}
 use Rattle.ncp_model.proofs.HostsStand.{BothStand}
-use Rattle.ncp_model.proofs.Ties.{Owners, Carried, Owned, Texts, Ties, ties-turned, watched, text_on, in_subnet, commands_of}
+use Rattle.ncp_model.proofs.Ties.{Owners, Carried, Owned, ties-turned, watched, text_on, commands_of}
 use Rattle.ncp_model.proofs.TiesBase.{all-fit}
 use Rattle.ncp_model.proofs.TiesTexts.{text-out-stands, text-out-stands-here}
 use Rattle.ncp_model.proofs.HostsJoined.{lives, is_alive, up_alive, up_waits}
@@ -252,8 +252,8 @@ module _ (own own' : Owners) (w : World) (k : Holds own own' w) (b : BothStand w
 
 -- of two worlds, a step apart
 module _ (w after : World) (t : Ever w) (t1 : Ever after) (f : Follows t.own t1.own w.this.texts after.this.texts)
-  (none : w.this.ends ≡ no_ends → (p : Pair) → is_live (get after.this.ends p) ≡ false) (none_there : w.that.ends ≡ no_ends → (p : Pair) → is_live (get after.that.ends p) ≡ false)
-  (on : ℕ) (out : StaysOut on w after) where
+    (none : w.this.ends ≡ no_ends → (p : Pair) → is_live (get after.this.ends p) ≡ false) (none_there : w.that.ends ≡ no_ends → (p : Pair) → is_live (get after.that.ends p) ≡ false)
+    (on : ℕ) (out : StaysOut on w after) where
   owner : (p : Pair) × (t.own on ≡ Some p)
   owner = owner-of t.own w.this.texts t.holds.joined.ties.g.text on t.holds.joined.ties.there.texts (λ z. both_ways (is_empty (w.this.texts on).slot) out.0 (ap is_empty z))
 

@@ -1,17 +1,15 @@
 -- Two hosts stay joined with the machines of their connections, whatever happens.
-use Rattle.std.proofs.Common.{◌≡◌, ℕ, ◌+◌, Bool, true, false, if◌then◌else◌, List, [], ◌∷◌, ◌++◌, take, drop, Option, None, Some, refl, sym, ap, ◌∙◌, subst, arith}
+use Rattle.std.proofs.Common.{◌≡◌, ℕ, ◌+◌, Bool, true, false, if◌then◌else◌, List, [], ◌∷◌, take, drop, Option, None, Some, refl, sym, ◌∙◌, subst}
 use Rattle.std.proofs.lemmas.List.{take-append-drop}
 use Rattle.ncp_control.specs.declared.command.Command.{Command}
-use Rattle.ncp_control.specs.declared.command.Command.TheVariants.{Rst, Rrp}
-use Rattle.ncp_model.specs.declared.pair.Pair.{Pair}
 use Rattle.ncp_model.specs.Act.{answer}
 use Rattle.ncp_model.specs.Ends.{cut_in}
 use Rattle.ncp_model.specs.Phase.{is_resetting}
 use Rattle.ncp_model.specs.Sending.{is_full}
-use Rattle.ncp_model.specs.Delivery.{Slot, Empty, Ready, Travelling, Held, Subnet, Free, Accepted, Delivered, Lost, Dead, Link, idle, undelivered, answered, woken}
+use Rattle.ncp_model.specs.Delivery.{Slot, Empty, Ready, Travelling, Held, Subnet, Free, Accepted, Delivered, Lost, Dead, Link, idle, undelivered, woken}
 use Rattle.ncp_model.specs.Resets.{Host, is_up, on_line, host_resets, Side, This, That}
 use Rattle.ncp_model.specs.Resets as resets
-use Rattle.ncp_model.specs.Hosts.{TextOut, Node, new_node, quiet, cleared, called, happens_at, calls, echo_called, calls_echo, calls_reset, hears, hears_other, hears_all, takes_text, hears_text, cuts, sends_text, frees, settles, text_answered, control_answered, moved, undelivered_text, text_comes, message_comes, World, swap, base, Step, Calls_reset, Calls, Calls_echo, Falls, Sends, Sends_text, Hears, Hears_text, Loses, Loses_text, Dies, Text_dies, Is_answered, Text_is_answered, Wakes, steps, Event, at, run_from, run, start}
+use Rattle.ncp_model.specs.Hosts.{TextOut, Node, new_node, quiet, cleared, called, happens_at, calls, echo_called, calls_echo, calls_reset, hears_all, takes_text, hears_text, cuts, sends_text, text_answered, control_answered, undelivered_text, text_comes, message_comes, World, swap, Step, Calls_reset, Calls, Calls_echo, Falls, Sends, Sends_text, Hears, Hears_text, Loses, Loses_text, Dies, Text_dies, Is_answered, Text_is_answered, Wakes, steps, Event, at, run_from, run, start}
 use Rattle.ncp_model.proofs.ResetLists.{rrps}
 use Rattle.ncp_model.proofs.ResetRuns.{Tied, fronting}
 use Rattle.ncp_model.proofs.ResetRuns as Base
@@ -21,7 +19,7 @@ use Rattle.ncp_model.proofs.Lives.{live, alive}
 use Rattle.ncp_model.proofs.Ties.{Owners, Ties}
 use Rattle.ncp_model.proofs.TiesClear.{SameText, ties-start, ties-links, one-link, same-lost, same-dead, same-woken}
 use Rattle.ncp_model.proofs.HostsJoined.{lives, is_alive, Whole, Joined, joined-turned, settles-keeps, resets-keeps, falls-keeps}
-use Rattle.ncp_model.proofs.HostsSteps.{calls-keeps, echo-keeps, hears_all-keeps, text-keeps, Follows, Moved, unmoved, sends_text-keeps, text_answered-keeps}
+use Rattle.ncp_model.proofs.HostsSteps.{calls-keeps, echo-keeps, hears_all-keeps, text-keeps, Follows, Moved, sends_text-keeps, text_answered-keeps}
 
 -- of two hosts, and the slot and the subnet of the control links that go and come
 abbrev pub HoldsOf : Owners → Owners → Node → Node → Slot (List Command) → Subnet (List Command) → Slot (List Command) → Subnet (List Command) → Type 0

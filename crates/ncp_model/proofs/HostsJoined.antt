@@ -1,18 +1,16 @@
 -- Two hosts, what is on the two lines between them, and the machines of their connections: the steps
 -- of one host's phase keep them joined.
-use Rattle.std.proofs.Common.{◌≡◌, ℕ, ◌+◌, ◌<◌, ◌==◌, Bool, true, false, not, ◌&&◌, ◌||◌, nat_lt, if◌then◌else◌, List, [], ◌∷◌, ◌++◌, length, Option, None, Some, refl, sym, ap, ◌∙◌, subst, arith}
+use Rattle.std.proofs.Common.{◌≡◌, ℕ, ◌<◌, Bool, true, false, not, ◌||◌, nat_lt, if◌then◌else◌, List, [], ◌∷◌, ◌++◌, None, refl, sym, ap, ◌∙◌, subst, arith}
 use Rattle.std.specs.List.{list_any}
 use Rattle.std.proofs.lemmas.Bool.{both_ways, and_parts, cond_both}
 use Rattle.std.proofs.lemmas.List.{append-nil, append_assoc}
 use Rattle.ncp_control.specs.declared.command.Command.{Command}
 use Rattle.ncp_control.specs.declared.command.Command.TheVariants.{Rst, Rrp}
-use Rattle.ncp_model.specs.declared.pair.Pair.{Pair}
 use Rattle.ncp_model.specs.Ends.{Ends, no_ends}
-use Rattle.ncp_model.specs.Phase.{Phase, is_rst, is_rrp, is_other, answers, asks, is_resetting, wants_reset, owes_answer, queued, has_place, goes_down}
-use Rattle.ncp_model.specs.Resets.{Host, is_up, anew, host_resets, host_settles, host_falls, host_makes, host_makes_all, host_hears}
+use Rattle.ncp_model.specs.Phase.{Phase, is_rst, is_rrp, is_other, answers, asks, is_resetting, wants_reset, owes_answer, queued, has_place}
+use Rattle.ncp_model.specs.Resets.{Host, is_up, anew, host_resets, host_settles, host_falls, host_makes, host_makes_all}
 use Rattle.ncp_model.specs.Echo.{Echoes}
-use Rattle.ncp_model.specs.Connections.{Text}
-use Rattle.ncp_model.specs.Hosts.{Node, quiet, cleared, kept, calls_reset, settles, hears, reaction}
+use Rattle.ncp_model.specs.Hosts.{Node, quiet, cleared, kept, calls_reset, settles, hears}
 use Rattle.ncp_model.proofs.ResetLists.{rsts, rrps, purged, rrps-append, rsts-append, any-rrps, any-rsts}
 use Rattle.ncp_model.proofs.ResetKept.{Kept, turned, falling, wanting, answering, asking, owing, heard_rrp, made_up}
 use Rattle.ncp_model.proofs.Lives.{live, behind, alive, Cut, behind_new, live_rst, live_cut, rrps_cut, live_more, owed, live_none}
@@ -254,7 +252,6 @@ pending [] echoes own own' n m x y o e k ties this that = subst (λ (d : Ends). 
   where
     up : kept n.host n.ends ≡ n.ends
     up = rw e refl
-
 pending (c ∷ cs) echoes own own' n m x y o e k ties this that = subst (λ (h : Host). Joined own own' (record n { host = host_makes_all cs h; ends = kept (host_makes_all cs h) n.ends; echoes = echoes }) m x y) (sym first)
     (cond_both (has_place n.host.phase) made (host_falls n.host) (λ (h : Host). Joined own own' (record n { host = host_makes_all cs h; ends = kept (host_makes_all cs h) n.ends; echoes = echoes }) m x y)
     (λ _. pending cs echoes own own' (record n { host = made }) m x y o.1 e (made_up n.host m.host x y c e o.0 k) after this that)

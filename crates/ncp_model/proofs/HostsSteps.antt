@@ -1,5 +1,5 @@
 -- Each thing that happens at a host keeps two hosts joined.
-use Rattle.std.proofs.Common.{◌≡◌, ℕ, ◌+◌, ◌==◌, Bool, true, false, not, ◌&&◌, ◌||◌, if◌then◌else◌, List, [], ◌∷◌, ◌++◌, Option, None, Some, Result, Ok, Err, refl, sym, ap, ◌∙◌, subst, arith}
+use Rattle.std.proofs.Common.{◌≡◌, ℕ, ◌==◌, Bool, true, false, ◌||◌, if◌then◌else◌, List, [], ◌∷◌, ◌++◌, Option, None, Some, Ok, Err, refl, sym, ap, ◌∙◌, subst, arith}
 use Rattle.std.specs.FinMap.{get, get-empty}
 use Rattle.std.proofs.lemmas.Bool.{both_ways, cond_both, eqb-true}
 use Rattle.std.proofs.lemmas.List.{append-nil}
@@ -16,24 +16,24 @@ use Rattle.ncp_model.specs.Happenings.{Happening, happens, of_hearing, of_text}
 use Rattle.ncp_model.specs.Happenings as all
 use Rattle.ncp_model.specs.Leading.{passes, comes}
 use Rattle.ncp_model.specs.Limits.{InLimitsAt}
-use Rattle.ncp_model.specs.Phase.{is_rrp, is_other}
+use Rattle.ncp_model.specs.Phase.{is_other}
 use Rattle.ncp_model.specs.Sending.{is_full}
-use Rattle.ncp_model.specs.Delivery.{Slot, Empty, Ready, Travelling, Held, Subnet, Free, Accepted, Delivered, Lost, Dead, Link, idle, answered}
+use Rattle.ncp_model.specs.Delivery.{Slot, Empty, Ready, Travelling, Held, Subnet, Accepted, Delivered, Link, idle, answered}
 use Rattle.ncp_model.specs.Echo.{Echoes, echo_answer, echo_asked}
 use Rattle.ncp_model.specs.Resets.{Host, is_up, host_falls, host_makes_all, host_hears}
 use Rattle.ncp_model.specs.Connections.{turned, Text, is_violation}
-use Rattle.ncp_model.specs.Hosts.{TextOut, Node, set_link, is_empty, kept, kept_echoes, put, pasts_after, pasts_after_at, Call, called, happens_at, calls, made_by_echo, echo_called, calls_echo, is_full_up, echo_replies, echoes_after, reaction, hears_other, hears, hears_all, takes_text, hears_text, goes_out, cuts, sends_text, frees, settles, text_answered}
-use Rattle.ncp_model.proofs.ResetLists.{bit, rrps}
-use Rattle.ncp_model.proofs.ResetKept.{Kept, falling, came_up, dropped}
+use Rattle.ncp_model.specs.Hosts.{TextOut, Node, set_link, is_empty, kept, kept_echoes, put, pasts_after, pasts_after_at, Call, called, happens_at, calls, made_by_echo, echo_called, calls_echo, is_full_up, echo_replies, echoes_after, reaction, hears, hears_all, takes_text, hears_text, goes_out, cuts, sends_text, frees, text_answered}
+use Rattle.ncp_model.proofs.ResetLists.{rrps}
+use Rattle.ncp_model.proofs.ResetKept.{falling, came_up, dropped}
 use Rattle.ncp_model.proofs.HostsStand.{nothing_out}
-use Rattle.ncp_model.proofs.Lives.{live, fronts, fronts_other, behind_other, alive}
+use Rattle.ncp_model.proofs.Lives.{live, fronts_other, behind_other, alive}
 use Rattle.ncp_model.proofs.Ties.{Owners, Carried, Owned, Texts, Ties}
-use Rattle.ncp_model.proofs.TiesClear.{SameText, ties-to, ties-links, one-link, same-ready, same-answered, is_taken}
-use Rattle.ncp_model.proofs.TiesFull.{full-safe, full-pasts, ties-pasts, hear-other, text-other, answered-other, called-other, gone-answer, gone-answer-map}
+use Rattle.ncp_model.proofs.TiesClear.{SameText, ties-to, ties-links, one-link, same-ready, same-answered}
+use Rattle.ncp_model.proofs.TiesFull.{full-safe, full-pasts, ties-pasts, hear-other, text-other, answered-other, called-other, gone-answer}
 use Rattle.ncp_model.proofs.TiesCalls.{ties-echo, ties-calls}
 use Rattle.ncp_model.proofs.TiesHears.{ties-hears}
 use Rattle.ncp_model.proofs.TiesTexts.{owned_by, ties-goes-out, ties-text-comes, ties-text-drops, text-out-stands, text-out-stands-here, ties-answered, ties-answered-gone}
-use Rattle.ncp_model.proofs.HostsJoined.{lives, is_alive, Whole, Joined, up_alive, up_waits, not_alive, clears, settles-keeps, hears_rst-keeps, hears_rrp-keeps, AllOther, making, pending}
+use Rattle.ncp_model.proofs.HostsJoined.{lives, is_alive, Whole, Joined, up_alive, up_waits, not_alive, clears, settles-keeps, hears_rst-keeps, hears_rrp-keeps, pending}
 
 -- of a host that is up this is all that is asked
 whole-up : (own : Owners) (n : Node) → is_up n.host ≡ true → n.wrong ≡ false → Whole own n

@@ -17,10 +17,10 @@ use Rattle.ncp_model.proofs.Joint.{to_sender_kind, to_receiver_kind, kinds, send
 use Rattle.ncp_model.proofs.Senders.{going_parts}
 use Rattle.ncp_model.proofs.Whole.{Inv, open_parts}
 use Rattle.ncp_model.proofs.Outliving.{Fit}
-use Rattle.ncp_model.proofs.Projecting.{same_refl, same_true, AllFit, fits_ever}
+use Rattle.ncp_model.proofs.Projecting.{same_refl, same_true}
 use Rattle.ncp_model.proofs.Clear.{Clear, Free, holds, still_left}
-use Rattle.ncp_model.proofs.Linking.{hears_from, uses_from, asks_at, LinkFits}
-use Rattle.ncp_model.proofs.LinkSteps.{links_ever}
+use Rattle.ncp_model.proofs.Linking.{hears_from, uses_from, asks_at}
+use Rattle.ncp_model.proofs.TiesBase.{all-fit, all-linked}
 use Rattle.ncp_model.proofs.Ties.{Reached, commands_of, turn, turn_all, leads_nowhere, Apt}
 
 -- What is counted: ALL on its way to the sender, RET on its way to the receiver.
@@ -430,12 +430,6 @@ module _ (g : Shared) (alone : (p q : Pair) (on : ℕ) → uses_at g on p ≡ tr
 
 -- A machine that came about.
 
-all-fit : (g : Shared) → Reached g → AllFit g
-all-fit g r = subst (λ (h : Shared). AllFit h) r.is_it (fits_ever r.events r.may)
-
-links-fit : (g : Shared) → Reached g → LinkFits g
-links-fit g r = subst (λ (h : Shared). LinkFits h) r.is_it (links_ever r.events r.may)
-
 inv-at : (g : Shared) → Reached g → g.sends ≡ true → g.receives ≡ true → (q : Pair) → sends q ≡ true → Inv q (at q g)
 inv-at g r a b q sq = subst (λ (x : Bool). Fit q x true (at q g)) a (subst (λ (x : Bool). Fit q g.sends x (at q g)) b (all-fit g r q sq))
 
@@ -472,13 +466,13 @@ module _ (g back : Shared) (p : Pair) (ts : List Tagged) (r : Reached g) (r' : R
       holds_it = hears_from on p (or_new (g.sender p).end) sp j.heard refl
 
       clear : Clear p on g.to_senders true (or_new (g.sender p).end).left (asks_at g on p)
-      clear = subst (λ (x : Bool). Clear p on g.to_senders x (or_new (g.sender p).end).left (asks_at g on p)) holds_it ((links-fit g r).clear a p on sp)
+      clear = subst (λ (x : Bool). Clear p on g.to_senders x (or_new (g.sender p).end).left (asks_at g on p)) holds_it ((all-linked g r).clear a p on sp)
 
       apart : (q : Pair) → sends q ≡ true → same q p ≡ false → Apart on q g.to_senders
       apart q sq d = record {
         heard = (or_new (g.sender q).end).heard;
         link = (or_new (g.sender q).end).link;
-        other = λ h x. both_ways (same q p) d (subst (λ (z : Pair). same q z ≡ true) ((links-fit g r).senders a q p on (hears_from on q (or_new (g.sender q).end) sq h x) holds_it) (same_refl q));
+        other = λ h x. both_ways (same q p) d (subst (λ (z : Pair). same q z ≡ true) ((all-linked g r).senders a q p on (hears_from on q (or_new (g.sender q).end) sq h x) holds_it) (same_refl q));
         hears = to-sender q sq (at q g) (inv-at g r a b q sq);
       }
 
@@ -530,7 +524,7 @@ module _ (g back : Shared) (p : Pair) (ts : List Tagged) (r : Reached g) (r' : R
           (known-hears (or_new (back.sender q).end).heard (or_new (back.sender q).end).link (kinds to_sender_kind (only q back.to_senders)) (to-sender q sq (at q back) (inv-at back r' a' b' q sq)))
 
       each : Each is_ret on p g.to_receivers
-      each = rets g ((links-fit g r).receivers b) on p (sym j.link) uses sp g.to_receivers
+      each = rets g ((all-linked g r).receivers b) on p (sym j.link) uses sp g.to_receivers
           (subst (λ (l : List Tagged). Beside is_ret l) (sym e) (beside is_ret to_receiver_kind to_sender_kind false ret-counted ts t known))
           (λ q sq. to-receiver q sq (at q g) (inv-at g r a b q sq))
 

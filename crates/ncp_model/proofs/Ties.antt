@@ -10,7 +10,7 @@ use Rattle.ncp_model.specs.Act.{is_data_link}
 use Rattle.ncp_model.specs.Histories.{Watched}
 use Rattle.ncp_model.specs.Delivery.{Slot, Empty, Ready, Travelling, Held, Subnet, Free, Accepted, Delivered, Lost, Dead, Link, idle}
 use Rattle.ncp_model.specs.Connections.{turned, Text, No_text, Away, Here}
-use Rattle.ncp_model.specs.Sharing.{Tagged, Shared, new_shared, tag, Shared_event, shared_occurs, shared_from, shared, MayHappen, AllMayHappen}
+use Rattle.ncp_model.specs.Sharing.{Tagged, Shared, new_shared, Shared_event, shared_occurs, shared_from, shared, MayHappen, AllMayHappen}
 use Rattle.ncp_model.specs.Finding.{link_out}
 use Rattle.ncp_model.specs.Hosts.{TextOut, Node, past_of}
 

@@ -1,18 +1,20 @@
 -- What happens at an end of a host, and the same at the end of its connection in a machine: the host
 -- and the machines stay tied.
-use Rattle.std.proofs.Common.{◌≡◌, ℕ, Bool, true, false, ◌&&◌, ◌||◌, if◌then◌else◌, List, [], ◌∷◌, ◌++◌, Option, None, Some, refl, sym, ap, ◌∙◌, subst, arith}
+use Rattle.std.proofs.Common.{◌≡◌, Bool, true, false, ◌||◌, if◌then◌else◌, List, [], ◌∷◌, ◌++◌, refl, sym, ap, ◌∙◌, subst, arith}
 use Rattle.std.proofs.lemmas.Bool.{both_ways}
 use Rattle.std.proofs.lemmas.List.{append-nil, append_assoc}
 use Rattle.std.specs.FinMap.{get}
 use Rattle.ncp_control.specs.declared.command.Command.{Command}
 use Rattle.ncp_model.specs.declared.pair.Pair.{Pair}
-use Rattle.ncp_model.specs.Pairs.{sends, receives, is_proper, is_send, is_receive}
+use Rattle.ncp_model.specs.Pairs.{sends, is_proper}
 use Rattle.ncp_model.specs.Happenings.{Happening, happens}
 use Rattle.ncp_model.specs.Histories.{Watched, watches}
 use Rattle.ncp_model.specs.Connections.{turned, Text, is_violation}
-use Rattle.ncp_model.specs.Sharing.{Shared, at, same, set_at, tag, Tagged, Shared_event, Other_to_senders, Other_to_receivers, shared_occurs}
+use Rattle.ncp_model.specs.Sharing.{Shared, at, same, set_at, tag, Tagged, Other_to_senders, Other_to_receivers, shared_occurs}
 use Rattle.ncp_model.specs.Hosts.{Node}
 use Rattle.ncp_model.proofs.Outliving.{fit_safe}
+use Rattle.ncp_model.proofs.Linking.{LinkFits}
+use Rattle.ncp_model.proofs.LinkSteps.{links_ever}
 use Rattle.ncp_model.proofs.Projecting.{same_refl, same_true, AllFit, fits_ever}
 use Rattle.ncp_model.proofs.Ties.{Reached, watched, Owners, Texts, Way, commands_of, turn, turn_all, Apt, Flow, Ties, further, reached-same}
 
@@ -131,9 +133,13 @@ flow-more b u here there p more s f e =
 pub flow-same : (b : Bool) (u : List Command) (here here' there there' : List Tagged) → here ≡ here' → there ≡ there' → Flow b u here there → Flow b u here' there'
 flow-same b u here here' there there' p q f = subst (λ (l : List Tagged). Flow b u l there') p (subst (λ (l : List Tagged). Flow b u here l) q f)
 
--- what holds of each connection
+-- What holds of each connection, and of links.
+
 pub all-fit : (g : Shared) → Reached g → AllFit g
 all-fit g r = subst AllFit r.is_it (fits_ever r.events r.may)
+
+pub all-linked : (g : Shared) → Reached g → LinkFits g
+all-linked g r = subst LinkFits r.is_it (links_ever r.events r.may)
 
 -- no end ever answers its peer as against the protocol
 pub safe-ever : (g : Shared) (p : Pair) → sends p ≡ true → Reached g → g.violated p ≡ false

@@ -100,17 +100,17 @@ full-pasts (commands.Rts receive send on) n h =
     let before : Option End = get n.ends pair in
     unopened n.pasts pair before (happens pair (all.Rts_comes on (any (hears_link on) n.ends) (count is_by_peer n.ends)) before).after
     (full_stays
-        (not (sends pair) || not (is_data_link on) || (or_new before).heard || any (hears_link on) n.ends)
-        (is_none before && nat_le MAX_BY_PEER (count is_by_peer n.ends))
-        before (commands.Rts receive send on) (met (record (or_new before) { heard = true; link = on })) h)
+    (not (sends pair) || not (is_data_link on) || (or_new before).heard || any (hears_link on) n.ends)
+    (is_none before && nat_le MAX_BY_PEER (count is_by_peer n.ends))
+    before (commands.Rts receive send on) (met (record (or_new before) { heard = true; link = on })) h)
 full-pasts (commands.Str send receive of_size) n h =
     let pair : Pair = record { local = receive; remote = send } in
     let before : Option End = get n.ends pair in
     unopened n.pasts pair before (happens pair (all.Str_comes of_size (count is_by_peer n.ends)) before).after
     (full_stays
-        (not (receives pair) || of_size == 0 || (or_new before).heard)
-        (is_none before && nat_le MAX_BY_PEER (count is_by_peer n.ends))
-        before (commands.Str send receive of_size) (met (record (or_new before) { heard = true; size = of_size })) h)
+    (not (receives pair) || of_size == 0 || (or_new before).heard)
+    (is_none before && nat_le MAX_BY_PEER (count is_by_peer n.ends))
+    before (commands.Str send receive of_size) (met (record (or_new before) { heard = true; size = of_size })) h)
 full-pasts (commands.Cls my your) n h = let pair : Pair = record { local = your; remote = my } in absurd (cc (h, cls_room pair (get n.ends pair)))
 full-pasts (commands.All on a b) n h = absurd (cc (h, all_room on a b (end_of (sender_on on n.ends))))
 full-pasts (commands.Gvb on a b) n h = absurd (cc (h, gvb_room on a b (end_of (sender_on on n.ends))))

@@ -23,7 +23,7 @@ use Rattle.ncp_model.specs.Histories.{Watched, Past, watches}
 use Rattle.ncp_model.specs.Delivery.{Link}
 use Rattle.ncp_model.specs.Connections.{turned, Text, Connection, text_after, command_comes, is_violation}
 use Rattle.ncp_model.specs.Finding.{link_out, Only}
-use Rattle.ncp_model.specs.Sharing.{Tagged, Shared, set_at, only, at, shared_occurs, Next_to_senders, Next_to_receivers, Other_to_senders, Other_to_receivers, hears_at, uses_at}
+use Rattle.ncp_model.specs.Sharing.{Tagged, Shared, set_at, only, at, shared_occurs, Next_to_senders, Next_to_receivers, hears_at, uses_at}
 use Rattle.ncp_model.specs.Hosts.{Pasts, TextOut, Node, or_no_past, past_of, past_after, pasts_after, pasts_after_at, is_full_up, echo_replies}
 use Rattle.ncp_model.proofs.PairOrder.{pairs_exact, pairs_total}
 use Rattle.ncp_model.proofs.LinksLead.{itself, command-led, hearer-sends, user-receives}
@@ -33,18 +33,14 @@ use Rattle.ncp_model.proofs.Joint.{to_sender_kind, to_receiver_kind}
 use Rattle.ncp_model.proofs.Lines.{Alien}
 use Rattle.ncp_model.proofs.Whole.{alien_to_sender, alien_to_receiver}
 use Rattle.ncp_model.proofs.Outliving.{Fit}
-use Rattle.ncp_model.proofs.Projecting.{same_refl, AllFit, fits_ever}
-use Rattle.ncp_model.proofs.Linking.{LinkFits}
-use Rattle.ncp_model.proofs.LinkSteps.{links_ever}
+use Rattle.ncp_model.proofs.Projecting.{same_refl}
 use Rattle.ncp_model.proofs.Found.{grant_finds, return_finds, request_fits}
 use Rattle.ncp_model.proofs.Named.{AllNamed, names_ever, sockets_find_sender, sockets_find_receiver}
-use Rattle.ncp_model.proofs.Ties.{Reached, watched, Owned, Owners, Texts, commands_of, turn, turn_all, leads_nowhere, Apt, Flow, Ties, further, reached-same}
-use Rattle.ncp_model.proofs.TiesBase.{Sees, all-fit, set_same, sender_did, receiver_did, sender-acts, receiver-acts}
+use Rattle.ncp_model.proofs.Ties.{Reached, watched, Owned, Owners, Texts, commands_of, turn_all, leads_nowhere, Apt, Flow, Ties, further, reached-same}
+use Rattle.ncp_model.proofs.TiesCalls.{ties-echo}
+use Rattle.ncp_model.proofs.TiesBase.{Sees, all-fit, all-linked, set_same, sender_did, receiver_did, sender-acts, receiver-acts}
 
 -- What holds of a machine that came about by events that may happen.
-
-all-linked : (g : Shared) → Reached g → LinkFits g
-all-linked g r = subst LinkFits r.is_it (links_ever r.events r.may)
 
 all-named : (g : Shared) → Reached g → AllNamed g
 all-named g r = subst AllNamed r.is_it (names_ever r.events)
@@ -350,38 +346,6 @@ no-reply : (c : Command) (what : Happening) → command_comes 0 c ≡ Some what 
 no-reply (commands.Eco byte) what h = absurd (cc h)
 no-reply c what h = refl
 
-commands_of_next : (xs : List Tagged) (t : Tagged) → commands_of (xs ++ t ∷ []) ≡ commands_of xs ++ t.command ∷ []
-commands_of_next [] t = refl
-commands_of_next (x ∷ xs) t = ap (λ (l : List Command). x.command ∷ l) (commands_of_next xs t)
-
-turn_all_next : (xs : List Tagged) (t : Tagged) → turn_all (xs ++ t ∷ []) ≡ turn_all xs ++ turn t ∷ []
-turn_all_next [] t = refl
-turn_all_next (x ∷ xs) t = ap (λ (l : List Tagged). turn x ∷ l) (turn_all_next xs t)
-
-apt_next : (xs : List Tagged) (t : Tagged) → leads_nowhere t.command ≡ true → Apt xs → Apt (xs ++ t ∷ [])
-apt_next [] t e a = (λ _. e, tt)
-apt_next (x ∷ xs) t e a = (a.0, apt_next xs t e a.1)
-
--- a command of no connection joins
-ties-nowhere : (a b : Bool) (own own' : Owners) (n m : Node) (u v : List Command) (c : Command) → leads_nowhere c ≡ true → Ties a b own own' n m u v → Ties a b own own' n m (u ++ c ∷ []) v
-ties-nowhere a b own own' n m u v c e t = record {
-  g = record t.g { to_receivers = t.g.to_receivers ++ one ∷ [] };
-  back = record t.back { to_senders = t.back.to_senders ++ one ∷ [] };
-  reached = further t.g (Other_to_receivers one) t.reached tt;
-  reached_back = further t.back (Other_to_senders one) t.reached_back tt;
-  there = t.there;
-  here = t.here;
-  going = λ k. let f = t.going k in record {
-    commands = commands_of_next t.g.to_receivers one ∙ ap (λ (l : List Command). l ++ c ∷ []) f.commands;
-    same = ap (λ (l : List Tagged). l ++ one ∷ []) f.same ∙ sym (turn_all_next t.g.to_receivers one);
-    apt = apt_next t.g.to_receivers one e f.apt;
-  };
-  coming = t.coming;
-}
-  where
-    one : Tagged
-    one = record { pair = record { local = 0; remote = 0 }; command = c }
-
 -- the host hears a command, and stays tied
 abbrev Hears : Bool → Bool → Owners → Owners → Node → Node → List Command → List Command → Command → Type 0
 Hears a b own own' n m u v c = record {
@@ -394,7 +358,7 @@ module _ (a b : Bool) (own own' : Owners) (n m : Node) (u v : List Command) wher
   silent u' e t = subst (λ (l : List Command). Ties a b own own' n m l v) (sym (ap (λ (l : List Command). u ++ l) e ∙ append-nil u)) t
 
   heard-nowhere : (c : Command) → leads_nowhere c ≡ true → Ties a b own own' n m u v → Hears a b own own' n m u v c
-  heard-nowhere (commands.Eco byte) e t = record { ties = ties-nowhere a b own own' n m u v (commands.Erp byte) refl t; safe = refl }
+  heard-nowhere (commands.Eco byte) e t = record { ties = ties-echo a b own own' n m u v (commands.Erp byte) refl t; safe = refl }
   heard-nowhere (commands.Rts x y z) e t = absurd (cc e)
   heard-nowhere (commands.Str x y z) e t = absurd (cc e)
   heard-nowhere (commands.Cls x y) e t = absurd (cc e)

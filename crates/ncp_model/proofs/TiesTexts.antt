@@ -19,7 +19,7 @@ use Rattle.ncp_model.specs.Limits.{InLimitsAt}
 use Rattle.ncp_model.specs.Histories.{Past, Watched, no_past, adds, opens}
 use Rattle.ncp_model.specs.Delivery.{Slot, Empty, Ready, Travelling, Held, Subnet, Free, Accepted, Delivered, Lost, Dead, Link, idle}
 use Rattle.ncp_model.specs.Connections.{turned, Text, No_text, Away, Here, text_after, is_violation, Text_goes_out, Text_comes, Text_is_answered}
-use Rattle.ncp_model.specs.Sharing.{Tagged, Shared, set_at, same, On, shared_occurs, shared, hears_at, uses_at}
+use Rattle.ncp_model.specs.Sharing.{Tagged, Shared, set_at, same, On, shared_occurs, hears_at, uses_at}
 use Rattle.ncp_model.specs.Finding.{link_out, Only, SenderHoldsLink, ReceiverHoldsLink}
 use Rattle.ncp_model.specs.Hosts.{TextOut, Node, past_of, or_no_past, pasts_after, pasts_after_at, set_link}
 use Rattle.ncp_model.proofs.PairOrder.{pairs_exact, pairs_total}
@@ -27,11 +27,10 @@ use Rattle.ncp_model.proofs.EndsGood.{same_or, Changes, act-changes}
 use Rattle.ncp_model.proofs.LinksLead.{led, itself, cut-led, answered-led, hearer-sends}
 use Rattle.ncp_model.proofs.Lookups.{leads-there}
 use Rattle.ncp_model.proofs.Linking.{hears_parts, uses_parts}
-use Rattle.ncp_model.proofs.Projecting.{same_refl, same_true, fits_ever}
-use Rattle.ncp_model.proofs.LinkSteps.{links_ever}
+use Rattle.ncp_model.proofs.Projecting.{same_refl, same_true}
 use Rattle.ncp_model.proofs.Found.{sender_holds, receiver_holds}
 use Rattle.ncp_model.proofs.Ties.{Reached, text_on, Carried, Owned, Owners, Texts, Way, Flow, Ties, further, reached-same}
-use Rattle.ncp_model.proofs.TiesBase.{Sees, sender_did, receiver_did, sender-acts, receiver-acts}
+use Rattle.ncp_model.proofs.TiesBase.{all-fit, all-linked, Sees, sender_did, receiver_did, sender-acts, receiver-acts}
 
 -- from now on the link has this owner
 abbrev pub owned_by : ℕ → Option Pair → Owners → Owners
@@ -236,10 +235,10 @@ by_answer g h p r e = reached-same (shared_occurs (On p (Text_is_answered Taken)
 -- Where a text is out, the ends of its connection hold its link.
 
 sender-holds : (g : Shared) → Reached g → g.sends ≡ true → SenderHoldsLink g
-sender-holds g r = subst (λ (s : Shared). s.sends ≡ true → SenderHoldsLink s) r.is_it (sender_holds (shared r.events) (fits_ever r.events r.may) (links_ever r.events r.may))
+sender-holds g r = sender_holds g (all-fit g r) (all-linked g r)
 
 receiver-holds : (g : Shared) → Reached g → g.receives ≡ true → ReceiverHoldsLink g
-receiver-holds g r = subst (λ (s : Shared). s.receives ≡ true → ReceiverHoldsLink s) r.is_it (receiver_holds (shared r.events) (fits_ever r.events r.may) (links_ever r.events r.may))
+receiver-holds g r = receiver_holds g (all-fit g r) (all-linked g r)
 
 -- of an end, or of none
 hears-new : (on : ℕ) (p : Pair) (o : Option End) → hears_link on (p, or_new o) ≡ passes (hears_link on) p o

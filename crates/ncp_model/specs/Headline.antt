@@ -5,7 +5,6 @@ use Rattle.std.specs.Prelude.{◌≡◌, ℕ, ◌+◌, ◌==◌, Bool, true, fal
 use Rattle.std.specs.FinMap.{get}
 use Rattle.ncp_control.specs.declared.command.Command.{Command}
 use Rattle.ncp_model.specs.declared.pair.Pair.{Pair}
-use Rattle.ncp_model.specs.Pairs.{sends}
 use Rattle.ncp_model.specs.End.{End, is_open, is_live, or_new}
 use Rattle.ncp_model.specs.Ends.{hears_link, uses_link}
 use Rattle.ncp_model.specs.Leading.{passes}
@@ -13,9 +12,9 @@ use Rattle.ncp_model.specs.Histories.{opens}
 use Rattle.ncp_model.specs.Connections.{turned}
 use Rattle.ncp_model.specs.Ledger.{granted_messages, granted_bits, returned_messages, returned_bits, IsBeginning}
 use Rattle.ncp_model.specs.Finding.{link_of}
-use Rattle.ncp_model.specs.Delivery.{Slot, Empty, Ready, Travelling, Held, Subnet, Free, Accepted, Delivered, Lost, Dead, Link}
+use Rattle.ncp_model.specs.Delivery.{Slot, Empty, Ready, Travelling, Held, Subnet, Free, Accepted, Delivered, Lost, Dead}
 use Rattle.ncp_model.specs.Resets.{underway}
-use Rattle.ncp_model.specs.Hosts.{TextOut, Node, World, past_of, is_empty}
+use Rattle.ncp_model.specs.Hosts.{TextOut, World, past_of, is_empty}
 
 -- The two ends of a pair.
 

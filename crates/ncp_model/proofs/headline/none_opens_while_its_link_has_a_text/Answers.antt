@@ -1,6 +1,6 @@
-use Rattle.ncp_model.specs.Hosts.{Event, World, swap, at, run}
+use Rattle.ncp_model.specs.Hosts.{swap, at, run}
 use Rattle.ncp_model.proofs.OpensNot.{none-live-at}
-use Rattle.ncp_model.proofs.HostsHeld.{Ever, ever, ever-swapped, happening, after_step}
+use Rattle.ncp_model.proofs.HostsHeld.{ever, ever-swapped, happening, after_step}
 use Rattle.ncp_model.proofs.HostsHeadline.{sender-opens-not, receiver-opens-not}
 use Rattle.ncp_model.proofs.headline.none_opens_while_its_link_has_a_text.Goals as goal
 

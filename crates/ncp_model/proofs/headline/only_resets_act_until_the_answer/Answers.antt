@@ -1,4 +1,4 @@
-use Rattle.std.proofs.Common.{◌≡◌, ℕ, Bool, true, false, if◌then◌else◌, List, [], ◌∷◌, Option, None, Some, refl, sym, ap, ◌∙◌, arith}
+use Rattle.std.proofs.Common.{◌≡◌, ℕ, Bool, true, false, if◌then◌else◌, List, Option, None, Some, refl, ap, ◌∙◌, arith}
 use Rattle.std.specs.List.{list_any}
 use Rattle.ncp_control.specs.declared.command.Command.{Command}
 use Rattle.ncp_control.specs.declared.command.Command.TheVariants.{Rst, Rrp}
@@ -9,7 +9,7 @@ use Rattle.ncp_model.specs.Ends.{cut_in, answered_in}
 use Rattle.ncp_model.specs.Phase.{is_rrp, is_other, is_resetting}
 use Rattle.ncp_model.specs.Delivery.{Slot, Empty, Ready, Travelling, Held, Subnet, Free, Accepted, Delivered, Lost, Dead}
 use Rattle.ncp_model.specs.Resets.{Host, is_up, host_resets}
-use Rattle.ncp_model.specs.Hosts.{TextOut, Node, quiet, cleared, frees, hears, hears_text, Call, calls, calls_echo, calls_reset, cuts, sends_text, hears_all, text_answered, control_answered, message_comes, text_comes, World, base, Step, Calls_reset, Calls, Calls_echo, Sends, Sends_text, Hears, Hears_text, Is_answered, Text_is_answered, steps}
+use Rattle.ncp_model.specs.Hosts.{TextOut, Node, quiet, cleared, frees, hears, hears_text, Call, calls, calls_echo, calls_reset, cuts, sends_text, text_answered, control_answered, message_comes, text_comes, World, base, Step, Calls_reset, Calls, Calls_echo, Sends, Sends_text, Hears, Hears_text, Is_answered, Text_is_answered, steps}
 use Rattle.ncp_model.proofs.Waiting.{down, silent_all, settling, waiting, sends-wait}
 use Rattle.ncp_model.proofs.HostsBase.{reactions, hears_all-host}
 use Rattle.ncp_model.proofs.headline.only_resets_act_until_the_answer.Goals as goal

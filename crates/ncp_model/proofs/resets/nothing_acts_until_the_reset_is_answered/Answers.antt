@@ -1,9 +1,8 @@
-use Rattle.std.proofs.Common.{◌≡◌, ℕ, Bool, true, false, List, [], ◌∷◌, refl, ap, ◌∙◌, arith}
+use Rattle.std.proofs.Common.{◌≡◌, ℕ, Bool, true, false, List, [], ◌∷◌, refl, ap, ◌∙◌}
 use Rattle.std.specs.List.{list_any}
 use Rattle.ncp_control.specs.declared.command.Command.{Command}
-use Rattle.ncp_control.specs.declared.command.Command.TheVariants.{Rst, Rrp}
-use Rattle.ncp_model.specs.Phase.{Phase, is_rrp, is_reset, settles, owes_answer, Reaction}
-use Rattle.ncp_model.specs.Resets.{Host, is_up, host_resets, host_makes, host_hears_other, host_hears, no_reaction, host_hears_all, World, Step, Resets, Makes, Settles, Sends, Hears, sends, comes, steps}
+use Rattle.ncp_model.specs.Phase.{is_rrp, Reaction}
+use Rattle.ncp_model.specs.Resets.{Host, host_resets, host_makes, World, Step, Resets, Makes, Settles, Sends, Hears, sends, comes, steps}
 use Rattle.ncp_model.specs.Delivery.{Slot, Empty, Ready, Travelling, Held, Subnet, Free, Accepted, Delivered, Lost, Dead}
 use Rattle.ncp_model.proofs.Waiting.{silent, settling, resetting, waiting, idle, sends-wait}
 use Rattle.ncp_model.proofs.resets.nothing_acts_until_the_reset_is_answered.Goals as goal
