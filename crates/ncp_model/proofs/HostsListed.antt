@@ -535,6 +535,15 @@ that-end es pair = get-entries (run es).that.ends pair ∙ ap (λ (w : LowWorld)
 pub that-past : (es : List Event) (pair : Pair) → past_of (run es).that.pasts pair ≡ or_no_past (find pair_cmp pair (low_run es).that.pasts)
 that-past es pair = ap or_no_past (get-entries (run es).that.pasts pair ∙ ap (λ (w : LowWorld). find pair_cmp pair w.that.pasts) (run-low es))
 
+pub this-past : (es : List Event) (pair : Pair) → past_of (run es).this.pasts pair ≡ or_no_past (find pair_cmp pair (low_run es).this.pasts)
+this-past es pair = ap or_no_past (get-entries (run es).this.pasts pair ∙ ap (λ (w : LowWorld). find pair_cmp pair w.this.pasts) (run-low es))
+
+pub this-control : (es : List Event) → (run es).this.control ≡ (low_run es).this.control
+this-control es = ap (λ (w : LowWorld). w.this.control) (run-low es)
+
+pub that-control : (es : List Event) → (run es).that.control ≡ (low_run es).that.control
+that-control es = ap (λ (w : LowWorld). w.that.control) (run-low es)
+
 pub this-link : (es : List Event) (on : ℕ) → (run es).this.texts on ≡ (low_run es).this.texts on
 this-link es on = ap (λ (w : LowWorld). w.this.texts on) (run-low es)
 

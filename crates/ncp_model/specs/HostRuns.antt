@@ -3,7 +3,7 @@
 use Rattle.std.specs.Prelude.{List, [], ◌∷◌, ◌++◌}
 use Rattle.ncp_model.specs.Resets.{Side, This, That}
 use Rattle.ncp_model.specs.Rows.{outward, inward, ones, noughts}
-use Rattle.ncp_model.specs.Hosts.{Event, Step, Calls_reset, Calls, Sends, Sends_text, Hears, Hears_text, Loses_text, Text_dies, Is_answered, Text_is_answered, Wakes, Ask_to_send, Ask_to_receive, Close, Give, Take, Allocate}
+use Rattle.ncp_model.specs.Hosts.{Event, Step, Calls_reset, Calls, Sends, Sends_text, Hears, Hears_text, Loses_text, Text_dies, Is_answered, Text_is_answered, Wakes, Ask_to_send, Ask_to_receive, Close, Give, Take, Allocate, Call_back}
 
 abbrev pub by : Side → Step → Event
 by side step = record { side = side; step = step }
@@ -94,3 +94,25 @@ over_by_sender = closed_by_sender ++ by That (Calls inward (Take 100)) ∷ messa
 -- and the connection opens once more, on the same link
 abbrev pub opened_again : List Event
 opened_again = over_by_receiver ++ opens_both
+
+-- the ledger with all its terms: the text is out, a second ALL waits, and a GVB is answered by a RET
+abbrev pub calls_back_under_text : List Event
+calls_back_under_text =
+    with_text_out ++ by That (Calls inward (Call_back 128 0)) ∷ message That ++ by That (Calls inward (Allocate 3 24)) ∷ []
+
+-- the sender's host resets while its text is out: what came of it stays got while the receiver lives
+abbrev pub sender_cleared : List Event
+sender_cleared = with_text_out ++ by This Calls_reset ∷ text_is_heard
+
+-- a text finds its destination dead, and is held; that host resets, and is answered once the text
+-- was asked for again, came, and was answered
+abbrev pub held_past_reset : List Event
+held_past_reset = held_back ++ by That Calls_reset ∷ message That
+
+abbrev pub up_after_held : List Event
+up_after_held = held_past_reset ++ by This Wakes ∷ text_goes ++ text_is_heard ++ text_is_answered ++ message This
+
+-- the connection opens anew on the same link, and other bits are given
+abbrev pub opened_after_held : List Event
+opened_after_held =
+    up_after_held ++ opens_both ++ by That (Calls inward (Allocate 2 16)) ∷ message That ++ by This (Calls outward (Give (noughts 16))) ∷ text_goes ++ text_is_heard ++ text_is_answered

@@ -9,6 +9,16 @@ ghost use Rattle.ncp_model.specs.Delivery.{Accepted};
 ghost use Rattle.ncp_model.specs.Hosts.{Node, World, swap, TextOut, Step, steps, hears, hears_text, Call, calls, calls_echo, Event, at, run};
 ghost use Rattle.ncp_model.specs.Headline.{MessagesAgree, BitsAgree, Parted, Held_all, Begins, StaysOut, SenderOpens, ReceiverOpens};
 
+ghost use Rattle.std.specs.Prelude.{[], ◌++◌, None, Some};
+ghost use Rattle.std.specs.FinMap.{get};
+ghost use Rattle.ncp_model.specs.Delivery.{Held, Free};
+ghost use Rattle.ncp_model.specs.Hosts.{past_of};
+ghost use Rattle.ncp_model.specs.Ledger.{granted_messages, returned_messages};
+ghost use Rattle.ncp_model.specs.Headline.{BothOpen, sender_at, receiver_at, sum_on, how_many, text_underway, commands_there, commands_back};
+ghost use Rattle.ncp_model.specs.Rows.{outward, inward, ones, noughts, counting};
+ghost use Rattle.ncp_model.specs.Schedules.{up_phase};
+ghost use Rattle.ncp_model.specs.HostRuns.{calls_back_under_text, sender_cleared, held_past_reset, up_after_held, opened_after_held};
+
 use crate::pair::Pair;
 
 /// From making an RST until an RRP came, a host acts on nothing but RST and RRP; and its waiting ends
@@ -43,4 +53,21 @@ pub fn none_opens_while_its_link_has_a_text()
     ensures receiver { (events : List Event) (e : Event) (pair : Pair) (on : ℕ) → StaysOut on (run events) (at e.side e.step (run events)) → ReceiverOpens on pair (run events) (at e.side e.step (run events)) → ⊥ }
     ensures sender_back { (events : List Event) (e : Event) (pair : Pair) (on : ℕ) → StaysOut on (swap (run events)) (swap (at e.side e.step (run events))) → SenderOpens on pair (swap (run events)) (swap (at e.side e.step (run events))) → ⊥ }
     ensures receiver_back { (events : List Event) (e : Event) (pair : Pair) (on : ℕ) → StaysOut on (swap (run events)) (swap (at e.side e.step (run events))) → ReceiverOpens on pair (swap (run events)) (swap (at e.side e.step (run events))) → ⊥ }
+{}
+
+/// That these laws speak of something: both ends are open while an ALL, a text and a RET are underway;
+/// and a receiver lives on what it got while its sender was cleared.
+pub fn all_terms_are_underway()
+    ensures open { BothOpen outward (run calls_back_under_text) }
+    ensures messages { let w = run calls_back_under_text in ((receiver_at outward w).messages ≡ 5) × ((sender_at outward w).messages ≡ 0) × (sum_on 2 granted_messages (commands_back w) ≡ 3) × (how_many (text_underway outward w) ≡ 1) × (sum_on 2 returned_messages (commands_there w) ≡ 1) }
+    ensures alone { let w = run sender_cleared in (get w.this.ends outward ≡ None) × (get w.that.ends inward ≡ Some (record (counting 1 0) { stored = ones 16 })) × ((past_of w.that.pasts inward).got ≡ ones 16) × ((past_of w.this.pasts outward).given ≡ ones 16 ++ noughts 8) }
+{}
+
+/// A text is held back past a reset of the host to which it goes: that host's RST is answered only
+/// after the text, which is dropped when it comes; and what opens anew on its link gets what was given
+/// anew, and no more.
+pub fn a_text_is_held_back_past_a_reset()
+    ensures owed { let w = run held_past_reset in (w.this.host.phase ≡ record up_phase { owe = true }) × (w.that.host.phase ≡ record up_phase { wait = true }) × (w.this.texts 2 ≡ record { slot = Held (record { of_size = 8; bits = ones 16 }); subnet = Free }) }
+    ensures dropped { let w = run up_after_held in (w.this.host.phase ≡ up_phase) × (w.that.host.phase ≡ up_phase) × ((past_of w.that.pasts inward).got ≡ []) }
+    ensures anew { let w = run opened_after_held in (get w.this.ends outward ≡ Some (counting 1 0)) × (get w.that.ends inward ≡ Some (record (counting 1 0) { stored = noughts 16 })) × ((past_of w.that.pasts inward).got ≡ noughts 16) }
 {}
