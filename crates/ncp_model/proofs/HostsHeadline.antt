@@ -11,6 +11,7 @@ use Rattle.ncp_model.specs.Ends.{Ends, no_ends, hears_link, uses_link}
 use Rattle.ncp_model.specs.Leading.{passes}
 use Rattle.ncp_model.specs.Histories.{Watched}
 use Rattle.ncp_model.specs.Delivery.{Slot, Empty, Ready, Travelling, Held, Subnet, Free, Accepted, Delivered, Lost, Dead, Link}
+use Rattle.ncp_model.specs.Books.{BooksAt}
 use Rattle.ncp_model.specs.Connections.{turned, Text, No_text, Away, Here}
 use Rattle.ncp_model.specs.Ledger.{granted_messages, granted_bits, returned_messages, returned_bits, sum_of, text_messages, text_bits, is_out}
 use Rattle.ncp_model.specs.Ledger as ledger
@@ -19,8 +20,8 @@ use Rattle.ncp_model.specs.Sharing.{Shared, only, at, hosted_at}
 use Rattle.ncp_model.specs.Finding.{link_out}
 use Rattle.ncp_model.specs.Resets.{Host, is_up}
 use Rattle.ncp_model.specs.Hosts.{TextOut, World, past_of, is_empty}
-use Rattle.ncp_model.specs.Headline.{BothOpen, sender_at, receiver_at, sum_on, not_come, how_many, bits_of, text_underway, commands_there, commands_back, MessagesAgree, BitsAgree, Parted, Held_all, Begins, StaysOut, SenderOpens, ReceiverOpens}
-use Rattle.ncp_model.proofs.Outliving.{fit_open, fit_held, fit_begins, fit_opened}
+use Rattle.ncp_model.specs.Headline.{BothOpen, sender_at, receiver_at, sum_on, not_come, how_many, bits_of, text_underway, commands_there, commands_back, MessagesAgree, BitsAgree, OnOneLink, WithinAllocation, Parted, TakenOrHeld, Begins, StaysOut, SenderOpens, ReceiverOpens}
+use Rattle.ncp_model.proofs.Outliving.{fit_open, fit_held, fit_begins, fit_books, fit_opened}
 use Rattle.ncp_model.proofs.ResetLists.{bit, rsts, rrps}
 use Rattle.ncp_model.proofs.Lives.{live, fronts}
 use Rattle.ncp_model.proofs.HostsStand.{BothStand}
@@ -30,7 +31,7 @@ use Rattle.ncp_model.proofs.TiesTexts.{text-out-stands, text-out-stands-here}
 use Rattle.ncp_model.proofs.HostsJoined.{lives, is_alive, up_alive, up_waits}
 use Rattle.ncp_model.proofs.HostsHeld.{Holds, Ever, x, y}
 use Rattle.ncp_model.proofs.HostsSteps.{Follows, owner-of}
-use Rattle.ncp_model.proofs.LinkSums.{granted-all, returned-all}
+use Rattle.ncp_model.proofs.LinkSums.{same-link, granted-all, returned-all}
 
 -- with no RST and no RRP underway, all lives
 fronts_all : (u : List Command) → rsts u ≡ 0 → rrps u ≡ 0 → fronts u ≡ u
@@ -97,7 +98,7 @@ module _ (own own' : Owners) (w : World) (k : Holds own own' w) (b : BothStand w
   receiver_is : g.receiver p ≡ watched w.that (turned p)
   receiver_is = k.joined.ties.there.receiver p sp
 
-  pub held_all : Held_all p w
+  pub held_all : TakenOrHeld p w
   held_all = subst (λ (o : Watched). is_live o.end ≡ true → (or_new o.end).left ≡ false → o.past.got ≡ o.past.taken ++ (or_new o.end).stored) receiver_is
       (fit_held p sp g.sends g.receives (at p g) (all-fit g k.joined.ties.reached p sp))
 
@@ -105,6 +106,9 @@ module _ (own own' : Owners) (w : World) (k : Holds own own' w) (b : BothStand w
   begins = subst (λ (o : Watched). is_live o.end ≡ true → ledger.IsBeginning o.past.got (past_of w.this.pasts p).given) receiver_is
       (subst (λ (o : Watched). is_live (g.receiver p).end ≡ true → ledger.IsBeginning (g.receiver p).past.got o.past.given) sender_is
       (fit_begins p sp g.sends g.receives (at p g) (all-fit g k.joined.ties.reached p sp)))
+
+  pub within : WithinAllocation p w
+  within = subst (λ (o : Watched). BooksAt o.end o.past) receiver_is (fit_books p sp g.sends g.receives (at p g) (all-fit g k.joined.ties.reached p sp))
 
   opened : OutStaysOpened (hosted_at p g)
   opened = fit_opened p sp g.sends g.receives (at p g) (all-fit g k.joined.ties.reached p sp)
@@ -201,6 +205,12 @@ module _ (own own' : Owners) (w : World) (k : Holds own own' w) (b : BothStand w
         (subst (λ (i : ℕ). r (watched w.that (turned p)) ≡ s (watched w.this p) + (a' + (i + d))) f
         (subst (λ (i : ℕ). r (watched w.that (turned p)) ≡ s (watched w.this p) + (i + (t + d))) e
         (sym (ap r receiver_is) ∙ (j ∙ ap (λ (o : Watched). s o + (a + (t + d))) sender_is))))
+
+  pub on_one_link : OnOneLink p w
+  on_one_link o =
+      subst (λ (v : Watched). (sender_at p w).link ≡ (or_new v.end).link) receiver_is
+      (subst (λ (v : Watched). (or_new v.end).link ≡ (or_new (g.receiver p).end).link) sender_is
+      (same-link g back p g.to_receivers k.joined.ties.reached k.joined.ties.reached_back (k.joined.ties.there.alive ∙ alive (here_up o)) (k.joined.ties.there.alive_too ∙ alive_there (there_up o)) (k.joined.ties.here.alive ∙ alive_there (there_up o)) (k.joined.ties.here.alive_too ∙ alive (here_up o)) sp (are_open o)))
 
   pub messages_agree : MessagesAgree p w
   messages_agree o = said o (λ v. (or_new v.end).messages) (λ v. (or_new v.end).messages) (sum_of granted_messages (only p g.to_senders)) (text_messages (g.text p)) (sum_of returned_messages (only p g.to_receivers))

@@ -10,7 +10,7 @@ use Rattle.ncp_model.specs.End.{End, or_new}
 use Rattle.ncp_model.specs.Connections.{turned, Connection}
 use Rattle.ncp_model.specs.Ledger.{granted_messages, granted_bits, returned_messages, returned_bits, sum_of, BothOpen}
 use Rattle.ncp_model.specs.Finding.{link_of}
-use Rattle.ncp_model.specs.Headline.{is_it, sum_on}
+use Rattle.ncp_model.specs.Headline.{names_link, sum_on}
 use Rattle.ncp_model.specs.Sharing.{Tagged, Shared, same, only, at, hears_at, uses_at}
 use Rattle.ncp_model.proofs.Lines.{Kind, Request, Close, Data, Alien, Comes, Passes, comes_asked, comes_closed, same_number}
 use Rattle.ncp_model.proofs.Joint.{to_sender_kind, to_receiver_kind, kinds, sender_marks, receiver_marks, Place, Together, Sender_ahead, Receiver_ahead, Joint, live_got}
@@ -77,11 +77,11 @@ ret-counted Command.Rrp e = absurd (both_ways false refl e)
 
 abbrev Each : (Command → Bool) → ℕ → Pair → List Tagged → Type 0
 Each test on p [] = Unit {0}
-Each test on p (c ∷ cs) = (test c.command ≡ true → is_it on (link_of c.command) ≡ same c.pair p) × Each test on p cs
+Each test on p (c ∷ cs) = (test c.command ≡ true → names_link on (link_of c.command) ≡ same c.pair p) × Each test on p cs
 
 sums : (test : Command → Bool) (f : Command → ℕ) → ((c : Command) → test c ≡ false → f c ≡ 0) → (on : ℕ) (p : Pair) (cs : List Tagged) → Each test on p cs → sum_on on f (commands_of cs) ≡ sum_of f (only p cs)
 sums test f none on p [] e = refl
-sums test f none on p (c ∷ cs) e = go (same c.pair p) (is_it on (link_of c.command)) (test c.command) refl e.0 (sums test f none on p cs e.1)
+sums test f none on p (c ∷ cs) e = go (same c.pair p) (names_link on (link_of c.command)) (test c.command) refl e.0 (sums test f none on p cs e.1)
   where
     nothing : (t : Bool) → test c.command ≡ t → (t ≡ true → ⊥) → f c.command ≡ 0
     nothing true d h = absurd (h refl)
@@ -99,7 +99,7 @@ false_if true f = absurd (f refl)
 false_if false f = refl
 
 -- it names the link, or not
-names : (on m : ℕ) (o : Option ℕ) (b : Bool) → o ≡ Some m → (b ≡ true → m ≡ on) → (b ≡ false → m ≡ on → ⊥) → is_it on o ≡ b
+names : (on m : ℕ) (o : Option ℕ) (b : Bool) → o ≡ Some m → (b ≡ true → m ≡ on) → (b ≡ false → m ≡ on → ⊥) → names_link on o ≡ b
 names on m o true e f h = rw e (eq-eqb m on (f refl))
 names on m o false e f h = rw e (false_if (m == on) (λ x. h refl (eqb-true m on x)))
 
@@ -357,7 +357,7 @@ alls on p (c ∷ cs) o u b f = (first, alls on p cs (own-later on p c cs o) u.1 
     later : (q : Pair) → sends q ≡ true → same q p ≡ false → c.pair ≡ q → Spared on (to_sender_kind c.command)
     later q sq d e = u.0 (subst (λ (x : Pair). same x p ≡ false) (sym e) d) (subst (λ (x : Pair). sends x ≡ true) (sym e) sq)
 
-    first : is_all c.command ≡ true → is_it on (link_of c.command) ≡ same c.pair p
+    first : is_all c.command ≡ true → names_link on (link_of c.command) ≡ same c.pair p
     first e = names on n.on (link_of c.command) (same c.pair p) n.link mine others
       where
         n : Counted to_sender_kind to_receiver_kind true c.command
@@ -405,7 +405,7 @@ module _ (g : Shared) (alone : (p q : Pair) (on : ℕ) → uses_at g on p ≡ tr
   rets [] b f = tt
   rets (c ∷ cs) b f = (first, rets cs b.1 (λ q sq. tells-later (or_new (g.receiver q).end).asked (or_new (g.receiver q).end).link q c cs (f q sq)))
     where
-      first : is_ret c.command ≡ true → is_it on (link_of c.command) ≡ same c.pair p
+      first : is_ret c.command ≡ true → names_link on (link_of c.command) ≡ same c.pair p
       first e = by_pair (sends c.pair) refl
         where
           n : Counted to_receiver_kind to_sender_kind false c.command
@@ -423,7 +423,7 @@ module _ (g : Shared) (alone : (p q : Pair) (on : ℕ) → uses_at g on p ≡ tr
               let m : c.pair ≡ p = alone c.pair p on (uses_from on c.pair (or_new (g.receiver c.pair).end) sc v.0 (sym v.1 ∙ x)) uses in
               both_ways (same c.pair p) d (subst (λ (z : Pair). same c.pair z ≡ true) m (same_refl c.pair))
 
-          by_pair : (t : Bool) → sends c.pair ≡ t → is_it on (link_of c.command) ≡ same c.pair p
+          by_pair : (t : Bool) → sends c.pair ≡ t → names_link on (link_of c.command) ≡ same c.pair p
           by_pair true sc = names on n.on (link_of c.command) (same c.pair p) n.link
               (λ d. (there sc).1 ∙ (ap (λ (z : Pair). (or_new (g.receiver z).end).link) (same_true c.pair p d) ∙ mine)) (apart sc)
           by_pair false sc = absurd (both_ways (is_ret c.command) (b.0 sc) e)
@@ -451,6 +451,9 @@ apt-turned [] a = tt
 apt-turned (c ∷ cs) a = (λ e. a.0 (proper-turned c.pair e), apt-turned cs a.1)
 
 module _ (g back : Shared) (p : Pair) (ts : List Tagged) (r : Reached g) (r' : Reached back) (a : g.sends ≡ true) (b : g.receives ≡ true) (a' : back.sends ≡ true) (b' : back.receives ≡ true) where
+  pub same-link : sends p ≡ true → BothOpen (at p g) → (or_new (g.sender p).end).link ≡ (or_new (g.receiver p).end).link
+  same-link sp o = (joined p sp (at p g) (inv-at g r a b p sp) o).link
+
   -- of ALL, to the senders of g
   pub grants-on : g.to_senders ≡ turn_all ts → back.to_receivers ≡ ts → Apt ts → sends p ≡ true → BothOpen (at p g) → (f : Command → ℕ) → ((c : Command) → is_all c ≡ false → f c ≡ 0)
       → sum_on (or_new (g.sender p).end).link f (commands_of ts) ≡ sum_of f (only p g.to_senders)

@@ -12,6 +12,7 @@ use Rattle.ncp_model.specs.Texts.{Answered, Taken, Again, Kept}
 use Rattle.ncp_model.specs.Happenings.{Happening, happens}
 use Rattle.ncp_model.specs.Happenings as all
 use Rattle.ncp_model.specs.Histories.{Watched, no_past, opens, watches}
+use Rattle.ncp_model.specs.Books.{BooksAt}
 use Rattle.ncp_model.specs.Connections.{turned, Text, No_text, Away, Here, Connection, sender_does, receiver_does, is_call, command_comes, Event, Sender_calls, Receiver_calls, Comes_to_sender, Comes_to_receiver, Text_goes_out, Text_comes, Text_is_answered, sender_hears, receiver_hears, comes_to_sender, comes_to_receiver, text_comes, text_is_answered, occurs}
 use Rattle.ncp_model.specs.Ledger.{BothOpen, MessagesAgree, BitsAgree, Parted, Held, Begins}
 use Rattle.ncp_model.specs.Clearings.{Hosted, new_hosted, text_dropped, text_over, is_at_sender, misses, Change, Occurs, Sender_is_cleared, Receiver_is_cleared, Starts_anew, starts_anew, changes, change_from, change, OutStaysOpened}
@@ -306,6 +307,12 @@ module _ (pair : Pair) (sd : sends pair ≡ true) where
   fit_safe true false w k = k.inv.local.safe
   fit_safe false true w k = k.inv.local.safe
   fit_safe false false w k = k.safe
+
+  pub fit_books : (a b : Bool) (w : Connection) → Fit pair a b w → BooksAt w.receiver.end w.receiver.past
+  fit_books true true w k = k.local.books
+  fit_books true false w k = subst (λ (o : Option End). BooksAt o w.receiver.past) (sym k.gone) tt
+  fit_books false true w k = k.inv.local.books
+  fit_books false false w k = subst (λ (o : Option End). BooksAt o w.receiver.past) (sym k.no_receiver) tt
 
   -- an end that is not there is not open
   shut : (o : Option End) → o ≡ None → is_open (or_new o) ≡ true → ⊥

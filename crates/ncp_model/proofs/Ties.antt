@@ -25,7 +25,7 @@ watched n p = record { end = get n.ends p; past = past_of n.pasts p }
 -- The text that a data link carries, for the machine that knows no slots.
 
 abbrev pub in_subnet : ℕ → TextOut → Subnet TextOut → Text
-in_subnet on t Free = Away on t.of_size t.bits
+in_subnet on t Free = No_text
 in_subnet on t (Accepted u) = Away on u.of_size u.bits
 in_subnet on t Delivered = Here on
 in_subnet on t Lost = Away on t.of_size t.bits

@@ -30,7 +30,7 @@ use Rattle.ncp_model.proofs.Linking.{hears_parts, uses_parts}
 use Rattle.ncp_model.proofs.Projecting.{same_refl, same_true}
 use Rattle.ncp_model.proofs.Found.{sender_holds, receiver_holds}
 use Rattle.ncp_model.proofs.Ties.{Reached, text_on, Carried, Owned, Owners, Texts, Way, Flow, Ties, further, reached-same}
-use Rattle.ncp_model.proofs.TiesBase.{all-fit, all-linked, Sees, sender_did, receiver_did, sender-acts, receiver-acts}
+use Rattle.ncp_model.proofs.TiesBase.{all-fit, all-linked, Sees, sender_did, receiver_did, sender-acts, receiver-acts, set_same}
 
 -- from now on the link has this owner
 abbrev pub owned_by : ℕ → Option Pair → Owners → Owners
@@ -49,13 +49,6 @@ set-other p q x f d = go (same p q) refl
     go false e = refl
 
 -- as it was
-set-same : {A : Type 0} → (p q : Pair) (f : Pair → A) → set_at p (f p) f q ≡ f q
-set-same p q f = go (same p q) refl
-  where
-    go : (b : Bool) → same p q ≡ b → (if b then f p else f q) ≡ f q
-    go true e = ap f (same_true p q e)
-    go false e = refl
-
 -- Texts and links.
 
 -- what is carried is out on the link
@@ -63,7 +56,7 @@ carried-out : (on : ℕ) (slot : Slot TextOut) (subnet : Subnet TextOut) → Car
 carried-out on Empty subnet c = absurd c
 carried-out on (Ready t) subnet c = refl
 carried-out on (Held t) subnet c = refl
-carried-out on (Travelling t) Free c = refl
+carried-out on (Travelling t) Free c = absurd c
 carried-out on (Travelling t) (Accepted u) c = refl
 carried-out on (Travelling t) Delivered c = refl
 carried-out on (Travelling t) Lost c = refl
@@ -341,8 +334,8 @@ way-text : (a b : Bool) (own own1 : Owners) (n m : Node) (g : Shared) (p : Pair)
 way-text a b own own1 n m g p t links x w = record {
   alive = w.alive;
   alive_too = w.alive_too;
-  sender = λ q s. set-same p q g.sender ∙ w.sender q s;
-  receiver = λ q s. set-same p q g.receiver ∙ w.receiver q s;
+  sender = λ q s. set_same p q g.sender ∙ w.sender q s;
+  receiver = λ q s. set_same p q g.receiver ∙ w.receiver q s;
   texts = x;
   proper = w.proper;
 }

@@ -1,6 +1,7 @@
 -- What holds of two hosts, whatever is called, lost, held back or reordered between links, and
 -- whenever a host resets or goes down. Each is said of what goes from this host to that one; for the
--- other way, of the swapped world. A pair is named as the sender's host has it.
+-- other way, of the swapped world. A pair is named as the sender's host has it, but where its receiver
+-- opens. What is underway is read off the hosts and links; Ledger has the same of one connection.
 use Rattle.std.specs.Prelude.{◌≡◌, ℕ, ◌+◌, ◌==◌, Bool, true, false, if◌then◌else◌, List, [], ◌∷◌, ◌++◌, length, Option, None, Some}
 use Rattle.std.specs.FinMap.{get}
 use Rattle.ncp_control.specs.declared.command.Command.{Command}
@@ -9,6 +10,7 @@ use Rattle.ncp_model.specs.End.{End, is_open, is_live, or_new}
 use Rattle.ncp_model.specs.Ends.{hears_link, uses_link}
 use Rattle.ncp_model.specs.Leading.{passes}
 use Rattle.ncp_model.specs.Histories.{opens}
+use Rattle.ncp_model.specs.Books.{BooksAt}
 use Rattle.ncp_model.specs.Connections.{turned}
 use Rattle.ncp_model.specs.Ledger.{granted_messages, granted_bits, returned_messages, returned_bits, IsBeginning}
 use Rattle.ncp_model.specs.Finding.{link_of}
@@ -27,22 +29,22 @@ receiver_at pair w = or_new (get w.that.ends (turned pair))
 abbrev pub BothOpen : Pair → World → Type 0
 BothOpen pair w = (is_open (sender_at pair w) ≡ true) × (is_open (receiver_at pair w) ≡ true)
 
--- What is underway on a link: of the commands that name it, and the text that went out and has not
--- come.
+-- What the commands that name a link carry.
 
-abbrev pub is_it : ℕ → Option ℕ → Bool
-is_it on None = false
-is_it on (Some link) = link == on
+abbrev pub names_link : ℕ → Option ℕ → Bool
+names_link on None = false
+names_link on (Some link) = link == on
 
 abbrev pub sum_on : ℕ → (Command → ℕ) → List Command → ℕ
 sum_on on f [] = 0
-sum_on on f (c ∷ cs) = (if is_it on (link_of c) then f c else 0) + sum_on on f cs
+sum_on on f (c ∷ cs) = (if names_link on (link_of c) then f c else 0) + sum_on on f cs
 
+-- the text of a link that went out and has not come
 abbrev pub not_come : Slot TextOut → Subnet TextOut → Option TextOut
 not_come Empty s = None
 not_come (Ready t) s = Some t
 not_come (Held t) s = Some t
-not_come (Travelling t) Free = Some t
+not_come (Travelling t) Free = None
 not_come (Travelling t) (Accepted u) = Some u
 not_come (Travelling t) Delivered = None
 not_come (Travelling t) Lost = Some t
@@ -59,6 +61,8 @@ bits_of (Some t) = t.bits
 -- the text that is underway on the pair's link
 abbrev pub text_underway : Pair → World → Option TextOut
 text_underway pair w = let on = (sender_at pair w).link in not_come (w.this.texts on).slot (w.this.texts on).subnet
+
+-- the commands underway from the sender's host, and from the receiver's
 
 abbrev pub commands_there : World → List Command
 commands_there w = underway w.this.host w.this.control
@@ -81,15 +85,24 @@ BitsAgree pair w = BothOpen pair w
     ≡ (sender_at pair w).bits
     + (sum_on (sender_at pair w).link granted_bits (commands_back w) + (length (bits_of (text_underway pair w)) + sum_on (sender_at pair w).link returned_bits (commands_there w)))
 
--- What was given was got, is out, or waits.
+-- While both ends are open, they are on one link; and what was given was got, is underway, or waits.
+
+abbrev pub OnOneLink : Pair → World → Type 0
+OnOneLink pair w = BothOpen pair w → (sender_at pair w).link ≡ (receiver_at pair w).link
+
 abbrev pub Parted : Pair → World → Type 0
 Parted pair w = BothOpen pair w
     → (past_of w.this.pasts pair).given ≡ (past_of w.that.pasts (turned pair)).got ++ (bits_of (text_underway pair w) ++ (sender_at pair w).stored)
 
 -- While the receiver is live and not left, what it got was taken, or is held.
-abbrev pub Held_all : Pair → World → Type 0
-Held_all pair w = is_live (get w.that.ends (turned pair)) ≡ true → (receiver_at pair w).left ≡ false
+abbrev pub TakenOrHeld : Pair → World → Type 0
+TakenOrHeld pair w = is_live (get w.that.ends (turned pair)) ≡ true → (receiver_at pair w).left ≡ false
     → (past_of w.that.pasts (turned pair)).got ≡ (past_of w.that.pasts (turned pair)).taken ++ (receiver_at pair w).stored
+
+-- At the receiver, what is outstanding is what was granted less what was returned and used: so it
+-- never gets beyond its allocation.
+abbrev pub WithinAllocation : Pair → World → Type 0
+WithinAllocation pair w = BooksAt (get w.that.ends (turned pair)) (past_of w.that.pasts (turned pair))
 
 -- While the receiver is live, what it got is a beginning of what was given since the sender last
 -- opened, whatever the sender has done since.
@@ -100,7 +113,8 @@ Begins pair w = is_live (get w.that.ends (turned pair)) ≡ true → IsBeginning
 abbrev pub StaysOut : ℕ → World → World → Type 0
 StaysOut on w after = (is_empty (w.this.texts on).slot ≡ false) × (is_empty (after.this.texts on).slot ≡ false)
 
--- In the step a pair opens with that link: at the sender's host, or at the receiver's.
+-- In the step a pair opens with that link: at the sender's host, or at the receiver's, where the pair
+-- is named as that host has it.
 
 abbrev pub SenderOpens : ℕ → Pair → World → World → Type 0
 SenderOpens on pair w after = (opens (get w.this.ends pair) (get after.this.ends pair) ≡ true) × (passes (hears_link on) pair (get after.this.ends pair) ≡ true)

@@ -1,13 +1,19 @@
 //! The headline: what holds of two hosts and all their connections after every schedule, where the
-//! subnet delivers a message whole and once and answers RFNM, or delivers nothing and says so.
+//! subnet delivers a message whole and once and answers RFNM, or delivers nothing and says so. That
+//! their commands act once and in order is `hosts::hosts_act_once_in_order`.
 ghost use Rattle.std.specs.Prelude.{◌≡◌, ℕ, Bool, List, true, false};
 ghost use Rattle.std.specs.List.{list_any};
 ghost use Rattle.ncp_control.specs.declared.command.Command.{Command};
 ghost use Rattle.ncp_model.specs.Pairs.{sends};
-ghost use Rattle.ncp_model.specs.Phase.{is_rrp, is_other};
+ghost use Rattle.ncp_model.specs.Phase.{is_rst, is_rrp, is_other};
+ghost use Rattle.ncp_model.specs.Act.{answer};
+ghost use Rattle.ncp_model.specs.Ends.{hear, text_in};
+ghost use Rattle.ncp_model.specs.Happenings.{of_hearing, of_text};
+ghost use Rattle.ncp_model.specs.Connections.{is_violation};
+ghost use Rattle.ncp_model.specs.Resets.{is_up, underway};
 ghost use Rattle.ncp_model.specs.Delivery.{Accepted};
 ghost use Rattle.ncp_model.specs.Hosts.{Node, World, swap, TextOut, Step, steps, hears, hears_text, Call, calls, calls_echo, Event, at, run};
-ghost use Rattle.ncp_model.specs.Headline.{MessagesAgree, BitsAgree, Parted, Held_all, Begins, StaysOut, SenderOpens, ReceiverOpens};
+ghost use Rattle.ncp_model.specs.Headline.{MessagesAgree, BitsAgree, OnOneLink, WithinAllocation, Parted, TakenOrHeld, Begins, StaysOut, SenderOpens, ReceiverOpens};
 
 ghost use Rattle.std.specs.Prelude.{[], ◌++◌, None, Some};
 ghost use Rattle.std.specs.FinMap.{get};
@@ -21,28 +27,41 @@ ghost use Rattle.ncp_model.specs.HostRuns.{calls_back_under_text, sender_cleared
 
 use crate::pair::Pair;
 
-/// From making an RST until an RRP came, a host acts on nothing but RST and RRP; and its waiting ends
-/// in no step but one in which an RRP comes.
+/// From making an RST until an RRP came, a host acts on nothing but RST and RRP. While its RST is
+/// underway it waits, and its waiting ends in no step but one in which an RRP comes to it.
 pub fn only_resets_act_until_the_answer()
     ensures commands { (c : Command) (n : Node) → n.host.phase.wait ≡ true → is_other c ≡ true → hears c n ≡ n }
     ensures texts { (on : ℕ) (head : List Bool) (t : TextOut) (n : Node) → n.host.phase.wait ≡ true → hears_text on head t n ≡ n }
     ensures calls { (pair : Pair) (call : Call) (n : Node) → n.host.phase.wait ≡ true → calls pair call n ≡ n }
     ensures echoes { (byte : ℕ) (n : Node) → n.host.phase.wait ≡ true → calls_echo byte n ≡ n }
+    ensures waits { (events : List Event) → list_any is_rst (underway (run events).this.host (run events).this.control) ≡ true → (run events).this.host.phase.wait ≡ true }
+    ensures waits_too { (events : List Event) → list_any is_rst (underway (run events).that.host (run events).that.control) ≡ true → (run events).that.host.phase.wait ≡ true }
+    ensures each { (step : Step) (w : World) → (steps step w).that.host ≡ w.that.host }
     ensures until { (step : Step) (w : World) → w.this.host.phase.wait ≡ true → (steps step w).this.host.phase.wait ≡ false → (m : List Command) × (w.that.control.subnet ≡ Accepted m) × (list_any is_rrp m ≡ true) }
 {}
 
+/// A host that is up notes in its ghost what is against the protocol: that it answers a command with an
+/// ERR, or a text as not connected, of the wrong size or beyond the allocation.
+pub fn what_is_against_the_protocol_is_noted()
+    ensures commands { (c : Command) (n : Node) → is_up n.host ≡ true → is_violation (of_hearing (answer (hear c n.ends))) ≡ true → (hears c n).wrong ≡ true }
+    ensures texts { (on : ℕ) (head : List Bool) (t : TextOut) (n : Node) → is_up n.host ≡ true → is_violation (of_text (answer (text_in on t.of_size t.bits n.ends))) ≡ true → (hears_text on head t n).wrong ≡ true }
+{}
+
 /// Neither host ever makes an ERR for a command of the other, or answers its text as not connected, of
-/// the wrong size or beyond the allocation. For each pair, either way: while both its ends are open,
-/// what is outstanding at the receiver is what the sender's counters hold and what ALL, RET and the
+/// the wrong size or beyond the allocation. For each pair, either way: while both its ends are open
+/// they are on one link, and what is outstanding at the receiver is what the sender's counters hold and what ALL, RET and the
 /// text on its link carry that have not come, for messages and for bits; and what was given was got, is
-/// out, or waits. What a live receiver got was taken or is held, until it left; and it is a beginning
-/// of what was given since the sender last opened, whatever the sender has done since.
+/// underway, or waits. What a live receiver has outstanding is what was granted less what was returned
+/// and used; what it got was taken or is held, until it left; and it is a beginning of what was given
+/// since the sender last opened, whatever the sender has done since.
 pub fn hosts_lose_and_make_nothing()
     ensures safe { (events : List Event) → ((run events).this.wrong ≡ false) × ((run events).that.wrong ≡ false) }
     ensures messages { (events : List Event) (pair : Pair) → sends pair ≡ true → MessagesAgree pair (run events) × MessagesAgree pair (swap (run events)) }
     ensures bits { (events : List Event) (pair : Pair) → sends pair ≡ true → BitsAgree pair (run events) × BitsAgree pair (swap (run events)) }
+    ensures link { (events : List Event) (pair : Pair) → sends pair ≡ true → OnOneLink pair (run events) × OnOneLink pair (swap (run events)) }
+    ensures allocation { (events : List Event) (pair : Pair) → sends pair ≡ true → WithinAllocation pair (run events) × WithinAllocation pair (swap (run events)) }
     ensures parted { (events : List Event) (pair : Pair) → sends pair ≡ true → Parted pair (run events) × Parted pair (swap (run events)) }
-    ensures held { (events : List Event) (pair : Pair) → sends pair ≡ true → Held_all pair (run events) × Held_all pair (swap (run events)) }
+    ensures held { (events : List Event) (pair : Pair) → sends pair ≡ true → TakenOrHeld pair (run events) × TakenOrHeld pair (swap (run events)) }
     ensures beginning { (events : List Event) (pair : Pair) → sends pair ≡ true → Begins pair (run events) × Begins pair (swap (run events)) }
 {}
 

@@ -1,6 +1,6 @@
 use Rattle.ncp_model.specs.Hosts.{swap, run}
 use Rattle.ncp_model.proofs.HostsHeld.{ever, ever-swapped}
-use Rattle.ncp_model.proofs.HostsHeadline.{messages_agree, bits_agree, parted, held_all, begins}
+use Rattle.ncp_model.proofs.HostsHeadline.{messages_agree, bits_agree, on_one_link, within, parted, held_all, begins}
 use Rattle.ncp_model.proofs.headline.hosts_lose_and_make_nothing.Goals as goal
 
 pub returns-clause-safe : goal.returns-clause-safe
@@ -20,3 +20,9 @@ returns-clause-held c = λ es p s. (let t = ever es in let u = ever-swapped (run
 
 pub returns-clause-beginning : goal.returns-clause-beginning
 returns-clause-beginning c = λ es p s. (let t = ever es in let u = ever-swapped (run es) t in (begins t.own t.own' (run es) t.holds t.stand p s, begins u.own u.own' (swap (run es)) u.holds u.stand p s))
+
+pub returns-clause-link : goal.returns-clause-link
+returns-clause-link c = λ es p s. (let t = ever es in let u = ever-swapped (run es) t in (on_one_link t.own t.own' (run es) t.holds t.stand p s, on_one_link u.own u.own' (swap (run es)) u.holds u.stand p s))
+
+pub returns-clause-allocation : goal.returns-clause-allocation
+returns-clause-allocation c = λ es p s. (let t = ever es in let u = ever-swapped (run es) t in (within t.own t.own' (run es) t.holds t.stand p s, within u.own u.own' (swap (run es)) u.holds u.stand p s))

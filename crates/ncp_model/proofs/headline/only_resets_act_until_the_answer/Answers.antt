@@ -1,4 +1,4 @@
-use Rattle.std.proofs.Common.{◌≡◌, ℕ, Bool, true, false, if◌then◌else◌, List, Option, None, Some, refl, ap, ◌∙◌, arith}
+use Rattle.std.proofs.Common.{◌≡◌, ℕ, ◌+◌, Bool, true, false, if◌then◌else◌, List, Option, None, Some, refl, ap, ◌∙◌, arith}
 use Rattle.std.specs.List.{list_any}
 use Rattle.ncp_control.specs.declared.command.Command.{Command}
 use Rattle.ncp_control.specs.declared.command.Command.TheVariants.{Rst, Rrp}
@@ -6,10 +6,12 @@ use Rattle.ncp_model.specs.declared.pair.Pair.{Pair}
 use Rattle.ncp_model.specs.Act.{answer, made_if_any}
 use Rattle.ncp_model.specs.Texts.{Taken}
 use Rattle.ncp_model.specs.Ends.{cut_in, answered_in}
-use Rattle.ncp_model.specs.Phase.{is_rrp, is_other, is_resetting}
+use Rattle.ncp_model.specs.Phase.{is_rst, is_rrp, is_other, is_resetting}
 use Rattle.ncp_model.specs.Delivery.{Slot, Empty, Ready, Travelling, Held, Subnet, Free, Accepted, Delivered, Lost, Dead}
 use Rattle.ncp_model.specs.Resets.{Host, is_up, host_resets}
 use Rattle.ncp_model.specs.Hosts.{TextOut, Node, quiet, cleared, frees, hears, hears_text, Call, calls, calls_echo, calls_reset, cuts, sends_text, text_answered, control_answered, message_comes, text_comes, World, base, Step, Calls_reset, Calls, Calls_echo, Sends, Sends_text, Hears, Hears_text, Is_answered, Text_is_answered, steps}
+use Rattle.ncp_model.proofs.ResetLists.{bit, rsts, any-rsts}
+use Rattle.ncp_model.proofs.HostsHeld.{ever}
 use Rattle.ncp_model.proofs.Waiting.{down, silent_all, settling, waiting, sends-wait}
 use Rattle.ncp_model.proofs.HostsBase.{reactions, hears_all-host}
 use Rattle.ncp_model.proofs.headline.only_resets_act_until_the_answer.Goals as goal
@@ -98,6 +100,39 @@ until (Hears_text on head) w a b = absurd (cc (text-waits on head (w.that.texts 
 until Is_answered w a b = absurd (cc (control-waits w.this.control.slot w.this.control.subnet w.this a, b))
 until (Text_is_answered on) w a b = absurd (cc (answered-waits on (w.this.texts on).slot (w.this.texts on).subnet w.this a, b))
 until step w a b = absurd (cc (a, b))
+
+-- an RST underway is one whose RRP is awaited
+counted : (u : List Command) (a b : Bool) (c : ℕ) → list_any is_rst u ≡ true → rsts u + bit a + c ≡ bit b → b ≡ true
+counted u a b c r e = grind (arith, any-rsts)
+
+-- a step of this host leaves that one
+message-that : (subnet : Subnet (List Command)) (w : World) → (message_comes subnet w).that.host ≡ w.that.host
+message-that (Accepted m) w = refl
+message-that Free w = refl
+message-that Delivered w = refl
+message-that Lost w = refl
+message-that Dead w = refl
+
+text-that : (on : ℕ) (head : List Bool) (subnet : Subnet TextOut) (w : World) → (text_comes on head subnet w).that.host ≡ w.that.host
+text-that on head (Accepted t) w = refl
+text-that on head Free w = refl
+text-that on head Delivered w = refl
+text-that on head Lost w = refl
+text-that on head Dead w = refl
+
+each : (step : Step) (w : World) → (steps step w).that.host ≡ w.that.host
+each Hears w = message-that w.that.control.subnet w
+each (Hears_text on head) w = text-that on head (w.that.texts on).subnet w
+each step w = refl
+
+pub returns-clause-waits : goal.returns-clause-waits
+returns-clause-waits c = λ es r. (let k = (ever es).holds.joined.kept.there.count in counted _ _ _ _ r k)
+
+pub returns-clause-waits_too : goal.returns-clause-waits_too
+returns-clause-waits_too c = λ es r. (let k = (ever es).holds.joined.kept.here.count in counted _ _ _ _ r k)
+
+pub returns-clause-each : goal.returns-clause-each
+returns-clause-each c = each
 
 pub returns-clause-commands : goal.returns-clause-commands
 returns-clause-commands c = commands
