@@ -1,6 +1,7 @@
 -- Schedules of two hosts, by which the laws on them are seen to speak of something. Socket 3 of this
 -- host sends to socket 2 of that one.
 use Rattle.std.specs.Prelude.{List, [], ◌∷◌, ◌++◌}
+use Rattle.ncp_model.specs.declared.pair.Pair.{Pair}
 use Rattle.ncp_model.specs.Resets.{Side, This, That}
 use Rattle.ncp_model.specs.Rows.{outward, inward, ones, noughts}
 use Rattle.ncp_model.specs.Hosts.{Event, Step, Calls_reset, Calls, Sends, Sends_text, Hears, Hears_text, Loses_text, Text_dies, Is_answered, Text_is_answered, Wakes, Ask_to_send, Ask_to_receive, Close, Give, Take, Allocate, Call_back}
@@ -116,3 +117,19 @@ up_after_held = held_past_reset ++ by This Wakes ∷ text_goes ++ text_is_heard 
 abbrev pub opened_after_held : List Event
 opened_after_held =
     up_after_held ++ opens_both ++ by That (Calls inward (Allocate 2 16)) ∷ message That ++ by This (Calls outward (Give (noughts 16))) ∷ text_goes ++ text_is_heard ++ text_is_answered
+
+-- a second connection, from socket 5 to socket 4, on the next link; its text is out when that host
+-- resets
+abbrev pub other_outward : Pair
+other_outward = record { local = 5; remote = 4 }
+
+abbrev pub other_inward : Pair
+other_inward = record { local = 4; remote = 5 }
+
+abbrev pub opens_another : List Event
+opens_another =
+    comes_up This ++ opens_both ++ by This (Calls other_outward (Ask_to_send 8 64)) ∷ by That (Calls other_inward (Ask_to_receive 64)) ∷ message That ++ message This
+
+abbrev pub reset_under_other_text : List Event
+reset_under_other_text =
+    opens_another ++ by That (Calls other_inward (Allocate 2 16)) ∷ message That ++ by This (Calls other_outward (Give (ones 16))) ∷ by This (Sends_text 3) ∷ by That Calls_reset ∷ message That

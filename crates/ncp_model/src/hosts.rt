@@ -9,7 +9,7 @@ ghost use Rattle.ncp_model.specs.Resets as resets;
 ghost use Rattle.ncp_model.specs.Hosts.{Event, run, base, past_of};
 ghost use Rattle.ncp_model.specs.Delivery.{Travelling, Held, Free, Accepted, idle};
 ghost use Rattle.ncp_model.specs.Rows.{outward, inward, ones, noughts, asked_receive, opened_end, counting, sent_one, due, gone, shut};
-ghost use Rattle.ncp_model.specs.HostRuns.{with_text_out, got_and_taken, lost_twice, held_back, woken_again, both_reset, reset_under_text, reset_over, asks_again, closed_by_receiver, over_by_receiver, opened_again, closed_by_sender, over_by_sender};
+ghost use Rattle.ncp_model.specs.HostRuns.{with_text_out, got_and_taken, lost_twice, held_back, woken_again, both_reset, reset_under_text, reset_over, asks_again, closed_by_receiver, over_by_receiver, opened_again, closed_by_sender, over_by_sender, other_outward, other_inward, opens_another, reset_under_other_text};
 ghost use Rattle.ncp_model.specs.Schedules.{up_phase};
 
 use crate::pair::Pair;
@@ -68,4 +68,10 @@ pub fn closing_waits_for_text()
     ensures again { let w = run opened_again in (get w.this.ends outward ≡ Some opened_end) × (get w.that.ends inward ≡ Some opened_end) }
     ensures got { let w = run closed_by_sender in (get w.this.ends outward ≡ Some (gone (counting 1 0))) × (get w.that.ends inward ≡ Some (shut (due (record (counting 1 0) { stored = ones 16 })))) }
     ensures over_too { let w = run over_by_sender in (get w.this.ends outward ≡ None) × (get w.that.ends inward ≡ None) × ((past_of w.that.pasts inward).taken ≡ ones 16) }
+{}
+
+/// A second connection opens on link 3, beside the first on link 2; and a reset waits for its text too.
+pub fn connections_open_beside_each_other()
+    ensures beside { let w = run opens_another in (get w.this.ends outward ≡ Some opened_end) × (get w.that.ends inward ≡ Some opened_end) × (get w.this.ends other_outward ≡ Some (record opened_end { link = 3 })) × (get w.that.ends other_inward ≡ Some (record opened_end { link = 3 })) }
+    ensures waits { let w = run reset_under_other_text in (w.this.host.phase ≡ record up_phase { owe = true }) × (w.this.texts 2 ≡ idle) × (w.this.texts 3 ≡ record { slot = Travelling (record { of_size = 8; bits = ones 16 }); subnet = Accepted (record { of_size = 8; bits = ones 16 }) }) }
 {}
