@@ -93,6 +93,17 @@ pub hears_all-control : (cs : List Command) (n : Node) → (hears_all cs n).cont
 hears_all-control [] n = refl
 hears_all-control (c ∷ cs) n = hears_all-control cs (hears c n) ∙ hears-control c n
 
+-- no text goes out, or is answered, meanwhile
+
+hears-texts : (c : Command) (n : Node) → (hears c n).texts ≡ n.texts
+hears-texts Rst n = refl
+hears-texts Rrp n = refl
+hears-texts c n = either (λ (m : Node). m.texts ≡ n.texts) (is_up n.host) (hears_other c n) n refl refl
+
+pub hears_all-texts : (cs : List Command) (n : Node) → (hears_all cs n).texts ≡ n.texts
+hears_all-texts [] n = refl
+hears_all-texts (c ∷ cs) n = hears_all-texts cs (hears c n) ∙ hears-texts c n
+
 -- Each step of the hosts.
 
 abbrev Becomes : World → Node → Type 0

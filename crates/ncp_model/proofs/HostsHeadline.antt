@@ -15,22 +15,24 @@ use Rattle.ncp_model.specs.Books.{BooksAt}
 use Rattle.ncp_model.specs.Connections.{turned, Text, No_text, Away, Here}
 use Rattle.ncp_model.specs.Ledger.{granted_messages, granted_bits, returned_messages, returned_bits, sum_of, text_messages, text_bits, is_out}
 use Rattle.ncp_model.specs.Ledger as ledger
-use Rattle.ncp_model.specs.Clearings.{OutStaysOpened}
-use Rattle.ncp_model.specs.Sharing.{Shared, only, at, hosted_at}
+use Rattle.ncp_model.specs.Sharing.{Shared, only, at}
 use Rattle.ncp_model.specs.Finding.{link_out}
 use Rattle.ncp_model.specs.Resets.{Host, is_up}
-use Rattle.ncp_model.specs.Hosts.{TextOut, World, past_of, is_empty}
-use Rattle.ncp_model.specs.Headline.{BothOpen, sender_at, receiver_at, sum_on, not_come, how_many, bits_of, text_underway, commands_there, commands_back, MessagesAgree, BitsAgree, OnOneLink, WithinAllocation, Parted, TakenOrHeld, Begins, StaysOut, SenderOpens, ReceiverOpens}
+use Rattle.ncp_model.specs.Hosts.{TextOut, Node, World, past_of, is_empty, hears, hears_all}
+use Rattle.ncp_model.specs.Headline.{BothOpen, sender_at, receiver_at, sum_on, not_come, how_many, bits_of, text_underway, commands_there, commands_back, MessagesAgree, BitsAgree, OnOneLink, WithinAllocation, Parted, TakenOrHeld, Begins, StaysOut, SenderOpens, ReceiverOpens, SenderOpensAt, ReceiverOpensAt}
 use Rattle.ncp_model.proofs.Outliving.{fit_open, fit_held, fit_begins, fit_books, fit_opened}
 use Rattle.ncp_model.proofs.ResetLists.{bit, rsts, rrps}
 use Rattle.ncp_model.proofs.Lives.{live, fronts}
-use Rattle.ncp_model.proofs.HostsStand.{BothStand}
+use Rattle.ncp_model.proofs.EndsGood.{Good}
+use Rattle.ncp_model.proofs.OpensNot.{none-live-heard}
+use Rattle.ncp_model.proofs.HostsBase.{hears_all-texts}
+use Rattle.ncp_model.proofs.HostsStand.{BothStand, hearing-stands, hearing_all-stands}
 use Rattle.ncp_model.proofs.Ties.{Owners, Carried, Owned, ties-turned, watched, text_on, commands_of}
 use Rattle.ncp_model.proofs.TiesBase.{all-fit}
 use Rattle.ncp_model.proofs.TiesTexts.{text-out-stands, text-out-stands-here}
-use Rattle.ncp_model.proofs.HostsJoined.{lives, is_alive, up_alive, up_waits}
-use Rattle.ncp_model.proofs.HostsHeld.{Holds, Ever, x, y}
-use Rattle.ncp_model.proofs.HostsSteps.{Follows, owner-of}
+use Rattle.ncp_model.proofs.HostsJoined.{lives, is_alive, Joined, joined-turned, up_alive, up_waits}
+use Rattle.ncp_model.proofs.HostsHeld.{Holds, Ever, accepted, x, y}
+use Rattle.ncp_model.proofs.HostsSteps.{hears-keeps, hears_front, Follows, owner-of}
 use Rattle.ncp_model.proofs.LinkSums.{same-link, granted-all, returned-all}
 
 -- with no RST and no RRP underway, all lives
@@ -109,9 +111,6 @@ module _ (own own' : Owners) (w : World) (k : Holds own own' w) (b : BothStand w
 
   pub within : WithinAllocation p w
   within = subst (λ (o : Watched). BooksAt o.end o.past) receiver_is (fit_books p sp g.sends g.receives (at p g) (all-fit g k.joined.ties.reached p sp))
-
-  opened : OutStaysOpened (hosted_at p g)
-  opened = fit_opened p sp g.sends g.receives (at p g) (all-fit g k.joined.ties.reached p sp)
 
   this_up : is_open (sender_at p w) ≡ true → is_up w.this.host ≡ true
   this_up o = by_up w.this.host (λ e. e) (λ e. absurd (open-there w.this.ends p o (k.joined.this.none e)))
@@ -239,59 +238,105 @@ carried_out on (Travelling t) Lost c = refl
 carried_out on (Travelling t) Dead c = refl
 carried_out on slot subnet c = absurd c
 
--- the owner of a link whose text is out is live at each host that is up
-module _ (own own' : Owners) (w : World) (k : Holds own own' w) (b : BothStand w) (on : ℕ) (p : Pair) (e : own on ≡ Some p) where
-  is_owned : Owned on (Some p) (w.this.texts on) k.joined.ties.g.text
-  is_owned = subst (λ (o : Option Pair). Owned on o (w.this.texts on) k.joined.ties.g.text) e (k.joined.ties.there.texts.owned on)
+-- the owner of a link whose text is out is live, and has the link, at each host that is up
+module _ (own own' : Owners) (n m : Node) (x y : List Command) (k : Joined own own' n m x y) (on : ℕ) (p : Pair) (e : own on ≡ Some p) where
+  is_owned : Owned on (Some p) (n.texts on) k.ties.g.text
+  is_owned = subst (λ (o : Option Pair). Owned on o (n.texts on) k.ties.g.text) e (k.ties.there.texts.owned on)
 
-  out_opened : (k.joined.ties.g.sends ≡ true → is_live (k.joined.ties.g.sender p).end ≡ true) × (k.joined.ties.g.receives ≡ true → is_live (k.joined.ties.g.receiver p).end ≡ true)
-  out_opened = opened own own' w k b p is_owned.sending (ap is_out is_owned.text ∙ carried_out on (w.this.texts on).slot (w.this.texts on).subnet is_owned.carried)
+  owner_up : is_up n.host ≡ true → is_alive n m y ≡ true
+  owner_up u = up_alive n.host (rrps (y ++ m.host.phase.waiting)) u
 
-  sender_live : is_up w.this.host ≡ true → is_live (get w.this.ends p) ≡ true
-  sender_live u = sym (ap (λ (o : Watched). is_live o.end) (sender_is own own' w k b p is_owned.sending)) ∙ out_opened.0 (k.joined.ties.there.alive ∙ alive own own' w k b p is_owned.sending u)
+  peer_up : is_up m.host ≡ true → is_alive m n x ≡ true
+  peer_up u = up_alive m.host (rrps (x ++ n.host.phase.waiting)) u
 
-  receiver_live : is_up w.that.host ≡ true → is_live (get w.that.ends (turned p)) ≡ true
-  receiver_live u = sym (ap (λ (o : Watched). is_live o.end) (receiver_is own own' w k b p is_owned.sending)) ∙ out_opened.1 (k.joined.ties.there.alive_too ∙ alive_there own own' w k b p is_owned.sending u)
+  out_opened : (k.ties.g.sends ≡ true → is_live (k.ties.g.sender p).end ≡ true) × (k.ties.g.receives ≡ true → is_live (k.ties.g.receiver p).end ≡ true)
+  out_opened = fit_opened p is_owned.sending k.ties.g.sends k.ties.g.receives (at p k.ties.g) (all-fit k.ties.g k.ties.reached p is_owned.sending)
+      (ap is_out is_owned.text ∙ carried_out on (n.texts on).slot (n.texts on).subnet is_owned.carried)
 
-  sender_has : is_up w.this.host ≡ true → passes (hears_link on) p (get w.this.ends p) ≡ true
-  sender_has u = text-out-stands-here (is_alive w.this w.that (y w)) (is_alive w.that w.this (x w)) own own' w.this w.that (lives w.this w.that (x w)) (lives w.that w.this (y w)) on p (alive own own' w k b p is_owned.sending u) e k.joined.ties
+  sender_live : is_up n.host ≡ true → is_live (get n.ends p) ≡ true
+  sender_live u = sym (ap (λ (o : Watched). is_live o.end) (k.ties.there.sender p is_owned.sending)) ∙ out_opened.0 (k.ties.there.alive ∙ owner_up u)
 
-  receiver_has : is_up w.that.host ≡ true → passes (uses_link on) (turned p) (get w.that.ends (turned p)) ≡ true
-  receiver_has u = text-out-stands (is_alive w.that w.this (x w)) (is_alive w.this w.that (y w)) own' own w.that w.this (lives w.that w.this (y w)) (lives w.this w.that (x w)) on p (alive_there own own' w k b p is_owned.sending u) e
-      (ties-turned (is_alive w.this w.that (y w)) (is_alive w.that w.this (x w)) own own' w.this w.that (lives w.this w.that (x w)) (lives w.that w.this (y w)) k.joined.ties)
+  receiver_live : is_up m.host ≡ true → is_live (get m.ends (turned p)) ≡ true
+  receiver_live u = sym (ap (λ (o : Watched). is_live o.end) (k.ties.there.receiver p is_owned.sending)) ∙ out_opened.1 (k.ties.there.alive_too ∙ peer_up u)
+
+  sender_has : is_up n.host ≡ true → passes (hears_link on) p (get n.ends p) ≡ true
+  sender_has u = text-out-stands-here (is_alive n m y) (is_alive m n x) own own' n m (lives n m x) (lives m n y) on p (owner_up u) e k.ties
+
+  receiver_has : is_up m.host ≡ true → passes (uses_link on) (turned p) (get m.ends (turned p)) ≡ true
+  receiver_has u = text-out-stands (is_alive m n x) (is_alive n m y) own' own m n (lives m n y) (lives n m x) on p (peer_up u) e
+      (ties-turned (is_alive n m y) (is_alive m n x) own own' n m (lives n m x) (lives m n y) k.ties)
+
+-- Of two hosts before something happened and after it, where a link with a text out kept its owner:
+-- whatever has that link is the owner, and that was live. At a host that is not up nothing is live.
+module _ (own own' own1 own1' : Owners) (n m n1 m1 : Node) (x y x1 y1 : List Command) (k : Joined own own' n m x y) (k1 : Joined own1 own1' n1 m1 x1 y1)
+    (on : ℕ) (q : Pair) (e : own on ≡ Some q) (e1 : own1 on ≡ Some q) where
+  sender-kept : Good n1.ends → (n.ends ≡ no_ends → (p : Pair) → is_live (get n1.ends p) ≡ false) → (p : Pair) → SenderOpensAt on p n n1 → ⊥
+  sender-kept good none p o =
+      let lived = and_parts (not (is_live (get n.ends p))) (is_live (get n1.ends p)) o.0 in
+      by_up n.host
+      (λ u. by_up n1.host
+      (λ d.
+      let same : p ≡ q = good.heard on p q o.1 (sender_has own1 own1' n1 m1 x1 y1 k1 on q e1 d) in
+      let before : is_live (get n.ends p) ≡ true = subst (λ (r : Pair). is_live (get n.ends r) ≡ true) (sym same) (sender_live own own' n m x y k on q e u) in
+      both_ways (is_live (get n.ends p)) (not-true (is_live (get n.ends p)) lived.0) before)
+      (λ d. live-there n1.ends p lived.1 (k1.this.none d)))
+      (λ u. both_ways (is_live (get n1.ends p)) (none (k.this.none u) p) lived.1)
+
+  receiver-kept : Good m1.ends → (m.ends ≡ no_ends → (p : Pair) → is_live (get m1.ends p) ≡ false) → (p : Pair) → ReceiverOpensAt on p m m1 → ⊥
+  receiver-kept good none p o =
+      let lived = and_parts (not (is_live (get m.ends p))) (is_live (get m1.ends p)) o.0 in
+      by_up m.host
+      (λ u. by_up m1.host
+      (λ d.
+      let same : p ≡ turned q = good.asked on p (turned q) o.1 (receiver_has own1 own1' n1 m1 x1 y1 k1 on q e1 d) in
+      let before : is_live (get m.ends p) ≡ true = subst (λ (r : Pair). is_live (get m.ends r) ≡ true) (sym same) (receiver_live own own' n m x y k on q e u) in
+      both_ways (is_live (get m.ends p)) (not-true (is_live (get m.ends p)) lived.0) before)
+      (λ d. live-there m1.ends p lived.1 (k1.that.none d)))
+      (λ u. both_ways (is_live (get m1.ends p)) (none (k.that.none u) p) lived.1)
+
+-- what owns a link with a text out
+out-owner : (own own' : Owners) (n m : Node) (x y : List Command) → Joined own own' n m x y → (on : ℕ) → is_empty (n.texts on).slot ≡ false → (p : Pair) × (own on ≡ Some p)
+out-owner own own' n m x y k on f = owner-of own n.texts k.ties.g.text on k.ties.there.texts (λ z. both_ways (is_empty (n.texts on).slot) f (ap is_empty z))
 
 -- of two worlds, a step apart
 module _ (w after : World) (t : Ever w) (t1 : Ever after) (f : Follows t.own t1.own w.this.texts after.this.texts)
     (none : w.this.ends ≡ no_ends → (p : Pair) → is_live (get after.this.ends p) ≡ false) (none_there : w.that.ends ≡ no_ends → (p : Pair) → is_live (get after.that.ends p) ≡ false)
     (on : ℕ) (out : StaysOut on w after) where
   owner : (p : Pair) × (t.own on ≡ Some p)
-  owner = owner-of t.own w.this.texts t.holds.joined.ties.g.text on t.holds.joined.ties.there.texts (λ z. both_ways (is_empty (w.this.texts on).slot) out.0 (ap is_empty z))
+  owner = out-owner t.own t.own' w.this w.that (x w) (y w) t.holds.joined on out.0
 
   owner_after : t1.own on ≡ Some owner.0
   owner_after = f on out.0 out.1 ∙ owner.1
 
   pub sender-opens-not : (p : Pair) → SenderOpens on p w after → ⊥
-  sender-opens-not p o =
-      let q = owner.0 in
-      let lived = and_parts (not (is_live (get w.this.ends p))) (is_live (get after.this.ends p)) o.0 in
-      by_up w.this.host
-      (λ e. by_up after.this.host
-      (λ d.
-      let same : p ≡ q = t1.stand.0.good.heard on p q o.1 (sender_has t1.own t1.own' after t1.holds t1.stand on q owner_after d) in
-      let before : is_live (get w.this.ends p) ≡ true = subst (λ (r : Pair). is_live (get w.this.ends r) ≡ true) (sym same) (sender_live t.own t.own' w t.holds t.stand on q owner.1 e) in
-      both_ways (is_live (get w.this.ends p)) (not-true (is_live (get w.this.ends p)) lived.0) before)
-      (λ d. live-there after.this.ends p lived.1 (t1.holds.joined.this.none d)))
-      (λ e. both_ways (is_live (get after.this.ends p)) (none (t.holds.joined.this.none e) p) lived.1)
+  sender-opens-not = sender-kept t.own t.own' t1.own t1.own' w.this w.that after.this after.that (x w) (y w) (x after) (y after) t.holds.joined t1.holds.joined on owner.0 owner.1 owner_after t1.stand.0.good none
 
   pub receiver-opens-not : (p : Pair) → ReceiverOpens on p w after → ⊥
-  receiver-opens-not p o =
-      let q = owner.0 in
-      let lived = and_parts (not (is_live (get w.that.ends p))) (is_live (get after.that.ends p)) o.0 in
-      by_up w.that.host
-      (λ e. by_up after.that.host
-      (λ d.
-      let same : p ≡ turned q = t1.stand.1.good.asked on p (turned q) o.1 (receiver_has t1.own t1.own' after t1.holds t1.stand on q owner_after d) in
-      let before : is_live (get w.that.ends p) ≡ true = subst (λ (r : Pair). is_live (get w.that.ends r) ≡ true) (sym same) (receiver_live t.own t.own' w t.holds t.stand on q owner.1 e) in
-      both_ways (is_live (get w.that.ends p)) (not-true (is_live (get w.that.ends p)) lived.0) before)
-      (λ d. live-there after.that.ends p lived.1 (t1.holds.joined.that.none d)))
-      (λ e. both_ways (is_live (get after.that.ends p)) (none_there (t.holds.joined.that.none e) p) lived.1)
+  receiver-opens-not = receiver-kept t.own t.own' t1.own t1.own' w.this w.that after.this after.that (x w) (y w) (x after) (y after) t.holds.joined t1.holds.joined on owner.0 owner.1 owner_after t1.stand.1.good none_there
+
+-- of the host that hears a message, before a command of it and after that
+module _ (w : World) (t : Ever w) (done rest : List Command) (c : Command) (s : w.that.control.subnet ≡ Accepted (done ++ c ∷ rest)) where
+  abbrev heard : Node
+  heard = hears_all done w.this
+
+  before : Joined t.own t.own' heard w.that (x w) (c ∷ rest)
+  before = hears_front t.own t.own' w.this w.that (x w) done (c ∷ rest)
+      (accepted t.own t.own' w.this w.that w.this.control.slot w.that.control.slot w.this.control.subnet w.that.control.subnet (done ++ c ∷ rest) t.holds s)
+
+  beyond : Joined t.own t.own' (hears c heard) w.that (x w) rest
+  beyond = hears-keeps t.own t.own' heard w.that (x w) rest c before
+
+  stays_good : Good (hears c heard).ends
+  stays_good = (hearing-stands c heard (hearing_all-stands done w.this t.stand.0)).good
+
+  pub sender-hears-not : (on : ℕ) → is_empty (w.this.texts on).slot ≡ false → (p : Pair) → SenderOpensAt on p heard (hears c heard) → ⊥
+  sender-hears-not on f =
+      let q = out-owner t.own t.own' heard w.that (x w) (c ∷ rest) before on (ap (λ (l : ℕ → Link TextOut). is_empty (l on).slot) (hears_all-texts done w.this) ∙ f) in
+      sender-kept t.own t.own' t.own t.own' heard w.that (hears c heard) w.that (x w) (c ∷ rest) (x w) rest before beyond on q.0 q.1 q.1 stays_good (λ z p. none-live-heard c heard p z)
+
+  pub receiver-hears-not : (on : ℕ) → is_empty (w.that.texts on).slot ≡ false → (p : Pair) → ReceiverOpensAt on p heard (hears c heard) → ⊥
+  receiver-hears-not on f =
+      let k = joined-turned t.own t.own' heard w.that (x w) (c ∷ rest) before in
+      let k1 = joined-turned t.own t.own' (hears c heard) w.that (x w) rest beyond in
+      let q = out-owner t.own' t.own w.that heard (c ∷ rest) (x w) k on f in
+      receiver-kept t.own' t.own t.own' t.own w.that heard w.that (hears c heard) (c ∷ rest) (x w) rest (x w) k k1 on q.0 q.1 q.1 stays_good (λ z p. none-live-heard c heard p z)

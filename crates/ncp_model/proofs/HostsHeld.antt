@@ -87,6 +87,16 @@ module _ (own own' : Owners) (n m : Node) (s' : Slot (List Command)) (t' : Subne
       go (Ready c) p = absurd p.coming
       go (Held c) p = absurd p.coming
 
+-- what the subnet has is what is on the line
+pub accepted : (own own' : Owners) (n m : Node) (s s' : Slot (List Command)) (t t' : Subnet (List Command)) (d : List Command) → HoldsOf own own' n m s t s' t' → t' ≡ Accepted d → Joined own own' n m (on_line s t) d
+accepted own own' n m s s' t t' d p e = go s' (subst (λ (b : Subnet (List Command)). HoldsOf own own' n m s t s' b) e p)
+  where
+    go : (s' : Slot (List Command)) → HoldsOf own own' n m s t s' (Accepted d) → Joined own own' n m (on_line s t) d
+    go (Travelling c) p = p.joined
+    go Empty p = absurd p.coming
+    go (Ready c) p = absurd p.coming
+    go (Held c) p = absurd p.coming
+
 -- A step of this host alone, which leaves its control link.
 
 at_this : (own own1 own' : Owners) (w : World) (n : Node) → n.control ≡ w.this.control → Holds own own' w → Joined own1 own' n w.that (x w) (y w) → Holds own1 own' (record w { this = n })

@@ -104,12 +104,12 @@ resetting-stands n p = either Stands (is_resetting n.host.phase) n (cleared (hos
 rrp_up : (n : Node) → is_up (host_hears Rrp (reaction Rrp n) n.host) ≡ false → is_up n.host ≡ false
 rrp_up n e = grind arith
 
-hearing-stands : (c : Command) (n : Node) → Stands n → Stands (hears c n)
+pub hearing-stands : (c : Command) (n : Node) → Stands n → Stands (hears c n)
 hearing-stands Rst n p = cleared-stands (host_hears Rst (reaction Rst n) n.host) n
 hearing-stands Rrp n p = staying (is_up n.host) (is_up (host_hears Rrp (reaction Rrp n) n.host)) n.ends (rrp_up n) p
 hearing-stands c n p = either Stands (is_up n.host) (hears_other c n) n (keeping (hears_other c n).host (map_after_at n.ends (leads_to c n.ends) (hear c n.ends)) (command-good c n.ends p.good)) p
 
-hearing_all-stands : (cs : List Command) (n : Node) → Stands n → Stands (hears_all cs n)
+pub hearing_all-stands : (cs : List Command) (n : Node) → Stands n → Stands (hears_all cs n)
 hearing_all-stands [] n p = p
 hearing_all-stands (c ∷ cs) n p = hearing_all-stands cs (hears c n) (hearing-stands c n p)
 

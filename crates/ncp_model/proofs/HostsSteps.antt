@@ -160,6 +160,11 @@ pub hears_all-keeps : (own own' : Owners) (n m : Node) (x cs : List Command) →
 hears_all-keeps own own' n m x [] k = k
 hears_all-keeps own own' n m x (c ∷ cs) k = hears_all-keeps own own' (hears c n) m x cs (hears-keeps own own' n m x cs c k)
 
+-- a message is heard in part
+pub hears_front : (own own' : Owners) (n m : Node) (x done rest : List Command) → Joined own own' n m x (done ++ rest) → Joined own own' (hears_all done n) m x rest
+hears_front own own' n m x [] rest k = k
+hears_front own own' n m x (c ∷ cs) rest k = hears_front own own' (hears c n) m x cs rest (hears-keeps own own' n m x (cs ++ rest) c k)
+
 -- Texts.
 
 -- what is on a link is its owner's

@@ -166,6 +166,10 @@ hearing-opens Rst n u = none-open
 hearing-opens Rrp n u = u
 hearing-opens c n u = either OpenNone (is_up n.host) (hears_other c n) n (keeping (hears_other c n).host (map_after_at n.ends (leads_to c n.ends) (hear c n.ends)) (command-opens c n.ends u)) u
 
+-- where there were no ends a command opens none
+pub none-live-heard : (c : Command) (n : Node) (p : Pair) → n.ends ≡ no_ends → is_live (get (hears c n).ends p) ≡ false
+none-live-heard c n p e = (hearing-opens c n (subst NoneOpen (sym e) none-open) p).1
+
 hearing_all-opens : (cs : List Command) (n : Node) → OpenNone n → OpenNone (hears_all cs n)
 hearing_all-opens [] n u = u
 hearing_all-opens (c ∷ cs) n u = hearing_all-opens cs (hears c n) (hearing-opens c n u)

@@ -16,7 +16,7 @@ use Rattle.ncp_model.specs.Ledger.{granted_messages, granted_bits, returned_mess
 use Rattle.ncp_model.specs.Finding.{link_of}
 use Rattle.ncp_model.specs.Delivery.{Slot, Empty, Ready, Travelling, Held, Subnet, Free, Accepted, Delivered, Lost, Dead}
 use Rattle.ncp_model.specs.Resets.{underway}
-use Rattle.ncp_model.specs.Hosts.{TextOut, World, past_of, is_empty}
+use Rattle.ncp_model.specs.Hosts.{TextOut, Node, World, past_of, is_empty}
 
 -- The two ends of a pair.
 
@@ -114,10 +114,17 @@ abbrev pub StaysOut : ℕ → World → World → Type 0
 StaysOut on w after = (is_empty (w.this.texts on).slot ≡ false) × (is_empty (after.this.texts on).slot ≡ false)
 
 -- In the step a pair opens with that link: at the sender's host, or at the receiver's, where the pair
--- is named as that host has it.
+-- is named as that host has it. A command of a control message may open one too, though a later one
+-- of the same message ends it again.
+
+abbrev pub SenderOpensAt : ℕ → Pair → Node → Node → Type 0
+SenderOpensAt on pair n after = (opens (get n.ends pair) (get after.ends pair) ≡ true) × (passes (hears_link on) pair (get after.ends pair) ≡ true)
+
+abbrev pub ReceiverOpensAt : ℕ → Pair → Node → Node → Type 0
+ReceiverOpensAt on pair n after = (opens (get n.ends pair) (get after.ends pair) ≡ true) × (passes (uses_link on) pair (get after.ends pair) ≡ true)
 
 abbrev pub SenderOpens : ℕ → Pair → World → World → Type 0
-SenderOpens on pair w after = (opens (get w.this.ends pair) (get after.this.ends pair) ≡ true) × (passes (hears_link on) pair (get after.this.ends pair) ≡ true)
+SenderOpens on pair w after = SenderOpensAt on pair w.this after.this
 
 abbrev pub ReceiverOpens : ℕ → Pair → World → World → Type 0
-ReceiverOpens on pair w after = (opens (get w.that.ends pair) (get after.that.ends pair) ≡ true) × (passes (uses_link on) pair (get after.that.ends pair) ≡ true)
+ReceiverOpens on pair w after = ReceiverOpensAt on pair w.that after.that

@@ -12,10 +12,10 @@ ghost use Rattle.ncp_model.specs.Happenings.{of_hearing, of_text};
 ghost use Rattle.ncp_model.specs.Connections.{is_violation};
 ghost use Rattle.ncp_model.specs.Resets.{is_up, underway};
 ghost use Rattle.ncp_model.specs.Delivery.{Accepted};
-ghost use Rattle.ncp_model.specs.Hosts.{Node, World, swap, TextOut, Step, steps, hears, hears_text, Call, calls, calls_echo, Event, at, run};
-ghost use Rattle.ncp_model.specs.Headline.{MessagesAgree, BitsAgree, OnOneLink, WithinAllocation, Parted, TakenOrHeld, Begins, StaysOut, SenderOpens, ReceiverOpens};
+ghost use Rattle.ncp_model.specs.Hosts.{Node, World, swap, is_empty, TextOut, Step, steps, hears, hears_all, hears_text, Call, calls, calls_echo, Event, at, run};
+ghost use Rattle.ncp_model.specs.Headline.{MessagesAgree, BitsAgree, OnOneLink, WithinAllocation, Parted, TakenOrHeld, Begins, StaysOut, SenderOpens, ReceiverOpens, SenderOpensAt, ReceiverOpensAt};
 
-ghost use Rattle.std.specs.Prelude.{[], ◌++◌, None, Some};
+ghost use Rattle.std.specs.Prelude.{[], ◌∷◌, ◌++◌, None, Some};
 ghost use Rattle.std.specs.FinMap.{get};
 ghost use Rattle.ncp_model.specs.Delivery.{Held, Free};
 ghost use Rattle.ncp_model.specs.Hosts.{past_of};
@@ -66,12 +66,18 @@ pub fn hosts_lose_and_make_nothing()
 {}
 
 /// From the output of a text on a link to its RFNM no pair whose texts go on that link from that host
-/// opens at either host: in no step within that time, of either host, does such an opening happen.
+/// opens at either host: in no step within that time, of either host, does such an opening happen. A
+/// control message is heard in one step; in that step too no command of it makes such an opening, even
+/// one that a later command of the same message would end.
 pub fn none_opens_while_its_link_has_a_text()
     ensures sender { (events : List Event) (e : Event) (pair : Pair) (on : ℕ) → StaysOut on (run events) (at e.side e.step (run events)) → SenderOpens on pair (run events) (at e.side e.step (run events)) → ⊥ }
     ensures receiver { (events : List Event) (e : Event) (pair : Pair) (on : ℕ) → StaysOut on (run events) (at e.side e.step (run events)) → ReceiverOpens on pair (run events) (at e.side e.step (run events)) → ⊥ }
     ensures sender_back { (events : List Event) (e : Event) (pair : Pair) (on : ℕ) → StaysOut on (swap (run events)) (swap (at e.side e.step (run events))) → SenderOpens on pair (swap (run events)) (swap (at e.side e.step (run events))) → ⊥ }
     ensures receiver_back { (events : List Event) (e : Event) (pair : Pair) (on : ℕ) → StaysOut on (swap (run events)) (swap (at e.side e.step (run events))) → ReceiverOpens on pair (swap (run events)) (swap (at e.side e.step (run events))) → ⊥ }
+    ensures sender_each { (events : List Event) (done rest : List Command) (c : Command) (pair : Pair) (on : ℕ) → (run events).that.control.subnet ≡ Accepted (done ++ c ∷ rest) → is_empty ((run events).this.texts on).slot ≡ false → SenderOpensAt on pair (hears_all done (run events).this) (hears c (hears_all done (run events).this)) → ⊥ }
+    ensures receiver_each { (events : List Event) (done rest : List Command) (c : Command) (pair : Pair) (on : ℕ) → (run events).that.control.subnet ≡ Accepted (done ++ c ∷ rest) → is_empty ((run events).that.texts on).slot ≡ false → ReceiverOpensAt on pair (hears_all done (run events).this) (hears c (hears_all done (run events).this)) → ⊥ }
+    ensures sender_each_back { (events : List Event) (done rest : List Command) (c : Command) (pair : Pair) (on : ℕ) → (swap (run events)).that.control.subnet ≡ Accepted (done ++ c ∷ rest) → is_empty ((swap (run events)).this.texts on).slot ≡ false → SenderOpensAt on pair (hears_all done (swap (run events)).this) (hears c (hears_all done (swap (run events)).this)) → ⊥ }
+    ensures receiver_each_back { (events : List Event) (done rest : List Command) (c : Command) (pair : Pair) (on : ℕ) → (swap (run events)).that.control.subnet ≡ Accepted (done ++ c ∷ rest) → is_empty ((swap (run events)).that.texts on).slot ≡ false → ReceiverOpensAt on pair (hears_all done (swap (run events)).this) (hears c (hears_all done (swap (run events)).this)) → ⊥ }
 {}
 
 /// That these laws speak of something: both ends are open while an ALL, a text and a RET are underway;
