@@ -14,7 +14,6 @@ ghost use Rattle.ncp_model.specs.Resets.{is_up, underway};
 ghost use Rattle.ncp_model.specs.Delivery.{Accepted};
 ghost use Rattle.ncp_model.specs.Hosts.{Node, World, swap, is_empty, TextOut, Step, steps, hears, hears_all, hears_text, Call, calls, calls_echo, Event, at, run};
 ghost use Rattle.ncp_model.specs.Headline.{MessagesAgree, BitsAgree, OnOneLink, WithinAllocation, Parted, TakenOrHeld, Begins, StaysOut, SenderOpens, ReceiverOpens, SenderOpensAt, ReceiverOpensAt};
-
 ghost use Rattle.std.specs.Prelude.{[], ◌∷◌, ◌++◌, None, Some};
 ghost use Rattle.std.specs.FinMap.{get};
 ghost use Rattle.ncp_model.specs.Delivery.{Held, Free};

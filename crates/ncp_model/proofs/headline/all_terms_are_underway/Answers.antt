@@ -21,11 +21,12 @@ returns-clause-open c = (ap (λ (o : Option End). is_open (or_new o)) (this-end 
 pub returns-clause-messages : goal.returns-clause-messages
 unfolding lowest all_empty back
 returns-clause-messages c = let w = run calls_back_under_text in (
-    ap (λ (o : Option End). (or_new o).messages) (that-end calls_back_under_text inward),
-    ap (λ (o : Option End). (or_new o).messages) (this-end calls_back_under_text outward),
-    ap (λ (h : Host). sum_on 2 granted_messages (underway h w.that.control)) (that-host calls_back_under_text) ∙ ap (λ (l : Link (List Command)). sum_on 2 granted_messages (underway (low_run calls_back_under_text).that.host l)) (that-control calls_back_under_text),
-    ap (λ (o : Option End). how_many (not_come (w.this.texts (or_new o).link).slot (w.this.texts (or_new o).link).subnet)) (this-end calls_back_under_text outward) ∙ ap (λ (l : Link TextOut). how_many (not_come l.slot l.subnet)) (this-link calls_back_under_text 2),
-    ap (λ (h : Host). sum_on 2 returned_messages (underway h w.this.control)) (this-host calls_back_under_text) ∙ ap (λ (l : Link (List Command)). sum_on 2 returned_messages (underway (low_run calls_back_under_text).this.host l)) (this-control calls_back_under_text))
+  ap (λ (o : Option End). (or_new o).messages) (that-end calls_back_under_text inward),
+  ap (λ (o : Option End). (or_new o).messages) (this-end calls_back_under_text outward),
+  ap (λ (h : Host). sum_on 2 granted_messages (underway h w.that.control)) (that-host calls_back_under_text) ∙ ap (λ (l : Link (List Command)). sum_on 2 granted_messages (underway (low_run calls_back_under_text).that.host l)) (that-control calls_back_under_text),
+  ap (λ (o : Option End). how_many (not_come (w.this.texts (or_new o).link).slot (w.this.texts (or_new o).link).subnet)) (this-end calls_back_under_text outward) ∙ ap (λ (l : Link TextOut). how_many (not_come l.slot l.subnet)) (this-link calls_back_under_text 2),
+  ap (λ (h : Host). sum_on 2 returned_messages (underway h w.this.control)) (this-host calls_back_under_text) ∙ ap (λ (l : Link (List Command)). sum_on 2 returned_messages (underway (low_run calls_back_under_text).this.host l)) (this-control calls_back_under_text),
+)
 
 pub returns-clause-alone : goal.returns-clause-alone
 unfolding lowest all_empty

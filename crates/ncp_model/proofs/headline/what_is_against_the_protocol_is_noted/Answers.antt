@@ -1,4 +1,4 @@
-use Rattle.std.proofs.Common.{◌≡◌, ℕ, Bool, true, false, ◌||◌, if◌then◌else◌, List, ap, ◌∙◌}
+use Rattle.std.proofs.Common.{◌≡◌, Bool, true, if◌then◌else◌, ap, ◌∙◌}
 use Rattle.std.proofs.lemmas.Bool.{or_right}
 use Rattle.ncp_control.specs.declared.command.Command.{Command}
 use Rattle.ncp_control.specs.declared.command.Command.TheVariants.{Rst, Rrp}
@@ -7,7 +7,7 @@ use Rattle.ncp_model.specs.Ends.{hear, text_in}
 use Rattle.ncp_model.specs.Happenings.{of_hearing, of_text}
 use Rattle.ncp_model.specs.Connections.{is_violation}
 use Rattle.ncp_model.specs.Resets.{is_up}
-use Rattle.ncp_model.specs.Hosts.{TextOut, Node, hears, hears_other, hears_text, takes_text}
+use Rattle.ncp_model.specs.Hosts.{Node, hears, hears_other, takes_text}
 use Rattle.ncp_model.proofs.headline.what_is_against_the_protocol_is_noted.Goals as goal
 
 -- of a host that is up
