@@ -70,6 +70,14 @@ commands_there w = underway w.this.host w.this.control
 abbrev pub commands_back : World → List Command
 commands_back w = underway w.that.host w.that.control
 
+-- what ALL and RET carry that are underway on the pair's link
+
+abbrev pub granted_underway : (Command → ℕ) → Pair → World → ℕ
+granted_underway f pair w = sum_on (sender_at pair w).link f (commands_back w)
+
+abbrev pub returned_underway : (Command → ℕ) → Pair → World → ℕ
+returned_underway f pair w = sum_on (sender_at pair w).link f (commands_there w)
+
 -- While both ends are open: what is outstanding at the receiver is what the sender's counters hold,
 -- and what ALL underway, the text that has not come and RET underway carry, each on the pair's link.
 
@@ -77,13 +85,13 @@ abbrev pub MessagesAgree : Pair → World → Type 0
 MessagesAgree pair w = BothOpen pair w
     → (receiver_at pair w).messages
     ≡ (sender_at pair w).messages
-    + (sum_on (sender_at pair w).link granted_messages (commands_back w) + (how_many (text_underway pair w) + sum_on (sender_at pair w).link returned_messages (commands_there w)))
+    + (granted_underway granted_messages pair w + (how_many (text_underway pair w) + returned_underway returned_messages pair w))
 
 abbrev pub BitsAgree : Pair → World → Type 0
 BitsAgree pair w = BothOpen pair w
     → (receiver_at pair w).bits
     ≡ (sender_at pair w).bits
-    + (sum_on (sender_at pair w).link granted_bits (commands_back w) + (length (bits_of (text_underway pair w)) + sum_on (sender_at pair w).link returned_bits (commands_there w)))
+    + (granted_underway granted_bits pair w + (length (bits_of (text_underway pair w)) + returned_underway returned_bits pair w))
 
 -- While both ends are open, they are on one link; and what was given was got, is underway, or waits.
 

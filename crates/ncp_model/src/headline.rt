@@ -1,25 +1,21 @@
 //! The headline: what holds of two hosts and all their connections after every schedule, where the
 //! subnet delivers a message whole and once and answers RFNM, or delivers nothing and says so. That
 //! their commands act once and in order is `hosts::hosts_act_once_in_order`.
-ghost use Rattle.std.specs.Prelude.{◌≡◌, ℕ, Bool, List, true, false};
+ghost use Rattle.std.specs.Prelude.{◌≡◌, ℕ, Bool, List, [], ◌∷◌, ◌++◌, true, false, None, Some};
 ghost use Rattle.std.specs.List.{list_any};
+ghost use Rattle.std.specs.FinMap.{get};
 ghost use Rattle.ncp_control.specs.declared.command.Command.{Command};
 ghost use Rattle.ncp_model.specs.Pairs.{sends};
-ghost use Rattle.ncp_model.specs.Phase.{is_rst, is_rrp, is_other};
 ghost use Rattle.ncp_model.specs.Act.{answer};
 ghost use Rattle.ncp_model.specs.Ends.{hear, text_in};
+ghost use Rattle.ncp_model.specs.Phase.{is_rst, is_rrp, is_other};
 ghost use Rattle.ncp_model.specs.Happenings.{of_hearing, of_text};
 ghost use Rattle.ncp_model.specs.Connections.{is_violation};
-ghost use Rattle.ncp_model.specs.Resets.{is_up, underway};
-ghost use Rattle.ncp_model.specs.Delivery.{Accepted};
-ghost use Rattle.ncp_model.specs.Hosts.{Node, World, swap, is_empty, TextOut, Step, steps, hears, hears_all, hears_text, Call, calls, calls_echo, Event, at, run};
-ghost use Rattle.ncp_model.specs.Headline.{MessagesAgree, BitsAgree, OnOneLink, WithinAllocation, Parted, TakenOrHeld, Begins, StaysOut, SenderOpens, ReceiverOpens, SenderOpensAt, ReceiverOpensAt};
-ghost use Rattle.std.specs.Prelude.{[], ◌∷◌, ◌++◌, None, Some};
-ghost use Rattle.std.specs.FinMap.{get};
-ghost use Rattle.ncp_model.specs.Delivery.{Held, Free};
-ghost use Rattle.ncp_model.specs.Hosts.{past_of};
 ghost use Rattle.ncp_model.specs.Ledger.{granted_messages, returned_messages};
-ghost use Rattle.ncp_model.specs.Headline.{BothOpen, sender_at, receiver_at, sum_on, how_many, text_underway, commands_there, commands_back};
+ghost use Rattle.ncp_model.specs.Delivery.{Accepted, Held, Free};
+ghost use Rattle.ncp_model.specs.Resets.{is_up, underway};
+ghost use Rattle.ncp_model.specs.Hosts.{Node, World, swap, past_of, is_empty, TextOut, Step, steps, hears, hears_all, hears_text, Call, calls, calls_echo, Event, at, run};
+ghost use Rattle.ncp_model.specs.Headline.{BothOpen, sender_at, receiver_at, granted_underway, returned_underway, how_many, text_underway, MessagesAgree, BitsAgree, OnOneLink, WithinAllocation, Parted, TakenOrHeld, Begins, StaysOut, SenderOpens, ReceiverOpens, SenderOpensAt, ReceiverOpensAt};
 ghost use Rattle.ncp_model.specs.Rows.{outward, inward, ones, noughts, counting};
 ghost use Rattle.ncp_model.specs.Schedules.{up_phase};
 ghost use Rattle.ncp_model.specs.HostRuns.{calls_back_under_text, sender_cleared, held_past_reset, up_after_held, opened_after_held};
@@ -48,11 +44,11 @@ pub fn what_is_against_the_protocol_is_noted()
 
 /// Neither host ever makes an ERR for a command of the other, or answers its text as not connected, of
 /// the wrong size or beyond the allocation. For each pair, either way: while both its ends are open
-/// they are on one link, and what is outstanding at the receiver is what the sender's counters hold and what ALL, RET and the
-/// text on its link carry that have not come, for messages and for bits; and what was given was got, is
-/// underway, or waits. What a live receiver has outstanding is what was granted less what was returned
-/// and used; what it got was taken or is held, until it left; and it is a beginning of what was given
-/// since the sender last opened, whatever the sender has done since.
+/// they are on one link; what is outstanding at the receiver is what the sender's counters hold and
+/// what ALL, RET and the text on that link carry that have not come, for messages and for bits; and
+/// what was given was got, is underway, or waits. What a live receiver has outstanding is what was
+/// granted less what was returned and used; what it got was taken or is held, until it left; and it
+/// is a beginning of what was given since the sender last opened, whatever the sender has done since.
 pub fn hosts_lose_and_make_nothing()
     ensures safe { (events : List Event) → ((run events).this.wrong ≡ false) × ((run events).that.wrong ≡ false) }
     ensures messages { (events : List Event) (pair : Pair) → sends pair ≡ true → MessagesAgree pair (run events) × MessagesAgree pair (swap (run events)) }
@@ -83,7 +79,7 @@ pub fn none_opens_while_its_link_has_a_text()
 /// and a receiver lives on what it got while its sender was cleared.
 pub fn all_terms_are_underway()
     ensures open { BothOpen outward (run calls_back_under_text) }
-    ensures messages { let w = run calls_back_under_text in ((receiver_at outward w).messages ≡ 5) × ((sender_at outward w).messages ≡ 0) × (sum_on 2 granted_messages (commands_back w) ≡ 3) × (how_many (text_underway outward w) ≡ 1) × (sum_on 2 returned_messages (commands_there w) ≡ 1) }
+    ensures messages { let w = run calls_back_under_text in ((receiver_at outward w).messages ≡ 5) × ((sender_at outward w).messages ≡ 0) × (granted_underway granted_messages outward w ≡ 3) × (how_many (text_underway outward w) ≡ 1) × (returned_underway returned_messages outward w ≡ 1) }
     ensures alone { let w = run sender_cleared in (get w.this.ends outward ≡ None) × (get w.that.ends inward ≡ Some (record (counting 1 0) { stored = ones 16 })) × ((past_of w.that.pasts inward).got ≡ ones 16) × ((past_of w.this.pasts outward).given ≡ ones 16 ++ noughts 8) }
 {}
 
