@@ -1,6 +1,6 @@
 -- All ends of the connections with one peer: a finite map from pairs to ends. What an act needs
 -- to know of the others, and which end a command or a text leads to.
-use Rattle.std.specs.Prelude.{ℕ, zero, suc, ◌==◌, Bool, not, ◌&&◌, nat_lt, if◌then◌else◌, List, [], ◌∷◌, Option, None, Some, Result}
+use Rattle.std.specs.Prelude.{ℕ, zero, suc, ◌==◌, Bool, not, ◌&&◌, nat_lt, if◌then◌else◌, List, [], ◌∷◌, Option, None, Some, Result, true, false}
 use Rattle.std.specs.List.{count_by}
 use Rattle.std.specs.FinMap.{FinMap, empty, entries, get, insert, remove}
 use Rattle.ncp_control.specs.declared.command.Command.{Command}
@@ -151,3 +151,19 @@ map_after_at m (Some pair) act = map_after m pair act
 -- a clearing leaves no ends
 abbrev pub no_ends : Ends
 no_ends = empty
+
+-- the link that a command names, if it names no sockets
+abbrev pub link_of : Command → Option ℕ
+link_of (All on of_messages of_bits) = Some on
+link_of (Gvb on of_messages of_bits) = Some on
+link_of (Ret on of_messages of_bits) = Some on
+link_of (Inr on) = Some on
+link_of (Ins on) = Some on
+link_of c = None
+
+-- whether a command names sockets
+abbrev pub names_sockets : Command → Bool
+names_sockets (Rts receive send on) = true
+names_sockets (Str send receive of_size) = true
+names_sockets (Cls my your) = true
+names_sockets c = false

@@ -1,6 +1,6 @@
 -- Everything that can happen to one end of a connection, as one list. That it comes to the right end
 -- is presumed: Leading says which one that is.
-use Rattle.std.specs.Prelude.{ℕ, Bool, List, [], ◌∷◌, Option, None, Some, Result, Ok, Err}
+use Rattle.std.specs.Prelude.{ℕ, Bool, List, [], ◌∷◌, Option, None, Some, Result, Ok, Err, true, false}
 use Rattle.ncp_control.specs.declared.command.Command.{Command}
 use Rattle.ncp_model.specs.declared.pair.Pair.{Pair}
 use Rattle.ncp_model.specs.declared.call_fault.CallFault.{CallFault}
@@ -119,3 +119,12 @@ happens pair Is_cleared before = record { after = cleared before; made = []; out
 abbrev pub end_from : Pair → List Happening → Option End → Option End
 end_from pair [] before = before
 end_from pair (what ∷ more) before = end_from pair more (happens pair what before).after
+
+-- against the protocol: an ERR is made, or a text is refused, since its size is wrong, it is beyond the
+-- allocation, or no end there is open; a text that is late is not refused
+abbrev pub is_violation : Outcome → Bool
+is_violation (Erred error) = true
+is_violation WrongSize = true
+is_violation Over = true
+is_violation NotOpen = true
+is_violation outcome = false

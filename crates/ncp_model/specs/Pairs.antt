@@ -31,3 +31,7 @@ pair_cmp a b = ordering_then (nat_cmp a.local b.local) (nat_cmp a.remote b.remot
 
 abbrev pub coded_pair : Coded Pair
 coded_pair = code_by (ℕ × ℕ) (coded× coded_ℕ coded_ℕ) (λ p. (p.local, p.remote)) (λ n. record { local = n.0; remote = n.1 }) (λ _. refl)
+
+-- the pair as the peer names it
+abbrev pub turned : Pair → Pair
+turned pair = record { local = pair.remote; remote = pair.local }

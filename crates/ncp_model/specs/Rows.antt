@@ -6,6 +6,7 @@ use Rattle.ncp_control.specs.declared.command.Command.TheVariants as variants
 use Rattle.ncp_model.specs.declared.pair.Pair.{Pair}
 use Rattle.ncp_model.specs.End.{End, new_end}
 use Rattle.ncp_model.specs.Ends.{Ends}
+use Rattle.ncp_model.specs.Phase.{Phase}
 
 -- socket 3 sends to socket 2: as its own host names it, and as the receiver's does
 abbrev pub outward : Pair
@@ -71,3 +72,7 @@ ends_both_ways =
 
 abbrev pub both_ways : Ends
 both_ways = from_sorted ends_both_ways
+
+-- a host that is up, with nothing that waits
+abbrev pub up_phase : Phase
+up_phase = record { down = false; want = false; owe = false; wait = false; waiting = [] }

@@ -1,5 +1,5 @@
-//! The model of the protocol: what can happen to one end of a connection (act), what a host's
-//! four flags allow (phase), and the theorem on resets between two hosts.
+//! The rules of the protocol: what can happen to one end of a connection (act), what a host's four
+//! flags allow (phase), and what a host keeps of one peer.
 //!
 //! The definitions stand in `specs/`, the laws over them are the contracts of functions that do
 //! nothing. Beside them stand the words that the crates above share: a pair of sockets, the
@@ -8,19 +8,12 @@
 
 mod amounts;
 mod call_fault;
-pub mod connections;
-pub mod headline;
-pub mod histories;
-pub mod hosts;
 mod limits;
 pub mod links;
 mod outcomes;
 mod pair;
 pub mod phases;
-pub mod resets;
 pub mod rows;
-pub mod runs;
-pub mod sharing;
 #[cfg(test)]
 mod tests;
 

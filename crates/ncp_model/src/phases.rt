@@ -1,5 +1,5 @@
 //! Laws of a host's phase: what the theorem on resets does not guard.
-ghost use Rattle.std.specs.Prelude.{◌≡◌, ℕ, Bool, true, false, ◌+◌, ◌++◌, ◌<◌, ◌≤◌, List, [], ◌∷◌, length, take, replicate, None, Some, Result, Ok, Err};
+ghost use Rattle.std.specs.Prelude.{◌≡◌, ℕ, Bool, true, false, ◌+◌, ◌++◌, ◌<◌, ◌≤◌, List, [], ◌∷◌, length, take, replicate, None, Some, Result, Ok, Err, Option};
 ghost use Rattle.std.specs.List.{filter, list_any};
 ghost use Rattle.ncp_control.specs.declared.command.Command.{Command};
 ghost use Rattle.ncp_model.specs.Phase.{Phase, Reaction, new_phase, up, is_rst, is_rrp, is_reset, is_other, purge, settles, is_resetting, reset_answer, wants_reset, resets, owes_answer, hears_rst, hears_rrp, is_stray_rrp, goes_down, makes, makes_all, is_dropped, hears};
@@ -9,10 +9,11 @@ ghost use Rattle.ncp_model.specs.Calls.{ask_send, interrupt};
 ghost use Rattle.ncp_model.specs.Texts.{hear_text};
 ghost use Rattle.ncp_model.specs.Echo.{no_echoes, echo_answer, eco_reply};
 ghost use Rattle.ncp_model.specs.Admitting.{while_up, answer_while_up, text_while_up, hears_fault};
-ghost use Rattle.ncp_model.specs.Rows.{outward, inward, ones, opened_end, counting, err};
-ghost use Rattle.ncp_model.specs.Schedules.{up_phase};
+ghost use Rattle.ncp_model.specs.Rows.{outward, inward, ones, opened_end, counting, err, up_phase};
 ghost use Rattle.ncp_model.specs.Sending.{is_full, next_commands};
-ghost use Rattle.ncp_model.specs.Resets.{Host, Event, run, is_up, anew, NothingFollows, Silent, host_hears_all};
+ghost use Rattle.ncp_model.specs.declared.pair.Pair.{Pair};
+ghost use Rattle.ncp_model.specs.Happenings.{Happening, happens};
+ghost use Rattle.ncp_model.specs.End.{End};
 
 use crate::call_fault::CallFault;
 use crate::limits::{MAX_CONTROL, MAX_WAITING};
@@ -39,17 +40,7 @@ pub fn only_resets_while_not_up()
     ensures not_dropped { (p : Phase) → (is_dropped Command.Rst p ≡ false) × (is_dropped Command.Rrp p ≡ false) × (up p ≡ true → is_dropped Command.Nop p ≡ false) }
     ensures rst { (p : Phase) → makes Command.Rst p ≡ p }
     ensures rrp { (p : Phase) → makes Command.Rrp p ≡ p }
-    ensures silent { (events : List Event) → is_up (run events).this ≡ false → Silent (run events).this }
-    ensures silent_too { (events : List Event) → is_up (run events).that ≡ false → Silent (run events).that }
     ensures counted { (c : Command) (p : Phase) → is_other c ≡ true → up p ≡ false → is_dropped c p ≡ true }
-{}
-
-/// An RST that was made is acted on before anything that follows it; and until it came nothing
-/// but an RRP follows it, after every schedule.
-pub fn resets_come_before_what_follows()
-    ensures acts { (cs : List Command) (r : Reaction) (rs : List Reaction) (h : Host) → host_hears_all (Command.Rst ∷ cs) (r ∷ rs) h ≡ host_hears_all cs rs (anew (hears_rst r.quiet h.phase)) }
-    ensures there { (events : List Event) → NothingFollows (run events).this (run events).going }
-    ensures back { (events : List Event) → NothingFollows (run events).that (run events).coming }
 {}
 
 /// A purge strikes every command that waits but RST and RRP, and no flag.
@@ -134,4 +125,9 @@ pub fn what_is_not_up_lets_nothing_through()
     ensures fault_dropped { hears_fault 2 (4 ∷ 2 ∷ 0 ∷ replicate 7 0) new_phase ≡ new_phase }
     ensures fault_early { hears_fault 2 (4 ∷ 2 ∷ 0 ∷ replicate 7 0) up_phase ≡ record up_phase { waiting = err 2 (4 ∷ 2 ∷ 0 ∷ replicate 7 0) ∷ [] } }
     ensures fault_behind { hears_fault 1 (14 ∷ replicate 9 0) (makes_all (eco_reply 65 ∷ []) up_phase) ≡ record up_phase { waiting = Command.Erp 65 ∷ err 1 (14 ∷ replicate 9 0) ∷ [] } }
+{}
+
+/// No act on an end makes an RST or an RRP: these two are the phase's alone.
+pub fn acts_make_no_resets()
+    ensures { (pair : Pair) (what : Happening) (before : Option End) → filter is_reset (happens pair what before).made ≡ [] }
 {}

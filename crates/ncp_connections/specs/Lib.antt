@@ -1,0 +1,4 @@
+pub mod Connections
+pub mod Ledger
+pub mod Clearings
+pub mod Runs

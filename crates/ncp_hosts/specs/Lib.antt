@@ -1,0 +1,4 @@
+pub mod Hosts
+pub mod Seen
+pub mod HostRuns
+pub mod Headline

@@ -1,5 +1,0 @@
-use Rattle.ncp_model.proofs.Makes.{none-reset}
-use Rattle.ncp_model.proofs.histories.acts_make_no_resets.Goals as goal
-
-pub returns : goal.returns
-returns c = none-reset

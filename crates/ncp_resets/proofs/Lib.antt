@@ -1,0 +1,3 @@
+pub mod ResetKept
+pub mod ResetRuns
+pub mod Waiting

@@ -1,0 +1,3 @@
+pub mod Delivery
+pub mod Resets
+pub mod Schedules

@@ -1,0 +1,4 @@
+pub mod LinksStay
+pub mod LimitsKept
+pub mod SoundEnds
+pub mod BooksKept

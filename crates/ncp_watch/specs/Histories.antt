@@ -1,0 +1,72 @@
+-- What happened to a pair of sockets at one host since its connection opened there. A history
+-- only watches: no rule asks it. All of it is this profile's way to speak of a connection.
+use Rattle.std.specs.Prelude.{ℕ, ◌+◌, Bool, true, false, not, ◌&&◌, if◌then◌else◌, List, [], ◌∷◌, ◌++◌, Option, None, ◌≡◌}
+use Rattle.ncp_model.specs.declared.pair.Pair.{Pair}
+use Rattle.ncp_model.specs.End.{End, is_live}
+use Rattle.ncp_model.specs.Happenings.{Happening, Outcome, Happened, happens}
+use Rattle.ncp_model.specs.Happenings as all
+
+-- each since the last opening, which it outlives: a clearing or an end leaves it as it is
+pub record Past : Type 0 where
+  pub given : List Bool  -- by the sender's user
+  pub got : List Bool  -- from the peer, and admitted
+  pub taken : List Bool  -- by the receiver's user
+  pub granted_messages : ℕ  -- by ALL
+  pub granted_bits : ℕ
+  pub returned_messages : ℕ  -- by RET
+  pub returned_bits : ℕ
+  pub used_messages : ℕ  -- by texts that were admitted; the bits used are those that were got
+
+abbrev pub no_past : Past
+no_past = record { given = []; got = []; taken = []; granted_messages = 0; granted_bits = 0; returned_messages = 0; returned_bits = 0; used_messages = 0 }
+
+abbrev pub is_accepted : Outcome → Bool
+is_accepted all.Accepted = true
+is_accepted outcome = false
+
+abbrev pub is_admitted : Outcome → Bool
+is_admitted all.Admitted = true
+is_admitted outcome = false
+
+abbrev pub taken_out : Outcome → List Bool
+taken_out (all.Took_out text) = text
+taken_out outcome = []
+
+-- what a happening with its outcome adds
+abbrev pub adds : Happening → Outcome → Past → Past
+adds (all.Gives text) o past = record past { given = past.given ++ (if is_accepted o then text else []) }
+adds (all.Takes bytes) o past = record past { taken = past.taken ++ taken_out o }
+adds (all.Allocates m b full) o past =
+    record past { granted_messages = past.granted_messages + (if is_accepted o then m else 0); granted_bits = past.granted_bits + (if is_accepted o then b else 0) }
+adds (all.Ret_comes on m b) o past =
+    record past { returned_messages = past.returned_messages + (if is_accepted o then m else 0); returned_bits = past.returned_bits + (if is_accepted o then b else 0) }
+adds (all.Text_comes head of_size text) o past =
+    record past { got = past.got ++ (if is_admitted o then text else []); used_messages = past.used_messages + (if is_admitted o then 1 else 0) }
+adds what o past = past
+
+-- the connection opens: it was not live, and is
+abbrev pub opens : Option End → Option End → Bool
+opens before after = not (is_live before) && is_live after
+
+-- an end, with the history of its pair
+pub record Watched : Type 0 where
+  pub end : Option End
+  pub past : Past
+
+abbrev pub watches : Pair → Happening → Watched → Watched
+watches pair what w = record {
+  end = (happens pair what w.end).after;
+  past = adds what (happens pair what w.end).outcome (if opens w.end (happens pair what w.end).after then no_past else w.past);
+}
+
+abbrev pub watch_from : Pair → List Happening → Watched → Watched
+watch_from pair [] w = w
+watch_from pair (what ∷ more) w = watch_from pair more (watches pair what w)
+
+-- from a host that knows nothing of the pair
+abbrev pub watch : Pair → List Happening → Watched
+watch pair whats = watch_from pair whats (record { end = None; past = no_past })
+
+-- the first list is a beginning of the second
+abbrev pub IsBeginning : List Bool → List Bool → Type 0
+IsBeginning xs ys = (rest : List Bool) × (xs ++ rest ≡ ys)

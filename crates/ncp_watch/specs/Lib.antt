@@ -1,0 +1,4 @@
+pub mod Histories
+pub mod Sound
+pub mod Books
+pub mod Limits
