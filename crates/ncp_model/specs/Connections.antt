@@ -12,6 +12,7 @@ use Rattle.ncp_model.specs.Act.{is_data_link}
 use Rattle.ncp_model.specs.Texts.{Answered, Taken, Again, Kept}
 use Rattle.ncp_model.specs.Happenings.{Happening, Outcome, Happened, happens}
 use Rattle.ncp_model.specs.Happenings as all
+pub use Rattle.ncp_model.specs.Happenings.{is_violation}
 use Rattle.ncp_model.specs.Histories.{Watched, no_past, watches}
 
 -- the pair as the peer names it
@@ -38,15 +39,6 @@ no_end = record { end = None; past = no_past }
 
 abbrev pub new_connection : Connection
 new_connection = record { sender = no_end; receiver = no_end; to_receiver = []; to_sender = []; text = No_text; violated = false }
-
--- an ERR is made, or a text is refused: its size is wrong, it is beyond the allocation, or no end
--- there is open; a text that is late is not refused
-abbrev pub is_violation : Outcome → Bool
-is_violation (all.Erred error) = true
-is_violation all.WrongSize = true
-is_violation all.Over = true
-is_violation all.NotOpen = true
-is_violation outcome = false
 
 -- the text that is out once this happened at a sender's end with this link
 abbrev pub text_after : ℕ → Outcome → Text → Text

@@ -14,8 +14,10 @@ use Rattle.ncp_model.specs.declared.limits.TheConstants.{FIRST_LINK}
 use Rattle.ncp_model.specs.Pairs.{pair_cmp}
 use Rattle.ncp_model.specs.End.{End}
 use Rattle.ncp_model.specs.Act.{answer, made_if_any, made_by_hearing}
+pub use Rattle.ncp_model.specs.Act.{made_by_call as made_by_echo}
 use Rattle.ncp_model.specs.Texts.{made_by_text, Taken}
 use Rattle.ncp_model.specs.Ends.{Ends, count, has_asked, free_link, sender_on, receiver_on, pair_of, leads_to, hear, text_in, cut_in, answered_in, map_after_at, no_ends}
+pub use Rattle.ncp_model.specs.Ends.{put}
 use Rattle.ncp_model.specs.Happenings.{Happening, Outcome, Happened, happens, of_hearing, of_text}
 use Rattle.ncp_model.specs.Happenings as all
 use Rattle.ncp_model.specs.Leading.{comes}
@@ -120,10 +122,6 @@ called (Allocate of_messages of_bits) full m = all.Allocates of_messages of_bits
 called (Call_back of_messages of_bits) full m = all.Calls_back of_messages of_bits full
 called Interrupt full m = all.Interrupts full
 
-abbrev pub put : Ends → Pair → Option End → Ends
-put m pair None = remove m pair
-put m pair (Some e) = insert m pair e
-
 abbrev pub happens_at : Pair → Happening → Node → Node
 happens_at pair what n =
     let did : Happened = happens pair what (get n.ends pair) in
@@ -138,10 +136,6 @@ happens_at pair what n =
 
 abbrev pub calls : Pair → Call → Node → Node
 calls pair call n = if is_up n.host then happens_at pair (called call (is_full n.host.phase) n.ends) n else n
-
-abbrev pub made_by_echo : Result Command CallFault → List Command
-made_by_echo (Ok c) = c ∷ []
-made_by_echo (Err fault) = []
 
 abbrev pub echo_called : ℕ → Node → Node
 echo_called byte n =
