@@ -10,7 +10,7 @@ use Rattle.ncp_model.specs.declared.call_fault.CallFault.{CallFault}
 use Rattle.ncp_model.specs.declared.outcomes.Heard.{Heard}
 use Rattle.ncp_model.specs.declared.outcomes.Heard.TheVariants.{Nothing}
 use Rattle.ncp_model.specs.declared.outcomes.Took.{Took}
-use Rattle.ncp_model.specs.declared.limits.TheConstants.{FIRST_LINK}
+use Rattle.ncp_model.specs.declared.limits.TheConstants.{FIRST_LINK, DATA_LINKS}
 use Rattle.ncp_model.specs.Pairs.{pair_cmp, sends, receives}
 use Rattle.ncp_model.specs.End.{End, is_over}
 use Rattle.ncp_model.specs.Act.{Act, Stays, Becomes}
@@ -53,7 +53,7 @@ lowest test (suc many) from = if test from then from else lowest test many (suc 
 -- the lowest link from 2 up that no receiving end uses: of 70 links 64 can be in use. That it is the
 -- lowest is this profile's rule
 abbrev pub free_link : Ends → ℕ
-free_link m = lowest (λ on. not (any (uses_link on) m)) 70 FIRST_LINK
+free_link m = lowest (λ on. not (any (uses_link on) m)) DATA_LINKS FIRST_LINK
 
 -- the first that passes a test
 abbrev pub first_by : (Pair × End → Bool) → List (Pair × End) → Option (Pair × End)
