@@ -171,7 +171,7 @@ module _ (pair : Pair) (sd : sends pair ≡ true) (past : Past) (r : End) (h : L
       choose (not (e.asked && e.heard)) (λ _. stays _ refl refl refl (λ x. append-nil x.given) k) (λ b.
       choose (not (sends pair)) (λ _. stays _ refl refl refl (λ x. append-nil x.given) k) (λ _.
       choose (not (length text % e.size == 0)) (λ _. stays _ refl refl refl (λ x. append-nil x.given) k) (λ _.
-      choose (nat_lt e.room (length e.stored + length text)) (λ _. stays _ refl refl refl (λ x. append-nil x.given) k) (λ _.
+      choose (not (nat_le (length e.stored + length text) e.room)) (λ _. stays _ refl refl refl (λ x. append-nil x.given) k) (λ _.
       let f = and_parts e.asked e.heard (not-false (e.asked && e.heard) b) in
       becomes (record e { stored = e.stored ++ text }) (Ok tt) refl (not_over e v) refl (rw (append-nil p) (s_gives e past.given r h p q t fs fr text v f.0 f.1 k)))))))
 

@@ -4,7 +4,7 @@ use Rattle.ncp_control.specs.declared.command.Command.{Command}
 use Rattle.ncp_control.specs.declared.command.Command.TheVariants.{Rst, Rrp}
 use Rattle.ncp_model.specs.Phase.{Reaction, is_resetting}
 use Rattle.std.specs.FinMap.{get}
-use Rattle.ncp_model.specs.Act.{answer, made_if_any}
+use Rattle.ncp_model.specs.Act.{answer, made_if_any, made_by_call}
 use Rattle.ncp_model.specs.Texts.{made_by_text, Taken}
 use Rattle.ncp_model.specs.Ends.{cut_in, text_in, answered_in}
 use Rattle.ncp_model.specs.Happenings.{happens}
@@ -13,7 +13,7 @@ use Rattle.ncp_model.specs.Sending.{is_full}
 use Rattle.ncp_resets.specs.Delivery.{Slot, Empty, Ready, Travelling, Held, Subnet, Free, Accepted, Delivered, Lost, Dead, answered}
 use Rattle.ncp_resets.specs.Resets.{Host, is_up, host_makes, host_makes_all, host_hears, host_hears_other, host_hears_all, Side, This, That}
 use Rattle.ncp_resets.specs.Resets as resets
-use Rattle.ncp_hosts.specs.Hosts.{TextOut, Node, quiet, reaction, hears, hears_other, hears_all, calls_reset, called, happens_at, made_by_echo, echo_called, cuts, sends_text, takes_text, text_answered, text_comes, frees, settles, control_answered, message_comes, World, swap, base, Step, Calls_reset, Calls, Calls_echo, Falls, Sends, Sends_text, Hears, Hears_text, Loses, Loses_text, Dies, Text_dies, Is_answered, Text_is_answered, Wakes, steps, Event, at, run_from, run, start}
+use Rattle.ncp_hosts.specs.Hosts.{TextOut, Node, quiet, reaction, hears, hears_other, hears_all, calls_reset, called, happens_at, echo_called, cuts, sends_text, takes_text, text_answered, text_comes, frees, settles, control_answered, message_comes, World, swap, base, Step, Calls_reset, Calls, Calls_echo, Falls, Sends, Sends_text, Hears, Hears_text, Loses, Loses_text, Dies, Text_dies, Is_answered, Text_is_answered, Wakes, steps, Event, at, run_from, run, start}
 
 -- the reset machine comes from one world to another
 abbrev pub Reaches : resets.World → resets.World → Type 0
@@ -178,7 +178,7 @@ stepping (Calls pair call) w =
     (makes (happens pair what (get w.this.ends pair)).made (base w)) (stays (base w) (base w) refl)
 stepping (Calls_echo byte) w =
     either (λ (n : Node). Becomes w n) (is_up w.this.host) (echo_called byte w.this) w.this
-    (makes (made_by_echo (echo_answer byte (is_full w.this.host.phase) w.this.echoes)) (base w)) (stays (base w) (base w) refl)
+    (makes (made_by_call (echo_answer byte (is_full w.this.host.phase) w.this.echoes)) (base w)) (stays (base w) (base w) refl)
 stepping Falls w = one resets.Falls (base w) (base (steps Falls w)) refl
 stepping (Sends n) w = one (resets.Sends n) (base w) (base (steps (Sends n) w)) (sends_alone w.this.control.slot w.this.host.phase.waiting n (base w))
   where

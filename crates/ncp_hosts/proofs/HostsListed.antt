@@ -16,10 +16,10 @@ use Rattle.ncp_model.specs.declared.outcomes.Heard.TheVariants.{Nothing}
 use Rattle.ncp_model.specs.declared.limits.TheConstants.{FIRST_LINK}
 use Rattle.ncp_model.specs.Pairs.{pair_cmp}
 use Rattle.ncp_model.specs.End.{End, is_over}
-use Rattle.ncp_model.specs.Act.{Act, Stays, Becomes, answer, made_if_any, made_by_hearing}
+use Rattle.ncp_model.specs.Act.{Act, Stays, Becomes, answer, made_if_any, made_by_hearing, made_by_call}
 use Rattle.ncp_model.specs.Texts.{hear_text, made_by_text, Taken}
 use Rattle.ncp_model.specs.Commands.{hear_rts, hear_str, hear_cls, hear_all, hear_gvb, hear_ret, hear_inr, hear_ins}
-use Rattle.ncp_model.specs.Ends.{Ends, has_asked, is_by_peer, hears_link, uses_link, first_by, lowest, end_of, pair_of, leads_to, hear, text_in, cut_at, cut_in, answered_at, answered_in, map_after_at, no_ends}
+use Rattle.ncp_model.specs.Ends.{Ends, has_asked, is_by_peer, hears_link, uses_link, first_by, lowest, end_of, pair_of, leads_to, hear, text_in, cut_at, cut_in, answered_at, answered_in, map_after_at, no_ends, put}
 use Rattle.ncp_model.specs.Happenings.{Happening, Happened, happens, of_hearing, of_text, is_violation}
 use Rattle.ncp_model.specs.Happenings as all
 use Rattle.ncp_model.specs.Leading.{comes}
@@ -30,7 +30,7 @@ use Rattle.ncp_model.specs.Sending.{is_full}
 use Rattle.ncp_resets.specs.Delivery.{Slot, Empty, Ready, Travelling, Held, Subnet, Free, Accepted, Delivered, Lost, Dead, Link, idle, undelivered, answered, woken}
 use Rattle.ncp_resets.specs.Resets.{Host, is_up, anew, host_resets, host_settles, host_falls, host_makes_all, host_hears, Side, This, That}
 use Rattle.ncp_resets.specs.Resets as resets
-use Rattle.ncp_hosts.specs.Hosts.{TextOut, Pasts, or_no_past, past_of, past_after, pasts_after, pasts_after_at, Node, all_empty, quiet, set_link, kept, kept_echoes, Call, Ask_to_send, Ask_to_receive, Close, Give, Take, Allocate, Call_back, Interrupt, called, put, cleared, made_by_echo, happens_at, calls, echo_called, calls_echo, calls_reset, is_full_up, echo_replies, echoes_after, reaction, hears, hears_other, hears_all, takes_text, hears_text, cuts, sends_text, frees, text_answered, text_comes, control_answered, message_comes, World, swap, Step, Calls_reset, Calls, Calls_echo, Falls, Sends, Sends_text, Hears, Hears_text, Loses, Loses_text, Dies, Text_dies, Is_answered, Text_is_answered, Wakes, steps, Event, at, run_from, run, start}
+use Rattle.ncp_hosts.specs.Hosts.{TextOut, Pasts, or_no_past, past_of, past_after, pasts_after, pasts_after_at, Node, all_empty, quiet, set_link, kept, kept_echoes, Call, Ask_to_send, Ask_to_receive, Close, Give, Take, Allocate, Call_back, Interrupt, called, cleared, happens_at, calls, echo_called, calls_echo, calls_reset, is_full_up, echo_replies, echoes_after, reaction, hears, hears_other, hears_all, takes_text, hears_text, cuts, sends_text, frees, text_answered, text_comes, control_answered, message_comes, World, swap, Step, Calls_reset, Calls, Calls_echo, Falls, Sends, Sends_text, Hears, Hears_text, Loses, Loses_text, Dies, Text_dies, Is_answered, Text_is_answered, Wakes, steps, Event, at, run_from, run, start}
 use Rattle.ncp_model.proofs.PairOrder.{pairs_exact, pairs_total}
 
 abbrev pub Listed : Type 0
@@ -267,7 +267,7 @@ calls-low pair call n =
 
 abbrev pub low_echo : ℕ → Low → Low
 low_echo byte n =
-    let host : Host = host_makes_all (made_by_echo (echo_answer byte (is_full n.host.phase) n.echoes)) n.host in
+    let host : Host = host_makes_all (made_by_call (echo_answer byte (is_full n.host.phase) n.echoes)) n.host in
     record n { host = host; ends = kept_listed host n.ends; echoes = kept_echoes host (echo_asked (is_full n.host.phase) n.echoes) }
 
 abbrev pub low_calls_echo : ℕ → Low → Low
@@ -276,7 +276,7 @@ low_calls_echo byte n = if is_up n.host then low_echo byte n else n
 echo-low : (byte : ℕ) (n : Node) → low (calls_echo byte n) ≡ low_calls_echo byte (low n)
 echo-low byte n =
     if-low (is_up n.host) (echo_called byte n) n (low_echo byte (low n)) (low n)
-    (rw (kept-low (host_makes_all (made_by_echo (echo_answer byte (is_full n.host.phase) n.echoes)) n.host) n.ends) refl) refl
+    (rw (kept-low (host_makes_all (made_by_call (echo_answer byte (is_full n.host.phase) n.echoes)) n.host) n.ends) refl) refl
 
 abbrev pub low_resets : Low → Low
 low_resets n = if is_resetting n.host.phase then n else low_cleared (host_resets (low_quiet n) n.host) n

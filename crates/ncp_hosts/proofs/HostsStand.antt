@@ -9,7 +9,7 @@ use Rattle.ncp_model.specs.Pairs.{pair_cmp}
 use Rattle.ncp_model.specs.End.{End}
 use Rattle.ncp_model.specs.Act.{Act, answer, end_after}
 use Rattle.ncp_model.specs.Texts.{hear_text, Taken}
-use Rattle.ncp_model.specs.Ends.{Ends, hears_link, uses_link, sender_on, receiver_on, pair_of, leads_to, hear, text_in, cut_at, cut_in, answered_in, map_after, map_after_at, no_ends}
+use Rattle.ncp_model.specs.Ends.{Ends, hears_link, uses_link, sender_on, receiver_on, pair_of, leads_to, hear, text_in, cut_at, cut_in, answered_in, map_after, map_after_at, no_ends, put}
 use Rattle.ncp_model.specs.Happenings.{Happening, Happened, happens, happened, of_hearing, of_text, of_cut}
 use Rattle.ncp_model.specs.Happenings as all
 use Rattle.ncp_model.specs.Leading.{suits, passes, comes}
@@ -18,7 +18,7 @@ use Rattle.ncp_model.specs.Sending.{is_full}
 use Rattle.ncp_resets.specs.Delivery.{Slot, Empty, Ready, Travelling, Held, Subnet, Free, Accepted, Delivered, Lost, Dead}
 use Rattle.ncp_resets.specs.Resets.{Host, is_up, host_resets, host_settles, host_falls, host_makes_all, host_hears, Side, This, That}
 use Rattle.ncp_resets.specs.Resets as resets
-use Rattle.ncp_hosts.specs.Hosts.{TextOut, Node, quiet, reaction, kept, put, cleared, called, happens_at, echo_called, calls_reset, hears, hears_other, hears_all, takes_text, hears_text, cuts, sends_text, frees, settles, text_answered, text_comes, control_answered, message_comes, World, swap, base, Step, Calls_reset, Calls, Calls_echo, Falls, Sends, Sends_text, Hears, Hears_text, Is_answered, Text_is_answered, steps, Event, at, run_from, run, start}
+use Rattle.ncp_hosts.specs.Hosts.{TextOut, Node, quiet, reaction, kept, cleared, called, happens_at, echo_called, calls_reset, hears, hears_other, hears_all, takes_text, hears_text, cuts, sends_text, frees, settles, text_answered, text_comes, control_answered, message_comes, World, swap, base, Step, Calls_reset, Calls, Calls_echo, Falls, Sends, Sends_text, Hears, Hears_text, Is_answered, Text_is_answered, steps, Event, at, run_from, run, start}
 use Rattle.ncp_model.proofs.LinksLead.{led, command-led, cut-led, answered-led, suits-led, user-receives}
 use Rattle.ncp_hosts.proofs.EndsGood.{Good, none-good, Fresh, good-after, put-changes, act-changes, none-fresh, called-suits, called-fresh, comes-fresh}
 

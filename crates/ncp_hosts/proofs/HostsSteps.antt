@@ -9,9 +9,9 @@ use Rattle.ncp_model.specs.declared.pair.Pair.{Pair}
 use Rattle.ncp_model.specs.declared.call_fault.CallFault.{CallFault}
 use Rattle.ncp_model.specs.Pairs.{pair_cmp, turned}
 use Rattle.ncp_model.specs.End.{End}
-use Rattle.ncp_model.specs.Act.{answer, made_by_hearing, made_if_any}
+use Rattle.ncp_model.specs.Act.{answer, made_by_hearing, made_if_any, made_by_call}
 use Rattle.ncp_model.specs.Texts.{made_by_text, Taken}
-use Rattle.ncp_model.specs.Ends.{Ends, no_ends, uses_link, hears_link, hear, leads_to, text_in, cut_in, answered_in, sender_on, receiver_on, pair_of, map_after_at}
+use Rattle.ncp_model.specs.Ends.{Ends, no_ends, uses_link, hears_link, hear, leads_to, text_in, cut_in, answered_in, sender_on, receiver_on, pair_of, map_after_at, put}
 use Rattle.ncp_model.specs.Happenings.{Happening, happens, of_hearing, of_text, is_violation}
 use Rattle.ncp_model.specs.Happenings as all
 use Rattle.ncp_model.specs.Leading.{passes, comes}
@@ -22,7 +22,7 @@ use Rattle.ncp_resets.specs.Delivery.{Slot, Empty, Ready, Travelling, Held, Subn
 use Rattle.ncp_model.specs.Echo.{Echoes, echo_answer, echo_asked}
 use Rattle.ncp_resets.specs.Resets.{Host, is_up, host_falls, host_makes_all, host_hears}
 use Rattle.ncp_connections.specs.Connections.{Text}
-use Rattle.ncp_hosts.specs.Hosts.{TextOut, Node, set_link, is_empty, kept, kept_echoes, put, pasts_after, pasts_after_at, Call, called, happens_at, calls, made_by_echo, echo_called, calls_echo, is_full_up, echo_replies, echoes_after, reaction, hears, hears_all, takes_text, hears_text, goes_out, cuts, sends_text, frees, text_answered}
+use Rattle.ncp_hosts.specs.Hosts.{TextOut, Node, set_link, is_empty, kept, kept_echoes, pasts_after, pasts_after_at, Call, called, happens_at, calls, echo_called, calls_echo, is_full_up, echo_replies, echoes_after, reaction, hears, hears_all, takes_text, hears_text, goes_out, cuts, sends_text, frees, text_answered}
 use Rattle.ncp_model.proofs.ResetLists.{rrps}
 use Rattle.ncp_resets.proofs.ResetKept.{falling, came_up, dropped}
 use Rattle.ncp_hosts.proofs.HostsStand.{nothing_out}
@@ -62,10 +62,10 @@ calls-keeps own own' n m x y pair call k =
     after = record n { ends = put n.ends pair did.after; pasts = pasts_after pair what n.ends n.pasts; wrong = n.wrong || is_violation did.outcome }
 
 -- an echo is asked for, or the call is refused
-echo-made : (byte : ℕ) (full : Bool) (s : Echoes) (P : List Command → Type 0) → P [] → P (Eco byte ∷ []) → P (made_by_echo (echo_answer byte full s))
+echo-made : (byte : ℕ) (full : Bool) (s : Echoes) (P : List Command → Type 0) → P [] → P (Eco byte ∷ []) → P (made_by_call (echo_answer byte full s))
 echo-made byte full s P p q = go s.awaited full
   where
-    go : (a f : Bool) → P (made_by_echo (if a then Err CallFault.Busy else if f then Err CallFault.QueueFull else Ok (Eco byte)))
+    go : (a f : Bool) → P (made_by_call (if a then Err CallFault.Busy else if f then Err CallFault.QueueFull else Ok (Eco byte)))
     go true f = p
     go false true = p
     go false false = q

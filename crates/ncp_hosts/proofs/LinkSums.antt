@@ -5,12 +5,12 @@ use Rattle.std.proofs.lemmas.Bool.{both_ways, eqb-true, eq-eqb}
 use Rattle.ncp_control.specs.declared.command.Command.{Command}
 use Rattle.ncp_control.specs.declared.command.Command.TheVariants.{Rts, Str, Cls, All, Gvb, Ret, Inr, Ins}
 use Rattle.ncp_model.specs.declared.pair.Pair.{Pair}
-use Rattle.ncp_model.specs.Pairs.{sends, is_proper, turned}
+use Rattle.ncp_model.specs.Pairs.{sends, is_proper, turned, same}
 use Rattle.ncp_model.specs.End.{End, or_new}
 use Rattle.ncp_connections.specs.Connections.{Connection}
 use Rattle.ncp_connections.specs.Ledger.{sum_of, BothOpen}
 use Rattle.ncp_hosts.specs.Headline.{names_link, sum_on}
-use Rattle.ncp_sharing.specs.Sharing.{Tagged, Shared, same, only, at, hears_at, uses_at}
+use Rattle.ncp_sharing.specs.Sharing.{Tagged, Shared, only, at, hears_at, uses_at}
 use Rattle.ncp_connections.proofs.Lines.{Kind, Request, Close, Data, Alien, Comes, Passes, comes_asked, comes_closed, same_number}
 use Rattle.ncp_connections.proofs.Joint.{to_sender_kind, to_receiver_kind, kinds, sender_marks, receiver_marks, Place, Together, Sender_ahead, Receiver_ahead, Joint, live_got}
 use Rattle.ncp_connections.proofs.Senders.{going_parts}

@@ -9,7 +9,7 @@ use Rattle.ncp_model.specs.Pairs.{pair_cmp}
 use Rattle.ncp_model.specs.End.{End, is_live}
 use Rattle.ncp_model.specs.Act.{Act, answer, end_after}
 use Rattle.ncp_model.specs.Texts.{hear_text, Taken, Again, Kept}
-use Rattle.ncp_model.specs.Ends.{Ends, has_asked, uses_link, sender_on, receiver_on, pair_of, leads_to, hear, text_in, cut_in, answered_in, map_after, map_after_at, no_ends}
+use Rattle.ncp_model.specs.Ends.{Ends, has_asked, uses_link, sender_on, receiver_on, pair_of, leads_to, hear, text_in, cut_in, answered_in, map_after, map_after_at, no_ends, put}
 use Rattle.ncp_model.specs.Happenings.{Happening, Happened, happens}
 use Rattle.ncp_model.specs.Happenings as all
 use Rattle.ncp_model.specs.Leading.{passes, comes}
@@ -17,7 +17,7 @@ use Rattle.ncp_model.specs.Phase.{is_resetting}
 use Rattle.ncp_model.specs.Sending.{is_full}
 use Rattle.ncp_resets.specs.Delivery.{Slot, Empty, Ready, Travelling, Held, Subnet, Free, Accepted, Delivered, Lost, Dead}
 use Rattle.ncp_resets.specs.Resets.{Host, is_up, host_resets, host_makes_all, Side, This, That}
-use Rattle.ncp_hosts.specs.Hosts.{TextOut, Node, quiet, kept, put, cleared, Call, Ask_to_send, Ask_to_receive, Close, Give, Take, Allocate, Call_back, Interrupt, called, happens_at, echo_called, calls_reset, hears, hears_other, hears_all, takes_text, hears_text, cuts, sends_text, frees, text_answered, text_comes, control_answered, message_comes, World, swap, Step, Calls_reset, Calls, Calls_echo, Falls, Sends_text, Hears, Hears_text, Is_answered, Text_is_answered, steps, at}
+use Rattle.ncp_hosts.specs.Hosts.{TextOut, Node, quiet, kept, cleared, Call, Ask_to_send, Ask_to_receive, Close, Give, Take, Allocate, Call_back, Interrupt, called, happens_at, echo_called, calls_reset, hears, hears_other, hears_all, takes_text, hears_text, cuts, sends_text, frees, text_answered, text_comes, control_answered, message_comes, World, swap, Step, Calls_reset, Calls, Calls_echo, Falls, Sends_text, Hears, Hears_text, Is_answered, Text_is_answered, steps, at}
 use Rattle.ncp_model.proofs.LinksLead.{led, command-led, cut-led, answered-led}
 use Rattle.ncp_hosts.proofs.EndsGood.{Changes, same_or, put-changes, act-changes}
 

@@ -3,9 +3,9 @@ use Rattle.std.proofs.Common.{◌≡◌, ℕ, Bool, true, false, if◌then◌els
 use Rattle.ncp_control.specs.declared.command.Command.{Command}
 use Rattle.ncp_control.specs.declared.command.Command.TheVariants.{Rst, Rrp}
 use Rattle.ncp_model.specs.declared.pair.Pair.{Pair}
-use Rattle.ncp_model.specs.Act.{answer, made_if_any}
+use Rattle.ncp_model.specs.Act.{answer, made_if_any, made_by_call}
 use Rattle.ncp_model.specs.Texts.{made_by_text, Taken}
-use Rattle.ncp_model.specs.Ends.{text_in, receiver_on, sender_on, pair_of, answered_in}
+use Rattle.ncp_model.specs.Ends.{text_in, receiver_on, sender_on, pair_of, answered_in, put}
 use Rattle.ncp_model.specs.Ends.{Ends, hear, leads_to, map_after_at}
 use Rattle.ncp_model.specs.Echo.{Echoes, echo_answer, echo_asked}
 use Rattle.ncp_model.specs.Phase.{Phase, Reaction, up, is_other, has_place, makes, makes_all, is_resetting, resets}
@@ -43,7 +43,7 @@ choose true n m p e = e
 choose false n m p e = refl
 
 called_up : (pair : Pair) (call : Call) (n : Node) → peer_of (hosts.happens_at pair (peers.called call (is_full n.host.phase) n.ends) n) ≡ peers.calls_up pair call (peer_of n)
-called_up pair call n = ap (λ (q : Phase). standing q (peers.put n.ends pair (peers.happened_at pair call (peer_of n)).after) n.echoes) (all_made (peers.happened_at pair call (peer_of n)).made n.host)
+called_up pair call n = ap (λ (q : Phase). standing q (put n.ends pair (peers.happened_at pair call (peer_of n)).after) n.echoes) (all_made (peers.happened_at pair call (peer_of n)).made n.host)
 
 pub calls_agree : CallsAgree
 calls_agree pair call n = choose (up n.host.phase) _ n _ (called_up pair call n)
@@ -53,7 +53,7 @@ made_agrees : (cs : List Command) (h : Host) (m : Ends) (e : Echoes) → ◌≡�
 made_agrees cs h m e = ap (λ (q : Phase). standing q m e) (all_made cs h)
 
 pub echoes_agree : EchoesAgree
-echoes_agree byte n = choose (up n.host.phase) _ n _ (made_agrees (peers.made_by_echo (echo_answer byte (is_full n.host.phase) n.echoes)) n.host n.ends (echo_asked (is_full n.host.phase) n.echoes))
+echoes_agree byte n = choose (up n.host.phase) _ n _ (made_agrees (made_by_call (echo_answer byte (is_full n.host.phase) n.echoes)) n.host n.ends (echo_asked (is_full n.host.phase) n.echoes))
 
 pub falls_agree : FallsAgree
 falls_agree n = refl

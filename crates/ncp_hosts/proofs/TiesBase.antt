@@ -6,11 +6,11 @@ use Rattle.std.proofs.lemmas.List.{append-nil, append_assoc}
 use Rattle.std.specs.FinMap.{get}
 use Rattle.ncp_control.specs.declared.command.Command.{Command}
 use Rattle.ncp_model.specs.declared.pair.Pair.{Pair}
-use Rattle.ncp_model.specs.Pairs.{sends, is_proper, turned}
+use Rattle.ncp_model.specs.Pairs.{sends, is_proper, turned, same}
 use Rattle.ncp_model.specs.Happenings.{Happening, happens, is_violation}
 use Rattle.ncp_watch.specs.Histories.{Watched, watches}
 use Rattle.ncp_connections.specs.Connections.{Text}
-use Rattle.ncp_sharing.specs.Sharing.{Shared, at, same, set_at, tag, Tagged, Other_to_senders, Other_to_receivers, shared_occurs}
+use Rattle.ncp_sharing.specs.Sharing.{Shared, at, set_at, tag, Tagged, Other_to_senders, Other_to_receivers, shared_occurs}
 use Rattle.ncp_hosts.specs.Hosts.{Node}
 use Rattle.ncp_connections.proofs.Outliving.{fit_safe}
 use Rattle.ncp_sharing.proofs.Linking.{LinkFits}

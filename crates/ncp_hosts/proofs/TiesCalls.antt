@@ -14,7 +14,7 @@ use Rattle.ncp_model.specs.Pairs.{pair_cmp, sends, receives, turned}
 use Rattle.ncp_model.specs.End.{End, or_new, is_live}
 use Rattle.ncp_model.specs.Act.{Act, Stays, is_data_link, made_by_call}
 use Rattle.ncp_model.specs.Calls.{ask_receive}
-use Rattle.ncp_model.specs.Ends.{Ends, count, has_asked, uses_link, free_link}
+use Rattle.ncp_model.specs.Ends.{Ends, count, has_asked, uses_link, free_link, put}
 use Rattle.ncp_model.specs.Happenings.{Happening, Outcome, Happened, happens, happened, of_call, of_take, is_violation}
 use Rattle.ncp_model.specs.Happenings as all
 use Rattle.ncp_model.specs.Leading.{passes}
@@ -23,7 +23,7 @@ use Rattle.ncp_resets.specs.Delivery.{Link}
 use Rattle.ncp_connections.specs.Connections.{Text, text_after, is_call, Sender_calls, Receiver_calls}
 use Rattle.ncp_sharing.specs.Sharing.{Tagged, Shared, set_at, uses_at, Shared_event, On, shared_occurs, MayHappen}
 use Rattle.ncp_sharing.specs.Finding.{link_out}
-use Rattle.ncp_hosts.specs.Hosts.{TextOut, Node, or_no_past, past_after, pasts_after, Call, Ask_to_send, Ask_to_receive, Close, Give, Take, Allocate, Call_back, Interrupt, called, put}
+use Rattle.ncp_hosts.specs.Hosts.{TextOut, Node, or_no_past, past_after, pasts_after, Call, Ask_to_send, Ask_to_receive, Close, Give, Take, Allocate, Call_back, Interrupt, called}
 use Rattle.ncp_model.proofs.PairOrder.{pairs_exact, pairs_total}
 use Rattle.ncp_model.proofs.FreeLinks.{free-from, free-free, free-room}
 use Rattle.ncp_model.proofs.LinksLead.{itself}

@@ -7,7 +7,7 @@ use Rattle.std.proofs.lemmas.List.{append-nil}
 use Rattle.std.proofs.lemmas.Map.Views.{tells_apart}
 use Rattle.ncp_control.specs.declared.command.Command.{Command}
 use Rattle.ncp_model.specs.declared.pair.Pair.{Pair}
-use Rattle.ncp_model.specs.Pairs.{pair_cmp, sends, receives, turned}
+use Rattle.ncp_model.specs.Pairs.{pair_cmp, sends, receives, turned, same}
 use Rattle.ncp_model.specs.End.{End, or_new}
 use Rattle.ncp_model.specs.Act.{answer, is_data_link, made_if_any}
 use Rattle.ncp_model.specs.Texts.{hear_text, made_by_text, Taken}
@@ -19,7 +19,7 @@ use Rattle.ncp_watch.specs.Limits.{InLimitsAt}
 use Rattle.ncp_watch.specs.Histories.{Past, Watched, no_past, adds, opens}
 use Rattle.ncp_resets.specs.Delivery.{Slot, Empty, Ready, Travelling, Held, Subnet, Free, Accepted, Delivered, Lost, Dead, Link, idle}
 use Rattle.ncp_connections.specs.Connections.{Text, No_text, Away, Here, text_after, Text_goes_out, Text_comes, Text_is_answered}
-use Rattle.ncp_sharing.specs.Sharing.{Tagged, Shared, set_at, same, On, shared_occurs, hears_at, uses_at}
+use Rattle.ncp_sharing.specs.Sharing.{Tagged, Shared, set_at, On, shared_occurs, hears_at, uses_at}
 use Rattle.ncp_sharing.specs.Finding.{link_out, Only, SenderHoldsLink, ReceiverHoldsLink}
 use Rattle.ncp_hosts.specs.Hosts.{TextOut, Node, past_of, or_no_past, pasts_after, pasts_after_at, set_link}
 use Rattle.ncp_model.proofs.PairOrder.{pairs_exact, pairs_total}

@@ -1,5 +1,5 @@
 -- The ends after an act.
-use Rattle.std.proofs.Common.{◌≡◌, Bool, true, false, cond, if◌then◌else◌, Option, None, Some, refl, ap, ◌∙◌}
+use Rattle.std.proofs.Common.{◌≡◌, Bool, true, false, cond, if◌then◌else◌, Option, None, Some, refl, sym, ap, ◌∙◌}
 use Rattle.std.specs.FinMap.{get, insert, remove, get-insert, get-remove}
 use Rattle.std.specs.Ordering.{eq_by_cmp}
 use Rattle.std.proofs.lemmas.Cmp.{eq_by_cmp_equiv}
@@ -8,7 +8,7 @@ use Rattle.ncp_model.specs.declared.pair.Pair.{Pair}
 use Rattle.ncp_model.specs.Pairs.{pair_cmp}
 use Rattle.ncp_model.specs.End.{End, is_over}
 use Rattle.ncp_model.specs.Act.{Act, Stays, Becomes, end_after}
-use Rattle.ncp_model.specs.Ends.{Ends, map_after}
+use Rattle.ncp_model.specs.Ends.{Ends, put, map_after}
 use Rattle.ncp_model.proofs.PairOrder.{pairs_exact, pairs_total}
 
 same : (p : Pair) → eq_by_cmp pair_cmp p p ≡ true
@@ -42,3 +42,17 @@ after-elsewhere m p q (Becomes e a) n =
     both (is_over e) (remove m p) (insert m p e) q (get m q)
     (get-remove pairs_total m p q ∙ ap (λ b. cond b None (get m q)) (apart q p n))
     (get-insert pairs_total m p e q ∙ ap (λ b. cond b (Some e) (get m q)) (apart q p n))
+
+still : (m : Ends) (p q : Pair) (o : Option End) → get m p ≡ o → (b : Bool) → eq_by_cmp pair_cmp q p ≡ b → get m q ≡ get (put m p o) q
+still m p q None e true h = ap (get m) (tells_apart pairs_exact q p h) ∙ e ∙ sym (get-remove pairs_total m p q ∙ ap (λ b. cond b None (get m q)) h)
+still m p q None e false h = sym (get-remove pairs_total m p q ∙ ap (λ b. cond b None (get m q)) h)
+still m p q (Some x) e true h = ap (get m) (tells_apart pairs_exact q p h) ∙ e ∙ sym (get-insert pairs_total m p x q ∙ ap (λ b. cond b (Some x) (get m q)) h)
+still m p q (Some x) e false h = sym (get-insert pairs_total m p x q ∙ ap (λ b. cond b (Some x) (get m q)) h)
+
+through-put : (b : Bool) (m : Ends) (p q : Pair) (e : End) → get (if b then remove m p else insert m p e) q ≡ get (put m p (if b then None else Some e)) q
+through-put true m p q e = refl
+through-put false m p q e = refl
+
+pub after-put : {A : Type 0} → (m : Ends) (p q : Pair) (act : Act A) → get (map_after m p act) q ≡ get (put m p (end_after (get m p) act)) q
+after-put m p q (Stays a) = still m p q (get m p) refl (eq_by_cmp pair_cmp q p) refl
+after-put m p q (Becomes e a) = through-put (is_over e) m p q e

@@ -5,6 +5,7 @@ use Rattle.ncp_control.specs.declared.command.Command.{Command}
 use Rattle.ncp_control.specs.declared.command.Command.TheVariants.{Cls}
 use Rattle.ncp_control.specs.declared.command.Command.TheVariants as variants
 pub use Rattle.ncp_control.specs.Spelling.{error_of}
+use Rattle.ncp_control.specs.declared.fault.TheConstants.{ERRONEOUS_PARAMETERS, NONEXISTENT_SOCKET, SOCKET_NOT_CONNECTED}
 use Rattle.ncp_model.specs.declared.pair.Pair.{Pair}
 use Rattle.ncp_model.specs.declared.call_fault.CallFault.{CallFault}
 use Rattle.ncp_model.specs.declared.outcomes.Heard.{Heard}
@@ -80,13 +81,13 @@ is_data_link on = nat_le FIRST_LINK on && nat_le on LAST_LINK
 
 -- erroneous parameters; a request on a socket that is not there; a link that is not connected
 abbrev pub wrong_parameters : ℕ
-wrong_parameters = 3
+wrong_parameters = ERRONEOUS_PARAMETERS
 
 abbrev pub no_socket : ℕ
-no_socket = 4
+no_socket = NONEXISTENT_SOCKET
 
 abbrev pub not_connected : ℕ
-not_connected = 5
+not_connected = SOCKET_NOT_CONNECTED
 
 -- for a text: the 72 bits of leader and prefix, and the first 8 bits of text, zeros for what is not there
 abbrev pub text_error : List Bool → List Bool → Command

@@ -16,6 +16,50 @@ use Rattle.ncp_model.specs.Act.{Act, Stays, Becomes, met, leaves, closing, is_ro
 
 -- own: how many ends have an own request; full: the commands that wait leave no place for a call's
 
+-- Whether an own request may be made: the reasons to refuse it, in order. Each test is given what
+-- stands for a refusal, and what stands where there is none.
+
+-- the end was asked for, or is on its way out
+abbrev pub if_end_may_ask : {A : Type 0} → End → (CallFault → A) → A → A
+if_end_may_ask e refused accepted =
+    if e.asked && not (is_going e) then refused AlreadyAsked
+    else if is_going e then refused Closing
+    else accepted
+
+-- or there is no place for another request, or for its command
+abbrev pub if_may_ask : {A : Type 0} → ℕ → Bool → Option End → (CallFault → A) → A → A
+if_may_ask own full before refused accepted =
+    if_end_may_ask (or_new before) refused
+    (if nat_le MAX_OWN own then refused TableFull
+    else if full then refused QueueFull
+    else accepted)
+
+abbrev pub if_may_ask_send : {A : Type 0} → Pair → ℕ → ℕ → ℕ → Bool → Option End → (CallFault → A) → A → A
+if_may_ask_send pair of_size with_room own full before refused accepted =
+    if not (sends pair) then refused BadSex
+    else if of_size == 0 then refused BadSize
+    else if not (is_room with_room) then refused BadRoom
+    else if_may_ask own full before refused accepted
+
+abbrev pub if_may_ask_receive : {A : Type 0} → Pair → ℕ → ℕ → Bool → Option End → (CallFault → A) → A → A
+if_may_ask_receive pair with_room own full before refused accepted =
+    if not (receives pair) then refused BadSex
+    else if not (is_room with_room) then refused BadRoom
+    else if_may_ask own full before refused accepted
+
+-- the same as answers
+abbrev pub end_to_ask : End → Result (Unit {0}) CallFault
+end_to_ask e = if_end_may_ask e Err (Ok tt)
+
+abbrev pub may_ask : ℕ → Bool → Option End → Result (Unit {0}) CallFault
+may_ask own full before = if_may_ask own full before Err (Ok tt)
+
+abbrev pub may_ask_send : Pair → ℕ → ℕ → ℕ → Bool → Option End → Result (Unit {0}) CallFault
+may_ask_send pair of_size with_room own full before = if_may_ask_send pair of_size with_room own full before Err (Ok tt)
+
+abbrev pub may_ask_receive : Pair → ℕ → ℕ → Bool → Option End → Result (Unit {0}) CallFault
+may_ask_receive pair with_room own full before = if_may_ask_receive pair with_room own full before Err (Ok tt)
+
 -- The request to send: STR with the sender's byte size (NIC 8246, STR).
 
 abbrev pub asked_to_send : ℕ → ℕ → End → End
@@ -23,14 +67,8 @@ asked_to_send of_size with_room e = met (record e { asked = true; size = of_size
 
 abbrev pub ask_send : Pair → ℕ → ℕ → ℕ → Bool → Option End → Act (Result Command CallFault)
 ask_send pair of_size with_room own full before =
-    if not (sends pair) then Stays (Err BadSex)
-    else if of_size == 0 then Stays (Err BadSize)
-    else if not (is_room with_room) then Stays (Err BadRoom)
-    else if (or_new before).asked && not (is_going (or_new before)) then Stays (Err AlreadyAsked)
-    else if is_going (or_new before) then Stays (Err Closing)
-    else if nat_le MAX_OWN own then Stays (Err TableFull)
-    else if full then Stays (Err QueueFull)
-    else Becomes (asked_to_send of_size with_room (or_new before)) (Ok (Str pair.local pair.remote of_size))
+    if_may_ask_send pair of_size with_room own full before (λ fault. Stays (Err fault))
+    (Becomes (asked_to_send of_size with_room (or_new before)) (Ok (Str pair.local pair.remote of_size)))
 
 -- The request to receive: RTS with the link that the receiver chooses (NIC 8246, RTS).
 
@@ -40,13 +78,8 @@ asked_to_receive on with_room e = met (record e { asked = true; link = on; room 
 -- on: the lowest link that no receiving end uses
 abbrev pub ask_receive : Pair → ℕ → ℕ → ℕ → Bool → Option End → Act (Result Command CallFault)
 ask_receive pair with_room on own full before =
-    if not (receives pair) then Stays (Err BadSex)
-    else if not (is_room with_room) then Stays (Err BadRoom)
-    else if (or_new before).asked && not (is_going (or_new before)) then Stays (Err AlreadyAsked)
-    else if is_going (or_new before) then Stays (Err Closing)
-    else if nat_le MAX_OWN own then Stays (Err TableFull)
-    else if full then Stays (Err QueueFull)
-    else Becomes (asked_to_receive on with_room (or_new before)) (Ok (Rts pair.local pair.remote on))
+    if_may_ask_receive pair with_room own full before (λ fault. Stays (Err fault))
+    (Becomes (asked_to_receive on with_room (or_new before)) (Ok (Rts pair.local pair.remote on)))
 
 -- Closing (NIC 8246, CLS). With a text out the sender's CLS is only due: this profile's rule.
 
@@ -63,13 +96,17 @@ close pair full (Some e) = close_end pair full e
 
 -- Text to send joins what waits. It is a whole number of bytes: this profile's rule.
 
+-- the store has room for it behind what waits
+abbrev pub fits : List Bool → End → Bool
+fits text e = nat_le (length e.stored + length text) e.room
+
 abbrev pub give_end : Pair → List Bool → End → Act (Result (Unit {0}) CallFault)
 give_end pair text e =
     if is_going e then Stays (Err Closing)
     else if not (e.asked && e.heard) then Stays (Err NotOpen)
     else if not (sends pair) then Stays (Err WrongEnd)
     else if not (length text % e.size == 0) then Stays (Err NotWhole)
-    else if nat_lt e.room (length e.stored + length text) then Stays (Err NoRoom)
+    else if not (fits text e) then Stays (Err NoRoom)
     else Becomes (record e { stored = e.stored ++ text }) (Ok tt)
 
 abbrev pub give : Pair → List Bool → Option End → Act (Result (Unit {0}) CallFault)

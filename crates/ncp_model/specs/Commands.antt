@@ -21,19 +21,30 @@ errs code command = Stays (Reply (error_of code command))
 -- and STR; the conditions are this profile's).
 
 -- taken: another sending end heard that link
+abbrev pub wrong_rts : Pair → ℕ → Bool → Option End → Bool
+wrong_rts pair on taken before = not (sends pair) || not (is_data_link on) || (or_new before).heard || taken
+
+abbrev pub wrong_str : Pair → ℕ → Option End → Bool
+wrong_str pair of_size before = not (receives pair) || of_size == 0 || (or_new before).heard
+
+-- the end with the receiver's link, or with the sender's size
+abbrev pub heard_link : ℕ → End → End
+heard_link on e = met (record e { heard = true; link = on })
+
+abbrev pub heard_size : ℕ → End → End
+heard_size of_size e = met (record e { heard = true; size = of_size })
+
 abbrev pub hear_rts : Pair → ℕ → Bool → ℕ → Option End → Act Heard
 hear_rts pair on taken by_peer before =
-    let command = Rts pair.remote pair.local on in
-    if not (sends pair) || not (is_data_link on) || (or_new before).heard || taken then errs wrong_parameters command
+    if wrong_rts pair on taken before then errs wrong_parameters (Rts pair.remote pair.local on)
     else if is_none before && nat_le MAX_BY_PEER by_peer then Stays Full
-    else Becomes (met (record (or_new before) { heard = true; link = on })) Nothing
+    else Becomes (heard_link on (or_new before)) Nothing
 
 abbrev pub hear_str : Pair → ℕ → ℕ → Option End → Act Heard
 hear_str pair of_size by_peer before =
-    let command = Str pair.remote pair.local of_size in
-    if not (receives pair) || of_size == 0 || (or_new before).heard then errs wrong_parameters command
+    if wrong_str pair of_size before then errs wrong_parameters (Str pair.remote pair.local of_size)
     else if is_none before && nat_le MAX_BY_PEER by_peer then Stays Full
-    else Becomes (met (record (or_new before) { heard = true; size = of_size })) Nothing
+    else Becomes (heard_size of_size (or_new before)) Nothing
 
 -- The peer's CLS is matched by one of this end (NIC 8246, CLS). It is only due while a text of
 -- this end is out, or while bits are held: this profile's rule.

@@ -10,12 +10,12 @@ use Rattle.ncp_model.specs.declared.call_fault.CallFault.{CallFault}
 use Rattle.ncp_model.specs.declared.outcomes.Heard.{Heard}
 use Rattle.ncp_model.specs.declared.outcomes.Heard.TheVariants.{Nothing}
 use Rattle.ncp_model.specs.declared.outcomes.Took.{Took}
-use Rattle.ncp_model.specs.declared.limits.TheConstants.{FIRST_LINK}
+use Rattle.ncp_model.specs.declared.limits.TheConstants.{FIRST_LINK, DATA_LINKS}
 use Rattle.ncp_model.specs.Pairs.{pair_cmp, sends, receives}
 use Rattle.ncp_model.specs.End.{End, is_over}
 use Rattle.ncp_model.specs.Act.{Act, Stays, Becomes}
-use Rattle.ncp_model.specs.Calls.{ask_send, ask_receive}
-use Rattle.ncp_model.specs.Commands.{hear_rts, hear_str, hear_cls, hear_all, hear_gvb, hear_ret, hear_inr, hear_ins}
+use Rattle.ncp_model.specs.Calls.{may_ask, ask_send, ask_receive}
+use Rattle.ncp_model.specs.Commands.{wrong_rts, wrong_str, hear_rts, hear_str, hear_cls, hear_all, hear_gvb, hear_ret, hear_inr, hear_ins}
 use Rattle.ncp_model.specs.Texts.{hear_text, cut, Answered, answered}
 
 abbrev pub Ends : Type 0
@@ -53,7 +53,7 @@ lowest test (suc many) from = if test from then from else lowest test many (suc 
 -- the lowest link from 2 up that no receiving end uses: of 70 links 64 can be in use. That it is the
 -- lowest is this profile's rule
 abbrev pub free_link : Ends → ℕ
-free_link m = lowest (λ on. not (any (uses_link on) m)) 70 FIRST_LINK
+free_link m = lowest (λ on. not (any (uses_link on) m)) DATA_LINKS FIRST_LINK
 
 -- the first that passes a test
 abbrev pub first_by : (Pair × End → Bool) → List (Pair × End) → Option (Pair × End)
@@ -120,14 +120,29 @@ answered_at how (Some p) = answered p.0 how (Some p.1)
 abbrev pub answered_in : ℕ → Answered → Ends → Act (Option Command)
 answered_in on how m = answered_at how (sender_on on m)
 
+-- whether an own request may be made
+abbrev pub may_ask_in : Pair → Bool → Ends → Result (Unit {0}) CallFault
+may_ask_in pair full m = may_ask (count has_asked m) full (get m pair)
+
+-- The peer's requests, by what they ask of the other ends: whether one heard the link, and how many
+-- have the peer's request alone (this profile's rules).
+
+abbrev pub wrong_rts_in : Pair → ℕ → Ends → Bool
+wrong_rts_in pair on m = wrong_rts pair on (any (hears_link on) m) (get m pair)
+
+abbrev pub wrong_str_in : Pair → ℕ → Ends → Bool
+wrong_str_in pair of_size m = wrong_str pair of_size (get m pair)
+
+abbrev pub hear_rts_in : Pair → ℕ → Ends → Act Heard
+hear_rts_in pair on m = hear_rts pair on (any (hears_link on) m) (count is_by_peer m) (get m pair)
+
+abbrev pub hear_str_in : Pair → ℕ → Ends → Act Heard
+hear_str_in pair of_size m = hear_str pair of_size (count is_by_peer m) (get m pair)
+
 -- what a command of a connection does at the end to which it leads; all others do nothing there
 abbrev pub hear : Command → Ends → Act Heard
-hear (Rts receive send on) m =
-    let pair : Pair = record { local = send; remote = receive } in
-    hear_rts pair on (any (hears_link on) m) (count is_by_peer m) (get m pair)
-hear (Str send receive of_size) m =
-    let pair : Pair = record { local = receive; remote = send } in
-    hear_str pair of_size (count is_by_peer m) (get m pair)
+hear (Rts receive send on) m = hear_rts_in (record { local = send; remote = receive }) on m
+hear (Str send receive of_size) m = hear_str_in (record { local = receive; remote = send }) of_size m
 hear (Cls my your) m =
     let pair : Pair = record { local = your; remote = my } in
     hear_cls pair (get m pair)
@@ -138,10 +153,19 @@ hear (Inr on) m = hear_inr on (end_of (sender_on on m))
 hear (Ins on) m = hear_ins on (end_of (receiver_on on m))
 hear c m = Stays Nothing
 
+-- another end at a pair, or none
+abbrev pub put : Ends → Pair → Option End → Ends
+put m pair None = remove m pair
+put m pair (Some e) = insert m pair e
+
+-- another end at a pair: one that is over is there no more
+abbrev pub map_with : Ends → Pair → End → Ends
+map_with m pair e = if is_over e then remove m pair else insert m pair e
+
 -- the ends after an act at a pair
 abbrev pub map_after : {A : Type 0} → Ends → Pair → Act A → Ends
 map_after m pair (Stays a) = m
-map_after m pair (Becomes e a) = if is_over e then remove m pair else insert m pair e
+map_after m pair (Becomes e a) = map_with m pair e
 
 -- after an act where a look-up led, if it led anywhere
 abbrev pub map_after_at : {A : Type 0} → Ends → Option Pair → Act A → Ends

@@ -1,6 +1,6 @@
 -- Everything that can happen to one end of a connection, as one list. That it comes to the right end
 -- is presumed: Leading says which one that is.
-use Rattle.std.specs.Prelude.{ℕ, Bool, List, [], ◌∷◌, Option, None, Some, Result, Ok, Err, true, false}
+use Rattle.std.specs.Prelude.{ℕ, Bool, true, false, List, [], ◌∷◌, Option, None, Some, Result, Ok, Err}
 use Rattle.ncp_control.specs.declared.command.Command.{Command}
 use Rattle.ncp_model.specs.declared.pair.Pair.{Pair}
 use Rattle.ncp_model.specs.declared.call_fault.CallFault.{CallFault}
@@ -89,6 +89,15 @@ abbrev pub of_cut : Option (ℕ × List Bool) → Outcome
 of_cut None = Accepted
 of_cut (Some text) = Sent text.0 text.1
 
+-- what came was against the protocol: an ERR is made, or a text is refused, as its size is wrong, it is
+-- beyond the allocation, or no end there is open. A text that is late is not refused
+abbrev pub is_violation : Outcome → Bool
+is_violation (Erred error) = true
+is_violation WrongSize = true
+is_violation Over = true
+is_violation NotOpen = true
+is_violation outcome = false
+
 -- the end, the commands and the outcome of an act
 abbrev pub happened : {A : Type 0} → Option End → Act A → (A → List Command) → (A → Outcome) → Happened
 happened before act made_by of = record { after = end_after before act; made = made_by (answer act); outcome = of (answer act) }
@@ -119,12 +128,3 @@ happens pair Is_cleared before = record { after = cleared before; made = []; out
 abbrev pub end_from : Pair → List Happening → Option End → Option End
 end_from pair [] before = before
 end_from pair (what ∷ more) before = end_from pair more (happens pair what before).after
-
--- against the protocol: an ERR is made, or a text is refused, since its size is wrong, it is beyond the
--- allocation, or no end there is open; a text that is late is not refused
-abbrev pub is_violation : Outcome → Bool
-is_violation (Erred error) = true
-is_violation WrongSize = true
-is_violation Over = true
-is_violation NotOpen = true
-is_violation outcome = false

@@ -25,6 +25,10 @@ receives pair = is_receive pair.local && is_send pair.remote
 abbrev pub is_proper : Pair → Bool
 is_proper pair = sends pair || receives pair
 
+-- the same connection, as one host names it
+abbrev pub same : Pair → Pair → Bool
+same a b = a.local == b.local && a.remote == b.remote
+
 -- by the socket here, and then by the socket there
 abbrev pub pair_cmp : Pair → Pair → Ordering
 pair_cmp a b = ordering_then (nat_cmp a.local b.local) (nat_cmp a.remote b.remote)

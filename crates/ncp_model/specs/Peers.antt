@@ -13,9 +13,9 @@ use Rattle.ncp_model.specs.declared.call_fault.CallFault.TheVariants.{NotUp}
 use Rattle.ncp_model.specs.declared.outcomes.Heard.{Heard}
 use Rattle.ncp_model.specs.declared.outcomes.Heard.TheVariants as heard
 use Rattle.ncp_model.specs.End.{End}
-use Rattle.ncp_model.specs.Act.{answer, made_if_any, made_by_hearing}
+use Rattle.ncp_model.specs.Act.{answer, made_if_any, made_by_call, made_by_hearing}
 use Rattle.ncp_model.specs.Texts.{made_by_text, Taken}
-use Rattle.ncp_model.specs.Ends.{Ends, count, has_asked, free_link, sender_on, receiver_on, pair_of, leads_to, hear, text_in, cut_in, answered_in, map_after_at, no_ends}
+use Rattle.ncp_model.specs.Ends.{Ends, count, has_asked, free_link, sender_on, receiver_on, pair_of, leads_to, hear, text_in, cut_in, answered_in, map_after_at, no_ends, put}
 use Rattle.ncp_model.specs.Happenings.{Happening, Outcome, Refused, Took_out, Happened, happens}
 use Rattle.ncp_model.specs.Happenings as all
 use Rattle.ncp_model.specs.Echo.{Echoes, no_echoes, echo_answer, echo_asked, eco_reply, hear_erp, hear_err, purge_echo}
@@ -77,10 +77,6 @@ called (Allocate of_messages of_bits) full m = all.Allocates of_messages of_bits
 called (Call_back of_messages of_bits) full m = all.Calls_back of_messages of_bits full
 called Interrupt full m = all.Interrupts full
 
-abbrev pub put : Ends → Pair → Option End → Ends
-put m pair None = remove m pair
-put m pair (Some e) = insert m pair e
-
 abbrev pub happened_at : Pair → Call → Peer → Happened
 happened_at pair call p = happens pair (called call (is_full p.phase) p.ends) (get p.ends pair)
 
@@ -104,12 +100,8 @@ reply_of_take (Refused fault) = Err fault
 reply_of_take (Took_out text) = Ok text
 reply_of_take outcome = Ok []
 
-abbrev pub made_by_echo : Result Command CallFault → List Command
-made_by_echo (Ok c) = c ∷ []
-made_by_echo (Err fault) = []
-
 abbrev pub echo_called : ℕ → Peer → Peer
-echo_called byte p = makes (made_by_echo (echo_answer byte (is_full p.phase) p.echoes)) (record p { echoes = echo_asked (is_full p.phase) p.echoes })
+echo_called byte p = makes (made_by_call (echo_answer byte (is_full p.phase) p.echoes)) (record p { echoes = echo_asked (is_full p.phase) p.echoes })
 
 abbrev pub calls_echo : ℕ → Peer → Peer
 calls_echo byte p = if up p.phase then echo_called byte p else p

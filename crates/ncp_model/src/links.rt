@@ -3,7 +3,7 @@ ghost use Rattle.std.specs.Prelude.{◌≡◌, ℕ, Bool, true, false, ◌≤◌
 ghost use Rattle.std.specs.FinMap.{get, from_sorted};
 ghost use Rattle.ncp_model.specs.End.{End, new_end};
 ghost use Rattle.ncp_model.specs.Act.{Act, Stays, Becomes, end_after, made_by_call, made_if_any, made_by_hearing};
-ghost use Rattle.ncp_model.specs.Ends.{Ends, count, any, has_asked, is_by_peer, hears_link, uses_link, first_by, free_link, sender_on, receiver_on, pair_of, leads_to, hear, ask_send_in, ask_receive_in, text_in, cut_in, answered_in, map_after};
+ghost use Rattle.ncp_model.specs.Ends.{Ends, count, any, has_asked, is_by_peer, hears_link, uses_link, first_by, free_link, sender_on, receiver_on, pair_of, leads_to, hear, ask_send_in, ask_receive_in, text_in, cut_in, answered_in, put, map_after};
 ghost use Rattle.ncp_model.specs.Texts.{Answered, made_by_text};
 ghost use Rattle.ncp_model.specs.Happenings.{Happening, happens, happened, of_call, of_hearing, of_text, of_cut};
 ghost use Rattle.ncp_model.specs.Happenings as all;
@@ -48,6 +48,7 @@ pub fn ends_are_counted_by_request()
 pub fn acts_change_one_end<A>()
     ensures there { (m : Ends) (pair : Pair) (act : Act A) → get (map_after m pair act) pair ≡ end_after (get m pair) act }
     ensures elsewhere { (m : Ends) (pair other : Pair) (act : Act A) → ((other ≡ pair) → ⊥) → get (map_after m pair act) other ≡ get m other }
+    ensures put { (m : Ends) (pair other : Pair) (act : Act A) → get (map_after m pair act) other ≡ get (put m pair (end_after (get m pair) act)) other }
 {}
 
 /// Which end a command leads to, at a host with a sender and a receiver on one link and a request

@@ -5,8 +5,8 @@ use Rattle.std.proofs.lemmas.Bool.{both_ways, and_parts}
 use Rattle.ncp_control.specs.declared.command.Command.{Command}
 use Rattle.ncp_control.specs.declared.command.Command.TheVariants.{Rts, Str, Cls, All, Gvb, Ret, Inr, Ins}
 use Rattle.ncp_model.specs.declared.pair.Pair.{Pair}
-use Rattle.ncp_model.specs.Pairs.{sends}
-use Rattle.ncp_sharing.specs.Sharing.{Tagged, same, only, tag}
+use Rattle.ncp_model.specs.Pairs.{sends, same}
+use Rattle.ncp_sharing.specs.Sharing.{Tagged, only, tag}
 use Rattle.ncp_connections.proofs.Lines.{Kind, Request, Close, Data, Alien, Comes, Passes, comes_asked, comes_none}
 use Rattle.ncp_connections.proofs.Joint.{to_sender_kind, kinds}
 use Rattle.ncp_connections.proofs.Calm.{no_rts}

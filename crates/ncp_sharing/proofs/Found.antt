@@ -4,12 +4,12 @@ use Rattle.std.proofs.lemmas.Bool.{both_ways}
 use Rattle.ncp_control.specs.declared.command.Command.{Command}
 use Rattle.ncp_control.specs.declared.command.Command.TheVariants.{Rts, Str, Cls, All, Gvb, Ret, Inr, Ins}
 use Rattle.ncp_model.specs.declared.pair.Pair.{Pair}
-use Rattle.ncp_model.specs.Pairs.{sends}
+use Rattle.ncp_model.specs.Pairs.{sends, same}
 use Rattle.ncp_model.specs.End.{End, or_new, is_live}
 use Rattle.ncp_watch.specs.Histories.{opens}
 use Rattle.ncp_connections.specs.Connections.{Text, No_text, Away, Here, Connection}
 use Rattle.ncp_connections.specs.Ledger.{is_out}
-use Rattle.ncp_sharing.specs.Sharing.{Tagged, Shared, same, only, at, hears_at}
+use Rattle.ncp_sharing.specs.Sharing.{Tagged, Shared, only, at, hears_at}
 use Rattle.ncp_sharing.specs.Finding.{link_out, GrantFinds, ReturnFinds, RequestFits, SenderHoldsLink, ReceiverHoldsLink, SenderOpensOn, ReceiverOpensOn, StaysOut}
 use Rattle.ncp_connections.proofs.Lines.{Data, Alien, same_number}
 use Rattle.ncp_connections.proofs.Joint.{to_sender_kind, to_receiver_kind, kinds, sender_marks, receiver_marks, Place, Together, Sender_ahead, Receiver_ahead, Joint, Firm, live_got, Sized}

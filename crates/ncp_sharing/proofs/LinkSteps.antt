@@ -6,7 +6,7 @@ use Rattle.ncp_control.specs.declared.command.Command.TheVariants.{Rts, Str, Cls
 use Rattle.ncp_model.specs.declared.pair.Pair.{Pair}
 use Rattle.ncp_model.specs.declared.call_fault.CallFault.{CallFault}
 use Rattle.ncp_model.specs.declared.limits.TheConstants.{MAX_BY_PEER, MAX_OWN}
-use Rattle.ncp_model.specs.Pairs.{sends, receives, turned}
+use Rattle.ncp_model.specs.Pairs.{sends, receives, turned, same}
 use Rattle.ncp_model.specs.End.{End, new_end, or_new, is_going, is_over}
 use Rattle.ncp_model.specs.Act.{Act, answer, end_after, made_by_call, is_room, is_data_link}
 use Rattle.ncp_model.specs.Calls.{ask_receive, asked_to_receive}
@@ -17,7 +17,7 @@ use Rattle.ncp_model.specs.Happenings as all
 use Rattle.ncp_watch.specs.Histories.{Watched}
 use Rattle.ncp_connections.specs.Connections.{Text, No_text, Away, Here, Connection, sender_does, receiver_does, is_call, command_comes, Event, Sender_calls, Receiver_calls, Comes_to_sender, Comes_to_receiver, Text_goes_out, Text_comes, Text_is_answered, sender_hears, receiver_hears, comes_to_sender, comes_to_receiver, occurs}
 use Rattle.ncp_connections.specs.Clearings.{Hosted, Occurs, changes, is_at_sender, misses, text_over, text_dropped}
-use Rattle.ncp_sharing.specs.Sharing.{Tagged, Shared, new_shared, same, only, at, bringing, put, hears_at, uses_at, Shared_event, On, Next_to_senders, Next_to_receivers, Other_to_senders, Other_to_receivers, Senders_are_cleared, Receivers_are_cleared, All_start_anew, next_to_senders, next_to_receivers, shared_occurs, shared_from, shared, MayHappen, AllMayHappen}
+use Rattle.ncp_sharing.specs.Sharing.{Tagged, Shared, new_shared, only, at, bringing, put, hears_at, uses_at, Shared_event, On, Next_to_senders, Next_to_receivers, Other_to_senders, Other_to_receivers, Senders_are_cleared, Receivers_are_cleared, All_start_anew, next_to_senders, next_to_receivers, shared_occurs, shared_from, shared, MayHappen, AllMayHappen}
 use Rattle.ncp_connections.proofs.Joint.{to_sender_kind, Firm, sender_well}
 use Rattle.ncp_connections.proofs.Senders.{s_unheard, s_close_fits}
 use Rattle.ncp_connections.proofs.Whole.{s_firm, r_firm, turned_receives}

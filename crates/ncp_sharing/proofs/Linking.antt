@@ -4,12 +4,12 @@ use Rattle.std.proofs.lemmas.Bool.{both_ways, eqb-true}
 use Rattle.ncp_control.specs.declared.command.Command.{Command}
 use Rattle.ncp_control.specs.declared.command.Command.TheVariants.{Rts}
 use Rattle.ncp_model.specs.declared.pair.Pair.{Pair}
-use Rattle.ncp_model.specs.Pairs.{sends, turned}
+use Rattle.ncp_model.specs.Pairs.{sends, turned, same}
 use Rattle.ncp_model.specs.End.{End, or_new}
 use Rattle.ncp_model.specs.Ends.{hears_link, uses_link}
 use Rattle.ncp_connections.specs.Connections.{Connection}
 use Rattle.ncp_connections.specs.Clearings.{Hosted}
-use Rattle.ncp_sharing.specs.Sharing.{Tagged, Shared, same, only, tag, at, put, hears_at, uses_at}
+use Rattle.ncp_sharing.specs.Sharing.{Tagged, Shared, only, tag, at, put, hears_at, uses_at}
 use Rattle.ncp_connections.proofs.Lines.{Comes, Passes, comes_asked}
 use Rattle.ncp_connections.proofs.Joint.{to_sender_kind, kinds, Place, Together, Sender_ahead, Receiver_ahead, Joint, live_got}
 use Rattle.ncp_connections.proofs.Senders.{kinds_none}

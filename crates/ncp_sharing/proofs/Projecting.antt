@@ -5,13 +5,13 @@ use Rattle.std.proofs.lemmas.List.{append-nil, take-append-drop}
 use Rattle.ncp_control.specs.declared.command.Command.{Command}
 use Rattle.ncp_model.specs.declared.pair.Pair.{Pair}
 use Rattle.ncp_model.specs.declared.limits.TheConstants.{MAX_BY_PEER}
-use Rattle.ncp_model.specs.Pairs.{sends, turned}
+use Rattle.ncp_model.specs.Pairs.{sends, turned, same}
 use Rattle.ncp_model.specs.Texts.{Answered, Taken, Again, Kept}
 use Rattle.ncp_model.specs.Happenings.{Happening, happens}
 use Rattle.ncp_model.specs.Happenings as all
 use Rattle.ncp_connections.specs.Connections.{Text, No_text, Away, Here, Connection, sender_does, receiver_does, is_call, command_comes, Event, Sender_calls, Receiver_calls, Comes_to_sender, Comes_to_receiver, Text_goes_out, Text_comes, Text_is_answered, sender_hears, receiver_hears, comes_to_sender, comes_to_receiver, text_comes, text_is_answered, occurs}
 use Rattle.ncp_connections.specs.Clearings.{Hosted, Occurs, changes, is_at_sender, misses, text_over, text_dropped}
-use Rattle.ncp_sharing.specs.Sharing.{Tagged, Shared, new_shared, same, only, tag, at, bringing, put, Shared_event, On, Next_to_senders, Next_to_receivers, Other_to_senders, Other_to_receivers, Senders_are_cleared, Receivers_are_cleared, All_start_anew, next_to_senders, next_to_receivers, shared_occurs, shared_from, shared, MayHappen, AllMayHappen}
+use Rattle.ncp_sharing.specs.Sharing.{Tagged, Shared, new_shared, only, tag, at, bringing, put, Shared_event, On, Next_to_senders, Next_to_receivers, Other_to_senders, Other_to_receivers, Senders_are_cleared, Receivers_are_cleared, All_start_anew, next_to_senders, next_to_receivers, shared_occurs, shared_from, shared, MayHappen, AllMayHappen}
 use Rattle.ncp_connections.proofs.Whole.{sender_calls_keep, receiver_calls_keep, keeps, ever}
 use Rattle.ncp_connections.proofs.Outliving.{Fit, fit_clear_sender, fit_clear_receiver, fit_fresh, fit_sends, fit_comes_to_sender, fit_text_is_answered, fit_receives, fit_comes_to_receiver, fit_text_comes, missed_by_sender, missed_by_receiver, answer_missed, text_missed}
 

@@ -4,7 +4,7 @@ use Rattle.std.specs.Prelude.{◌≡◌, ℕ, ◌==◌, Bool, true, false, ◌&&
 use Rattle.ncp_control.specs.declared.command.Command.{Command}
 use Rattle.ncp_model.specs.declared.pair.Pair.{Pair}
 use Rattle.ncp_model.specs.declared.limits.TheConstants.{MAX_BY_PEER}
-use Rattle.ncp_model.specs.Pairs.{sends, turned}
+use Rattle.ncp_model.specs.Pairs.{sends, turned, same}
 use Rattle.ncp_model.specs.End.{or_new}
 use Rattle.ncp_model.specs.Ends.{hears_link, uses_link}
 use Rattle.ncp_model.specs.Happenings as all
@@ -39,9 +39,6 @@ new_shared = record {
   sends = true;
   receives = true;
 }
-
-abbrev pub same : Pair → Pair → Bool
-same a b = a.local == b.local && a.remote == b.remote
 
 abbrev pub set_at : {A : Type 0} → Pair → A → (Pair → A) → Pair → A
 set_at q a f p = if same q p then a else f p

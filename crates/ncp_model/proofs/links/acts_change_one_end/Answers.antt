@@ -1,4 +1,4 @@
-use Rattle.ncp_model.proofs.EndsAfter.{after-at, after-elsewhere}
+use Rattle.ncp_model.proofs.EndsAfter.{after-at, after-elsewhere, after-put}
 use Rattle.ncp_model.proofs.links.acts_change_one_end.Goals as goal
 
 pub returns-clause-there : goal.returns-clause-there
@@ -6,3 +6,6 @@ returns-clause-there g c = after-at
 
 pub returns-clause-elsewhere : goal.returns-clause-elsewhere
 returns-clause-elsewhere g c = after-elsewhere
+
+pub returns-clause-put : goal.returns-clause-put
+returns-clause-put g c = after-put
