@@ -5,3 +5,5 @@ pub mod Packing
 pub mod Shifts
 pub mod Runs
 pub mod Joins
+pub mod Same
+pub mod Judging

@@ -1,5 +1,5 @@
 -- Bytes as bits, eight a byte.
-use Rattle.std.specs.Prelude.{ℕ, ◌*◌, ◌-◌, Bool, false, nat_lt, List, length, take, drop, replicate, map, ◌++◌, Result, Ok, Err, if◌then◌else◌}
+use Rattle.std.specs.Prelude.{ℕ, ◌≡◌, ◌<◌, ◌*◌, ◌-◌, Bool, true, false, nat_lt, List, [], ◌∷◌, length, take, drop, replicate, map, ◌++◌, Result, Ok, Err, if◌then◌else◌}
 use Rattle.std.specs.List.{flat_map, list_any, range_with_len}
 use Rattle.std.specs.Int.{div_ceil}
 use Rattle.ncp_bits.specs.Numbers.{number_of, bits_of}
@@ -41,3 +41,17 @@ read_bytes bytes len =
     else if nat_lt (length bytes) (bytes_for len) then Err ShortBytes
     else if list_any (λ bit. bit) (spare_bits bytes len) then Err SpareNotZero
     else Ok (take len (bits_of_bytes bytes))
+
+-- a bit of these is set
+abbrev pub HasOne : List Bool → Type 0
+HasOne bits = list_any (λ bit. bit) bits ≡ true
+
+-- what each fault says of bytes and of how many of their bits are to be read
+abbrev pub IsAtFault : List ℕ → ℕ → BitsFault → Type 0
+IsAtFault bytes len TooLong = MAX_BITS < len
+IsAtFault bytes len ShortBytes = 8 * length bytes < len
+IsAtFault bytes len SpareNotZero = HasOne (spare_bits bytes len)
+
+-- the order in which they are judged
+abbrev pub judged : List BitsFault
+judged = TooLong ∷ ShortBytes ∷ SpareNotZero ∷ []

@@ -2,3 +2,4 @@ pub mod Numbers
 pub mod Bits
 pub mod Packed
 pub mod Store
+pub mod Reasons

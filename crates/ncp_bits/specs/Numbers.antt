@@ -1,6 +1,6 @@
 -- Numbers as bits. Bits are counted from the first, which is the most significant of its field
 -- (BBN 1822, section 3).
-use Rattle.std.specs.Prelude.{ℕ, ◌+◌, ◌/◌, ◌%◌, ◌^◌, ◌==◌, suc, zero, Bool, List, [], ◌∷◌, length, if◌then◌else◌}
+use Rattle.std.specs.Prelude.{ℕ, ◌+◌, ◌/◌, ◌%◌, ◌^◌, ◌==◌, suc, zero, Bool, List, [], ◌∷◌, length, slice_range, if◌then◌else◌}
 
 -- the number that bits spell: the last weighs 1, and each before it twice the next
 unfoldable pub number_of : List Bool → ℕ
@@ -15,3 +15,7 @@ bit_of number place = (number / 2 ^ place) % 2 == 1
 unfoldable pub bits_of : ℕ → ℕ → List Bool
 bits_of zero number = []
 bits_of (suc width) number = bit_of number width ∷ bits_of width number
+
+-- the number in a run of bits, so many from a place on: what a field of a fixed place spells
+abbrev pub number_at : List Bool → ℕ → ℕ → ℕ
+number_at bits at width = number_of (slice_range bits at (at + width))

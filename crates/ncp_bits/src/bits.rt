@@ -7,6 +7,7 @@ use crate::append::write_behind;
 use crate::part::Part;
 use crate::reading::{bit_in, is_spare_set};
 use arrayvec::ArrayVec;
+use std::fmt;
 use std::marker::Model;
 use thiserror::Error;
 
@@ -226,5 +227,32 @@ impl Default for Bits {
 
     fn default() -> Self {
         Bits::new()
+    }
+}
+
+impl PartialEq for Bits {
+    ghost use Rattle.std.proofs.Math.Bool.{beq};
+    ghost use Rattle.std.specs.Cmp.{bool_eq_equiv, partial_equiv_from_equiv};
+    ghost use Rattle.std.specs.Cmp.Lexicographic.{pointwise, lists_equiv};
+
+    ghost eq = { pointwise beq };
+
+    ghost laws = { partial_equiv_from_equiv (lists_equiv bool_eq_equiv) };
+
+    fn eq(&self, other: &Bits) -> bool {
+        self.whole() == other.whole()
+    }
+}
+
+impl Eq for Bits {
+    ghost use Rattle.std.specs.Cmp.{bool_eq_equiv};
+    ghost use Rattle.std.specs.Cmp.Lexicographic.{lists_equiv};
+
+    ghost laws = { lists_equiv bool_eq_equiv };
+}
+
+impl fmt::Debug for Bits {
+    fn fmt<W: fmt::Write>(&self, f: &mut fmt::Formatter<W>) -> fmt::Result {
+        self.whole().fmt(f)
     }
 }

@@ -1,7 +1,9 @@
 //! Laws about bits, numbers and bytes, each the contract of a function that does nothing.
-ghost use Rattle.std.specs.Prelude.{◌≡◌, ℕ, List, Bool, false, ◌<◌, ◌≤◌, ◌^◌, ◌++◌, length, replicate, All, Ok};
+ghost use Rattle.std.specs.Prelude.{◌≡◌, ◌↔◌, ℕ, List, Bool, false, ◌<◌, ◌≤◌, ◌^◌, ◌++◌, length, take, replicate, All, Ok, Err};
 ghost use Rattle.ncp_bits.specs.Numbers.{number_of, bits_of};
-ghost use Rattle.ncp_bits.specs.Bits.{bits_of_bytes, bytes_of, spare_for, read_bytes};
+ghost use Rattle.ncp_bits.specs.Bits.{bits_of_bytes, bytes_of, spare_for, read_bytes, IsAtFault, judged};
+ghost use Rattle.ncp_bits.specs.Reasons.{IsFirst, NoneHolds};
+ghost use Rattle.ncp_bits.specs.declared.bits.BitsFault.{BitsFault};
 
 use crate::bits::MAX_BITS;
 
@@ -19,4 +21,16 @@ pub fn bytes_are_bits()
     ensures bytes { (bytes : List ℕ) → All (λ byte. byte < 256) bytes → bytes_of (bits_of_bytes bytes) ≡ bytes }
     ensures bits { (bits : List Bool) → bits_of_bytes (bytes_of bits) ≡ bits ++ replicate (spare_for (length bits)) false }
     ensures read { (bits : List Bool) → length bits ≤ MAX_BITS → read_bytes (bytes_of bits) (length bits) ≡ Ok bits }
+{}
+
+/// Bits are refused for the first reason that holds, in the order of [`BitsFault`], and read where
+/// none does.
+pub fn faults_are_in_order()
+    ensures first { (bytes : List ℕ) (len : ℕ) (fault : BitsFault) → (read_bytes bytes len ≡ Err fault) ↔ IsFirst (IsAtFault bytes len) judged fault }
+    ensures none { (bytes : List ℕ) (len : ℕ) → NoneHolds (IsAtFault bytes len) judged → read_bytes bytes len ≡ Ok (take len (bits_of_bytes bytes)) }
+{}
+
+/// The limit of a [`Bits`].
+pub fn limits_are_these()
+    ensures bits { MAX_BITS ≡ 8192 }
 {}

@@ -6,6 +6,7 @@
 
 mod append;
 mod bits;
+pub mod equality;
 pub mod laws;
 mod packed_store;
 mod part;

@@ -7,6 +7,7 @@ ghost use Rattle.ncp_bits.specs.Packed.{run};
 use crate::bits::{Bits, MAX_BITS};
 use crate::reading::{bit_in, number_in};
 use crate::writing::write_run;
+use std::fmt;
 use std::marker::Model;
 
 /// A borrowed run of bits of a [`Bits`], at any bit of its bytes. Nothing is copied until
@@ -107,5 +108,57 @@ impl<'a> Part<'a> {
         ensures bytes { out.new ≡ bytes_of self.now ++ drop result out.old }
     {
         write_run(out, self.bytes, self.skip, self.len)
+    }
+}
+
+// Whether two parts of one length are the same from a place on, 64 bits at a time.
+fn are_same(one: &Part<'_>, other: &Part<'_>) -> bool
+    requires { length one.now ≡ length other.now }
+    ensures { IsTrue result ↔ (one.now ≡ other.now) }
+{
+    let len = one.len();
+    let mut at = 0;
+    while at < len {
+        let width = (len - at).min(64);
+        if one.number(at, width) != other.number(at, width) {
+            return false;
+        }
+        at += width;
+    }
+    true
+}
+
+impl<'a> PartialEq for Part<'a> {
+    ghost use Rattle.std.proofs.Math.Bool.{beq};
+    ghost use Rattle.std.specs.Cmp.{bool_eq_equiv, partial_equiv_from_equiv};
+    ghost use Rattle.std.specs.Cmp.Lexicographic.{pointwise, lists_equiv};
+
+    ghost eq = { pointwise beq };
+
+    ghost laws = { partial_equiv_from_equiv (lists_equiv bool_eq_equiv) };
+
+    fn eq(&self, other: &Part<'a>) -> bool {
+        self.len() == other.len() && are_same(self, other)
+    }
+}
+
+impl<'a> Eq for Part<'a> {
+    ghost use Rattle.std.specs.Cmp.{bool_eq_equiv};
+    ghost use Rattle.std.specs.Cmp.Lexicographic.{lists_equiv};
+
+    ghost laws = { lists_equiv bool_eq_equiv };
+}
+
+// How many bits there are, and their bytes in hexadecimal, the spare bits zero.
+impl<'a> fmt::Debug for Part<'a> {
+    fn fmt<W: fmt::Write>(&self, f: &mut fmt::Formatter<W>) -> fmt::Result {
+        let len = self.len();
+        write!(f, "bits={len} ")?;
+        for place in 0..len.div_ceil(8) {
+            let width = (len - 8 * place).min(8);
+            let byte = self.number(8 * place, width) << (8 - width);
+            write!(f, "{byte:02x}")?;
+        }
+        Ok(())
     }
 }

@@ -1,6 +1,6 @@
 //! What no clause says: that the calls succeed, that memory is asked for where it is needed, and
 //! that the definitions mean what the worked examples mean.
-use crate::{BitStore, Bits, BitsFault, NoRoom, PackedStore, PlainStore};
+use crate::{BitStore, Bits, BitsFault, NoRoom, PackedStore, PlainStore, equality, laws};
 use std::alloc::Global;
 use std::process::Abort;
 use std::test::Fail;
@@ -175,19 +175,6 @@ fn packed_store_keeps_bits(rt: HostRuntime) -> Result<(), Fail> {
     keeps_thirteen_bits::<PackedStore>(&rt, rt.alloc())
 }
 
-// Whether two bit strings have the same bits.
-fn are_same(a: &Bits, b: &Bits) -> bool {
-    if a.len() != b.len() {
-        return false;
-    }
-    for place in 0..a.len() {
-        if a.bit(place) != b.bit(place) {
-            return false;
-        }
-    }
-    true
-}
-
 // What a store holds that was given the first `kept` bits of a row, and `len` bits from `from` on.
 fn put_together<S: BitStore>(
     rt: &impl Abort,
@@ -216,11 +203,11 @@ fn appends_at_every_bit(rt: HostRuntime) -> Result<(), Fail> {
             for len in [0, 1, 7, 8, 9, 17] {
                 let plain = put_together::<PlainStore>(&rt, rt.alloc(), &row, kept, from, len)?;
                 let packed = put_together::<PackedStore>(&rt, rt.alloc(), &row, kept, from, len)?;
-                assert!(rt; are_same(&plain, &packed));
+                assert!(rt; plain == packed);
                 assert!(rt; kept <= row.len() && from <= row.len() && len <= row.len() - from);
                 let mut bits = row.slice(0, kept).to_bits();
                 bits.append(row.slice(from, len))?;
-                assert!(rt; are_same(&plain, &bits));
+                assert!(rt; plain == bits);
             }
         }
     }
@@ -240,13 +227,13 @@ fn reads_at_every_bit(rt: HostRuntime) -> Result<(), Fail> {
                 assert!(rt; place < part.len());
                 one_by_one.push_number(u64::from(part.bit(place)), 1)?;
             }
-            assert!(rt; are_same(&part.to_bits(), &one_by_one));
+            assert!(rt; part == one_by_one.whole() && part.to_bits() == one_by_one);
             assert_eq!(rt; one_by_one.len(), len);
             assert_eq!(rt; part.number(0, len), one_by_one.number(0, len));
             let mut out = [0xffu8; 6];
             let used = part.to_bytes(&mut out);
             assert_eq!(rt; used, len.div_ceil(8));
-            assert!(rt; are_same(&Bits::from_bytes(&out, len)?, &one_by_one));
+            assert!(rt; Bits::from_bytes(&out, len)? == one_by_one);
         }
     }
     Ok(())
@@ -273,12 +260,100 @@ fn stores_pass_the_same_bits(rt: HostRuntime) -> Result<(), Fail> {
     let row = Bits::from_bytes(&LONG_BYTE, 108)?;
     let plain = pass_through::<PlainStore>(&rt, rt.alloc(), &row)?;
     let packed = pass_through::<PackedStore>(&rt, rt.alloc(), &row)?;
-    assert!(rt; are_same(&plain, &packed));
+    assert!(rt; plain == packed);
+    Ok(())
+}
+
+// Rooms on both sides of a byte's end, of a word's and of the largest store's, and a large one.
+const ROOMS: [usize; 13] = [
+    0, 1, 7, 8, 9, 63, 64, 65, 8192, 65535, 65536, 65537, 1_000_000,
+];
+
+// That a store has room for just so many bits, and once they are out again for as many.
+fn fills_and_empties<S: BitStore>(
+    rt: &impl Abort,
+    alloc: Global,
+    room: usize,
+    row: &Bits,
+) -> Result<(), Fail> {
+    let mut store = S::with_room(alloc, room)?;
+    for _ in 0..2 {
+        assert_eq!(rt; store.room(), room);
+        assert_eq!(rt; store.len(), 0);
+        for _ in 0..room.div_ceil(row.len().max(1)) {
+            let count = row.len().min(store.room());
+            store.put(row.slice(0, count))?;
+        }
+        assert_eq!(rt; store.len(), room);
+        assert!(rt; store.put(bits_in(rt, "1").whole()) == Err(NoRoom));
+        let count = room.min(row.len());
+        assert!(rt; count <= store.len() && count <= 8192);
+        assert!(rt; store.take(count).whole() == row.slice(0, count));
+        store.clear();
+    }
     Ok(())
 }
 
 #[test]
-fn has_memory_for_a_store(rt: HostRuntime) {
-    assert!(rt; PlainStore::with_room(rt.alloc(), 65536).is_ok());
-    assert!(rt; PackedStore::with_room(rt.alloc(), 65536).is_ok());
+fn plain_stores_have_each_room(rt: HostRuntime) -> Result<(), Fail> {
+    let row = Bits::from_bytes(&[0x5au8; 1024], 8191)?;
+    for room in ROOMS {
+        fills_and_empties::<PlainStore>(&rt, rt.alloc(), room, &row)?;
+    }
+    Ok(())
+}
+
+#[test]
+fn packed_stores_have_each_room(rt: HostRuntime) -> Result<(), Fail> {
+    let row = Bits::from_bytes(&[0x5au8; 1024], 8191)?;
+    for room in ROOMS {
+        fills_and_empties::<PackedStore>(&rt, rt.alloc(), room, &row)?;
+    }
+    Ok(())
+}
+
+#[test]
+fn compares_bits_wherever_they_lie(rt: HostRuntime) -> Result<(), Fail> {
+    let row = Bits::from_bytes(&LONG_BYTE, 108)?;
+    assert!(rt; row.len() == 108);
+    let text = row.slice(72, 36);
+    let mut copy = bits_in(&rt, "101");
+    copy.append(text.slice(0, 36))?;
+    assert!(rt; copy.len() == 39);
+    assert!(rt; copy.slice(3, 36) == text);
+    assert!(rt; copy.slice(3, 35) != text);
+    assert!(rt; copy.slice(2, 36) != text);
+    assert!(rt; copy.slice(3, 36).to_bits() == text.to_bits());
+    assert!(rt; copy != text.to_bits());
+    assert!(rt; bits_in(&rt, "0") != bits_in(&rt, "00"));
+    assert!(rt; Bits::new() == Bits::default());
+    assert!(rt; equality::equal_bits(&row, &row) && !equality::equal_bits(&row, &copy));
+    assert!(rt; equality::equal_parts(&text, &copy.slice(3, 36)));
+    assert!(rt; equality::equal_faults(BitsFault::TooLong, BitsFault::TooLong));
+    assert!(rt; equality::equal_refusals(NoRoom, NoRoom));
+    Ok(())
+}
+
+#[test]
+fn shows_bits(rt: HostRuntime) -> Result<(), Fail> {
+    let row = Bits::from_bytes(&LONG_BYTE, 108)?;
+    assert!(rt; row.len() == 108);
+    let text = row.slice(72, 36);
+    assert_eq!(rt;
+        format!(in rt.alloc(); "{text:?}")?.as_str(),
+        "bits=36 1234567890"
+    );
+    let bits = bits_in(&rt, "101");
+    assert_eq!(rt; format!(in rt.alloc(); "{bits:?}")?.as_str(), "bits=3 a0");
+    let none = Bits::new();
+    assert_eq!(rt; format!(in rt.alloc(); "{none:?}")?.as_str(), "bits=0 ");
+    Ok(())
+}
+
+#[test]
+fn states_laws(_rt: HostRuntime) {
+    laws::numbers_are_bits();
+    laws::bytes_are_bits();
+    laws::faults_are_in_order();
+    laws::limits_are_these();
 }

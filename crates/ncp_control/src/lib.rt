@@ -6,6 +6,7 @@
 
 mod command;
 mod commands;
+pub mod equality;
 mod fault;
 mod front;
 pub mod laws;

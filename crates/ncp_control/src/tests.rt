@@ -6,7 +6,8 @@ ghost use Rattle.ncp_control.specs.Reading.{commands_in, fault_in};
 
 use crate::{
     Command, CommandFault, Commands, ERRONEOUS_PARAMETERS, ILLEGAL_OPCODE, LONGEST_COMMAND,
-    NONEXISTENT_SOCKET, SHORT_PARAMETER_SPACE, SOCKET_NOT_CONNECTED, error_for, laws, put_command,
+    NONEXISTENT_SOCKET, SHORT_PARAMETER_SPACE, SOCKET_NOT_CONNECTED, equality, error_for, laws,
+    put_command,
 };
 use ncp_bits::{Bits, Part};
 use std::alloc::AllocError;
@@ -292,4 +293,23 @@ fn states_laws(_rt: HostRuntime) {
     laws::spelled_commands_are_read();
     laws::errors_are_commands();
     laws::faults_are_told_apart();
+    laws::limits_are_these();
+}
+
+#[test]
+fn compares_commands_and_faults(rt: HostRuntime) {
+    let ins = Command::Ins { link: 2 };
+    assert!(rt; equality::equal_commands(&ins, &ins));
+    assert!(rt; !equality::equal_commands(&ins, &Command::Inr { link: 2 }));
+    assert!(rt; !equality::equal_commands(&ins, &Command::Ins { link: 3 }));
+    let early = CommandFault {
+        code: SHORT_PARAMETER_SPACE,
+        bytes: [0; 10],
+    };
+    let illegal = CommandFault {
+        code: ILLEGAL_OPCODE,
+        bytes: [0; 10],
+    };
+    assert!(rt; equality::equal_faults(&early, &early));
+    assert!(rt; !equality::equal_faults(&early, &illegal));
 }

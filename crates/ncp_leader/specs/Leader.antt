@@ -1,7 +1,8 @@
 -- A leader and its bits (BBN 1822, section 3: the 32-bit leader). Places are counted from 0, where the
 -- standard counts bits from 1.
-use Rattle.std.specs.Prelude.{◌≡◌, ◌<◌, ◌≤◌, ℕ, ◌+◌, ◌^◌, Bool, List, ◌++◌, length, slice_range, nat_lt, Result, Ok, Err, if◌then◌else◌}
-use Rattle.ncp_bits.specs.Numbers.{number_of, bits_of}
+use Rattle.std.specs.Prelude.{◌≡◌, ◌<◌, ◌≤◌, ℕ, ◌^◌, Bool, List, ◌++◌, length, nat_lt, Result, Ok, Err, if◌then◌else◌}
+use Rattle.ncp_bits.specs.Numbers.{bits_of}
+pub use Rattle.ncp_bits.specs.Numbers.{number_at}
 use Rattle.ncp_leader.specs.declared.leader.Leader.{Leader}
 use Rattle.ncp_leader.specs.declared.leader.Short.{Short}
 use Rattle.ncp_leader.specs.declared.leader.TheConstants.{LEADER_BITS, MAX_FLAGS, MAX_KIND}
@@ -25,9 +26,9 @@ pub record BeginsWith (bits : List Bool) (leader : Leader) : Type 0 where
   pub rest : List Bool
   pub form : bits ≡ leader_bits leader ++ rest
 
--- the number that so many bits from a place on spell
-abbrev pub number_at : List Bool → ℕ → ℕ → ℕ
-number_at bits at width = number_of (slice_range bits at (at + width))
+-- the link: bits 17 to 24
+abbrev pub link_at : List Bool → ℕ
+link_at bits = number_at bits 16 8
 
 -- what stands where the fields of a leader stand
 abbrev pub leader_at : List Bool → Leader
@@ -35,7 +36,7 @@ leader_at bits = record {
   flags = number_at bits 0 4;
   kind = number_at bits 4 4;
   host = number_at bits 8 8;
-  link = number_at bits 16 8;
+  link = link_at bits;
   low = number_at bits 24 8;
 }
 

@@ -1,3 +1,4 @@
 pub mod Leader
 pub mod Fault
 pub mod Message
+pub mod Same

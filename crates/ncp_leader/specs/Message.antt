@@ -1,8 +1,9 @@
 -- A regular message and its bits (NIC 8246, message form; BBN 1822, section 3). Places are counted from
 -- 0, where the standard counts bits from 1. The order of the faults and the longest text that is made are
 -- this profile's.
-use Rattle.std.specs.Prelude.{◌≡◌, ◌<◌, ℕ, ◌+◌, ◌*◌, ◌/◌, ◌%◌, ◌^◌, ◌==◌, Bool, false, not, List, ◌++◌, length, replicate, slice_range, nat_lt, Result, Ok, Err, if◌then◌else◌}
+use Rattle.std.specs.Prelude.{◌≡◌, ◌≢◌, ◌<◌, ℕ, ◌+◌, ◌*◌, ◌/◌, ◌%◌, ◌^◌, ◌==◌, Bool, false, not, List, [], ◌∷◌, ◌++◌, length, replicate, slice_range, nat_lt, Result, Ok, Err, if◌then◌else◌}
 use Rattle.ncp_bits.specs.Numbers.{bits_of}
+use Rattle.ncp_bits.specs.Bits.{HasOne}
 use Rattle.ncp_leader.specs.declared.leader.Leader.{Leader}
 use Rattle.ncp_leader.specs.declared.fault.MessageFault.{MessageFault}
 use Rattle.ncp_leader.specs.declared.fault.MessageFault.TheVariants.{ShortPrefix, M1NotZero, SizeZero, M2NotZero, TextMissing, TextTooLong, NotWhole}
@@ -83,3 +84,28 @@ written leader size text =
     else if nat_lt MAX_TEXT_BITS (length text) then Err TextTooLong
     else if not (length text % size == 0) then Err NotWhole
     else Ok (message_bits (message_with leader size text))
+
+-- what each fault says of bits that are read as a message: M1 is bits 33 to 40, M2 bits 65 to 72
+abbrev pub IsReadFault : List Bool → MessageFault → Type 0
+IsReadFault bits ShortPrefix = length bits < FRONT_BITS
+IsReadFault bits M1NotZero = HasOne (slice_range bits 32 40)
+IsReadFault bits SizeZero = size_at bits ≡ 0
+IsReadFault bits M2NotZero = HasOne (slice_range bits 64 72)
+IsReadFault bits TextMissing = length bits < text_end bits
+IsReadFault bits TextTooLong = ⊥
+IsReadFault bits NotWhole = ⊥
+
+-- what each says of a byte size and a text that are written: it is no whole number of bytes where no
+-- count of bytes has its length
+abbrev pub IsWriteFault : ℕ → List Bool → MessageFault → Type 0
+IsWriteFault size text ShortPrefix = ⊥
+IsWriteFault size text M1NotZero = ⊥
+IsWriteFault size text SizeZero = size ≡ 0
+IsWriteFault size text M2NotZero = ⊥
+IsWriteFault size text TextMissing = ⊥
+IsWriteFault size text TextTooLong = MAX_TEXT_BITS < length text
+IsWriteFault size text NotWhole = (count : ℕ) → length text ≢ size * count
+
+-- the order in which they are judged, the same for both
+abbrev pub judged : List MessageFault
+judged = ShortPrefix ∷ M1NotZero ∷ SizeZero ∷ M2NotZero ∷ TextMissing ∷ TextTooLong ∷ NotWhole ∷ []

@@ -1,9 +1,14 @@
 //! Laws about leaders, messages and their bits, each the contract of a function that does nothing.
-ghost use Rattle.std.specs.Prelude.{◌≡◌, ◌↔◌, ◌<◌, ◌≤◌, ◌%◌, ◌^◌, ◌++◌, ℕ, List, Bool, length};
+ghost use Rattle.std.specs.Prelude.{◌≡◌, ◌↔◌, Ok, Err, ◌<◌, ◌≤◌, ◌%◌, ◌^◌, ◌++◌, ℕ, List, Bool, length};
 ghost use Rattle.ncp_leader.specs.Leader.{IsLeader, BeginsWith, leader_bits, leader_in};
-ghost use Rattle.ncp_leader.specs.Message.{Message, IsMessage, StandsFor, message_bits, message_in, message_with};
-ghost use Rattle.ncp_leader.specs.declared.regular.TheConstants.{MAX_TEXT_BITS};
+ghost use Rattle.ncp_leader.specs.Message.{Message, IsMessage, StandsFor, message_bits, message_in, message_at, message_with, written, IsReadFault, IsWriteFault, judged};
+ghost use Rattle.ncp_bits.specs.Reasons.{IsFirst, NoneHolds};
+ghost use Rattle.ncp_bits.specs.Numbers.{number_at};
 ghost use Rattle.ncp_leader.specs.declared.leader.Leader.{Leader};
+ghost use Rattle.ncp_leader.specs.declared.fault.MessageFault.{MessageFault};
+
+use crate::leader::{LEADER_BITS, MAX_FLAGS, MAX_KIND};
+use crate::regular::{FRONT_BITS, MAX_MADE_BITS, MAX_TEXT_BITS};
 
 /// No list of bits begins with two leaders, or stands for two messages.
 pub fn bits_stand_for_one()
@@ -35,4 +40,36 @@ pub fn whole_bytes_make_a_message()
         IsLeader leader → 0 < size → size < 2 ^ 8 →
         length text ≤ MAX_TEXT_BITS → length text % size ≡ 0 →
         IsMessage (message_with leader size text) }
+{}
+
+/// Bits are refused, and a text is, for the first reason that holds, in the order of
+/// [`MessageFault`]; where none does, the message is read or written.
+pub fn faults_are_in_order()
+    ensures read { (bits : List Bool) (fault : MessageFault) →
+        (message_in bits ≡ Err fault) ↔ IsFirst (IsReadFault bits) judged fault }
+    ensures found { (bits : List Bool) →
+        NoneHolds (IsReadFault bits) judged → message_in bits ≡ Ok (message_at bits) }
+    ensures write { (leader : Leader) (size : ℕ) (text : List Bool) (fault : MessageFault) →
+        (written leader size text ≡ Err fault) ↔ IsFirst (IsWriteFault size text) judged fault }
+    ensures made { (leader : Leader) (size : ℕ) (text : List Bool) →
+        NoneHolds (IsWriteFault size text) judged →
+        written leader size text ≡ Ok (message_bits (message_with leader size text)) }
+{}
+
+/// Where each field of a leader stands, by the standard's numbers of bits less one.
+pub fn fields_have_places()
+    ensures { (bits : List Bool) (leader : Leader) → leader_in bits ≡ Ok leader →
+        (leader.flags ≡ number_at bits 0 4) × (leader.kind ≡ number_at bits 4 4)
+        × (leader.host ≡ number_at bits 8 8) × (leader.link ≡ number_at bits 16 8)
+        × (leader.low ≡ number_at bits 24 8) }
+{}
+
+/// The limits of leaders and messages.
+pub fn limits_are_these()
+    ensures leader { LEADER_BITS ≡ 32 }
+    ensures flags { MAX_FLAGS ≡ 15 }
+    ensures kind { MAX_KIND ≡ 15 }
+    ensures front { FRONT_BITS ≡ 72 }
+    ensures made { MAX_MADE_BITS ≡ 8000 }
+    ensures text { MAX_TEXT_BITS ≡ 7928 }
 {}

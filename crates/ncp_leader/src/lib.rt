@@ -5,6 +5,7 @@
 //! so many bytes (NIC 8246, message form).
 #![tactic(auto)]
 
+pub mod equality;
 mod fault;
 pub mod laws;
 mod leader;

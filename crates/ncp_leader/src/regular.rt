@@ -19,7 +19,7 @@ pub const MAX_MADE_BITS: usize = 8000;
 pub const MAX_TEXT_BITS: usize = MAX_MADE_BITS - FRONT_BITS;
 
 /// A regular message that was read. Its text is borrowed from the bits that it was read from.
-#[derive(Drop)]
+#[derive(Debug, Drop)]
 pub struct Regular<'a> {
     leader: Leader,
     size: u8,
@@ -88,6 +88,28 @@ impl<'a> Regular<'a> {
         let width = usize::from(self.size);
         self.text.slice(width * usize::from(place), width)
     }
+}
+
+impl<'a> PartialEq for Regular<'a> {
+    ghost use Rattle.std.specs.Cmp.{partial_equiv_from_equiv};
+    ghost use Rattle.ncp_leader.specs.Same.{same_message, message_equiv};
+
+    ghost eq = { same_message };
+
+    ghost laws = { partial_equiv_from_equiv message_equiv };
+
+    fn eq(&self, other: &Regular<'a>) -> bool {
+        self.leader == other.leader
+            && self.size == other.size
+            && self.count == other.count
+            && self.text == other.text
+    }
+}
+
+impl<'a> Eq for Regular<'a> {
+    ghost use Rattle.ncp_leader.specs.Same.{message_equiv};
+
+    ghost laws = { message_equiv };
 }
 
 // The message in front of bits, or the first fault. Places count from 0.

@@ -1,8 +1,8 @@
 //! What no clause says: that the definitions mean what the worked examples mean, that the calls
 //! succeed, and the texts and numbers of the faults.
 use crate::{
-    Leader, MAX_TEXT_BITS, MessageFault, Regular, Short, put_leader, put_regular, read_leader,
-    read_regular,
+    Leader, MAX_TEXT_BITS, MessageFault, Regular, Short, equality, laws, put_leader, put_regular,
+    read_leader, read_regular,
 };
 use ncp_bits::{Bits, BitsFault, Part};
 use std::process::Abort;
@@ -337,4 +337,44 @@ fn tells_faults(rt: HostRuntime) -> Result<(), Fail> {
         "shorter than a leader"
     );
     Ok(())
+}
+
+#[test]
+fn compares_messages(rt: HostRuntime) -> Result<(), Fail> {
+    let bits = Bits::from_bytes(&RTS, 152)?;
+    let mut padded = Bits::from_bytes(&RTS, 152)?;
+    padded.push_number(0b1000, 4)?;
+    assert!(rt; read_regular(&bits)? == read_regular(&padded)?);
+    let mut changed = RTS;
+    changed[18] = 3;
+    let other = Bits::from_bytes(&changed, 152)?;
+    assert!(rt; read_regular(&bits)? != read_regular(&other)?);
+    assert!(rt; equality::equal_messages(&read_regular(&bits)?, &read_regular(&padded)?));
+    assert!(rt; equality::equal_leaders(&RTS_LEADER, &RTS_LEADER));
+    assert!(rt; !equality::equal_leaders(&RTS_LEADER, &DATA_LEADER));
+    assert!(rt; !equality::equal_faults(MessageFault::SizeZero, MessageFault::NotWhole));
+    assert!(rt; equality::equal_refusals(Short, Short));
+    Ok(())
+}
+
+#[test]
+fn shows_messages(rt: HostRuntime) -> Result<(), Fail> {
+    let bits = Bits::from_bytes(&LONG_BYTE, 108)?;
+    let message = read_regular(&bits)?;
+    assert_eq!(rt;
+        format!(in rt.alloc(); "{message:?}")?.as_str(),
+        "Regular { leader: Leader { flags: 0, kind: 0, host: 2, link: 2, low: 0 }, size: 36, count: 1, text: bits=36 1234567890 }"
+    );
+    Ok(())
+}
+
+#[test]
+fn states_laws(_rt: HostRuntime) {
+    laws::bits_stand_for_one();
+    laws::written_is_read();
+    laws::read_stands();
+    laws::whole_bytes_make_a_message();
+    laws::faults_are_in_order();
+    laws::fields_have_places();
+    laws::limits_are_these();
 }
