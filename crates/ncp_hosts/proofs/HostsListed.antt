@@ -384,8 +384,8 @@ low_frees on n =
     let host : Host = host_makes_all (made_if_any (answer act)) n.host in
     record n {
       host = host;
-      ends = kept_listed host (after_listed n.ends (pair_of o) act);
-      echoes = kept_echoes host n.echoes;
+      ends = if is_up n.host then kept_listed host (after_listed n.ends (pair_of o) act) else n.ends;
+      echoes = if is_up n.host then kept_echoes host n.echoes else n.echoes;
       texts = set_link on idle n.texts;
     }
 
@@ -393,7 +393,9 @@ frees-low : (on : ℕ) (n : Node) → low (frees on n) ≡ low_frees on (low n)
 frees-low on n =
     let act = answered_in on Taken n.ends in
     let o = pair_of (first_by (hears_link on) (entries n.ends)) in
-    rw (kept-low (host_makes_all (made_if_any (answer act)) n.host) (map_after_at n.ends o act), after-low n.ends o act) refl
+    let host : Host = host_makes_all (made_if_any (answer act)) n.host in
+    let m : Ends = map_after_at n.ends o act in
+    rw (either (is_up n.host) (kept host m) n.ends (kept_listed host (after_listed (entries n.ends) o act)) (entries n.ends) (kept-low host m ∙ ap (kept_listed host) (after-low n.ends o act)) refl) refl
 
 abbrev pub low_text_answered : ℕ → Slot TextOut → Subnet TextOut → Low → Low
 low_text_answered on (Travelling t) Delivered n = low_settles (low_frees on n)

@@ -303,15 +303,17 @@ module _ (own own' : Owners) (n m : Node) (x y : List Command) (on : ℕ) (k : J
       nothing : is_up n.host ≡ false → made ≡ []
       nothing e = ap made_if_any (ap (λ (d : Ends). answer (answered_in on Taken d)) (k.this.none e) ∙ gone-answer on)
 
-      without : is_up n.host ≡ false → kept n.host freed.ends ≡ n.ends
-      without e = ap (λ (b : Bool). if b then freed.ends else no_ends) e ∙ sym (k.this.none e)
+      at_up : Bool → List Command → Node
+      at_up b cs =
+          let host : Host = host_makes_all cs n.host in
+          record n { host = host; ends = if b then kept host freed.ends else n.ends; echoes = if b then kept_echoes host n.echoes else n.echoes; texts = set_link on idle n.texts }
 
       go : (u : Bool) → is_up n.host ≡ u → Joined (owned_by on None own) own' (frees on n) m x y
-      go true e = pending made (kept_echoes (host_makes_all made n.host) n.echoes) (owned_by on None own) own' freed m x y (answered-other on n.ends) e k.kept
+      go true e = subst (λ (b : Bool). Joined (owned_by on None own) own' (at_up b made) m x y) (sym e) (pending made (kept_echoes (host_makes_all made n.host) n.echoes) (owned_by on None own) own' freed m x y (answered-other on n.ends) e k.kept
           (ties-answered (is_alive n m y) (is_alive m n x) own own' n m (lives n m x) (lives m n y) on t (up_alive n.host (rrps (y ++ m.host.phase.waiting)) e) s d k.ties)
-          (whole-up (owned_by on None own) freed e k.this.safe) k.that
-      go false e = subst (λ (cs : List Command). Joined (owned_by on None own) own' (record n { host = host_makes_all cs n.host; ends = kept (host_makes_all cs n.host) freed.ends; echoes = kept_echoes (host_makes_all cs n.host) n.echoes; texts = set_link on idle n.texts }) m x y) (sym (nothing e))
-          (subst (λ (d : Ends). Joined (owned_by on None own) own' (record n { ends = d; echoes = kept_echoes n.host n.echoes; texts = set_link on idle n.texts }) m x y) (sym (without e))
+          (whole-up (owned_by on None own) freed e k.this.safe) k.that)
+      go false e = subst (λ (b : Bool). Joined (owned_by on None own) own' (at_up b made) m x y) (sym e)
+          (subst (λ (cs : List Command). Joined (owned_by on None own) own' (at_up false cs) m x y) (sym (nothing e))
           (record { kept = k.kept; ties = idle_ties e (is_alive n m y) refl; this = record { none = k.this.none; quiet = λ w. still_none (k.this.quiet w); safe = k.this.safe }; that = k.that }))
 
   pub text_answered-keeps : (slot : Slot TextOut) (subnet : Subnet TextOut) → (n.texts on).slot ≡ slot → (n.texts on).subnet ≡ subnet → Moved own own' n (text_answered on slot subnet n) m x y

@@ -26,6 +26,10 @@ one c h = go (up h.phase && is_other c) (has_place h.phase)
     go true false = refl
     go false d = refl
 
+none_made : (cs : List Command) (p : Phase) → up p ≡ false → makes_all cs p ≡ p
+none_made [] p d = refl
+none_made (c ∷ cs) p d = let e : makes c p ≡ p = rw d refl in ap (makes_all cs) e ∙ none_made cs p d
+
 pub all_made : (cs : List Command) (h : Host) → (host_makes_all cs h).phase ≡ makes_all cs h.phase
 all_made [] h = refl
 all_made (c ∷ cs) h = all_made cs (host_makes c h) ∙ ap (makes_all cs) (one c h)
@@ -82,9 +86,23 @@ pub texts_agree : TextsAgree
 texts_agree on head t n = choose (up n.host.phase) _ n _ (made_agrees (made_by_text head t.bits (answer (text_in on t.of_size t.bits n.ends))) n.host (map_after_at n.ends (pair_of (receiver_on on n.ends)) (text_in on t.of_size t.bits n.ends)) n.echoes)
 
 pub frees_agree : FreesAgree
-frees_agree on n u =
-    made_agrees (made_if_any (answer (answered_in on Taken n.ends))) n.host (map_after_at n.ends (pair_of (sender_on on n.ends)) (answered_in on Taken n.ends)) n.echoes
-    ∙ sym (ap (λ b. if b then peers.frees_up on (peer_of n) else peer_of n) u)
+frees_agree on n = go (is_up n.host) refl
+  where
+    cs : List Command
+    cs = made_if_any (answer (answered_in on Taken n.ends))
+
+    m : Ends
+    m = map_after_at n.ends (pair_of (sender_on on n.ends)) (answered_in on Taken n.ends)
+
+    -- the peer, where the test says whether the host is up
+    as_told : Bool → Peer
+    as_told b =
+        let host : Host = host_makes_all cs n.host in
+        record { phase = host.phase; ends = if b then hosts.kept host m else n.ends; echoes = if b then hosts.kept_echoes host n.echoes else n.echoes }
+
+    go : (b : Bool) → up n.host.phase ≡ b → as_told b ≡ (if b then peers.frees_up on (peer_of n) else peer_of n)
+    go true u = made_agrees cs n.host m n.echoes
+    go false d = ap (λ (q : Phase). (let p : Peer = record { phase = q; ends = n.ends; echoes = n.echoes } in p)) (all_made cs n.host ∙ none_made cs n.host.phase d)
 
 pub settles_agree : SettlesAgree
 settles_agree n = refl

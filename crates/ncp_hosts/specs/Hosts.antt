@@ -190,8 +190,8 @@ sends_text on (Ready t) n = goes_out on t n
 sends_text on (Travelling t) n = n
 sends_text on (Held t) n = n
 
--- The answer to a text. One that was taken frees its sender; a leaving sender makes its CLS; then
--- the host settles.
+-- The answer to a text. One that was taken frees its sender, while the host is up; a leaving sender
+-- makes its CLS; then the host settles.
 
 abbrev pub settles : Node → Node
 settles n = record n { host = host_settles (quiet n) n.host }
@@ -202,8 +202,8 @@ frees on n =
     let host : Host = host_makes_all (made_if_any (answer act)) n.host in
     record n {
       host = host;
-      ends = kept host (map_after_at n.ends (pair_of (sender_on on n.ends)) act);
-      echoes = kept_echoes host n.echoes;
+      ends = if is_up n.host then kept host (map_after_at n.ends (pair_of (sender_on on n.ends)) act) else n.ends;
+      echoes = if is_up n.host then kept_echoes host n.echoes else n.echoes;
       texts = set_link on idle n.texts;
     }
 

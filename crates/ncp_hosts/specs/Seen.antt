@@ -26,9 +26,8 @@ HearsAgree = (c : Command) (n : Node) → peer_of (hears c n) ≡ peers.hears (q
 abbrev pub TextsAgree : Type 0
 TextsAgree = (on : ℕ) (head : List Bool) (t : TextOut) (n : Node) → peer_of (hears_text on head t n) ≡ peers.hears_text on head t.of_size t.bits (peer_of n)
 
--- while it is up: a host that is not up has no ends
 abbrev pub FreesAgree : Type 0
-FreesAgree = (on : ℕ) (n : Node) → is_up n.host ≡ true → peer_of (frees on n) ≡ peers.frees on (peer_of n)
+FreesAgree = (on : ℕ) (n : Node) → peer_of (frees on n) ≡ peers.frees on (peer_of n)
 
 abbrev pub SettlesAgree : Type 0
 SettlesAgree = (n : Node) → peer_of (settles n) ≡ peers.settles (quiet n) (peer_of n)
