@@ -26,7 +26,8 @@ use Rattle.ncp_model.specs.Sending.{is_full}
 use Rattle.ncp_model.specs.Peers.{Peer}
 pub use Rattle.ncp_model.specs.Peers.{Call, Ask_to_send, Ask_to_receive, Close, Give, Take, Allocate, Call_back, Interrupt, called, is_full_up, echo_replies, echoes_after}
 use Rattle.ncp_model.specs.Peers as peers
-use Rattle.ncp_resets.specs.Delivery.{Slot, Empty, Ready, Travelling, Held, Subnet, Accepted, Delivered, Lost, Dead, Link, idle, undelivered, answered, woken}
+pub use Rattle.ncp_slot.specs.Slot.{is_empty}
+use Rattle.ncp_resets.specs.Delivery.{Slot, Empty, Ready, Travelling, Held, Subnet, Accepted, Delivered, Lost, Dead, Link, idle, out, undelivered, answered, woken}
 use Rattle.ncp_resets.specs.Resets.{Host, is_up, anew, host_resets, host_settles, host_falls, host_makes, host_makes_all, host_hears}
 use Rattle.ncp_resets.specs.Resets as resets
 
@@ -59,10 +60,6 @@ abbrev pub new_node : Node
 new_node = record { host = anew new_phase; ends = no_ends; echoes = no_echoes; control = idle; texts = λ _. idle; pasts = empty; wrong = false }
 
 -- Data links are quiet where on each of them the last text that went out, if any, was taken.
-
-abbrev pub is_empty : Slot TextOut → Bool
-is_empty Empty = true
-is_empty slot = false
 
 unfoldable pub all_empty : (ℕ → Link TextOut) → ℕ → ℕ → Bool
 all_empty texts zero from = true
@@ -177,7 +174,7 @@ hears_text on head t n = if is_up n.host then takes_text on head t n else n
 -- A text goes out: one that is ready, or what an open sender on the link may send.
 
 abbrev pub goes_out : ℕ → TextOut → Node → Node
-goes_out on t n = record n { texts = set_link on (record { slot = Travelling t; subnet = Accepted t }) n.texts }
+goes_out on t n = record n { texts = set_link on (out t) n.texts }
 
 abbrev pub cuts : ℕ → Option (ℕ × List Bool) → Node → Node
 cuts on None n = n
