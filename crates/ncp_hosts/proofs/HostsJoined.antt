@@ -29,7 +29,7 @@ abbrev pub Whole : Owners → Node → Type 0
 Whole own n = record {
   none : is_up n.host ≡ false → n.ends ≡ no_ends;
   quiet : n.host.phase.wait ≡ true → (on : ℕ) → own on ≡ None;
-  safe : n.wrong ≡ false;
+  safe : n.violated ≡ false;
 }
 
 abbrev pub Joined : Owners → Owners → Node → Node → List Command → List Command → Type 0

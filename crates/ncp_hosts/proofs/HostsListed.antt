@@ -202,10 +202,10 @@ pub record Low : Type 0 where
   pub control : Link (List Command)
   pub texts : ℕ → Link TextOut
   pub pasts : ListedPasts
-  pub wrong : Bool
+  pub violated : Bool
 
 abbrev pub low : Node → Low
-low n = record { host = n.host; ends = entries n.ends; echoes = n.echoes; control = n.control; texts = n.texts; pasts = entries n.pasts; wrong = n.wrong }
+low n = record { host = n.host; ends = entries n.ends; echoes = n.echoes; control = n.control; texts = n.texts; pasts = entries n.pasts; violated = n.violated }
 
 abbrev pub low_quiet : Low → Bool
 low_quiet n = all_empty n.texts 70 FIRST_LINK
@@ -245,7 +245,7 @@ low_happens pair what n =
       ends = kept_listed host (put_listed n.ends pair did.after);
       echoes = kept_echoes host n.echoes;
       pasts = pasts_listed pair what n.ends n.pasts;
-      wrong = n.wrong || is_violation did.outcome;
+      violated = n.violated || is_violation did.outcome;
     }
 
 happens-low : (pair : Pair) (what : Happening) (n : Node) → low (happens_at pair what n) ≡ low_happens pair what (low n)
@@ -299,7 +299,7 @@ low_other c n =
       ends = kept_listed host (after_listed n.ends (leads_listed c n.ends) (hear_listed c n.ends));
       echoes = kept_echoes host (echoes_after c n.echoes);
       pasts = pasts_listed_at (leads_listed c n.ends) (comes_listed c n.ends) n.ends n.pasts;
-      wrong = n.wrong || is_violation (of_hearing (answer (hear_listed c n.ends)));
+      violated = n.violated || is_violation (of_hearing (answer (hear_listed c n.ends)));
     }
 
 reaction-low : (c : Command) (n : Node) → reaction c n ≡ low_reaction c (low n)
@@ -336,7 +336,7 @@ low_takes_text on head t n =
       ends = kept_listed host (after_listed n.ends (pair_of (first_by (uses_link on) n.ends)) took);
       echoes = kept_echoes host n.echoes;
       pasts = pasts_listed_at (pair_of (first_by (uses_link on) n.ends)) (Some (all.Text_comes head t.of_size t.bits)) n.ends n.pasts;
-      wrong = n.wrong || is_violation (of_text (answer took));
+      violated = n.violated || is_violation (of_text (answer took));
     }
 
 abbrev pub low_hears_text : ℕ → List Bool → TextOut → Low → Low
@@ -384,8 +384,8 @@ low_frees on n =
     let host : Host = host_makes_all (made_if_any (answer act)) n.host in
     record n {
       host = host;
-      ends = kept_listed host (after_listed n.ends (pair_of o) act);
-      echoes = kept_echoes host n.echoes;
+      ends = if is_up n.host then kept_listed host (after_listed n.ends (pair_of o) act) else n.ends;
+      echoes = if is_up n.host then kept_echoes host n.echoes else n.echoes;
       texts = set_link on idle n.texts;
     }
 
@@ -393,7 +393,9 @@ frees-low : (on : ℕ) (n : Node) → low (frees on n) ≡ low_frees on (low n)
 frees-low on n =
     let act = answered_in on Taken n.ends in
     let o = pair_of (first_by (hears_link on) (entries n.ends)) in
-    rw (kept-low (host_makes_all (made_if_any (answer act)) n.host) (map_after_at n.ends o act), after-low n.ends o act) refl
+    let host : Host = host_makes_all (made_if_any (answer act)) n.host in
+    let m : Ends = map_after_at n.ends o act in
+    rw (either (is_up n.host) (kept host m) n.ends (kept_listed host (after_listed (entries n.ends) o act)) (entries n.ends) (kept-low host m ∙ ap (kept_listed host) (after-low n.ends o act)) refl) refl
 
 abbrev pub low_text_answered : ℕ → Slot TextOut → Subnet TextOut → Low → Low
 low_text_answered on (Travelling t) Delivered n = low_settles (low_frees on n)
@@ -515,7 +517,7 @@ run_from-low [] w = refl
 run_from-low (e ∷ es) w = run_from-low es (at e.side e.step w) ∙ ap (low_run_from es) (at-low e.side e.step w)
 
 abbrev pub low_new : Low
-low_new = record { host = anew new_phase; ends = []; echoes = no_echoes; control = idle; texts = λ _. idle; pasts = []; wrong = false }
+low_new = record { host = anew new_phase; ends = []; echoes = no_echoes; control = idle; texts = λ _. idle; pasts = []; violated = false }
 
 abbrev pub low_run : List Event → LowWorld
 low_run es = low_run_from es (record { this = low_new; that = low_new })
@@ -552,5 +554,5 @@ this-host es = ap (λ (w : LowWorld). w.this.host) (run-low es)
 pub that-host : (es : List Event) → (run es).that.host ≡ (low_run es).that.host
 that-host es = ap (λ (w : LowWorld). w.that.host) (run-low es)
 
-pub right : (es : List Event) → (run es).that.wrong ≡ (low_run es).that.wrong
-right es = ap (λ (w : LowWorld). w.that.wrong) (run-low es)
+pub right : (es : List Event) → (run es).that.violated ≡ (low_run es).that.violated
+right es = ap (λ (w : LowWorld). w.that.violated) (run-low es)

@@ -151,7 +151,14 @@ settling-stands : (n : Node) → Stands n → Stands (settles n)
 settling-stands n p = staying (is_up n.host) (is_up (host_settles (quiet n) n.host)) n.ends (settled_up (quiet n) n.host) p
 
 freeing-stands : (on : ℕ) (n : Node) → Stands n → Stands (frees on n)
-freeing-stands on n p = keeping (frees on n).host (map_after_at n.ends (pair_of (sender_on on n.ends)) (answered_in on Taken n.ends)) (answered-good n.ends on p.good)
+freeing-stands on n p = go (is_up n.host) refl
+  where
+    m : Ends
+    m = map_after_at n.ends (pair_of (sender_on on n.ends)) (answered_in on Taken n.ends)
+
+    go : (b : Bool) → is_up n.host ≡ b → Stand (is_up (frees on n).host) (if b then kept (frees on n).host m else n.ends)
+    go true u = keeping (frees on n).host m (answered-good n.ends on p.good)
+    go false d = record { none = λ _. p.none d; good = p.good }
 
 text_answered-stands : (on : ℕ) (slot : Slot TextOut) (subnet : Subnet TextOut) (n : Node) → Stands n → Stands (text_answered on slot subnet n)
 text_answered-stands on (Travelling t) Delivered n p = settling-stands (frees on n) (freeing-stands on n p)

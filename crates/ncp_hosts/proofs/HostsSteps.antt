@@ -36,7 +36,7 @@ use Rattle.ncp_hosts.proofs.TiesTexts.{owned_by, ties-goes-out, ties-text-comes,
 use Rattle.ncp_hosts.proofs.HostsJoined.{lives, is_alive, Whole, Joined, up_alive, up_waits, not_alive, clears, settles-keeps, hears_rst-keeps, hears_rrp-keeps, pending}
 
 -- of a host that is up this is all that is asked
-whole-up : (own : Owners) (n : Node) → is_up n.host ≡ true → n.wrong ≡ false → Whole own n
+whole-up : (own : Owners) (n : Node) → is_up n.host ≡ true → n.violated ≡ false → Whole own n
 whole-up own n e w = record { none = λ f. absurd (both_ways (is_up n.host) f e); quiet = λ f. absurd (both_ways n.host.phase.wait (up_waits n.host e) f); safe = w }
 
 neither : (a b : Bool) → a ≡ false → b ≡ false → (a || b) ≡ false
@@ -49,7 +49,7 @@ calls-keeps own own' n m x y pair call k =
     cond_both (is_up n.host) (happens_at pair what n) n (λ (o : Node). Joined own own' o m x y)
     (λ e. let t = ties-calls (is_alive n m y) (is_alive m n x) own own' n m (lives n m x) (lives m n y) pair call (is_full n.host.phase) (up_alive n.host (rrps (y ++ m.host.phase.waiting)) e) k.ties in
     pending did.made (kept_echoes (host_makes_all did.made n.host) n.echoes) own own' after m x y (called-other pair what (get n.ends pair)) e k.kept t.ties
-    (whole-up own after e (neither n.wrong (is_violation did.outcome) k.this.safe t.safe)) k.that)
+    (whole-up own after e (neither n.violated (is_violation did.outcome) k.this.safe t.safe)) k.that)
     (λ e. k)
   where
     what : Happening
@@ -59,7 +59,7 @@ calls-keeps own own' n m x y pair call k =
     did = happens pair what (get n.ends pair)
 
     after : Node
-    after = record n { ends = put n.ends pair did.after; pasts = pasts_after pair what n.ends n.pasts; wrong = n.wrong || is_violation did.outcome }
+    after = record n { ends = put n.ends pair did.after; pasts = pasts_after pair what n.ends n.pasts; violated = n.violated || is_violation did.outcome }
 
 -- an echo is asked for, or the call is refused
 echo-made : (byte : ℕ) (full : Bool) (s : Echoes) (P : List Command → Type 0) → P [] → P (Eco byte ∷ []) → P (made_by_call (echo_answer byte full s))
@@ -122,7 +122,7 @@ module _ (own own' : Owners) (n m : Node) (x y : List Command) (c : Command) (o 
     ends = kept h (map_after_at n.ends (leads_to c n.ends) (hear c n.ends));
     echoes = kept_echoes h (echoes_after c n.echoes);
     pasts = pasts_after_at (leads_to c n.ends) (comes c n.ends) n.ends n.pasts;
-    wrong = n.wrong || is_violation (of_hearing (answer (hear c n.ends)));
+    violated = n.violated || is_violation (of_hearing (answer (hear c n.ends)));
   }
 
   fills : is_up n.host ≡ true → is_full_up (answer (hear c n.ends)) ≡ true → Joined own own' (after (host_falls n.host)) m x y
@@ -131,7 +131,7 @@ module _ (own own' : Owners) (n m : Node) (x y : List Command) (c : Command) (o 
       record {
         kept = j.kept;
         ties = ties-pasts (is_alive (after (host_falls n.host)) m y) (alive m.host (rrps (x ++ (host_falls n.host).phase.waiting))) own own' (record n { ends = no_ends }) m (live m.host.phase.wait (x ++ (host_falls n.host).phase.waiting)) (live n.host.phase.wait (y ++ m.host.phase.waiting)) (pasts_after_at (leads_to c n.ends) (comes c n.ends) n.ends n.pasts) (full-pasts c n f) j.ties;
-        this = record { none = λ _. refl; quiet = j.this.quiet; safe = neither n.wrong (is_violation (of_hearing (answer (hear c n.ends)))) k.this.safe (full-safe c n.ends f) };
+        this = record { none = λ _. refl; quiet = j.this.quiet; safe = neither n.violated (is_violation (of_hearing (answer (hear c n.ends)))) k.this.safe (full-safe c n.ends f) };
         that = j.that;
       }
 
@@ -139,9 +139,9 @@ module _ (own own' : Owners) (n m : Node) (x y : List Command) (c : Command) (o 
   acts e f =
       let t = ties-hears (is_alive n m y) (is_alive m n x) own own' n m (lives n m x) (lives m n y) c (up_alive n.host (rrps (y ++ m.host.phase.waiting)) e) f (first e) in
       pending (made_by_hearing (answer (hear c n.ends)) ++ echo_replies c) (kept_echoes (host_makes_all (made_by_hearing (answer (hear c n.ends)) ++ echo_replies c) came) (echoes_after c n.echoes)) own own'
-      (record n { host = came; ends = map_after_at n.ends (leads_to c n.ends) (hear c n.ends); pasts = pasts_after_at (leads_to c n.ends) (comes c n.ends) n.ends n.pasts; wrong = n.wrong || is_violation (of_hearing (answer (hear c n.ends))) }) m x y
+      (record n { host = came; ends = map_after_at n.ends (leads_to c n.ends) (hear c n.ends); pasts = pasts_after_at (leads_to c n.ends) (comes c n.ends) n.ends n.pasts; violated = n.violated || is_violation (of_hearing (answer (hear c n.ends))) }) m x y
       (hear-other c n.ends) e (came_up n.host m.host x y c e o k.kept) t.ties
-      (record { none = λ z. absurd (both_ways (is_up n.host) z e); quiet = λ z. absurd (both_ways n.host.phase.wait (up_waits n.host e) z); safe = neither n.wrong (is_violation (of_hearing (answer (hear c n.ends)))) k.this.safe t.safe }) k.that
+      (record { none = λ z. absurd (both_ways (is_up n.host) z e); quiet = λ z. absurd (both_ways n.host.phase.wait (up_waits n.host e) z); safe = neither n.violated (is_violation (of_hearing (answer (hear c n.ends)))) k.this.safe t.safe }) k.that
 
   pub comes-up : (h : Host) → h ≡ (if is_up n.host then (if is_full_up (answer (hear c n.ends)) then host_falls n.host else host_makes_all (made_by_hearing (answer (hear c n.ends)) ++ echo_replies c) came) else n.host) → Joined own own' (if is_up n.host then after h else n) m x y
   comes-up h e = go (is_up n.host) refl (is_full_up (answer (hear c n.ends))) refl e
@@ -195,7 +195,7 @@ module _ (own own' : Owners) (n m : Node) (x y : List Command) (on : ℕ) (head 
   took = record n {
     ends = map_after_at n.ends (pair_of (receiver_on on n.ends)) (text_in on t.of_size t.bits n.ends);
     pasts = pasts_after_at (pair_of (receiver_on on n.ends)) (Some (all.Text_comes head t.of_size t.bits)) n.ends n.pasts;
-    wrong = n.wrong || is_violation (of_text (answer (text_in on t.of_size t.bits n.ends)));
+    violated = n.violated || is_violation (of_text (answer (text_in on t.of_size t.bits n.ends)));
   }
 
   abbrev replied : List Command
@@ -205,7 +205,7 @@ module _ (own own' : Owners) (n m : Node) (x y : List Command) (on : ℕ) (head 
   text-heard e =
       let r = ties-text-comes (is_alive n m y) (is_alive m n x) own own' n m (lives n m x) (lives m n y) on head t (up_alive n.host (rrps (y ++ m.host.phase.waiting)) e) s k.ties in
       pending replied (kept_echoes (host_makes_all replied n.host) n.echoes) own own' took brought x y (text-other head on t.of_size t.bits n.ends) e k.kept r.ties
-      (whole-up own took e (neither n.wrong (is_violation (of_text (answer (text_in on t.of_size t.bits n.ends)))) k.this.safe r.safe)) k.that
+      (whole-up own took e (neither n.violated (is_violation (of_text (answer (text_in on t.of_size t.bits n.ends)))) k.this.safe r.safe)) k.that
 
   text-dropped : is_up n.host ≡ false → Joined own own' n brought x y
   text-dropped e = record { kept = k.kept; ties = go (is_alive n m y) refl; this = k.this; that = k.that }
@@ -303,15 +303,17 @@ module _ (own own' : Owners) (n m : Node) (x y : List Command) (on : ℕ) (k : J
       nothing : is_up n.host ≡ false → made ≡ []
       nothing e = ap made_if_any (ap (λ (d : Ends). answer (answered_in on Taken d)) (k.this.none e) ∙ gone-answer on)
 
-      without : is_up n.host ≡ false → kept n.host freed.ends ≡ n.ends
-      without e = ap (λ (b : Bool). if b then freed.ends else no_ends) e ∙ sym (k.this.none e)
+      at_up : Bool → List Command → Node
+      at_up b cs =
+          let host : Host = host_makes_all cs n.host in
+          record n { host = host; ends = if b then kept host freed.ends else n.ends; echoes = if b then kept_echoes host n.echoes else n.echoes; texts = set_link on idle n.texts }
 
       go : (u : Bool) → is_up n.host ≡ u → Joined (owned_by on None own) own' (frees on n) m x y
-      go true e = pending made (kept_echoes (host_makes_all made n.host) n.echoes) (owned_by on None own) own' freed m x y (answered-other on n.ends) e k.kept
+      go true e = subst (λ (b : Bool). Joined (owned_by on None own) own' (at_up b made) m x y) (sym e) (pending made (kept_echoes (host_makes_all made n.host) n.echoes) (owned_by on None own) own' freed m x y (answered-other on n.ends) e k.kept
           (ties-answered (is_alive n m y) (is_alive m n x) own own' n m (lives n m x) (lives m n y) on t (up_alive n.host (rrps (y ++ m.host.phase.waiting)) e) s d k.ties)
-          (whole-up (owned_by on None own) freed e k.this.safe) k.that
-      go false e = subst (λ (cs : List Command). Joined (owned_by on None own) own' (record n { host = host_makes_all cs n.host; ends = kept (host_makes_all cs n.host) freed.ends; echoes = kept_echoes (host_makes_all cs n.host) n.echoes; texts = set_link on idle n.texts }) m x y) (sym (nothing e))
-          (subst (λ (d : Ends). Joined (owned_by on None own) own' (record n { ends = d; echoes = kept_echoes n.host n.echoes; texts = set_link on idle n.texts }) m x y) (sym (without e))
+          (whole-up (owned_by on None own) freed e k.this.safe) k.that)
+      go false e = subst (λ (b : Bool). Joined (owned_by on None own) own' (at_up b made) m x y) (sym e)
+          (subst (λ (cs : List Command). Joined (owned_by on None own) own' (at_up false cs) m x y) (sym (nothing e))
           (record { kept = k.kept; ties = idle_ties e (is_alive n m y) refl; this = record { none = k.this.none; quiet = λ w. still_none (k.this.quiet w); safe = k.this.safe }; that = k.that }))
 
   pub text_answered-keeps : (slot : Slot TextOut) (subnet : Subnet TextOut) → (n.texts on).slot ≡ slot → (n.texts on).subnet ≡ subnet → Moved own own' n (text_answered on slot subnet n) m x y

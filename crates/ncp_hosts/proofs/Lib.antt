@@ -17,3 +17,5 @@ pub mod HostsHeld
 pub mod OpensNot
 pub mod LinkSums
 pub mod HostsHeadline
+pub mod Moves
+pub mod Watches

@@ -188,7 +188,14 @@ sending-opens on (Travelling t) n u = u
 sending-opens on (Held t) n u = u
 
 text_answered-opens : (on : ℕ) (slot : Slot TextOut) (subnet : Subnet TextOut) (n : Node) → OpenNone n → OpenNone (text_answered on slot subnet n)
-text_answered-opens on (Travelling t) Delivered n u = keeping (frees on n).host (map_after_at n.ends (pair_of (sender_on on n.ends)) (answered_in on Taken n.ends)) (answered-opens n.ends on u)
+text_answered-opens on (Travelling t) Delivered n u = go (is_up n.host)
+  where
+    m : Ends
+    m = map_after_at n.ends (pair_of (sender_on on n.ends)) (answered_in on Taken n.ends)
+
+    go : (b : Bool) → NoneOpen (if b then kept (frees on n).host m else n.ends)
+    go true = keeping (frees on n).host m (answered-opens n.ends on u)
+    go false = u
 text_answered-opens on slot subnet n u = u
 
 control_answered-opens : (slot : Slot (List Command)) (subnet : Subnet (List Command)) (n : Node) → OpenNone n → OpenNone (control_answered slot subnet n)

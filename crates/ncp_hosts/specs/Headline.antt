@@ -11,7 +11,7 @@ use Rattle.ncp_model.specs.Ends.{hears_link, uses_link, link_of}
 use Rattle.ncp_model.specs.Leading.{passes}
 use Rattle.ncp_watch.specs.Histories.{opens, IsBeginning}
 use Rattle.ncp_watch.specs.Books.{BooksAt}
-use Rattle.ncp_resets.specs.Delivery.{Slot, Empty, Ready, Travelling, Held, Subnet, Free, Accepted, Delivered, Lost, Dead}
+pub use Rattle.ncp_resets.specs.Delivery.{not_come}
 use Rattle.ncp_resets.specs.Resets.{underway}
 use Rattle.ncp_hosts.specs.Hosts.{TextOut, Node, World, past_of, is_empty}
 use Rattle.ncp_model.specs.Pairs.{turned}
@@ -38,16 +38,7 @@ abbrev pub sum_on : ℕ → (Command → ℕ) → List Command → ℕ
 sum_on on f [] = 0
 sum_on on f (c ∷ cs) = (if names_link on (link_of c) then f c else 0) + sum_on on f cs
 
--- the text of a link that went out and has not come
-abbrev pub not_come : Slot TextOut → Subnet TextOut → Option TextOut
-not_come Empty s = None
-not_come (Ready t) s = Some t
-not_come (Held t) s = Some t
-not_come (Travelling t) Free = None
-not_come (Travelling t) (Accepted u) = Some u
-not_come (Travelling t) Delivered = None
-not_come (Travelling t) Lost = Some t
-not_come (Travelling t) Dead = Some t
+-- of the text of a link that went out and has not come
 
 abbrev pub how_many : Option TextOut → ℕ
 how_many None = 0

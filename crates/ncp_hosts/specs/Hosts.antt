@@ -1,32 +1,29 @@
 -- Two hosts with their connections, and the links between them: all that may happen. Each step is
 -- written once, for "this host" and "that host". Every rule is one of an end, of a phase, or of a
 -- message on a link.
-use Rattle.std.specs.Prelude.{ℕ, zero, suc, ◌==◌, Bool, true, false, ◌&&◌, ◌||◌, if◌then◌else◌, List, [], ◌∷◌, ◌++◌, Option, None, Some, Result, Ok, Err}
-use Rattle.std.specs.FinMap.{FinMap, empty, get, insert, remove}
+use Rattle.std.specs.Prelude.{ℕ, zero, suc, ◌==◌, Bool, true, false, ◌&&◌, ◌||◌, if◌then◌else◌, List, [], ◌∷◌, Option, None, Some}
+use Rattle.std.specs.FinMap.{FinMap, empty, get, insert}
 use Rattle.ncp_control.specs.declared.command.Command.{Command}
-use Rattle.ncp_control.specs.declared.command.Command.TheVariants.{Eco, Erp, Rst, Rrp}
-use Rattle.ncp_control.specs.declared.command.Command.TheVariants as commands
+use Rattle.ncp_control.specs.declared.command.Command.TheVariants.{Rst, Rrp}
 use Rattle.ncp_model.specs.declared.pair.Pair.{Pair}
-use Rattle.ncp_model.specs.declared.call_fault.CallFault.{CallFault}
-use Rattle.ncp_model.specs.declared.outcomes.Heard.{Heard}
-use Rattle.ncp_model.specs.declared.outcomes.Heard.TheVariants as heard
 use Rattle.ncp_model.specs.declared.limits.TheConstants.{FIRST_LINK}
 use Rattle.ncp_model.specs.Pairs.{pair_cmp}
 use Rattle.ncp_model.specs.End.{End}
-use Rattle.ncp_model.specs.Act.{answer, made_if_any, made_by_call, made_by_hearing}
+use Rattle.ncp_model.specs.Act.{answer, made_if_any, made_by_call}
 use Rattle.ncp_model.specs.Texts.{made_by_text, Taken}
-use Rattle.ncp_model.specs.Ends.{Ends, count, has_asked, free_link, sender_on, receiver_on, pair_of, leads_to, hear, text_in, cut_in, answered_in, map_after_at, no_ends, put}
+use Rattle.ncp_model.specs.Ends.{Ends, sender_on, receiver_on, pair_of, leads_to, hear, text_in, cut_in, answered_in, map_after_at, no_ends, put}
 use Rattle.ncp_model.specs.Happenings.{Happening, Outcome, Happened, happens, of_hearing, of_text, is_violation}
 use Rattle.ncp_model.specs.Happenings as all
 use Rattle.ncp_model.specs.Leading.{comes}
 use Rattle.ncp_watch.specs.Histories.{Past, no_past, adds, opens}
-use Rattle.ncp_model.specs.Echo.{Echoes, no_echoes, echo_answer, echo_asked, eco_reply, hear_erp, hear_err, purge_echo}
+use Rattle.ncp_model.specs.Echo.{Echoes, no_echoes, echo_answer, echo_asked, purge_echo}
 use Rattle.ncp_model.specs.Phase.{new_phase, is_resetting, Reaction}
 use Rattle.ncp_model.specs.Sending.{is_full}
 use Rattle.ncp_model.specs.Peers.{Peer}
 pub use Rattle.ncp_model.specs.Peers.{Call, Ask_to_send, Ask_to_receive, Close, Give, Take, Allocate, Call_back, Interrupt, called, is_full_up, echo_replies, echoes_after}
 use Rattle.ncp_model.specs.Peers as peers
-use Rattle.ncp_resets.specs.Delivery.{Slot, Empty, Ready, Travelling, Held, Subnet, Accepted, Delivered, Lost, Dead, Link, idle, undelivered, answered, woken}
+pub use Rattle.ncp_slot.specs.Slot.{is_empty}
+use Rattle.ncp_resets.specs.Delivery.{Slot, Empty, Ready, Travelling, Held, Subnet, Accepted, Delivered, Lost, Dead, Link, idle, out, undelivered, answered, woken}
 use Rattle.ncp_resets.specs.Resets.{Host, is_up, anew, host_resets, host_settles, host_falls, host_makes, host_makes_all, host_hears}
 use Rattle.ncp_resets.specs.Resets as resets
 
@@ -53,16 +50,12 @@ pub record Node : Type 0 where
   pub control : Link (List Command)  -- its control message that is out
   pub texts : ℕ → Link TextOut  -- on each data link, its text that is out
   pub pasts : Pasts  -- a history, as the next
-  pub wrong : Bool  -- an ERR was made, or a text was answered as one that the peer may not send
+  pub violated : Bool  -- an ERR was made, or a text was answered as one that the peer may not send
 
 abbrev pub new_node : Node
-new_node = record { host = anew new_phase; ends = no_ends; echoes = no_echoes; control = idle; texts = λ _. idle; pasts = empty; wrong = false }
+new_node = record { host = anew new_phase; ends = no_ends; echoes = no_echoes; control = idle; texts = λ _. idle; pasts = empty; violated = false }
 
 -- Data links are quiet where on each of them the last text that went out, if any, was taken.
-
-abbrev pub is_empty : Slot TextOut → Bool
-is_empty Empty = true
-is_empty slot = false
 
 unfoldable pub all_empty : (ℕ → Link TextOut) → ℕ → ℕ → Bool
 all_empty texts zero from = true
@@ -111,7 +104,7 @@ happens_at pair what n =
       ends = kept host (put n.ends pair did.after);
       echoes = kept_echoes host n.echoes;
       pasts = pasts_after pair what n.ends n.pasts;
-      wrong = n.wrong || is_violation did.outcome;
+      violated = n.violated || is_violation did.outcome;
     }
 
 abbrev pub calls : Pair → Call → Node → Node
@@ -145,7 +138,7 @@ hears_other c n =
       ends = kept host (map_after_at n.ends (leads_to c n.ends) (hear c n.ends));
       echoes = kept_echoes host (echoes_after c n.echoes);
       pasts = pasts_after_at (leads_to c n.ends) (comes c n.ends) n.ends n.pasts;
-      wrong = n.wrong || is_violation (of_hearing (answer (hear c n.ends)));
+      violated = n.violated || is_violation (of_hearing (answer (hear c n.ends)));
     }
 
 abbrev pub hears : Command → Node → Node
@@ -168,7 +161,7 @@ takes_text on head t n =
       ends = kept host (map_after_at n.ends (pair_of (receiver_on on n.ends)) took);
       echoes = kept_echoes host n.echoes;
       pasts = pasts_after_at (pair_of (receiver_on on n.ends)) (Some (all.Text_comes head t.of_size t.bits)) n.ends n.pasts;
-      wrong = n.wrong || is_violation (of_text (answer took));
+      violated = n.violated || is_violation (of_text (answer took));
     }
 
 abbrev pub hears_text : ℕ → List Bool → TextOut → Node → Node
@@ -177,7 +170,7 @@ hears_text on head t n = if is_up n.host then takes_text on head t n else n
 -- A text goes out: one that is ready, or what an open sender on the link may send.
 
 abbrev pub goes_out : ℕ → TextOut → Node → Node
-goes_out on t n = record n { texts = set_link on (record { slot = Travelling t; subnet = Accepted t }) n.texts }
+goes_out on t n = record n { texts = set_link on (out t) n.texts }
 
 abbrev pub cuts : ℕ → Option (ℕ × List Bool) → Node → Node
 cuts on None n = n
@@ -190,8 +183,8 @@ sends_text on (Ready t) n = goes_out on t n
 sends_text on (Travelling t) n = n
 sends_text on (Held t) n = n
 
--- The answer to a text. One that was taken frees its sender; a leaving sender makes its CLS; then
--- the host settles.
+-- The answer to a text. One that was taken frees its sender, while the host is up; a leaving sender
+-- makes its CLS; then the host settles.
 
 abbrev pub settles : Node → Node
 settles n = record n { host = host_settles (quiet n) n.host }
@@ -202,8 +195,8 @@ frees on n =
     let host : Host = host_makes_all (made_if_any (answer act)) n.host in
     record n {
       host = host;
-      ends = kept host (map_after_at n.ends (pair_of (sender_on on n.ends)) act);
-      echoes = kept_echoes host n.echoes;
+      ends = if is_up n.host then kept host (map_after_at n.ends (pair_of (sender_on on n.ends)) act) else n.ends;
+      echoes = if is_up n.host then kept_echoes host n.echoes else n.echoes;
       texts = set_link on idle n.texts;
     }
 

@@ -1,4 +1,6 @@
 pub mod Hosts
 pub mod Seen
+pub mod Watching
+pub mod Moving
 pub mod HostRuns
 pub mod Headline

@@ -36,8 +36,8 @@ pub fn only_resets_act_until_the_answer()
 /// A host that is up notes in its ghost what is against the protocol: that it answers a command with an
 /// ERR, or a text as not connected, of the wrong size or beyond the allocation.
 pub fn what_is_against_the_protocol_is_noted()
-    ensures commands { (c : Command) (n : Node) → is_up n.host ≡ true → is_violation (of_hearing (answer (hear c n.ends))) ≡ true → (hears c n).wrong ≡ true }
-    ensures texts { (on : ℕ) (head : List Bool) (t : TextOut) (n : Node) → is_up n.host ≡ true → is_violation (of_text (answer (text_in on t.of_size t.bits n.ends))) ≡ true → (hears_text on head t n).wrong ≡ true }
+    ensures commands { (c : Command) (n : Node) → is_up n.host ≡ true → is_violation (of_hearing (answer (hear c n.ends))) ≡ true → (hears c n).violated ≡ true }
+    ensures texts { (on : ℕ) (head : List Bool) (t : TextOut) (n : Node) → is_up n.host ≡ true → is_violation (of_text (answer (text_in on t.of_size t.bits n.ends))) ≡ true → (hears_text on head t n).violated ≡ true }
 {}
 
 /// Neither host ever makes an ERR for a command of the other, or answers its text as not connected, of
@@ -48,7 +48,7 @@ pub fn what_is_against_the_protocol_is_noted()
 /// granted less what was returned and used; what it got was taken or is held, until it left; and it
 /// is a beginning of what was given since the sender last opened, whatever the sender has done since.
 pub fn hosts_lose_and_make_nothing()
-    ensures safe { (events : List Event) → ((run events).this.wrong ≡ false) × ((run events).that.wrong ≡ false) }
+    ensures safe { (events : List Event) → ((run events).this.violated ≡ false) × ((run events).that.violated ≡ false) }
     ensures messages { (events : List Event) (pair : Pair) → sends pair ≡ true → MessagesAgree pair (run events) × MessagesAgree pair (swap (run events)) }
     ensures bits { (events : List Event) (pair : Pair) → sends pair ≡ true → BitsAgree pair (run events) × BitsAgree pair (swap (run events)) }
     ensures link { (events : List Event) (pair : Pair) → sends pair ≡ true → OnOneLink pair (run events) × OnOneLink pair (swap (run events)) }

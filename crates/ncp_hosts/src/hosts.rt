@@ -10,7 +10,9 @@ ghost use Rattle.ncp_hosts.specs.Hosts.{Event, run, base, past_of};
 ghost use Rattle.ncp_resets.specs.Delivery.{Travelling, Held, Free, Accepted, idle};
 ghost use Rattle.ncp_model.specs.Rows.{outward, inward, ones, noughts, asked_receive, opened_end, counting, sent_one, due, gone, shut, up_phase};
 ghost use Rattle.ncp_hosts.specs.HostRuns.{with_text_out, got_and_taken, lost_twice, held_back, woken_again, both_reset, reset_under_text, reset_over, asks_again, closed_by_receiver, over_by_receiver, opened_again, closed_by_sender, over_by_sender, other_outward, other_inward, opens_another, reset_under_other_text};
-ghost use Rattle.ncp_hosts.specs.Seen.{CallsAgree, EchoesAgree, ResetsAgree, FallsAgree, HearsAgree, TextsAgree, FreesAgree, SettlesAgree};
+ghost use Rattle.ncp_hosts.specs.Seen.{CallsAgree, EchoesAgree, ResetsAgree, FallsAgree, HearsAgree, TextsAgree, FreesAgree, SettlesAgree, MessagesAgree, CutsAgree, SendsAgree, StepsAgree, OthersStay};
+ghost use Rattle.ncp_hosts.specs.Watching.{WatchesAgree, OtherWatchesStay};
+ghost use Rattle.ncp_hosts.specs.Moving.{ControlMoves, TextsMove, ControlIsHeard, TextsAreHeard};
 
 use ncp_model::Pair;
 
@@ -40,7 +42,7 @@ pub fn ends_stand_only_while_up()
 /// go out, come, and are taken.
 pub fn text_comes_over()
     ensures out { let w = run with_text_out in (get w.this.ends outward ≡ Some (sent_one (record (counting 1 0) { stored = noughts 8 }))) × (get w.that.ends inward ≡ Some (counting 2 16)) × (w.this.texts 2 ≡ record { slot = Travelling (record { of_size = 8; bits = ones 16 }); subnet = Accepted (record { of_size = 8; bits = ones 16 }) }) }
-    ensures taken { let w = run got_and_taken in (get w.this.ends outward ≡ Some (record (counting 1 0) { stored = noughts 8 })) × (get w.that.ends inward ≡ Some (counting 1 0)) × ((past_of w.that.pasts inward).taken ≡ ones 16) × (w.this.texts 2 ≡ idle) × (w.that.wrong ≡ false) }
+    ensures taken { let w = run got_and_taken in (get w.this.ends outward ≡ Some (record (counting 1 0) { stored = noughts 8 })) × (get w.that.ends inward ≡ Some (counting 1 0)) × ((past_of w.that.pasts inward).taken ≡ ones 16) × (w.this.texts 2 ≡ idle) × (w.that.violated ≡ false) }
 {}
 
 /// A text that is lost twice comes once; one whose destination is dead is held, and comes once it
@@ -57,14 +59,14 @@ pub fn resets_leave_no_ends()
     ensures both { let w = run both_reset in (w.this.host.phase ≡ up_phase) × (w.that.host.phase ≡ up_phase) × (get w.this.ends outward ≡ None) × (get w.that.ends inward ≡ None) }
     ensures waits { let w = run reset_under_text in (w.this.host.phase ≡ record up_phase { owe = true }) × (w.that.host.phase ≡ record up_phase { wait = true }) × (get w.this.ends outward ≡ None) × (get w.that.ends inward ≡ None) × ((past_of w.that.pasts inward).got ≡ []) }
     ensures up { let w = run reset_over in (w.this.host.phase ≡ up_phase) × (w.that.host.phase ≡ up_phase) }
-    ensures again { let w = run asks_again in (get w.that.ends inward ≡ Some asked_receive) × (w.that.wrong ≡ false) }
+    ensures again { let w = run asks_again in (get w.that.ends inward ≡ Some asked_receive) × (w.that.violated ≡ false) }
 {}
 
 /// Closing while a text is out: by the receiver, where the text is late; by the sender, where it is
 /// got. Either way both ends end, and the connection can open again on the same link.
 pub fn closing_waits_for_text()
     ensures late { let w = run closed_by_receiver in (get w.this.ends outward ≡ Some (shut (due (sent_one (counting 1 0))))) × (get w.that.ends inward ≡ Some (gone (counting 2 16))) × ((past_of w.that.pasts inward).got ≡ []) }
-    ensures over { let w = run over_by_receiver in (get w.this.ends outward ≡ None) × (get w.that.ends inward ≡ None) × (w.that.wrong ≡ false) }
+    ensures over { let w = run over_by_receiver in (get w.this.ends outward ≡ None) × (get w.that.ends inward ≡ None) × (w.that.violated ≡ false) }
     ensures again { let w = run opened_again in (get w.this.ends outward ≡ Some opened_end) × (get w.that.ends inward ≡ Some opened_end) }
     ensures got { let w = run closed_by_sender in (get w.this.ends outward ≡ Some (gone (counting 1 0))) × (get w.that.ends inward ≡ Some (shut (due (record (counting 1 0) { stored = ones 16 })))) }
     ensures over_too { let w = run over_by_sender in (get w.this.ends outward ≡ None) × (get w.that.ends inward ≡ None) × ((past_of w.that.pasts inward).taken ≡ ones 16) }
@@ -76,15 +78,36 @@ pub fn connections_open_beside_each_other()
     ensures waits { let w = run reset_under_other_text in (w.this.host.phase ≡ record up_phase { owe = true }) × (w.this.texts 2 ≡ idle) × (w.this.texts 3 ≡ record { slot = Travelling (record { of_size = 8; bits = ones 16 }); subnet = Accepted (record { of_size = 8; bits = ones 16 }) }) }
 {}
 
-/// What a host keeps of its peer goes its way alone: each step of a host is a step of that, and
-/// histories only watch.
+/// What a host keeps of its peer goes its way alone: each step of a host is a step of that, by what the
+/// links give, and no step touches what the other host keeps.
 pub fn hosts_are_watched_peers()
     ensures calls { CallsAgree }
     ensures echoes { EchoesAgree }
     ensures resets { ResetsAgree }
     ensures falls { FallsAgree }
     ensures hears { HearsAgree }
+    ensures messages { MessagesAgree }
     ensures texts { TextsAgree }
+    ensures cuts { CutsAgree }
+    ensures sends { SendsAgree }
     ensures frees { FreesAgree }
     ensures settles { SettlesAgree }
+    ensures steps { StepsAgree }
+    ensures others { OthersStay }
+{}
+
+/// The histories of a host only watch: what a step adds to them is told by the step, by what the host
+/// keeps of its peer before it, and by the histories before it; and no step touches the other's.
+pub fn histories_only_watch_hosts()
+    ensures steps { WatchesAgree }
+    ensures others { OtherWatchesStay }
+{}
+
+/// The links of a host move as slots do, and the subnet takes, loses, delivers and answers what goes out
+/// on them; no step but these changes a link.
+pub fn links_move_as_slots_do()
+    ensures control { ControlMoves }
+    ensures texts { TextsMove }
+    ensures control_is_heard { ControlIsHeard }
+    ensures texts_are_heard { TextsAreHeard }
 {}

@@ -2,12 +2,12 @@
 -- "this host" and "that host". What the hosts do besides is left open: when their data links are
 -- quiet, what they reply, and when they go down is data of the events. Phase and Delivery say which
 -- rules are of the standards.
-use Rattle.std.specs.Prelude.{◌≡◌, ℕ, ◌+◌, Bool, false, ◌&&◌, if◌then◌else◌, List, [], ◌∷◌, ◌++◌, take, drop}
+use Rattle.std.specs.Prelude.{◌≡◌, ℕ, ◌+◌, Bool, false, ◌&&◌, if◌then◌else◌, List, [], ◌∷◌, ◌++◌, take, drop, Option, None, Some}
 use Rattle.std.specs.List.{filter}
 use Rattle.ncp_control.specs.declared.command.Command.{Command}
 use Rattle.ncp_control.specs.declared.command.Command.TheVariants.{Rst, Rrp}
 use Rattle.ncp_model.specs.Phase.{Phase, new_phase, up, is_reset, is_other, settles, is_resetting, resets, hears_rst, hears_rrp, goes_down, has_place, queued, Reaction}
-use Rattle.ncp_resets.specs.Delivery.{Slot, Empty, Ready, Travelling, Held, Subnet, Free, Accepted, Delivered, Lost, Dead, Link, idle, undelivered, answered, woken}
+use Rattle.ncp_resets.specs.Delivery.{Slot, Empty, Ready, Travelling, Held, Subnet, Free, Accepted, Delivered, Lost, Dead, Link, idle, out, undelivered, answered, not_come, woken}
 
 -- a host's phase, with the other commands that it made, and those that came to it while it was
 -- up, each since its last clearing
@@ -64,15 +64,12 @@ host_hears_all (c ∷ cs) [] h = host_hears_all cs [] (host_hears c no_reaction 
 host_hears_all (c ∷ cs) (r ∷ rs) h = host_hears_all cs rs (host_hears c r h)
 
 -- the commands of the message that went out and has not come
+abbrev pub or_none : Option (List Command) → List Command
+or_none None = []
+or_none (Some m) = m
+
 abbrev pub on_line : Slot (List Command) → Subnet (List Command) → List Command
-on_line Empty s = []
-on_line (Ready m) s = m
-on_line (Travelling m) Free = []
-on_line (Travelling m) (Accepted c) = c
-on_line (Travelling m) Delivered = []
-on_line (Travelling m) Lost = m
-on_line (Travelling m) Dead = m
-on_line (Held m) s = m
+on_line slot subnet = or_none (not_come slot subnet)
 
 -- the host's commands that have not come to its peer: those of that message, then those that wait
 abbrev pub underway : Host → Link (List Command) → List Command
@@ -101,14 +98,14 @@ pub data Step : Type 0 where
   Wakes : Step  -- the user asks again for the message that is held
 
 abbrev pub sends : Slot (List Command) → List Command → ℕ → World → World
-sends (Ready m) q n w = record w { going = record { slot = Travelling m; subnet = Accepted m } }
+sends (Ready m) q n w = record w { going = out m }
 sends (Travelling m) q n w = w
 sends (Held m) q n w = w
 sends Empty [] n w = w
 sends Empty (c ∷ cs) n w =
     record w {
       this = record w.this { phase = record w.this.phase { waiting = drop (n + 1) w.this.phase.waiting } };
-      going = record { slot = Travelling (take (n + 1) w.this.phase.waiting); subnet = Accepted (take (n + 1) w.this.phase.waiting) };
+      going = out (take (n + 1) w.this.phase.waiting);
     }
 
 abbrev pub comes : Subnet (List Command) → List Reaction → World → World

@@ -10,16 +10,16 @@ use Rattle.ncp_hosts.specs.Hosts.{Node, hears, hears_other, takes_text}
 use Rattle.ncp_hosts.proofs.headline.what_is_against_the_protocol_is_noted.Goals as goal
 
 -- of a host that is up
-noted : (b : Bool) (x n : Node) → b ≡ true → x.wrong ≡ true → (if b then x else n).wrong ≡ true
-noted b x n e w = ap (λ (c : Bool). (if c then x else n).wrong) e ∙ w
+noted : (b : Bool) (x n : Node) → b ≡ true → x.violated ≡ true → (if b then x else n).violated ≡ true
+noted b x n e w = ap (λ (c : Bool). (if c then x else n).violated) e ∙ w
 
-commands : (c : Command) (n : Node) → is_up n.host ≡ true → is_violation (of_hearing (answer (hear c n.ends))) ≡ true → (hears c n).wrong ≡ true
+commands : (c : Command) (n : Node) → is_up n.host ≡ true → is_violation (of_hearing (answer (hear c n.ends))) ≡ true → (hears c n).violated ≡ true
 commands Rst n e v = absurd (cc v)
 commands Rrp n e v = absurd (cc v)
-commands c n e v = noted (is_up n.host) (hears_other c n) n e (or_right n.wrong (is_violation (of_hearing (answer (hear c n.ends)))) v)
+commands c n e v = noted (is_up n.host) (hears_other c n) n e (or_right n.violated (is_violation (of_hearing (answer (hear c n.ends)))) v)
 
 pub returns-clause-commands : goal.returns-clause-commands
 returns-clause-commands c = commands
 
 pub returns-clause-texts : goal.returns-clause-texts
-returns-clause-texts c = λ on head t n e v. noted (is_up n.host) (takes_text on head t n) n e (or_right n.wrong (is_violation (of_text (answer (text_in on t.of_size t.bits n.ends)))) v)
+returns-clause-texts c = λ on head t n e v. noted (is_up n.host) (takes_text on head t n) n e (or_right n.violated (is_violation (of_text (answer (text_in on t.of_size t.bits n.ends)))) v)
