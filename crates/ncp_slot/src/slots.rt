@@ -1,6 +1,7 @@
 //! `Slots`.
-ghost use Rattle.std.specs.Prelude.{◌≡◌, ◌≢◌, ℕ, ◌-◌, ◌+◌, ◌<◌, ◌≤◌, ◌↔◌, true, false, map, length, slice_get, IsTrue, Some, IfOk, IfSome, IfNone, OnOk, OnErr, IsOk, IsErr};
+ghost use Rattle.std.specs.Prelude.{◌≡◌, ◌≢◌, ℕ, ◌-◌, ◌+◌, ◌<◌, ◌≤◌, ◌↔◌, true, false, map, length, slice_get, IsTrue, Some, IfOk, IfSome, IfNone, OnOk, OnErr, IsNone, IsOk, IsErr};
 ghost use Rattle.std.specs.List.{list_all};
+ghost use Rattle.std.specs.Option.{option_copied};
 ghost use Rattle.ncp_slot.specs.Slot.{put_in, handed_out, answered, woken, ready_message, kept_message, is_empty, is_ready, is_travelling};
 ghost use Rattle.ncp_slot.specs.Slots.{HasSlot, no_slots, slot_at, with_slot, all_woken, OthersStay, IsReady, IsHeld, IsFirstReady, IsQuiet, is_quiet, link_at};
 
@@ -152,6 +153,19 @@ impl Slots {
         ensures none { ((link : ℕ) → ¬ IsHeld self.old link) → self.new ≡ self.old }
     {
         wake_each(&mut self.slots);
+    }
+
+    /// The message of a link that is not taken yet: one that is to go out, went out, or is held.
+    /// None where there is none, as on a link without a slot.
+    pub fn kept(&self, link: u8) -> Option<&Bits>
+        ensures kept { option_copied result ≡ kept_message (slot_at self.now link) }
+        ensures elsewhere { ¬ HasSlot link → IsNone result }
+    {
+        let slots = &self.slots;
+        if !has_slot(link) {
+            return None;
+        }
+        slots[place_of(link)].kept()
     }
 
     /// Whether a link has no message.
