@@ -7,7 +7,7 @@ ghost use Rattle.ncp_slot.specs.declared.slot.Busy.{Busy};
 ghost use Rattle.ncp_slot.specs.declared.slot.Stray.{Stray};
 ghost use Rattle.ncp_slot.specs.Slot.{put_in, handed_out, answered, woken, ready_message, kept_message, is_empty, is_ready, is_travelling, is_held};
 ghost use Rattle.ncp_slot.specs.Slots.{HasSlot, all_woken, LinkSlot, LinkSlots, no_slots, slot_at, with_slot, OthersStay, OthersStayEmpty, IsQuiet, is_quiet};
-ghost use Rattle.ncp_slot.specs.Deeds.{history_of, deeds_of, is_dead};
+ghost use Rattle.ncp_slot.specs.Deeds.{history_of, deeds_of};
 ghost use Rattle.ncp_slot.specs.Laws.{AreNotesOf, OneAnswerBetween, SameAfterFailure, OthersInOrder, PutsTold, AnswersTold, HandsTold, slot_told};
 ghost use Rattle.ncp_slot.specs.declared.slots.TheConstants.{UNUSED_LINK, FIRST_DATA_LINK, LAST_LINK, DATA_LINKS, SLOTS};
 ghost use Rattle.ncp_slot.specs.Steps.{slot_after, note_at};
@@ -20,18 +20,26 @@ use std::alloc::{AllocError, Global};
 /// Something that is done with the slot of a link.
 #[derive(Drop)]
 pub enum LinkEvent {
+    /// A message is put in.
     Put(Bits),
+    /// The message that is to go out is asked for.
     Hand,
+    /// The subnet answers.
     Answer(Answer),
+    /// The user asks for what is held.
     Wake,
 }
 
-/// What came of an event: whether it was accepted, or the message that was handed out.
+/// What came of an event.
 #[derive(Drop)]
 pub enum LinkNote {
+    /// Whether the message was accepted.
     Put(bool),
+    /// The message that was handed out.
     Handed(Option<Bits>),
+    /// Whether the answer was accepted.
     Answered(bool),
+    /// The user asked for what is held.
     Woken,
 }
 
@@ -122,12 +130,13 @@ pub fn a_message_is_kept<M>()
     ensures woken { (slot : Slot M) → kept_message (woken slot) ≡ kept_message slot }
 {}
 
-/// Only a message that is ready goes out, and only after Destination Dead is one held: until the
-/// user asks for it, it does not go out.
+/// Only a message that is ready goes out. After Incomplete Transmission it is; after Destination
+/// Dead it is held, and does not go out until the user asks for it.
 pub fn what_is_held_stays<M>()
     ensures ready { (slot : Slot M) → is_ready slot ≡ is_some (ready_message slot) }
     ensures goes_out { (slot : Slot M) (message : M) → ready_message slot ≡ Some message → handed_out slot ≡ Slot.Travelling message }
-    ensures held { (slot : Slot M) (answer : Answer) → is_travelling slot ≡ true → is_held (answered answer slot) ≡ is_dead answer }
+    ensures again { (message : M) → answered Answer.Incomplete (Slot.Travelling message) ≡ Slot.Ready message }
+    ensures held { (message : M) → answered Answer.Dead (Slot.Travelling message) ≡ Slot.Held message }
     ensures stays { (slot : Slot M) → is_held slot ≡ true → handed_out slot ≡ slot }
     ensures asked { (slot : Slot M) → is_held slot ≡ true → is_ready (woken slot) ≡ true }
     ensures unasked { (slot : Slot M) → is_held slot ≡ false → woken slot ≡ slot }
