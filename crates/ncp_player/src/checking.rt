@@ -15,7 +15,7 @@ use ncp_bits::Bits;
 
 // Counts the messages behind the header.
 fn tally_records<S: Source>(window: &mut Incoming, source: &mut S) -> Result<Tally, FileFault>
-    ensures told { (bytes : List ℕ) → Ahead window.old (S.left source.old) bytes → TalliesFrom bytes no_messages result }
+    ensures told { (bytes : List ℕ) → Ahead window.old (S.left source.old) bytes → TalliesFrom bytes no_messages result (S.left source.new) }
     ensures mark { S.has_failed source.new ≡ (S.has_failed source.old || is_read_failed result) }
     ensures other { is_write_failed result ≡ false }
 {
@@ -29,7 +29,7 @@ fn tally_records<S: Source>(window: &mut Incoming, source: &mut S) -> Result<Tal
 
 // Counts the messages of a file.
 fn tally_file<S: Source>(source: &mut S) -> Result<Tally, FileFault>
-    ensures told { (bytes : List ℕ) → S.left source.old ≡ Some bytes → TalliesFile bytes result }
+    ensures told { (bytes : List ℕ) → S.left source.old ≡ Some bytes → TalliesFile bytes result (S.left source.new) }
     ensures mark { S.has_failed source.new ≡ (S.has_failed source.old || is_read_failed result) }
     ensures other { is_write_failed result ≡ false }
 {
@@ -39,7 +39,7 @@ fn tally_file<S: Source>(source: &mut S) -> Result<Tally, FileFault>
 }
 
 /// Reads a message file to its end, writes one line that counts its messages, and answers whether
-/// none of them is short or faulty. After a fault of the file nothing is written.
+/// none of them is short or faulty. After a fault of the file, or a failed read, nothing is written.
 ///
 /// It allocates nothing, and reads in pieces of at least 4 KiB.
 pub fn check<S: Source, W: Sink>(source: &mut S, sink: &mut W) -> Result<bool, FileFault>
@@ -49,7 +49,7 @@ pub fn check<S: Source, W: Sink>(source: &mut S, sink: &mut W) -> Result<bool, F
     // Of bytes that are told, the line of the counts is written, and nothing else.
     ensures told { (bytes : List ℕ) (was : List ℕ)
         → S.left source.old ≡ Some bytes → W.written sink.old ≡ Some was
-        → Checked bytes was (W.written sink.new) result }
+        → Checked bytes was (S.left source.new) (W.written sink.new) result }
 
     // Reading and writing are blamed exactly where they failed.
     ensures read_failed { S.has_failed source.new ≡ is_read_failed result }

@@ -1,4 +1,4 @@
-use Rattle.std.proofs.Common.{◌≡◌, ℕ, List, Result}
+use Rattle.std.proofs.Common.{◌≡◌, ℕ, List, Option, Result}
 use Rattle.ncp_player.specs.declared.file.FileFault.{FileFault}
 use Rattle.ncp_player.specs.declared.tally.Tally.{Tally}
 use Rattle.ncp_player.specs.Streams.{Ahead, effort}
@@ -10,7 +10,7 @@ invariant-loop-tally g l =
     let s = g.S.Source in
     record {
       told : (bytes : List ℕ) → Ahead l.initial.window (s.left l.initial.source) bytes
-          → (now : List ℕ) × Ahead l.window (s.left l.source) now × ((r : Result Tally FileFault) → TalliesFrom now l.tally r → TalliesFrom bytes no_messages r);
+          → (now : List ℕ) × Ahead l.window (s.left l.source) now × ((r : Result Tally FileFault) (left : Option (List ℕ)) → TalliesFrom now l.tally r left → TalliesFrom bytes no_messages r left);
       mark : s.has_failed l.source ≡ s.has_failed l.initial.source;
     }
 
