@@ -1,4 +1,5 @@
 pub mod Memory
+pub mod Pieces
 pub mod Streams
 pub mod File
 pub mod Results

@@ -1,5 +1,6 @@
 //! `check`: whether a message file is sound.
-ghost use Rattle.std.specs.Prelude.{◌≡◌, ℕ, ◌<◌, ◌||◌, List, Some, false};
+ghost use Rattle.std.specs.Prelude.{◌≡◌, ℕ, ◌+◌, ◌<◌, ◌≤◌, ◌||◌, List, Some, false, length};
+ghost use Rattle.ncp_player.specs.Pieces.{reads_for, reads_beyond};
 ghost use Rattle.ncp_player.specs.Results.{is_read_failed, is_write_failed};
 ghost use Rattle.ncp_player.specs.Streams.{Ahead};
 ghost use Rattle.ncp_player.specs.Tallies.{no_messages, TalliesFrom, TalliesFile};
@@ -18,6 +19,7 @@ fn tally_records<S: Source>(window: &mut Incoming, source: &mut S) -> Result<Tal
     ensures told { (bytes : List ℕ) → Ahead window.old (S.left source.old) bytes → TalliesFrom bytes no_messages result (S.left source.new) }
     ensures mark { S.has_failed source.new ≡ (S.has_failed source.old || is_read_failed result) }
     ensures other { is_write_failed result ≡ false }
+    ensures reads { reads_beyond S.gives_all (S.reads source.old) (S.left source.old) ≤ reads_beyond S.gives_all (S.reads source.new) (S.left source.new) + 1 }
 {
     let mut message = Bits::new();
     let mut tally = Tally::new();
@@ -32,6 +34,7 @@ fn tally_file<S: Source>(source: &mut S) -> Result<Tally, FileFault>
     ensures told { (bytes : List ℕ) → S.left source.old ≡ Some bytes → TalliesFile bytes result (S.left source.new) }
     ensures mark { S.has_failed source.new ≡ (S.has_failed source.old || is_read_failed result) }
     ensures other { is_write_failed result ≡ false }
+    ensures reads { reads_beyond S.gives_all (S.reads source.old) (S.left source.old) ≤ reads_beyond S.gives_all (S.reads source.new) (S.left source.new) + 1 }
 {
     let mut window = Incoming::new();
     let _direction = read_header(&mut window, source)?;
@@ -54,6 +57,11 @@ pub fn check<S: Source, W: Sink>(source: &mut S, sink: &mut W) -> Result<bool, F
     // Reading and writing are blamed exactly where they failed.
     ensures read_failed { S.has_failed source.new ≡ is_read_failed result }
     ensures write_failed { W.has_failed sink.new ≡ is_write_failed result }
+
+    // A source that gives all that it can is read no more than once for each 4 KiB, and once more;
+    // any source no more than once for each byte, and once more.
+    ensures reads { (bytes : List ℕ) → S.left source.old ≡ Some bytes
+        → S.reads source.old ≤ S.reads source.new + reads_for S.gives_all (length bytes) + 1 }
 {
     let tally = tally_file(source)?;
     let mut page = Outgoing::new();

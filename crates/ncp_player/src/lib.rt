@@ -26,4 +26,4 @@ pub use memory::{MemorySink, MemorySource};
 pub use orders::Order;
 pub use showing::show;
 pub use sink::{Sink, ToWrite};
-pub use source::{Failed, FromRead, Source};
+pub use source::{Failed, FromRead, LEAST_PIECE, Source};

@@ -1,4 +1,4 @@
-use Rattle.std.proofs.Common.{◌∙◌, Ok, Err, refl, subst}
+use Rattle.std.proofs.Common.{◌∙◌, Ok, Err, refl, subst, arith}
 use Rattle.std.proofs.Math.Bool.{or-false}
 use Rattle.std.proofs.lemmas.Result.{err_from_is_err_and}
 use Rattle.ncp_player.specs.Tallies.{TalliesFrom}
@@ -8,6 +8,7 @@ use Rattle.ncp_player.proofs.checking.tally_records.Goals as goal
 pub loop-tally-init : goal.loop-tally-init
 loop-tally-init g c = record {
   told = λ bytes a. (bytes, a, λ r left h. subst (λ tally. TalliesFrom bytes tally r left) c.new-tally.ensures h);
+  reads = omega arith;
   mark = refl;
 }
 
@@ -28,6 +29,7 @@ loop-tally-preserved g c = record {
         read.2,
         λ r left h. before.2 r left (tallies_more before.0 read.0 c.read_record.new.message c.loop-tally.tally r left read.1 (subst (λ tally. TalliesFrom read.0 tally r left) c.count-tally.ensures h)),
       );
+  reads = let taken = c.in_ok-read_record.ensures.taken c.if-branch.true in omega (arith, taken, c.loop-tally.invariant.reads);
   mark = c.in_ok-read_record.ensures.mark ∙ or-false _ ∙ c.loop-tally.invariant.mark;
 }
 
