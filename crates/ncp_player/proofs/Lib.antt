@@ -10,4 +10,3 @@ pub mod Files
 pub mod Outcomes
 pub mod Saying
 pub mod Windows
-pub mod Pieces
