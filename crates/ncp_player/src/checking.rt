@@ -1,5 +1,5 @@
 //! `check`: whether a message file is sound.
-ghost use Rattle.std.specs.Prelude.{◌≡◌, ℕ, ◌+◌, ◌<◌, ◌≤◌, ◌||◌, List, Some, false, length};
+ghost use Rattle.std.specs.Prelude.{◌≡◌, ℕ, ◌+◌, ◌<◌, ◌≤◌, ◌||◌, List, Some, true, false, length};
 ghost use Rattle.ncp_player.specs.Pieces.{reads_for, reads_beyond};
 ghost use Rattle.ncp_player.specs.Results.{is_read_failed, is_write_failed};
 ghost use Rattle.ncp_player.specs.Streams.{Ahead};
@@ -62,6 +62,10 @@ pub fn check<S: Source, W: Sink>(source: &mut S, sink: &mut W) -> Result<bool, F
     // any source no more than once for each byte, and once more.
     ensures reads { (bytes : List ℕ) → S.left source.old ≡ Some bytes
         → S.reads source.old ≤ S.reads source.new + reads_for S.gives_all (length bytes) + 1 }
+
+    // A sink that takes all that it can is written to once, and where it is full or a write fails
+    // once more.
+    ensures writes { W.takes_all ≡ true → W.writes sink.old ≤ W.writes sink.new + 2 }
 {
     let tally = tally_file(source)?;
     let mut page = Outgoing::new();

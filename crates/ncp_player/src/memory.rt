@@ -157,9 +157,16 @@ impl MemorySink {
 }
 
 impl Sink for MemorySink {
-    ghost use Rattle.std.specs.Prelude.{Some};
+    ghost use Rattle.std.specs.Prelude.{Some, true};
+    ghost use Rattle.ncp_player.specs.Memory.{writes_left};
 
     ghost written = { λ sink. Some sink.written };
+
+    ghost takes_all = { true };
+
+    ghost room = { λ sink. sink.room };
+
+    ghost writes = { λ sink. writes_left sink };
 
     ghost has_failed = { λ sink. sink.failed };
 
@@ -167,13 +174,13 @@ impl Sink for MemorySink {
         ensures count { IfOk result (λ count. count ≤ length piece.now) }
         ensures some { IfOk result (λ count. 0 < length piece.now → 0 < count) }
         ensures bytes { WriteAppends (Some self.old.written) (Some self.new.written) result piece.now }
-        ensures mark { self.new.failed ≡ (self.old.failed || is_err result) }
-
-        // It fails exactly where it is to, or is full, and else takes all for which there is room.
-        ensures fails { IsErr result ↔ WriteFails self.old (length piece.now) }
         ensures all { IfOk result (λ count. count ≡ min (length piece.now) self.old.room) }
         ensures room { MatchResult result (λ count. self.new.room + count ≡ self.old.room) (λ _. self.new.room ≡ self.old.room) }
         ensures counted { self.new.writes ≡ write_number self.old }
+        ensures mark { self.new.failed ≡ (self.old.failed || is_err result) }
+
+        // It fails exactly where it is to, or is full.
+        ensures fails { IsErr result ↔ WriteFails self.old (length piece.now) }
         ensures same { self.new.fails_at ≡ self.old.fails_at }
     {
         self.writes = self.writes.saturating_add(1);

@@ -34,6 +34,7 @@ loop-number-preserved g c =
           );
       reads = let taken = c.in_ok-show_next.ensures.taken c.if-branch.true in omega (arith, taken, c.loop-number.invariant.reads);
       source_mark = c.in_ok-show_next.ensures.source_mark ∙ or-false _ ∙ c.loop-number.invariant.source_mark;
+      writes = let one = c.in_ok-show_next.ensures.writes in omega (arith, one, c.loop-number.invariant.writes);
       sink_mark = c.in_ok-show_next.ensures.sink_mark ∙ or-false _ ∙ c.loop-number.invariant.sink_mark;
     }
 
