@@ -11,3 +11,4 @@ pub mod Outcomes
 pub mod Saying
 pub mod Windows
 pub mod Pieces
+pub mod Written

@@ -15,6 +15,8 @@ mod record;
 mod showing;
 mod sink;
 mod source;
+#[cfg(test)]
+mod stream_tests;
 mod tally;
 #[cfg(test)]
 mod tests;
