@@ -12,25 +12,25 @@ use Rattle.ncp_player.specs.Tallies.{TalliesFile}
 fresh : (was line page : List ℕ) (written : Option (List ℕ)) → written ≡ Some was → page ≡ line → SaidSoFar was page written line
 fresh was line page written e p = ([], e ∙ ap Some (sym (append-nil was)), p)
 
-pub checked_ok : (bytes was page last : List ℕ) (written now : Option (List ℕ)) (tally : Tally) (good : Bool) → TalliesFile bytes (Ok tally) → written ≡ Some was → page ≡ tally_line tally
-    → (last ≡ []) × SaysText page written [] last now → good ≡ is_sound tally → Checked bytes was now (Ok good)
-checked_ok bytes was page last written now tally good h e p k g =
+pub checked_ok : (bytes was page last : List ℕ) (left written now : Option (List ℕ)) (tally : Tally) (good : Bool) → TalliesFile bytes (Ok tally) left → written ≡ Some was → page ≡ tally_line tally
+    → (last ≡ []) × SaysText page written [] last now → good ≡ is_sound tally → Checked bytes was left now (Ok good)
+checked_ok bytes was page last left written now tally good h e p k g =
     let line = tally_line (tally_of h.0) in
     let said = k.1 was line (fresh was line page written e (p ∙ ap tally_line h.2)) in
     let same : said.0 ≡ line = sym (append-nil said.0) ∙ ap (λ xs. said.0 ++ xs) (sym k.0) ∙ said.2 ∙ append-nil line in
     (h.0, h.1, said.1 ∙ ap (λ xs. Some (was ++ xs)) same, g ∙ ap is_sound h.2)
 
-pub checked_broken : (bytes was page : List ℕ) (written now : Option (List ℕ)) (tally : Tally) → TalliesFile bytes (Ok tally) → written ≡ Some was → page ≡ tally_line tally → SaysBeginning page written [] now
-    → Checked bytes was now (Err WriteFailed)
-checked_broken bytes was page written now tally h e p k =
+pub checked_broken : (bytes was page : List ℕ) (left written now : Option (List ℕ)) (tally : Tally) → TalliesFile bytes (Ok tally) left → written ≡ Some was → page ≡ tally_line tally → SaysBeginning page written [] now
+    → Checked bytes was left now (Err WriteFailed)
+checked_broken bytes was page left written now tally h e p k =
     let line = tally_line (tally_of h.0) in
     let said = k.1 was line (fresh was line page written e (p ∙ ap tally_line h.2)) in
     (h.0, said.0, k.0, h.1, sym (said.2 ∙ append-nil line), said.1)
 
-pub checked_fault : (bytes was : List ℕ) (written : Option (List ℕ)) (fault : FileFault) → TalliesFile bytes (Err fault) → written ≡ Some was → Checked bytes was written (Err fault)
-checked_fault bytes was written BadHeader h e = (h.0, h.1, e)
-checked_fault bytes was written Truncated h e = (h.0, h.1, e)
-checked_fault bytes was written TooLong h e = (h.0, h.1, e)
-checked_fault bytes was written SpareNotZero h e = (h.0, h.1, e)
-checked_fault bytes was written ReadFailed h e = e
-checked_fault bytes was written WriteFailed h e = absurd h
+pub checked_fault : (bytes was : List ℕ) (left written : Option (List ℕ)) (fault : FileFault) → TalliesFile bytes (Err fault) left → written ≡ Some was → Checked bytes was left written (Err fault)
+checked_fault bytes was left written BadHeader h e = (h.0, h.1, e)
+checked_fault bytes was left written Truncated h e = (h.0, h.1, e)
+checked_fault bytes was left written TooLong h e = (h.0, h.1, e)
+checked_fault bytes was left written SpareNotZero h e = (h.0, h.1, e)
+checked_fault bytes was left written ReadFailed h e = (h.0, h.1, h.2, h.3, h.4, h.5, h.6, h.7, e)
+checked_fault bytes was left written WriteFailed h e = absurd h

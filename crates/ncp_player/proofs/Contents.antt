@@ -20,7 +20,7 @@ use Rattle.ncp_player.proofs.Files.{next_none, next_read, next_whole, behind_rec
 
 -- ---- a record at the front
 
-two_at_least : (bytes rest : List ℕ) (message : List Bool) → next_record bytes ≡ Ok (Some (message, rest)) → 2 ≤ length bytes
+pub two_at_least : (bytes rest : List ℕ) (message : List Bool) → next_record bytes ≡ Ok (Some (message, rest)) → 2 ≤ length bytes
 two_at_least [] rest message h = let e : ⊥ = cc in absurd e
 two_at_least (a ∷ []) rest message h = let e : ⊥ = cc in absurd e
 two_at_least (a ∷ b ∷ bytes) rest message h = omega arith
@@ -30,10 +30,10 @@ not_short b false d x m h = refl
 not_short true true d x m h = let e : ⊥ = cc in absurd e
 not_short false true d x m h = let e : ⊥ = cc in absurd e
 
-read_fits : (bytes : List ℕ) (len : ℕ) (message : List Bool) → read_bytes bytes len ≡ Ok message → bytes_for len ≤ length bytes
+pub read_fits : (bytes : List ℕ) (len : ℕ) (message : List Bool) → read_bytes bytes len ≡ Ok message → bytes_for len ≤ length bytes
 read_fits bytes len message h = ltb-false _ _ (not_short (ltb 8192 len) (ltb (length bytes) (bytes_for len)) _ _ message h)
 
-record_read : (len : ℕ) (bytes rest : List ℕ) (message : List Bool) (r : Result (List Bool) BitsFault) → record_of len bytes r ≡ Ok (Some (message, rest)) → (r ≡ Ok message) × (rest ≡ drop (bytes_for len) bytes)
+pub record_read : (len : ℕ) (bytes rest : List ℕ) (message : List Bool) (r : Result (List Bool) BitsFault) → record_of len bytes r ≡ Ok (Some (message, rest)) → (r ≡ Ok message) × (rest ≡ drop (bytes_for len) bytes)
 record_read len bytes rest message (Ok m) h =
     let pair : ◌≡◌ {A = List Bool × List ℕ} (m, drop (bytes_for len) bytes) (message, rest) = cc in
     (ap (λ p. Ok p.0) pair, sym (ap (λ p. p.1) pair))

@@ -1,5 +1,6 @@
 -- Counting messages, one after the other.
-use Rattle.std.proofs.Common.{◌≡◌, ℕ, ◌+◌, ◌≤◌, Bool, true, false, cond, List, [], ◌∷◌, length, drop, Option, Some, None, Result, Ok, Err, refl, ap, ◌∙◌, arith}
+use Rattle.std.proofs.Common.{◌≡◌, ℕ, ◌+◌, ◌≤◌, Bool, true, false, cond, List, [], ◌∷◌, ◌++◌, length, take, drop, Option, Some, None, Result, Ok, Err, refl, sym, ap, ◌∙◌, arith, subst}
+use Rattle.std.proofs.lemmas.List.{append_assoc}
 use Rattle.std.specs.List.{count_by}
 use Rattle.std.proofs.lemmas.List.Recursion.{is_count_by}
 use Rattle.ncp_player.specs.declared.file.Direction.{Direction}
@@ -7,10 +8,13 @@ use Rattle.ncp_player.specs.declared.file.FileFault.{FileFault}
 use Rattle.ncp_player.specs.declared.file.FileFault.TheVariants.{BadHeader, Truncated, TooLong, SpareNotZero, ReadFailed, WriteFailed}
 use Rattle.ncp_player.specs.declared.tally.Verdict.{Verdict}
 use Rattle.ncp_player.specs.declared.tally.Tally.{Tally}
-use Rattle.ncp_player.specs.File.{direction_of, next_record}
+use Rattle.ncp_player.specs.File.{direction_of, next_record, Holds}
 use Rattle.ncp_player.specs.Steps.{ReadsHeader, ReadsRecord}
 use Rattle.ncp_player.specs.Checked.{capped, count_of, verdict_of, is_short, is_of_type_0, is_faulty, is_bad, tally_of}
 use Rattle.ncp_player.specs.Tallies.{one_more, tally_with, tally_from, TalliesFrom, no_messages, TalliesFile}
+use Rattle.ncp_player.proofs.Files.{direction_of-short}
+use Rattle.ncp_player.proofs.Contents.{next_record-front}
+use Rattle.ncp_player.proofs.Progress.{behind_header, inside_cut}
 
 -- ---- the counts
 
@@ -69,41 +73,55 @@ tally_from-none messages =
 
 -- ---- the records
 
-pub tallies_more : (bytes rest : List ℕ) (message : List Bool) (tally : Tally) (r : Result Tally FileFault) → next_record bytes ≡ Ok (Some (message, rest)) → TalliesFrom rest (tally_with tally (verdict_of message)) r → TalliesFrom bytes tally r
-tallies_more bytes rest message tally (Ok counted) h k = (message ∷ k.0, (rest, h, k.1), k.2)
-tallies_more bytes rest message tally (Err BadHeader) h k = (message ∷ k.0, (rest, h, k.1))
-tallies_more bytes rest message tally (Err Truncated) h k = (message ∷ k.0, (rest, h, k.1))
-tallies_more bytes rest message tally (Err TooLong) h k = (message ∷ k.0, (rest, h, k.1))
-tallies_more bytes rest message tally (Err SpareNotZero) h k = (message ∷ k.0, (rest, h, k.1))
-tallies_more bytes rest message tally (Err ReadFailed) h k = tt
-tallies_more bytes rest message tally (Err WriteFailed) h k = k
+pub tallies_more : (bytes rest : List ℕ) (message : List Bool) (tally : Tally) (r : Result Tally FileFault) (left : Option (List ℕ)) → next_record bytes ≡ Ok (Some (message, rest))
+    → TalliesFrom rest (tally_with tally (verdict_of message)) r left → TalliesFrom bytes tally r left
+tallies_more bytes rest message tally (Ok counted) left h k = (message ∷ k.0, (rest, h, k.1), k.2)
+tallies_more bytes rest message tally (Err BadHeader) left h k = (message ∷ k.0, (rest, h, k.1))
+tallies_more bytes rest message tally (Err Truncated) left h k = (message ∷ k.0, (rest, h, k.1))
+tallies_more bytes rest message tally (Err TooLong) left h k = (message ∷ k.0, (rest, h, k.1))
+tallies_more bytes rest message tally (Err SpareNotZero) left h k = (message ∷ k.0, (rest, h, k.1))
+tallies_more bytes rest message tally (Err ReadFailed) left h k =
+    let front = next_record-front bytes rest message h in (
+      front.0 ++ k.0,
+      k.1,
+      message ∷ k.2,
+      k.3,
+      front.1 ∙ ap (λ xs. front.0 ++ xs) k.4 ∙ sym (append_assoc front.0 k.0 k.1),
+      k.5,
+      k.6,
+      (k.0, front.2 k.0, k.7),
+    )
+tallies_more bytes rest message tally (Err WriteFailed) left h k = k
 
-pub tallies_fault : (bytes window : List ℕ) (message : List Bool) (left : Option (List ℕ)) (tally : Tally) (fault : FileFault) → ReadsRecord bytes (Err fault) message window left → TalliesFrom bytes tally (Err fault)
+pub tallies_fault : (bytes window : List ℕ) (message : List Bool) (left : Option (List ℕ)) (tally : Tally) (fault : FileFault) → ReadsRecord bytes (Err fault) message window left → TalliesFrom bytes tally (Err fault) left
 tallies_fault bytes window message left tally BadHeader h = ([], h)
 tallies_fault bytes window message left tally Truncated h = ([], h)
 tallies_fault bytes window message left tally TooLong h = ([], h)
 tallies_fault bytes window message left tally SpareNotZero h = ([], h)
-tallies_fault bytes window message left tally ReadFailed h = tt
+tallies_fault bytes window message left tally ReadFailed h = (window, h.3.0, [], h.0, sym h.3.2, h.3.1, h.1, h.2)
 tallies_fault bytes window message left tally WriteFailed h = h
 
-pub tallies_end : (bytes : List ℕ) (tally : Tally) → next_record bytes ≡ Ok None → TalliesFrom bytes tally (Ok tally)
-tallies_end bytes tally h = ([], h, refl)
+pub tallies_end : (bytes : List ℕ) (tally : Tally) (left : Option (List ℕ)) → next_record bytes ≡ Ok None → TalliesFrom bytes tally (Ok tally) left
+tallies_end bytes tally left h = ([], h, refl)
 
 -- ---- the file
 
-pub file_no_header : (bytes window : List ℕ) (left : Option (List ℕ)) (fault : FileFault) → ReadsHeader bytes (Err fault) window left → TalliesFile bytes (Err fault)
+pub file_no_header : (bytes window : List ℕ) (left : Option (List ℕ)) (fault : FileFault) → ReadsHeader bytes (Err fault) window left → TalliesFile bytes (Err fault) left
 file_no_header bytes window left BadHeader h = ([], rw h.1 (refl, refl))
 file_no_header bytes window left Truncated h = let e : ⊥ = cc (h.0) in absurd e
 file_no_header bytes window left TooLong h = let e : ⊥ = cc (h.0) in absurd e
 file_no_header bytes window left SpareNotZero h = let e : ⊥ = cc (h.0) in absurd e
-file_no_header bytes window left ReadFailed h = tt
+file_no_header bytes window left ReadFailed h =
+    let e : direction_of window ≡ None = direction_of-short window h.0 in (window, h.1.0, [], Some BadHeader, sym h.1.2, h.1.1, h.0, rw e (refl, refl))
 file_no_header bytes window left WriteFailed h = h
 
-pub file_counted : (bytes : List ℕ) (direction : Direction) (r : Result Tally FileFault) → direction_of bytes ≡ Some direction → TalliesFrom (drop 4 bytes) no_messages r → TalliesFile bytes r
-file_counted bytes direction (Ok counted) h k = (k.0, rw h k.1, k.2 ∙ tally_from-none k.0)
-file_counted bytes direction (Err BadHeader) h k = (k.0, rw h k.1)
-file_counted bytes direction (Err Truncated) h k = (k.0, rw h k.1)
-file_counted bytes direction (Err TooLong) h k = (k.0, rw h k.1)
-file_counted bytes direction (Err SpareNotZero) h k = (k.0, rw h k.1)
-file_counted bytes direction (Err ReadFailed) h k = tt
-file_counted bytes direction (Err WriteFailed) h k = k
+pub file_counted : (bytes : List ℕ) (direction : Direction) (r : Result Tally FileFault) (left : Option (List ℕ)) → direction_of bytes ≡ Some direction → TalliesFrom (drop 4 bytes) no_messages r left → TalliesFile bytes r left
+file_counted bytes direction (Ok counted) left h k = (k.0, rw h k.1, k.2 ∙ tally_from-none k.0)
+file_counted bytes direction (Err BadHeader) left h k = (k.0, rw h k.1)
+file_counted bytes direction (Err Truncated) left h k = (k.0, rw h k.1)
+file_counted bytes direction (Err TooLong) left h k = (k.0, rw h k.1)
+file_counted bytes direction (Err SpareNotZero) left h k = (k.0, rw h k.1)
+file_counted bytes direction (Err ReadFailed) left h k =
+    let behind = behind_header bytes k.0 k.1 direction h k.4 in
+    (take 4 bytes ++ k.0, k.1, k.2, k.3, behind.0, k.5, inside_cut (take 4 bytes ++ k.0) k.3 k.6, rw behind.1 (subst (λ xs. Holds xs k.2 k.3) (sym behind.2) k.7))
+file_counted bytes direction (Err WriteFailed) left h k = k

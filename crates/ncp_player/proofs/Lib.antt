@@ -10,3 +10,5 @@ pub mod Files
 pub mod Outcomes
 pub mod Saying
 pub mod Windows
+pub mod Pieces
+pub mod Written

@@ -4,11 +4,11 @@ use Rattle.std.proofs.lemmas.List.{append_assoc, append-nil, length-take-le, tak
 use Rattle.ncp_player.specs.declared.file.Direction.{Direction}
 use Rattle.ncp_player.specs.declared.file.FileFault.{FileFault}
 use Rattle.ncp_player.specs.declared.file.FileFault.TheVariants.{BadHeader, Truncated, TooLong, SpareNotZero, ReadFailed, WriteFailed}
-use Rattle.ncp_player.specs.File.{direction_of, next_record, ending, Holds}
+use Rattle.ncp_player.specs.File.{direction_of, next_record, ending, Holds, IsCut}
 use Rattle.ncp_player.specs.Lines.{record_lines, lines_from, number_after}
 use Rattle.ncp_player.specs.Results.{is_write_failed}
 use Rattle.ncp_player.specs.Streams.{SaidSoFar, SaysText, SaysBeginning}
-use Rattle.ncp_player.specs.Shown.{IsCut, ShownAs, ShowsAll, ShowsBeginning, Shown}
+use Rattle.ncp_player.specs.Shown.{ShownAs, ShowsAll, ShowsBeginning, Shown}
 use Rattle.ncp_player.specs.Steps.{IsInside, ReadsHeader, ReadsRecord, ShowsNext, SaysLines, ShowsFrom, SaysFile, ShowsFile}
 use Rattle.ncp_player.proofs.Files.{direction_of-short, direction_of-take, direction_of-append}
 use Rattle.ncp_player.proofs.Contents.{next_record-front, holds_some}
@@ -109,7 +109,7 @@ file_ends bytes was window page left written ReadFailed h k =
 file_ends bytes was window page left written WriteFailed h k = absurd h
 
 -- a file that ends inside a record is cut
-inside_cut : (bytes : List ℕ) (fault : Option FileFault) → IsInside fault → IsCut bytes fault
+pub inside_cut : (bytes : List ℕ) (fault : Option FileFault) → IsInside fault → IsCut bytes fault
 inside_cut bytes None h = tt
 inside_cut bytes (Some fault) h = subst (λ f. IsCut bytes (Some f)) (sym h) tt
 
@@ -124,6 +124,17 @@ four_at_least (a ∷ b ∷ []) direction h = let e : ◌≡◌ {A = Option Direc
 four_at_least (a ∷ b ∷ c ∷ []) direction h = let e : ◌≡◌ {A = Option Direction} None (Some direction) = sym (direction_of-short (a ∷ b ∷ c ∷ []) (omega arith)) ∙ h in absurd (let f : ⊥ = cc in f)
 four_at_least (a ∷ b ∷ c ∷ d ∷ bytes) direction h = omega arith
 
+-- bytes that came behind a header, and those that are left
+pub behind_header : (bytes given rest : List ℕ) (direction : Direction) → direction_of bytes ≡ Some direction → drop 4 bytes ≡ given ++ rest
+    → (bytes ≡ (take 4 bytes ++ given) ++ rest) × (direction_of (take 4 bytes ++ given) ≡ Some direction) × (drop 4 (take 4 bytes ++ given) ≡ given)
+behind_header bytes given rest direction h e =
+    let four = four_at_least bytes direction h in
+    let front : length (take 4 bytes) ≡ 4 = length-take-le 4 bytes four in (
+      sym (take-append-drop 4 bytes) ∙ ap (λ xs. take 4 bytes ++ xs) e ∙ sym (append_assoc (take 4 bytes) given rest),
+      direction_of-append (take 4 bytes) given (omega arith) ∙ direction_of-take bytes ∙ h,
+      drop_at (take 4 bytes) given 4 front,
+    )
+
 -- the records behind a header
 pub file_shown : (bytes was page : List ℕ) (left written : Option (List ℕ)) (direction : Direction) (r : Result Unit FileFault) → direction_of bytes ≡ Some direction
     → ShowsFrom direction 1 (drop 4 bytes) was [] r left page written → ShowsFile bytes was r left page written
@@ -133,18 +144,15 @@ file_shown bytes was page left written direction (Err Truncated) h k = says_file
 file_shown bytes was page left written direction (Err TooLong) h k = says_file bytes was page written direction _ h k
 file_shown bytes was page left written direction (Err SpareNotZero) h k = says_file bytes was page written direction _ h k
 file_shown bytes was page left written direction (Err ReadFailed) h k =
-    let four = four_at_least bytes direction h in
-    let front : length (take 4 bytes) ≡ 4 = length-take-le 4 bytes four in
-    let given = take 4 bytes ++ k.0 in
-    let named : direction_of given ≡ Some direction = direction_of-append (take 4 bytes) k.0 (omega arith) ∙ direction_of-take bytes ∙ h in
-    let behind : drop 4 given ≡ k.0 = drop_at (take 4 bytes) k.0 4 front in (
+    let behind = behind_header bytes k.0 k.1 direction h k.3 in
+    let given = take 4 bytes ++ k.0 in (
       given,
       k.1,
       k.2,
-      sym (take-append-drop 4 bytes) ∙ ap (λ xs. take 4 bytes ++ xs) k.3 ∙ sym (append_assoc (take 4 bytes) k.0 k.1),
+      behind.0,
       k.4,
       inside_cut given k.2 k.5,
-      says_file given was page written direction k.2 named (subst (λ xs. SaysLines direction 1 xs was [] k.2 page written) (sym behind) k.6),
+      says_file given was page written direction k.2 behind.1 (subst (λ xs. SaysLines direction 1 xs was [] k.2 page written) (sym behind.2) k.6),
     )
 file_shown bytes was page left written direction (Err WriteFailed) h k = (k.0, k.1, says_file bytes was k.1 written direction k.0 h k.2)
 

@@ -13,7 +13,7 @@ use Rattle.ncp_player.specs.declared.tally.Verdict.{Verdict}
 use Rattle.ncp_player.specs.declared.tally.Verdict.TheVariants as is
 use Rattle.ncp_player.specs.declared.tally.Tally.{Tally}
 use Rattle.ncp_player.specs.Results.{MatchFault}
-use Rattle.ncp_player.specs.File.{direction_of, Holds}
+use Rattle.ncp_player.specs.File.{direction_of, Holds, IsCut}
 use Rattle.ncp_player.specs.Lines.{field}
 
 -- ---- one message
@@ -114,7 +114,14 @@ ChecksBeginning bytes was written =
     (messages : List (List Bool)) × (text : List ℕ) × (more : List ℕ) × FileHolds bytes messages None
     × (tally_line (tally_of messages) ≡ text ++ more) × (written ≡ Some (was ++ text))
 
--- what was written of a file, and what is answered; after a failed read nothing was written
-abbrev pub Checked : List ℕ → List ℕ → Option (List ℕ) → Result Bool FileFault → Type 0
-Checked bytes was written (Ok good) = ChecksAll bytes was written good
-Checked bytes was written (Err fault) = MatchFault (ChecksNone bytes was written) (written ≡ Some was) (ChecksBeginning bytes was written) fault
+-- a read failed: no byte is lost, those that came before have no fault but that they end, and nothing was written
+abbrev pub ChecksRead : List ℕ → List ℕ → Option (List ℕ) → Option (List ℕ) → Type 0
+ChecksRead bytes was left written =
+    (given : List ℕ) × (rest : List ℕ) × (messages : List (List Bool)) × (fault : Option FileFault)
+    × (bytes ≡ given ++ rest) × (left ≡ Some rest) × IsCut given fault × FileHolds given messages fault × (written ≡ Some was)
+
+-- what was written of a file, and what is answered
+abbrev pub Checked : List ℕ → List ℕ → Option (List ℕ) → Option (List ℕ) → Result Bool FileFault → Type 0
+Checked bytes was left written (Ok good) = ChecksAll bytes was written good
+Checked bytes was left written (Err fault) =
+    MatchFault (ChecksNone bytes was written) (ChecksRead bytes was left written) (ChecksBeginning bytes was written) fault

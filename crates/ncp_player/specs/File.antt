@@ -1,6 +1,6 @@
 -- A message file: four header bytes, then records to the end. A record is a number of bits in two
 -- bytes, the first the most significant, and the bytes of these bits, the spare bits zero.
-use Rattle.std.specs.Prelude.{◌≡◌, ℕ, ◌==◌, Bool, List, [], ◌∷◌, ◌++◌, take, drop, Option, Some, None, Result, Ok, Err, length, nat_lt, codes, if◌then◌else◌}
+use Rattle.std.specs.Prelude.{◌≡◌, ◌<◌, ℕ, ◌==◌, Bool, List, [], ◌∷◌, ◌++◌, take, drop, Option, Some, None, Result, Ok, Err, length, nat_lt, codes, if◌then◌else◌}
 use Rattle.std.specs.Str.{bytes_eq}
 use Rattle.std.specs.List.{flat_map}
 use Rattle.byteorder.specs.Endian.{big_number, big_bytes}
@@ -51,6 +51,16 @@ abbrev pub Holds : List ℕ → List (List Bool) → Option FileFault → Type 0
 Holds bytes [] fault = next_record bytes ≡ ending fault
 Holds bytes (message ∷ messages) fault =
     (rest : List ℕ) × (next_record bytes ≡ Ok (Some (message, rest))) × Holds rest messages fault
+
+-- bytes end between records, or inside their header or a record, and have no other fault
+abbrev pub IsCut : List ℕ → Option FileFault → Type 0
+IsCut bytes None = Unit {0}
+IsCut bytes (Some BadHeader) = length bytes < 4
+IsCut bytes (Some Truncated) = Unit {0}
+IsCut bytes (Some TooLong) = ⊥
+IsCut bytes (Some SpareNotZero) = ⊥
+IsCut bytes (Some ReadFailed) = ⊥
+IsCut bytes (Some WriteFailed) = ⊥
 
 -- ---- written files
 

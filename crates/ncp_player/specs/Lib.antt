@@ -1,6 +1,8 @@
 pub mod Memory
+pub mod Pieces
 pub mod Streams
 pub mod File
+pub mod Reasons
 pub mod Results
 pub mod Lines
 pub mod Shown

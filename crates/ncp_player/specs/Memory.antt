@@ -22,6 +22,10 @@ pub record Writing : Type 0 where
 abbrev pub write_number : Writing → ℕ
 write_number sink = min (sink.writes + 1) (2 ^ 32 - 1)
 
+-- how many writes are left until their number stays
+abbrev pub writes_left : Writing → ℕ
+writes_left sink = 2 ^ 32 - 1 - sink.writes
+
 -- a write fails where there are bytes and no room is left, or where it is the one that is to fail, counted from 1
 abbrev pub WriteFails : Writing → ℕ → Type 0
 WriteFails sink bytes = (sink.fails_at ≡ Some (write_number sink)) ⊎ ((sink.room ≡ 0) × (0 < bytes))

@@ -1,9 +1,9 @@
 -- What `show` writes.
-use Rattle.std.specs.Prelude.{◌≡◌, ◌<◌, ℕ, Bool, List, [], ◌++◌, length, drop, Option, Some, None, Result, Ok, Err, MatchOption}
+use Rattle.std.specs.Prelude.{◌≡◌, ℕ, Bool, List, [], ◌++◌, drop, Option, Some, None, Result, Ok, Err, MatchOption}
 use Rattle.ncp_player.specs.declared.file.FileFault.{FileFault}
-use Rattle.ncp_player.specs.declared.file.FileFault.TheVariants.{BadHeader, Truncated, TooLong, SpareNotZero, ReadFailed, WriteFailed}
+use Rattle.ncp_player.specs.declared.file.FileFault.TheVariants.{BadHeader}
 use Rattle.ncp_player.specs.Results.{MatchFault}
-use Rattle.ncp_player.specs.File.{direction_of, Holds}
+use Rattle.ncp_player.specs.File.{direction_of, Holds, IsCut}
 use Rattle.ncp_player.specs.Lines.{lines_from}
 
 -- the lines of a file's records before its first fault, and that fault, if there is one
@@ -11,16 +11,6 @@ abbrev pub ShownAs : List ℕ → List ℕ → Option FileFault → Type 0
 ShownAs bytes text fault =
     MatchOption (direction_of bytes) ((text ≡ []) × (fault ≡ Some BadHeader)) (λ direction.
     (messages : List (List Bool)) × Holds (drop 4 bytes) messages fault × (text ≡ lines_from direction 1 messages))
-
--- bytes end between records, or inside their header or a record
-abbrev pub IsCut : List ℕ → Option FileFault → Type 0
-IsCut bytes None = Unit {0}
-IsCut bytes (Some BadHeader) = length bytes < 4
-IsCut bytes (Some Truncated) = Unit {0}
-IsCut bytes (Some TooLong) = ⊥
-IsCut bytes (Some SpareNotZero) = ⊥
-IsCut bytes (Some ReadFailed) = ⊥
-IsCut bytes (Some WriteFailed) = ⊥
 
 -- this text was written behind what was there
 abbrev pub Wrote : List ℕ → List ℕ → Option (List ℕ) → Type 0

@@ -4,10 +4,10 @@ use Rattle.ncp_player.specs.declared.file.Direction.{Direction}
 use Rattle.ncp_player.specs.declared.file.FileFault.{FileFault}
 use Rattle.ncp_player.specs.declared.file.FileFault.TheVariants.{BadHeader, Truncated}
 use Rattle.ncp_player.specs.Results.{MatchFault}
-use Rattle.ncp_player.specs.File.{direction_of, next_record, ending, Holds}
+use Rattle.ncp_player.specs.File.{direction_of, next_record, ending, Holds, IsCut}
 use Rattle.ncp_player.specs.Lines.{record_lines, lines_from}
 use Rattle.ncp_player.specs.Streams.{Ahead, SaidSoFar}
-use Rattle.ncp_player.specs.Shown.{IsCut, ShownAs}
+use Rattle.ncp_player.specs.Shown.{ShownAs}
 
 -- a read failed inside the header: no byte is lost
 abbrev pub CutInHeader : List ℕ → List ℕ → Option (List ℕ) → Type 0

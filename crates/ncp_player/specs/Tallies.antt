@@ -1,10 +1,11 @@
 -- What the parts of `check` do.
-use Rattle.std.specs.Prelude.{◌≡◌, ℕ, Bool, List, [], ◌∷◌, Some, None, Result, Ok, Err, if◌then◌else◌}
+use Rattle.std.specs.Prelude.{◌≡◌, ℕ, Bool, List, [], ◌∷◌, ◌++◌, Option, Some, None, Result, Ok, Err, if◌then◌else◌}
 use Rattle.ncp_player.specs.declared.file.FileFault.{FileFault}
 use Rattle.ncp_player.specs.declared.tally.Verdict.{Verdict}
 use Rattle.ncp_player.specs.declared.tally.Tally.{Tally}
 use Rattle.ncp_player.specs.Results.{MatchFault}
-use Rattle.ncp_player.specs.File.{Holds}
+use Rattle.ncp_player.specs.File.{Holds, IsCut}
+use Rattle.ncp_player.specs.Steps.{IsInside}
 use Rattle.ncp_player.specs.Lines.{number_after}
 use Rattle.ncp_player.specs.Checked.{verdict_of, is_short, is_of_type_0, is_faulty, is_bad, tally_of, FileHolds}
 
@@ -31,10 +32,16 @@ tally_from tally (message ∷ messages) = tally_from (tally_with tally (verdict_
 abbrev pub EndsInFault : List ℕ → FileFault → Type 0
 EndsInFault bytes fault = (messages : List (List Bool)) × Holds bytes messages (Some fault)
 
+-- a read failed: no byte is lost, and those that came before have no fault but that they end
+abbrev pub StopsInRecords : List ℕ → Option (List ℕ) → Type 0
+StopsInRecords bytes left =
+    (given : List ℕ) × (rest : List ℕ) × (messages : List (List Bool)) × (fault : Option FileFault)
+    × (bytes ≡ given ++ rest) × (left ≡ Some rest) × IsInside fault × Holds given messages fault
+
 -- the records from here on were counted, or there is a fault
-abbrev pub TalliesFrom : List ℕ → Tally → Result Tally FileFault → Type 0
-TalliesFrom bytes tally (Ok counted) = (messages : List (List Bool)) × Holds bytes messages None × (counted ≡ tally_from tally messages)
-TalliesFrom bytes tally (Err fault) = MatchFault (EndsInFault bytes) (Unit {0}) ⊥ fault
+abbrev pub TalliesFrom : List ℕ → Tally → Result Tally FileFault → Option (List ℕ) → Type 0
+TalliesFrom bytes tally (Ok counted) left = (messages : List (List Bool)) × Holds bytes messages None × (counted ≡ tally_from tally messages)
+TalliesFrom bytes tally (Err fault) left = MatchFault (EndsInFault bytes) (StopsInRecords bytes left) ⊥ fault
 
 -- nothing was counted
 abbrev pub no_messages : Tally
@@ -44,7 +51,13 @@ no_messages = record { messages = 0; short = 0; regular = 0; faults = 0; bad = 0
 abbrev pub HasFault : List ℕ → FileFault → Type 0
 HasFault bytes fault = (messages : List (List Bool)) × FileHolds bytes messages (Some fault)
 
+-- a read failed in a file: no byte is lost, and those that came before have no fault but that they end
+abbrev pub StopsInFile : List ℕ → Option (List ℕ) → Type 0
+StopsInFile bytes left =
+    (given : List ℕ) × (rest : List ℕ) × (messages : List (List Bool)) × (fault : Option FileFault)
+    × (bytes ≡ given ++ rest) × (left ≡ Some rest) × IsCut given fault × FileHolds given messages fault
+
 -- the records of a file were counted, or the file has a fault
-abbrev pub TalliesFile : List ℕ → Result Tally FileFault → Type 0
-TalliesFile bytes (Ok counted) = (messages : List (List Bool)) × FileHolds bytes messages None × (counted ≡ tally_of messages)
-TalliesFile bytes (Err fault) = MatchFault (HasFault bytes) (Unit {0}) ⊥ fault
+abbrev pub TalliesFile : List ℕ → Result Tally FileFault → Option (List ℕ) → Type 0
+TalliesFile bytes (Ok counted) left = (messages : List (List Bool)) × FileHolds bytes messages None × (counted ≡ tally_of messages)
+TalliesFile bytes (Err fault) left = MatchFault (HasFault bytes) (StopsInFile bytes left) ⊥ fault

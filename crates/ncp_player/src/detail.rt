@@ -3,6 +3,7 @@ ghost use Rattle.std.specs.Prelude.{◌≡◌, ◌+◌, ◌≤◌, ◌||◌, ◌
 ghost use Rattle.ncp_bits.specs.Bits.{bytes_of};
 ghost use Rattle.ncp_leader.specs.Message.{message_in};
 ghost use Rattle.ncp_player.specs.Lines.{field, hex_of, command_words, bad_words, item_line, control_lines, text_word, text_line, is_control, size_line, fault_line, text_lines, message_lines};
+ghost use Rattle.ncp_player.specs.Pieces.{bytes_and_writes, lost_pieces};
 ghost use Rattle.ncp_player.specs.Streams.{SaysTextOrBeginning};
 
 use crate::line::{LONGEST_LINE, push_field};
@@ -163,6 +164,7 @@ fn push_item(page: &mut Outgoing, item: &Result<Command, CommandFault>)
 fn say_commands<W: Sink>(page: &mut Outgoing, sink: &mut W, text: Part<'_>) -> Result<(), Failed>
     requires { length text % 8 ≡ 0 }
     ensures told { SaysTextOrBeginning page.old (W.written sink.old) (control_lines (bytes_of text.entry)) result page.new (W.written sink.new) }
+    ensures writes { bytes_and_writes W.takes_all (W.writes sink.old) (W.written sink.old) ≤ bytes_and_writes W.takes_all (W.writes sink.new) (W.written sink.new) + lost_pieces (is_err result) }
     ensures mark { W.has_failed sink.new ≡ (W.has_failed sink.old || is_err result) }
 {
     for item in Commands::new(text) {
@@ -221,6 +223,7 @@ fn push_fault(page: &mut Outgoing, fault: MessageFault)
 // Says the line of a text.
 fn say_text<W: Sink>(page: &mut Outgoing, sink: &mut W, text: &Part<'_>) -> Result<(), Failed>
     ensures told { SaysTextOrBeginning page.old (W.written sink.old) (text_line text.now) result page.new (W.written sink.new) }
+    ensures writes { bytes_and_writes W.takes_all (W.writes sink.old) (W.written sink.old) ≤ bytes_and_writes W.takes_all (W.writes sink.new) (W.written sink.new) + lost_pieces (is_err result) }
     ensures mark { W.has_failed sink.new ≡ (W.has_failed sink.old || is_err result) }
 {
     page.make_room(sink, LONGEST_TEXT_LINE)?;
@@ -231,6 +234,7 @@ fn say_text<W: Sink>(page: &mut Outgoing, sink: &mut W, text: &Part<'_>) -> Resu
 // Says the line of a message's size and count.
 fn say_size<W: Sink>(page: &mut Outgoing, sink: &mut W, message: &Regular<'_>) -> Result<(), Failed>
     ensures told { SaysTextOrBeginning page.old (W.written sink.old) (size_line message.now) result page.new (W.written sink.new) }
+    ensures writes { bytes_and_writes W.takes_all (W.writes sink.old) (W.written sink.old) ≤ bytes_and_writes W.takes_all (W.writes sink.new) (W.written sink.new) + lost_pieces (is_err result) }
     ensures mark { W.has_failed sink.new ≡ (W.has_failed sink.old || is_err result) }
 {
     page.make_room(sink, LONGEST_LINE)?;
@@ -241,6 +245,7 @@ fn say_size<W: Sink>(page: &mut Outgoing, sink: &mut W, message: &Regular<'_>) -
 // Says the line of a message's fault.
 fn say_fault<W: Sink>(page: &mut Outgoing, sink: &mut W, fault: MessageFault) -> Result<(), Failed>
     ensures told { SaysTextOrBeginning page.old (W.written sink.old) (fault_line fault) result page.new (W.written sink.new) }
+    ensures writes { bytes_and_writes W.takes_all (W.writes sink.old) (W.written sink.old) ≤ bytes_and_writes W.takes_all (W.writes sink.new) (W.written sink.new) + lost_pieces (is_err result) }
     ensures mark { W.has_failed sink.new ≡ (W.has_failed sink.old || is_err result) }
 {
     page.make_room(sink, LONGEST_LINE)?;
@@ -262,6 +267,7 @@ fn say_message<W: Sink>(
     message: &Regular<'_>,
 ) -> Result<(), Failed>
     ensures told { SaysTextOrBeginning page.old (W.written sink.old) (size_line message.now ++ text_lines message.now) result page.new (W.written sink.new) }
+    ensures writes { bytes_and_writes W.takes_all (W.writes sink.old) (W.written sink.old) ≤ bytes_and_writes W.takes_all (W.writes sink.new) (W.written sink.new) + lost_pieces (is_err result) }
     ensures mark { W.has_failed sink.new ≡ (W.has_failed sink.old || is_err result) }
 {
     say_size(page, sink, message)?;
@@ -279,6 +285,7 @@ pub(crate) fn say_details<W: Sink>(
     bits: &Bits,
 ) -> Result<(), Failed>
     ensures told { SaysTextOrBeginning page.old (W.written sink.old) (message_lines (message_in bits.now)) result page.new (W.written sink.new) }
+    ensures writes { bytes_and_writes W.takes_all (W.writes sink.old) (W.written sink.old) ≤ bytes_and_writes W.takes_all (W.writes sink.new) (W.written sink.new) + lost_pieces (is_err result) }
     ensures mark { W.has_failed sink.new ≡ (W.has_failed sink.old || is_err result) }
 {
     match read_regular(bits) {

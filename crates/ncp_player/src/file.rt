@@ -1,6 +1,7 @@
 //! A message file: its header, its records and its faults.
-ghost use Rattle.std.specs.Prelude.{◌≡◌, ℕ, ◌<◌, ◌≤◌, ◌||◌, List, true, false, length, IfOk};
+ghost use Rattle.std.specs.Prelude.{◌≡◌, ℕ, ◌+◌, ◌<◌, ◌≤◌, ◌||◌, List, true, false, length, IfOk, OnOk};
 ghost use Rattle.ncp_player.specs.File.{direction_of, name_of_fault, fault_of_bits};
+ghost use Rattle.ncp_player.specs.Pieces.{reads_beyond};
 ghost use Rattle.ncp_player.specs.Results.{is_read_failed, is_write_failed};
 ghost use Rattle.ncp_player.specs.Steps.{ReadsHeader, ReadsRecord};
 ghost use Rattle.ncp_player.specs.Streams.{Ahead, effort};
@@ -92,6 +93,8 @@ pub(crate) fn read_header<S: Source>(
     ensures told { (bytes : List ℕ) → Ahead window.old (S.left source.old) bytes → ReadsHeader bytes result window.new (S.left source.new) }
     ensures mark { S.has_failed source.new ≡ (S.has_failed source.old || is_read_failed result) }
     ensures other { is_write_failed result ≡ false }
+    ensures reads { reads_beyond S.gives_all (S.reads source.old) (S.left source.old) ≤ reads_beyond S.gives_all (S.reads source.new) (S.left source.new) + 1 }
+    ensures taken { OnOk result (reads_beyond S.gives_all (S.reads source.old) (S.left source.old) ≤ reads_beyond S.gives_all (S.reads source.new) (S.left source.new)) }
 {
     if !window.need(source, HEADER)? {
         return Err(FileFault::BadHeader);
@@ -123,6 +126,8 @@ pub(crate) fn read_record<S: Source>(
     ensures told { (bytes : List ℕ) → Ahead window.old (S.left source.old) bytes → ReadsRecord bytes result message.new window.new (S.left source.new) }
     ensures mark { S.has_failed source.new ≡ (S.has_failed source.old || is_read_failed result) }
     ensures other { is_write_failed result ≡ false }
+    ensures reads { reads_beyond S.gives_all (S.reads source.old) (S.left source.old) ≤ reads_beyond S.gives_all (S.reads source.new) (S.left source.new) + 1 }
+    ensures taken { IfOk result (λ found. found ≡ true → reads_beyond S.gives_all (S.reads source.old) (S.left source.old) ≤ reads_beyond S.gives_all (S.reads source.new) (S.left source.new)) }
     ensures effort { IfOk result (λ found. found ≡ true → effort (S.reads source.new) window.new < effort (S.reads source.old) window.old) }
 {
     if !window.need(source, LENGTH)? {

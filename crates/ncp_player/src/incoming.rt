@@ -1,16 +1,14 @@
 //! `Incoming`: the bytes of a source, read ahead in pieces.
 ghost use Rattle.std.specs.Prelude.{◌≡◌, ℕ, List, ◌++◌, ◌+◌, ◌-◌, ◌<◌, ◌≤◌, ◌||◌, true, false, [], length, take, drop, slice_range, is_err, IfOk, OnOk, OnErr};
 ghost use Rattle.std.specs.Io.KnownBytes.{IsAtEnd};
+ghost use Rattle.ncp_player.specs.Pieces.{reads_beyond};
 ghost use Rattle.ncp_player.specs.Streams.{Moves, effort};
 
-use crate::source::{Failed, Source};
+use crate::source::{Failed, LEAST_PIECE, Source};
 use std::marker::Model;
 
 /// How many bytes a window has room for.
 pub(crate) const WINDOW: usize = 16384;
-
-/// How many bytes a read has room for at least.
-pub(crate) const LEAST_READ: usize = 4096;
 
 /// A window on the bytes of a source: those that were read and are not used up.
 #[derive(Drop)]
@@ -70,12 +68,14 @@ impl Incoming {
 
     // Reads once behind what is there, and answers whether a byte came.
     fn refill<S: Source>(&mut self, source: &mut S) -> Result<bool, Failed>
-        requires { length self.old + LEAST_READ ≤ WINDOW }
+        requires { length self.old + LEAST_PIECE ≤ WINDOW }
         ensures moved { Moves self.old (S.left source.old) self.new (S.left source.new) }
         ensures grows { (piece : List ℕ) × (self.new ≡ self.old ++ piece) }
         ensures more { IfOk result (λ more. more ≡ true → length self.old < length self.new) }
         ensures none { IfOk result (λ more. more ≡ false → (self.new ≡ self.old) × IsAtEnd (S.left source.new)) }
         ensures err { OnErr result (self.new ≡ self.old) }
+        ensures reads { reads_beyond S.gives_all (S.reads source.old) (S.left source.old) ≤ reads_beyond S.gives_all (S.reads source.new) (S.left source.new) + 1 }
+        ensures taken { IfOk result (λ more. more ≡ true → reads_beyond S.gives_all (S.reads source.old) (S.left source.old) ≤ reads_beyond S.gives_all (S.reads source.new) (S.left source.new)) }
         ensures effort { effort (S.reads source.new) self.new ≤ effort (S.reads source.old) self.old }
         ensures mark { S.has_failed source.new ≡ (S.has_failed source.old || is_err result) }
     {
@@ -89,12 +89,14 @@ impl Incoming {
 
     /// Reads until the window has `count` bytes, and answers whether it has.
     pub(crate) fn need<S: Source>(&mut self, source: &mut S, count: usize) -> Result<bool, Failed>
-        requires { count + LEAST_READ ≤ WINDOW }
+        requires { count + LEAST_PIECE ≤ WINDOW }
         ensures moved { Moves self.old (S.left source.old) self.new (S.left source.new) }
         ensures grows { (piece : List ℕ) × (self.new ≡ self.old ++ piece) }
         ensures there { IfOk result (λ there. there ≡ true → count ≤ length self.new) }
         ensures short { IfOk result (λ there. there ≡ false → (length self.new < count) × IsAtEnd (S.left source.new)) }
         ensures err { OnErr result (length self.new < count) }
+        ensures reads { reads_beyond S.gives_all (S.reads source.old) (S.left source.old) ≤ reads_beyond S.gives_all (S.reads source.new) (S.left source.new) + 1 }
+        ensures taken { IfOk result (λ there. there ≡ true → reads_beyond S.gives_all (S.reads source.old) (S.left source.old) ≤ reads_beyond S.gives_all (S.reads source.new) (S.left source.new)) }
         ensures effort { effort (S.reads source.new) self.new ≤ effort (S.reads source.old) self.old }
         ensures mark { S.has_failed source.new ≡ (S.has_failed source.old || is_err result) }
     {

@@ -1,10 +1,12 @@
 //! Laws about message files, each the contract of a function that does nothing.
-ghost use Rattle.std.specs.Prelude.{◌≡◌, ◌≤◌, ℕ, List, ◌++◌, length, All, Bool, Option, Some, None, Ok};
-ghost use Rattle.ncp_player.specs.declared.file.FileFault.{FileFault};
-ghost use Rattle.ncp_player.specs.declared.file.Direction.{Direction};
+ghost use Rattle.std.specs.Prelude.{◌≡◌, ◌≤◌, ◌<◌, ◌↔◌, ℕ, List, [], ◌++◌, length, All, Bool, IsTrue, Option, Some, None, Ok, Err};
 ghost use Rattle.ncp_player.specs.File.{Holds, next_record, direction_of, record_bytes, file_bytes};
+ghost use Rattle.ncp_player.specs.Reasons.{first_of, reasons_at};
 ghost use Rattle.ncp_player.specs.Checked.{FileHolds};
 
+use crate::file::{Direction, FileFault};
+use crate::orders::Order;
+use crate::source::Failed;
 use ncp_bits::MAX_BITS;
 
 /// The bytes behind a header hold records, and then end or have a fault, in exactly one way.
@@ -27,3 +29,43 @@ pub fn written_files_are_read()
         → All (λ message. length message ≤ MAX_BITS) messages
         → FileHolds (file_bytes direction messages) others fault → (others ≡ messages) × (fault ≡ None) }
 {}
+
+/// Where a record begins, and why none does. A record stands at the front of bytes exactly where they
+/// are the written form of a message of at most 8,192 bits, and what follows. Where there are bytes and
+/// none begins, the first reason that holds is answered: no two bytes of a length, a length over the
+/// limit, fewer bytes than it says, a spare bit that is set.
+pub fn records_are_told_apart()
+    ensures record { (bytes : List ℕ) (rest : List ℕ) (message : List Bool) → All (λ byte. byte < 256) bytes
+        → (next_record bytes ≡ Ok (Some (message, rest))) ↔ ((length message ≤ MAX_BITS) × (bytes ≡ record_bytes message ++ rest)) }
+    ensures end { (bytes : List ℕ) → (next_record bytes ≡ Ok None) ↔ (bytes ≡ []) }
+    ensures fault { (bytes : List ℕ) (fault : FileFault) → 0 < length bytes
+        → (next_record bytes ≡ Err fault) ↔ (first_of (reasons_at bytes) ≡ Some fault) }
+{}
+
+/// Two faults compare as equal exactly where they are the same.
+pub fn same_fault(one: FileFault, other: FileFault) -> bool
+    ensures { IsTrue result ↔ one ≡ other }
+{
+    one == other
+}
+
+/// Two directions compare as equal exactly where they are the same.
+pub fn same_direction(one: Direction, other: Direction) -> bool
+    ensures { IsTrue result ↔ one ≡ other }
+{
+    one == other
+}
+
+/// Two orders compare as equal exactly where they are the same.
+pub fn same_order(one: Order, other: Order) -> bool
+    ensures { IsTrue result ↔ one ≡ other }
+{
+    one == other
+}
+
+/// Two failures compare as equal, as there is one.
+pub fn same_failure(one: Failed, other: Failed) -> bool
+    ensures { IsTrue result ↔ one ≡ other }
+{
+    one == other
+}

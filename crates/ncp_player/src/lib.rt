@@ -15,6 +15,8 @@ mod record;
 mod showing;
 mod sink;
 mod source;
+#[cfg(test)]
+mod stream_tests;
 mod tally;
 #[cfg(test)]
 mod tests;
@@ -26,4 +28,4 @@ pub use memory::{MemorySink, MemorySource};
 pub use orders::Order;
 pub use showing::show;
 pub use sink::{Sink, ToWrite};
-pub use source::{Failed, FromRead, Source};
+pub use source::{Failed, FromRead, LEAST_PIECE, Source};

@@ -1,5 +1,5 @@
 //! `MemorySource` and `MemorySink`: bytes in memory, with a call that can be made to fail.
-ghost use Rattle.std.specs.Prelude.{◌≡◌, ◌+◌, ◌-◌, ◌<◌, ◌≤◌, ◌||◌, ◌↔◌, min, IfOk, IsErr, Some, is_err, length, [], false};
+ghost use Rattle.std.specs.Prelude.{◌≡◌, ◌+◌, ◌-◌, ◌<◌, ◌≤◌, ◌||◌, ◌↔◌, min, IfOk, IsErr, MatchResult, Some, is_err, length, drop, [], true, false};
 ghost use Rattle.std.specs.Io.KnownBytes.{ReadConsumes, WriteAppends};
 ghost use Rattle.ncp_player.specs.Memory.{ReadFails, WriteFails, write_number};
 
@@ -51,9 +51,11 @@ impl<'a> MemorySource<'a> {
 }
 
 impl Source for MemorySource<'_> {
-    ghost use Rattle.std.specs.Prelude.{Some};
+    ghost use Rattle.std.specs.Prelude.{Some, true};
 
     ghost left = { λ source. Some source.left };
+
+    ghost gives_all = { true };
 
     ghost reads = { λ source. source.reads };
 
@@ -62,14 +64,16 @@ impl Source for MemorySource<'_> {
     fn read(&mut self, piece: &mut [u8]) -> Result<usize, Failed>
         ensures count { IfOk result (λ count. count ≤ length piece.new) }
         ensures bytes { ReadConsumes (Some self.old.left) (Some self.new.left) result piece.new }
+        ensures all { IfOk result (λ count. count ≡ min (length piece.old) (length self.old.left)) }
         ensures lowers { 0 < length piece.old → self.new.reads ≡ self.old.reads - 1 }
         ensures stays { length piece.old ≡ 0 → self.new.reads ≡ self.old.reads }
         ensures spent { 0 < length piece.old → self.old.reads ≡ 0 → IsErr result }
         ensures mark { self.new.failed ≡ (self.old.failed || is_err result) }
 
-        // It fails exactly where it is to, and else gives all that it can.
+        // It fails exactly where it is to, and writes into the piece no more than it gives.
         ensures fails { IsErr result ↔ ReadFails self.old (length piece.old) }
-        ensures all { IfOk result (λ count. count ≡ min (length piece.old) (length self.old.left)) }
+        ensures behind { IfOk result (λ count. drop count piece.new ≡ drop count piece.old) }
+        ensures untouched { IsErr result → piece.new ≡ piece.old }
         ensures same { self.new.fails_at ≡ self.old.fails_at }
     {
         if piece.is_empty() {
@@ -153,9 +157,16 @@ impl MemorySink {
 }
 
 impl Sink for MemorySink {
-    ghost use Rattle.std.specs.Prelude.{Some};
+    ghost use Rattle.std.specs.Prelude.{Some, true};
+    ghost use Rattle.ncp_player.specs.Memory.{writes_left};
 
     ghost written = { λ sink. Some sink.written };
+
+    ghost takes_all = { true };
+
+    ghost room = { λ sink. sink.room };
+
+    ghost writes = { λ sink. writes_left sink };
 
     ghost has_failed = { λ sink. sink.failed };
 
@@ -163,13 +174,13 @@ impl Sink for MemorySink {
         ensures count { IfOk result (λ count. count ≤ length piece.now) }
         ensures some { IfOk result (λ count. 0 < length piece.now → 0 < count) }
         ensures bytes { WriteAppends (Some self.old.written) (Some self.new.written) result piece.now }
+        ensures all { IfOk result (λ count. count ≡ min (length piece.now) self.old.room) }
+        ensures room { MatchResult result (λ count. self.new.room + count ≡ self.old.room) (λ _. self.new.room ≡ self.old.room) }
+        ensures counted { self.new.writes ≡ write_number self.old }
         ensures mark { self.new.failed ≡ (self.old.failed || is_err result) }
 
-        // It fails exactly where it is to, or is full, and else takes all for which there is room.
+        // It fails exactly where it is to, or is full.
         ensures fails { IsErr result ↔ WriteFails self.old (length piece.now) }
-        ensures all { IfOk result (λ count. count ≡ min (length piece.now) self.old.room) }
-        ensures room { IfOk result (λ count. self.new.room + count ≡ self.old.room) }
-        ensures counted { self.new.writes ≡ write_number self.old }
         ensures same { self.new.fails_at ≡ self.old.fails_at }
     {
         self.writes = self.writes.saturating_add(1);

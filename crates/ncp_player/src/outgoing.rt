@@ -1,11 +1,12 @@
 //! `Outgoing`: bytes for a sink, written in pieces.
-ghost use Rattle.std.specs.Prelude.{◌≡◌, ℕ, ◌+◌, ◌*◌, ◌<◌, ◌≤◌, ◌||◌, [], ◌∷◌, ◌++◌, length, take, decimal, is_err, OnOk, OnErr};
+ghost use Rattle.std.specs.Prelude.{◌≡◌, ℕ, ◌+◌, ◌*◌, ◌<◌, ◌≤◌, ◌||◌, true, [], ◌∷◌, ◌++◌, min, length, take, decimal, is_err, OnOk, OnErr};
 ghost use Rattle.std.specs.Io.KnownBytes.{Appends};
 ghost use Rattle.ncp_player.specs.Lines.{hex_digit, hex_of};
+ghost use Rattle.ncp_player.specs.Pieces.{bytes_and_writes, lost_pieces};
 ghost use Rattle.ncp_player.specs.Streams.{SaysText, SaysBeginning};
 
 use crate::sink::Sink;
-use crate::source::Failed;
+use crate::source::{Failed, LEAST_PIECE};
 use arrayvec::ArrayVec;
 use std::marker::Model;
 
@@ -33,6 +34,8 @@ impl Model for Outgoing {
 fn put_all<W: Sink>(sink: &mut W, piece: &[u8]) -> Result<(), Failed>
     ensures ok { OnOk result (Appends (W.written sink.old) (W.written sink.new) piece.now) }
     ensures err { OnErr result ((count : ℕ) × Appends (W.written sink.old) (W.written sink.new) (take count piece.now)) }
+    ensures once { W.takes_all ≡ true → OnOk result (W.writes sink.old ≤ W.writes sink.new + min 1 (length piece.now)) }
+    ensures twice { W.takes_all ≡ true → W.writes sink.old ≤ W.writes sink.new + 2 }
     ensures mark { W.has_failed sink.new ≡ (W.has_failed sink.old || is_err result) }
 {
     let mut done = 0;
@@ -93,6 +96,9 @@ impl Outgoing {
     pub(crate) fn flush<W: Sink>(&mut self, sink: &mut W) -> Result<(), Failed>
         ensures ok { OnOk result ((self.new ≡ []) × SaysText self.old (W.written sink.old) [] self.new (W.written sink.new)) }
         ensures err { OnErr result (SaysBeginning self.old (W.written sink.old) [] (W.written sink.new)) }
+        ensures whole { LEAST_PIECE ≤ length self.old → bytes_and_writes W.takes_all (W.writes sink.old) (W.written sink.old) ≤ bytes_and_writes W.takes_all (W.writes sink.new) (W.written sink.new) + lost_pieces (is_err result) }
+        ensures writes { bytes_and_writes W.takes_all (W.writes sink.old) (W.written sink.old) ≤ bytes_and_writes W.takes_all (W.writes sink.new) (W.written sink.new) + lost_pieces true }
+        ensures twice { W.takes_all ≡ true → W.writes sink.old ≤ W.writes sink.new + 2 }
         ensures mark { W.has_failed sink.new ≡ (W.has_failed sink.old || is_err result) }
     {
         put_all(sink, self.bytes.as_slice())?;
@@ -102,10 +108,11 @@ impl Outgoing {
 
     /// Makes room for `count` bytes: where they do not fit, the page is written.
     pub(crate) fn make_room<W: Sink>(&mut self, sink: &mut W, count: usize) -> Result<(), Failed>
-        requires { count ≤ PAGE }
+        requires { count + LEAST_PIECE ≤ PAGE }
         ensures room { OnOk result (length self.new + count ≤ PAGE) }
         ensures ok { OnOk result (SaysText self.old (W.written sink.old) [] self.new (W.written sink.new)) }
         ensures err { OnErr result (SaysBeginning self.old (W.written sink.old) [] (W.written sink.new)) }
+        ensures writes { bytes_and_writes W.takes_all (W.writes sink.old) (W.written sink.old) ≤ bytes_and_writes W.takes_all (W.writes sink.new) (W.written sink.new) + lost_pieces (is_err result) }
         ensures mark { W.has_failed sink.new ≡ (W.has_failed sink.old || is_err result) }
     {
         if count > self.bytes.remaining_capacity() {

@@ -1,6 +1,7 @@
 //! The lines of a record.
-ghost use Rattle.std.specs.Prelude.{◌≡◌, ◌||◌, ◌++◌, decimal, is_err};
+ghost use Rattle.std.specs.Prelude.{◌≡◌, ◌+◌, ◌≤◌, ◌||◌, ◌++◌, decimal, is_err};
 ghost use Rattle.ncp_player.specs.Lines.{summary, is_regular, record_lines};
+ghost use Rattle.ncp_player.specs.Pieces.{bytes_and_writes, lost_pieces};
 ghost use Rattle.ncp_player.specs.Streams.{SaysTextOrBeginning};
 
 use crate::detail::say_details;
@@ -21,6 +22,7 @@ fn say_first_line<W: Sink>(
     leader: &Result<Leader, Short>,
 ) -> Result<(), Failed>
     ensures told { SaysTextOrBeginning page.old (W.written sink.old) (decimal number ++ summary direction leader.now) result page.new (W.written sink.new) }
+    ensures writes { bytes_and_writes W.takes_all (W.writes sink.old) (W.written sink.old) ≤ bytes_and_writes W.takes_all (W.writes sink.new) (W.written sink.new) + lost_pieces (is_err result) }
     ensures mark { W.has_failed sink.new ≡ (W.has_failed sink.old || is_err result) }
 {
     page.make_room(sink, LONGEST_LINE)?;
@@ -47,6 +49,7 @@ pub(crate) fn say_record<W: Sink>(
     message: &Bits,
 ) -> Result<(), Failed>
     ensures told { SaysTextOrBeginning page.old (W.written sink.old) (record_lines direction number message.now) result page.new (W.written sink.new) }
+    ensures writes { bytes_and_writes W.takes_all (W.writes sink.old) (W.written sink.old) ≤ bytes_and_writes W.takes_all (W.writes sink.new) (W.written sink.new) + lost_pieces (is_err result) }
     ensures mark { W.has_failed sink.new ≡ (W.has_failed sink.old || is_err result) }
 {
     let leader = read_leader(message);

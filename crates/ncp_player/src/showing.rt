@@ -1,5 +1,6 @@
 //! `show`: what a message file holds, line by line.
-ghost use Rattle.std.specs.Prelude.{◌≡◌, ℕ, ◌<◌, ◌||◌, [], List, Some, true, false, IfOk};
+ghost use Rattle.std.specs.Prelude.{◌≡◌, ℕ, ◌+◌, ◌-◌, ◌/◌, ◌<◌, ◌≤◌, ◌||◌, [], List, Some, true, false, length, IfOk};
+ghost use Rattle.ncp_player.specs.Pieces.{reads_for, reads_beyond, bytes_and_writes, lost_pieces};
 ghost use Rattle.ncp_player.specs.Results.{is_read_failed, is_write_failed};
 ghost use Rattle.ncp_player.specs.Streams.{Ahead, SaidSoFar, effort};
 ghost use Rattle.ncp_player.specs.Steps.{ShowsNext, ShowsFrom, ShowsFile};
@@ -10,7 +11,7 @@ use crate::incoming::Incoming;
 use crate::outgoing::Outgoing;
 use crate::record::say_record;
 use crate::sink::Sink;
-use crate::source::Source;
+use crate::source::{LEAST_PIECE, Source};
 use ncp_bits::Bits;
 
 // Reads the next record into `message` and shows it, and answers whether there was one.
@@ -27,7 +28,10 @@ fn show_next<S: Source, W: Sink>(
         → Ahead window.old (S.left source.old) bytes → SaidSoFar was page.old (W.written sink.old) said
         → ShowsNext direction number bytes was said result window.new (S.left source.new) page.new (W.written sink.new) }
     ensures source_mark { S.has_failed source.new ≡ (S.has_failed source.old || is_read_failed result) }
+    ensures writes { bytes_and_writes W.takes_all (W.writes sink.old) (W.written sink.old) ≤ bytes_and_writes W.takes_all (W.writes sink.new) (W.written sink.new) + lost_pieces (is_write_failed result) }
     ensures sink_mark { W.has_failed sink.new ≡ (W.has_failed sink.old || is_write_failed result) }
+    ensures reads { reads_beyond S.gives_all (S.reads source.old) (S.left source.old) ≤ reads_beyond S.gives_all (S.reads source.new) (S.left source.new) + 1 }
+    ensures taken { IfOk result (λ more. more ≡ true → reads_beyond S.gives_all (S.reads source.old) (S.left source.old) ≤ reads_beyond S.gives_all (S.reads source.new) (S.left source.new)) }
     ensures effort { IfOk result (λ more. more ≡ true → effort (S.reads source.new) window.new < effort (S.reads source.old) window.old) }
 {
     if !read_record(window, source, message)? {
@@ -51,7 +55,9 @@ fn show_records<S: Source, W: Sink>(
         → Ahead window.old (S.left source.old) bytes → SaidSoFar was page.old (W.written sink.old) said
         → ShowsFrom direction 1 bytes was said result (S.left source.new) page.new (W.written sink.new) }
     ensures source_mark { S.has_failed source.new ≡ (S.has_failed source.old || is_read_failed result) }
+    ensures writes { bytes_and_writes W.takes_all (W.writes sink.old) (W.written sink.old) ≤ bytes_and_writes W.takes_all (W.writes sink.new) (W.written sink.new) + lost_pieces (is_write_failed result) }
     ensures sink_mark { W.has_failed sink.new ≡ (W.has_failed sink.old || is_write_failed result) }
+    ensures reads { reads_beyond S.gives_all (S.reads source.old) (S.left source.old) ≤ reads_beyond S.gives_all (S.reads source.new) (S.left source.new) + 1 }
 {
     let mut message = Bits::new();
     let mut number = 1u32;
@@ -72,7 +78,9 @@ fn show_file<S: Source, W: Sink>(
         → S.left source.old ≡ Some bytes → W.written sink.old ≡ Some was
         → ShowsFile bytes was result (S.left source.new) page.new (W.written sink.new) }
     ensures source_mark { S.has_failed source.new ≡ (S.has_failed source.old || is_read_failed result) }
+    ensures writes { bytes_and_writes W.takes_all (W.writes sink.old) (W.written sink.old) ≤ bytes_and_writes W.takes_all (W.writes sink.new) (W.written sink.new) + lost_pieces (is_write_failed result) }
     ensures sink_mark { W.has_failed sink.new ≡ (W.has_failed sink.old || is_write_failed result) }
+    ensures reads { reads_beyond S.gives_all (S.reads source.old) (S.left source.old) ≤ reads_beyond S.gives_all (S.reads source.new) (S.left source.new) + 1 }
 {
     let mut window = Incoming::new();
     let direction = read_header(&mut window, source)?;
@@ -99,6 +107,17 @@ pub fn show<S: Source, W: Sink>(source: &mut S, sink: &mut W) -> Result<(), File
     ensures read_failed { is_read_failed result ≡ true → S.has_failed source.new ≡ true }
     ensures write_failed { W.has_failed sink.new ≡ is_write_failed result }
     ensures blamed { S.has_failed source.new ≡ true → (is_read_failed result || is_write_failed result) ≡ true }
+
+    // A source that gives all that it can is read no more than once for each 4 KiB, and once more;
+    // any source no more than once for each byte, and once more.
+    ensures reads { (bytes : List ℕ) → S.left source.old ≡ Some bytes
+        → S.reads source.old ≤ S.reads source.new + reads_for S.gives_all (length bytes) + 1 }
+
+    // A sink that takes all that it can is written to no more than once for each 4 KiB, and twice
+    // more.
+    ensures writes { (was : List ℕ) (now : List ℕ) → W.takes_all ≡ true
+        → W.written sink.old ≡ Some was → W.written sink.new ≡ Some now
+        → W.writes sink.old ≤ W.writes sink.new + (length now - length was) / LEAST_PIECE + 2 }
 {
     let mut page = Outgoing::new();
     let shown = show_file(source, &mut page, sink);

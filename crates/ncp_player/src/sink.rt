@@ -1,5 +1,5 @@
 //! `Sink`: where bytes go.
-ghost use Rattle.std.specs.Prelude.{◌≡◌, ℕ, ◌<◌, ◌≤◌, ◌||◌, Bool, List, Option, false, length, is_err, IfOk};
+ghost use Rattle.std.specs.Prelude.{◌≡◌, ℕ, ◌+◌, ◌<◌, ◌≤◌, ◌||◌, Bool, List, Option, true, false, min, length, is_err, IfOk};
 ghost use Rattle.std.specs.Io.KnownBytes.{WriteAppends};
 
 use crate::source::Failed;
@@ -10,6 +10,15 @@ pub trait Sink {
     /// The bytes that were written, where they are told.
     ghost written: { Self → Option (List ℕ) };
 
+    /// Whether each write takes all that it can: the whole piece, or as much as there is room for.
+    ghost takes_all: { Bool } = { false };
+
+    /// How many bytes there is room for, where each write takes all that it can.
+    ghost room: { Self → ℕ } = { λ _. 0 };
+
+    /// How many writes are left of those that are counted: a write is counted once at most.
+    ghost writes: { Self → ℕ } = { λ _. 0 };
+
     /// Whether a write has failed.
     ghost has_failed: { Self → Bool };
 
@@ -19,6 +28,9 @@ pub trait Sink {
         ensures count { IfOk result (λ count. count ≤ length piece.now) }
         ensures some { IfOk result (λ count. 0 < length piece.now → 0 < count) }
         ensures bytes { WriteAppends (written self.old) (written self.new) result piece.now }
+        ensures all { takes_all ≡ true → IfOk result (λ count. count ≡ min (length piece.now) (room self.old)) }
+        ensures room { takes_all ≡ true → IfOk result (λ count. room self.new + count ≡ room self.old) }
+        ensures counted { writes self.old ≤ writes self.new + 1 }
         ensures mark { has_failed self.new ≡ (has_failed self.old || is_err result) };
 
     /// Whether a write has failed.

@@ -1,9 +1,12 @@
 //! `Source`: where bytes come from.
-ghost use Rattle.std.specs.Prelude.{◌≡◌, ℕ, ◌-◌, ◌<◌, ◌≤◌, ◌||◌, Bool, List, Option, false, length, is_err, IsErr, IfOk};
+ghost use Rattle.std.specs.Prelude.{◌≡◌, ℕ, ◌-◌, ◌<◌, ◌≤◌, ◌||◌, Bool, List, Option, true, false, min, length, is_err, IsErr, IfOk, IfSome};
 ghost use Rattle.std.specs.Io.KnownBytes.{ReadConsumes};
 
 use std::io::Read;
 use thiserror::Error;
+
+/// How many bytes a piece has at least that a file is read into or written in, the last one apart.
+pub const LEAST_PIECE: usize = 4096;
 
 /// A read or a write failed.
 #[derive(Clone, Copy, Debug, Drop, PartialEq, Eq, Error)]
@@ -14,6 +17,10 @@ pub struct Failed;
 pub trait Source {
     /// The bytes that are left, where they are told.
     ghost left: { Self → Option (List ℕ) };
+
+    /// Whether each read gives all that it can: as many bytes as the piece has room for, or all
+    /// that are left. A source that gives fewer at times is none of these.
+    ghost gives_all: { Bool } = { false };
 
     /// How many reads are left. It bounds what reads to the end.
     ghost reads: { Self → ℕ };
@@ -26,6 +33,7 @@ pub trait Source {
     fn read(&mut self, piece: &mut [u8]) -> Result<usize, Failed>
         ensures count { IfOk result (λ count. count ≤ length piece.new) }
         ensures bytes { ReadConsumes (left self.old) (left self.new) result piece.new }
+        ensures all { gives_all ≡ true → IfSome (left self.old) (λ bytes. IfOk result (λ count. count ≡ min (length piece.old) (length bytes))) }
         ensures lowers { 0 < length piece.old → reads self.new ≡ reads self.old - 1 }
         ensures stays { length piece.old ≡ 0 → reads self.new ≡ reads self.old }
         ensures spent { 0 < length piece.old → reads self.old ≡ 0 → IsErr result }

@@ -14,4 +14,4 @@ pub returns-clause-told : goal.returns-clause-told
 returns-clause-told g c = λ bytes e.
     let ahead : Ahead c.new-window.result (g.S.Source.left c.args.source.now) bytes = (bytes, e, ap (λ (w : List ℕ). w ++ bytes) c.new-window.ensures) in
     let read = c.in_ok-_direction.ensures.told bytes ahead in
-    file_counted bytes c.in_ok-_direction._direction c.tally_records.result read.0 (c.tally_records.ensures.told (drop 4 bytes) read.1)
+    file_counted bytes c.in_ok-_direction._direction c.tally_records.result (g.S.Source.left c.tally_records.new.source) read.0 (c.tally_records.ensures.told (drop 4 bytes) read.1)

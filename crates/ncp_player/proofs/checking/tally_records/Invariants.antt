@@ -1,6 +1,7 @@
-use Rattle.std.proofs.Common.{◌≡◌, ℕ, List, Result}
+use Rattle.std.proofs.Common.{◌≡◌, ◌≤◌, ℕ, List, Option, Result}
 use Rattle.ncp_player.specs.declared.file.FileFault.{FileFault}
 use Rattle.ncp_player.specs.declared.tally.Tally.{Tally}
+use Rattle.ncp_player.specs.Pieces.{reads_beyond}
 use Rattle.ncp_player.specs.Streams.{Ahead, effort}
 use Rattle.ncp_player.specs.Tallies.{no_messages, TalliesFrom}
 use Rattle.ncp_player.proofs.checking.tally_records.Given as goal
@@ -10,7 +11,8 @@ invariant-loop-tally g l =
     let s = g.S.Source in
     record {
       told : (bytes : List ℕ) → Ahead l.initial.window (s.left l.initial.source) bytes
-          → (now : List ℕ) × Ahead l.window (s.left l.source) now × ((r : Result Tally FileFault) → TalliesFrom now l.tally r → TalliesFrom bytes no_messages r);
+          → (now : List ℕ) × Ahead l.window (s.left l.source) now × ((r : Result Tally FileFault) (left : Option (List ℕ)) → TalliesFrom now l.tally r left → TalliesFrom bytes no_messages r left);
+      reads : reads_beyond s.gives_all (s.reads l.initial.source) (s.left l.initial.source) ≤ reads_beyond s.gives_all (s.reads l.source) (s.left l.source);
       mark : s.has_failed l.source ≡ s.has_failed l.initial.source;
     }
 

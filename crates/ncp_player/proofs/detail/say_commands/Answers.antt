@@ -1,4 +1,4 @@
-use Rattle.std.proofs.Common.{◌++◌, ◌∷◌, ◌∙◌, [], refl, sym, ap, subst}
+use Rattle.std.proofs.Common.{◌++◌, ◌∷◌, ◌∙◌, [], refl, sym, ap, subst, arith}
 use Rattle.std.specs.List.{flat_map}
 use Rattle.std.proofs.Math.Bool.{or-false}
 use Rattle.std.proofs.lemmas.List.{append_assoc}
@@ -15,6 +15,7 @@ loop-item-init g c = record {
   ends = tt;
   items = refl;
   said = says_none item_line c.args.page.now (g.W.Sink.written c.args.sink.now);
+  writes = omega arith;
   mark = refl;
 }
 
@@ -36,6 +37,7 @@ loop-item-preserved g c =
       items = append_assoc c.loop-item.yielded (c.in-Some.item ∷ []) c.next.new.self ∙ ap (λ items. c.loop-item.yielded ++ items) (sym c.in-Some.ensures.steps) ∙ c.loop-item.invariant.items;
       said = says_item item_line c.args.page.now c.loop-item.page c.make_room.new.self c.push_item.new.page (w.written c.args.sink.now) (w.written c.loop-item.sink) (w.written c.make_room.new.sink) c.loop-item.yielded c.in-Some.item
           c.loop-item.invariant.said c.in_ok-make_room.ensures.ok c.push_item.ensures;
+      writes = let one = c.in_ok-make_room.ensures.writes in omega (arith, one, c.loop-item.invariant.writes);
       mark = c.in_ok-make_room.ensures.mark ∙ or-false _ ∙ c.loop-item.invariant.mark;
     }
 

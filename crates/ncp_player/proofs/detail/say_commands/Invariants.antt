@@ -1,6 +1,7 @@
-use Rattle.std.proofs.Common.{◌≡◌, ◌++◌}
+use Rattle.std.proofs.Common.{◌≡◌, ◌≤◌, ◌++◌}
 use Rattle.std.specs.List.{flat_map}
 use Rattle.ncp_player.specs.Lines.{item_line}
+use Rattle.ncp_player.specs.Pieces.{bytes_and_writes}
 use Rattle.ncp_player.specs.Streams.{SaysText}
 use Rattle.ncp_player.proofs.detail.say_commands.Given as goal
 
@@ -12,5 +13,6 @@ invariant-loop-item g l =
       ends : (goal.iterator-loop-item g).is_finite l.item-iterator;
       items : l.yielded ++ l.item-iterator ≡ l.initial.item-iterator;
       said : SaysText l.initial.page (w.written l.initial.sink) (flat_map item_line l.yielded) l.page (w.written l.sink);
+      writes : bytes_and_writes w.takes_all (w.writes l.initial.sink) (w.written l.initial.sink) ≤ bytes_and_writes w.takes_all (w.writes l.sink) (w.written l.sink);
       mark : w.has_failed l.sink ≡ w.has_failed l.initial.sink;
     }

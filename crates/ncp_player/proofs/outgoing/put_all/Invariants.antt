@@ -1,4 +1,4 @@
-use Rattle.std.proofs.Common.{◌≡◌, ◌≤◌, ◌-◌, length, take}
+use Rattle.std.proofs.Common.{◌≡◌, ◌<◌, ◌≤◌, ◌+◌, ◌-◌, ◌⊎◌, true, length, take}
 use Rattle.std.specs.Io.KnownBytes.{Appends}
 use Rattle.ncp_player.proofs.outgoing.put_all.Given as goal
 
@@ -8,6 +8,9 @@ invariant-loop-done g l =
     record {
       inside : l.done ≤ length l.piece;
       bytes : Appends (s.written l.initial.sink) (s.written l.sink) (take l.done l.piece);
+      writes : s.takes_all ≡ true
+          → ((l.done ≡ 0) × (s.writes l.sink ≡ s.writes l.initial.sink))
+          ⊎ ((s.writes l.initial.sink ≤ s.writes l.sink + 1) × (0 < l.done) × (l.done < length l.piece → s.room l.sink ≡ 0));
       mark : s.has_failed l.sink ≡ s.has_failed l.initial.sink;
     }
 

@@ -1,4 +1,4 @@
-use Rattle.std.proofs.Common.{◌∙◌, ◌++◌, ℕ, Ok, Err, subst}
+use Rattle.std.proofs.Common.{◌∙◌, ◌++◌, ℕ, Ok, Err, subst, arith}
 use Rattle.std.proofs.Math.Bool.{or-false}
 use Rattle.std.proofs.lemmas.Result.{err_from_is_err_and}
 use Rattle.ncp_player.specs.Lines.{record_lines}
@@ -32,7 +32,9 @@ loop-number-preserved g c =
                 from_more c.args.direction c.loop-number.number before.0 one.1 was before.1 page left written one.0 r one.2
                 (subst (λ (n : ℕ). ShowsFrom c.args.direction n one.1 was more r left page written) c.saturating_add-number.ensures h)),
           );
+      reads = let taken = c.in_ok-show_next.ensures.taken c.if-branch.true in omega (arith, taken, c.loop-number.invariant.reads);
       source_mark = c.in_ok-show_next.ensures.source_mark ∙ or-false _ ∙ c.loop-number.invariant.source_mark;
+      writes = let one = c.in_ok-show_next.ensures.writes in omega (arith, one, c.loop-number.invariant.writes);
       sink_mark = c.in_ok-show_next.ensures.sink_mark ∙ or-false _ ∙ c.loop-number.invariant.sink_mark;
     }
 

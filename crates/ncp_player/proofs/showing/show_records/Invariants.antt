@@ -1,5 +1,6 @@
-use Rattle.std.proofs.Common.{◌≡◌, ℕ, List, Option, Result}
+use Rattle.std.proofs.Common.{◌≡◌, ◌≤◌, ℕ, List, Option, Result}
 use Rattle.ncp_player.specs.declared.file.FileFault.{FileFault}
+use Rattle.ncp_player.specs.Pieces.{reads_beyond, bytes_and_writes}
 use Rattle.ncp_player.specs.Streams.{Ahead, SaidSoFar, effort}
 use Rattle.ncp_player.specs.Steps.{ShowsFrom}
 use Rattle.ncp_player.proofs.showing.show_records.Given as goal
@@ -12,7 +13,9 @@ invariant-loop-number g l =
           → (now now_said : List ℕ) × Ahead l.window (s.left l.source) now × SaidSoFar was l.page (w.written l.sink) now_said
           × ((r : Result Unit FileFault) (left : Option (List ℕ)) (page : List ℕ) (written : Option (List ℕ)) → ShowsFrom l.direction l.number now was now_said r left page written
           → ShowsFrom l.direction 1 bytes was said r left page written);
+      reads : reads_beyond s.gives_all (s.reads l.initial.source) (s.left l.initial.source) ≤ reads_beyond s.gives_all (s.reads l.source) (s.left l.source);
       source_mark : s.has_failed l.source ≡ s.has_failed l.initial.source;
+      writes : bytes_and_writes w.takes_all (w.writes l.initial.sink) (w.written l.initial.sink) ≤ bytes_and_writes w.takes_all (w.writes l.sink) (w.written l.sink);
       sink_mark : w.has_failed l.sink ≡ w.has_failed l.initial.sink;
     }
 

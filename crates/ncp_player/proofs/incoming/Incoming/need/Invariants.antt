@@ -1,4 +1,5 @@
 use Rattle.std.proofs.Common.{◌≡◌, ℕ, List, ◌++◌, ◌≤◌, ◌-◌, length}
+use Rattle.ncp_player.specs.Pieces.{reads_beyond}
 use Rattle.ncp_player.specs.Streams.{Moves, effort}
 use Rattle.ncp_player.proofs.incoming.Incoming.need.Given as goal
 
@@ -9,6 +10,7 @@ invariant-loop-self g l =
       moved : Moves l.initial.self (s.left l.initial.source) l.self (s.left l.source);
       grows : (piece : List ℕ) × (l.self ≡ l.initial.self ++ piece);
       effort : effort (s.reads l.source) l.self ≤ effort (s.reads l.initial.source) l.initial.self;
+      reads : reads_beyond s.gives_all (s.reads l.initial.source) (s.left l.initial.source) ≤ reads_beyond s.gives_all (s.reads l.source) (s.left l.source);
       mark : s.has_failed l.source ≡ s.has_failed l.initial.source;
     }
 
