@@ -1,9 +1,9 @@
 -- How many entries pass a test, and the first that does: in the list and in the map.
-use Rattle.std.proofs.Common.{◌≡◌, ℕ, zero, suc, ◌+◌, ◌≤◌, Bool, true, false, cond, not, List, [], ◌∷◌, ◌++◌, Option, Some, None, refl, sym, ap, ◌∙◌, subst, arith}
+use Rattle.std.proofs.Common.{◌≡◌, ℕ, zero, suc, ◌+◌, ◌≤◌, Bool, true, false, cond, not, List, [], ◌∷◌, Option, Some, None, refl, sym, ap, ◌∙◌, arith}
 use Rattle.std.specs.Prelude.{slice_get, slice_set, length}
 use Rattle.std.specs.declared.cmp.Ordering.{Ordering}
 use Rattle.std.specs.declared.cmp.Ordering.TheVariants.{Less, Equal, Greater}
-use Rattle.std.specs.List.{count_by, remove, position_from}
+use Rattle.std.specs.List.{count_by, remove}
 use Rattle.std.specs.Ordering.{is_eq}
 use Rattle.std.specs.FinMap.{empty, len-entries, len-empty, find, put, entries, from_entries, entries-insert, get-entries, get-from_entries}
 use Rattle.std.specs.FinMap.Entries.{by_order}
@@ -13,12 +13,14 @@ use Rattle.ncp_model.specs.Pairs.{pair_cmp}
 use Rattle.ncp_model.specs.End.{End}
 use Rattle.ncp_model.specs.Ends.{count, has_asked, is_by_peer, first_by}
 use Rattle.ncp_model.proofs.PairOrder.{pairs_total}
-use Rattle.ncp_conn.specs.Entries.{AreEntries, FoundBy}
+use Rattle.slab.specs.Slab.{entries_from}
+use Rattle.ncp_conn.specs.Entries.{AreEntries}
+use Rattle.ncp_conn.proofs.Slabs.{vals}
 
 abbrev pub one : Bool → ℕ
 one b = cond b 1 0
 
-count_cons : {A : Type 0} (p : A → Bool) (x : A) (xs : List A) → count_by p (x ∷ xs) ≡ one (p x) + count_by p xs
+pub count_cons : {A : Type 0} (p : A → Bool) (x : A) (xs : List A) → count_by p (x ∷ xs) ≡ one (p x) + count_by p xs
 count_cons p x xs = sum_by-cons (λ y. one (p y)) x xs
 
 pub count_set : {A : Type 0} (p : A → Bool) (es : List A) (i : ℕ) (x y : A) → slice_get es i ≡ Some x → count_by p (slice_set es i y) + one (p x) ≡ count_by p es + one (p y)
@@ -30,10 +32,6 @@ pub count_remove : {A : Type 0} (p : A → Bool) (es : List A) (i : ℕ) (x : A)
 count_remove p [] i x is = absurd (cc)
 count_remove p (z ∷ es) zero x is = let same : z ≡ x = cc in rw (count_cons p z es, same) (omega arith)
 count_remove p (z ∷ es) (suc i) x is = let h = count_remove p es i x is in rw (count_cons p z (remove es i), count_cons p z es) (omega arith)
-
-pub count_push : {A : Type 0} (p : A → Bool) (es : List A) (x : A) → count_by p (es ++ x ∷ []) ≡ count_by p es + one (p x)
-count_push p [] x = count_cons p x [] ∙ omega arith
-count_push p (z ∷ es) x = let h = count_push p es x in rw (count_cons p z (es ++ x ∷ []), count_cons p z es) (omega arith)
 
 count_put : (p : Pair × End → Bool) (es : List (Pair × End)) (k : Pair) (e : End) → find pair_cmp k es ≡ None → count_by p (put pair_cmp k e es) ≡ one (p (k, e)) + count_by p es
 count_put p [] k e none = count_cons p (k, e) []
@@ -69,7 +67,7 @@ count_both (x ∷ es) = let h = count_both es in rw (count_cons has_asked x es, 
 abbrev Test : Type 0
 Test = Pair × End → Bool
 
-first_none : (p : Test) (es : List (Pair × End)) → count_by p es ≡ 0 → first_by p es ≡ None
+pub first_none : (p : Test) (es : List (Pair × End)) → count_by p es ≡ 0 → first_by p es ≡ None
 first_none p [] h = refl
 first_none p (x ∷ es) h = go (p x) refl (first_none p es)
   where
@@ -129,25 +127,31 @@ first_is p (x ∷ es) are h =
         let o : one (p x) ≡ 0 = ap one f in
         first_put p (entries (from_entries es)) x.0 x.1 none f ∙ rest (omega (arith, h, d, o))
 
-placed_by : (p : Test) (es : List (Pair × End)) (n i : ℕ) → position_from p n es ≡ Some i → (j : ℕ) × (i ≡ n + j) × ((x : Pair × End) × (slice_get es j ≡ Some x) × (first_by p es ≡ Some x))
-placed_by p [] n i h = absurd (cc)
-placed_by p (y ∷ es) n i h = go (p y) h (placed_by p es (n + 1) i)
+pub first_at : (p : Test) (es : List (Pair × End)) (i : ℕ) (x : Pair × End) → slice_get es i ≡ Some x → p x ≡ true → count_by p es ≤ 1 → first_by p es ≡ Some x
+first_at p [] i x is h most = absurd (cc)
+first_at p (y ∷ es) zero x is h most =
+    let same : y ≡ x = cc in
+    let passes : p y ≡ true = ap p same ∙ h in
+    ap (λ (b : Bool). cond b (Some y) (first_by p es)) passes ∙ is
+first_at p (y ∷ es) (suc i) x is h most = go (p y) refl (first_at p es i x is h)
   where
-    go : (b : Bool) → cond b (Some n) (position_from p (n + 1) es) ≡ Some i → (position_from p (n + 1) es ≡ Some i → (j : ℕ) × (i ≡ n + 1 + j) × ((x : Pair × End) × (slice_get es j ≡ Some x) × (first_by p es ≡ Some x))) → (j : ℕ) × (i ≡ n + j) × ((x : Pair × End) × (slice_get (y ∷ es) j ≡ Some x) × (cond b (Some y) (first_by p es) ≡ Some x))
-    go true g rest = let is : n ≡ i = cc in (zero, omega (arith, is), (y, refl, refl))
-    go false g rest = let q = rest g in (suc q.0, let e : i ≡ n + 1 + q.0 = q.1 in omega (arith, e), (q.2.0, q.2.1, q.2.2))
+    go : (b : Bool) → p y ≡ b → (count_by p es ≤ 1 → first_by p es ≡ Some x) → cond b (Some y) (first_by p es) ≡ Some x
+    go true e rest =
+        let c : count_by p (y ∷ es) ≡ one (p y) + count_by p es = count_cons p y es in
+        let d : count_by p (remove es i) + one (p x) ≡ count_by p es = count_remove p es i x is in
+        let o : one (p y) ≡ 1 = ap one e in
+        let q : one (p x) ≡ 1 = ap one h in
+        absurd (omega (arith, c, d, o, q, most))
+    go false e rest =
+        let c : count_by p (y ∷ es) ≡ one (p y) + count_by p es = count_cons p y es in
+        let o : one (p y) ≡ 0 = ap one e in
+        rest (omega (arith, c, o, most))
 
-not_placed_by : (p : Test) (es : List (Pair × End)) (n : ℕ) → position_from p n es ≡ None → first_by p es ≡ None
-not_placed_by p [] n h = refl
-not_placed_by p (y ∷ es) n h = go (p y) h (not_placed_by p es (n + 1))
-  where
-    go : (b : Bool) → cond b (Some n) (position_from p (n + 1) es) ≡ None → (position_from p (n + 1) es ≡ None → first_by p es ≡ None) → cond b (Some y) (first_by p es) ≡ None
-    go true g rest = absurd (cc)
-    go false g rest = rest g
-
-pub is_found_by : (p : Test) (es : List (Pair × End)) (r : Option ℕ) → position_from p 0 es ≡ r → FoundBy p es r
-is_found_by p es None h = not_placed_by p es 0 h
-is_found_by p es (Some i) h =
-    let q = placed_by p es 0 i h in
-    let e : q.0 ≡ i = let g : i ≡ 0 + q.0 = q.1 in omega (arith, g) in
-    (q.2.0, subst (λ (j : ℕ). slice_get es j ≡ Some q.2.0) e q.2.1, q.2.2)
+-- what is counted among the entries with their keys
+pub count_entries : {A : Type 0} (p : A → Bool) (n : ℕ) (slots : List (Option A)) → count_by (λ e. p e.1) (entries_from n slots) ≡ count_by p (vals slots)
+count_entries p n [] = refl
+count_entries p n (None ∷ slots) = count_entries p (n + 1) slots
+count_entries p n (Some x ∷ slots) =
+    count_cons (λ e. p e.1) (n, x) (entries_from (n + 1) slots)
+    ∙ ap (λ c. one (p x) + c) (count_entries p (n + 1) slots)
+    ∙ sym (count_cons p x (vals slots))

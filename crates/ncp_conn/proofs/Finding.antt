@@ -1,21 +1,22 @@
 -- Lists of entries, and the map that they make.
-use Rattle.std.proofs.Common.{◌≡◌, ℕ, zero, suc, ◌+◌, ◌<◌, Bool, true, false, cond, ◌&&◌, List, [], ◌∷◌, ◌++◌, Option, Some, None, refl, sym, ap, ◌∙◌, subst, arith}
+use Rattle.std.proofs.Common.{◌≡◌, ℕ, zero, suc, ◌+◌, ◌<◌, Bool, true, false, cond, ◌&&◌, List, [], ◌∷◌, Option, Some, None, IfSome, refl, sym, ap, ◌∙◌, subst, arith, get_or}
 use Rattle.std.specs.Prelude.{slice_get, slice_set, length}
 use Rattle.std.specs.declared.cmp.Ordering.{Ordering}
 use Rattle.std.specs.declared.cmp.Ordering.TheVariants.{Less, Equal, Greater}
-use Rattle.std.specs.List.{remove, position_from}
+use Rattle.std.specs.List.{remove}
 use Rattle.std.specs.Ordering.{eq_by_cmp, is_eq}
 use Rattle.std.proofs.lemmas.Cmp.{eq_by_cmp_equiv}
 use Rattle.std.specs.FinMap as map
-use Rattle.std.specs.FinMap.{find, get, from_entries, insert, get-from_entries, get-insert, get-remove, same_map, from_entries_push}
-use Rattle.std.specs.FinMap.Entries.{find-append}
+use Rattle.std.specs.FinMap.{find, get as map_get, from_entries, insert, get-from_entries, get-insert, get-remove, same_map}
 use Rattle.std.proofs.lemmas.Bool.{eqb-true}
 use Rattle.std.proofs.lemmas.Bool.Decides.{nat_tests}
 use Rattle.ncp_model.specs.declared.pair.Pair.{Pair}
 use Rattle.ncp_model.specs.Pairs.{pair_cmp}
 use Rattle.ncp_model.specs.End.{End, is_over}
 use Rattle.ncp_model.proofs.PairOrder.{pairs_total, pairs_exact}
-use Rattle.ncp_conn.specs.Entries.{AreEntries, Found, same_pair}
+use Rattle.slab.specs.Slab.{Slab, get, entries, entries_from, ContainsKey}
+use Rattle.ncp_conn.specs.Entries.{AreEntries, Found, key_of, same_pair}
+use Rattle.ncp_conn.proofs.Slabs.{vals}
 
 abbrev pub is_pair : Pair → Pair → Bool
 is_pair a b = eq_by_cmp pair_cmp a b
@@ -102,16 +103,8 @@ are_remove (x ∷ es) zero k e are is = are.2
 are_remove (x ∷ es) (suc i) k e are is =
     (find_remove es i k e are.2 is x.0 ∙ cond_none (is_pair x.0 k) _ are.0, are.1, are_remove es i k e are.2 is)
 
-pub are_push : (es : List (Pair × End)) (k : Pair) (e : End) → AreEntries es → find pair_cmp k es ≡ None → is_over e ≡ false → AreEntries (es ++ (k, e) ∷ [])
-are_push [] k e are none over = (refl, over, tt)
-are_push (x ∷ es) k e are none over = go (is_pair k x.0) refl none (λ g. are_push es k e are.2 g over)
-  where
-    go : (b : Bool) → is_pair k x.0 ≡ b → cond b (Some x.1) (find pair_cmp k es) ≡ None → (find pair_cmp k es ≡ None → AreEntries (es ++ (k, e) ∷ [])) → AreEntries (x ∷ es ++ (k, e) ∷ [])
-    go true h g rest = absurd (cc)
-    go false h g rest = (find-append pair_cmp pairs_total es k e x.0 g ∙ cond_not (is_pair x.0 k) (Some e) _ (λ same. let t : true ≡ false = sym same ∙ (eq_by_cmp_equiv pairs_total).symm x.0 k ∙ h in absurd (cc)) ∙ are.0, are.1, rest g)
-
 -- what the map has at a pair
-pub get_is : (es : List (Pair × End)) (k : Pair) → get (from_entries {R = pair_cmp} es) k ≡ find pair_cmp k es
+pub get_is : (es : List (Pair × End)) (k : Pair) → map_get (from_entries {R = pair_cmp} es) k ≡ find pair_cmp k es
 get_is es k = get-from_entries pairs_total es k
 
 pub map_set : (es : List (Pair × End)) (i : ℕ) (k : Pair) (e f : End) → AreEntries es → slice_get es i ≡ Some (k, e) → from_entries {R = pair_cmp} (slice_set es i (k, f)) ≡ insert (from_entries es) k f
@@ -123,9 +116,6 @@ pub map_remove : (es : List (Pair × End)) (i : ℕ) (k : Pair) (e : End) → Ar
 map_remove es i k e are is = same_map pairs_total pairs_exact _ _ (λ q.
     get_is (remove es i) q ∙ find_remove es i k e are is q
     ∙ sym (get-remove pairs_total (from_entries es) k q ∙ ap (cond (is_pair q k) None) (get_is es q)))
-
-pub map_push : (es : List (Pair × End)) (k : Pair) (f : End) → find pair_cmp k es ≡ None → from_entries {R = pair_cmp} (es ++ (k, f) ∷ []) ≡ insert (from_entries es) k f
-map_push es k f none = from_entries_push pairs_total pairs_exact es k f none
 
 -- finding
 
@@ -146,28 +136,60 @@ same_is a b h =
 same_itself : (a : Pair) → same_pair a a ≡ true
 same_itself a = grind (arith, nat_tests)
 
-placed : (k : Pair) (es : List (Pair × End)) (n i : ℕ) → position_from (λ e. same_pair e.0 k) n es ≡ Some i → (j : ℕ) × (i ≡ n + j) × ((e : End) × (slice_get es j ≡ Some (k, e)))
-placed k [] n i h = absurd (cc)
-placed k (x ∷ es) n i h = go (same_pair x.0 k) refl h (placed k es (n + 1) i)
+placed : (k : Pair) (slots : List (Option (Pair × End))) (n key : ℕ) → key_of (λ e. same_pair e.0 k) (entries_from n slots) ≡ Some key → (j : ℕ) × (key ≡ n + j) × ((e : End) × (get_or slots j None ≡ Some (k, e)))
+placed k [] n key h = absurd (cc)
+placed k (None ∷ slots) n key h = let p = placed k slots (n + 1) key h in (suc p.0, let e : key ≡ n + 1 + p.0 = p.1 in omega (arith, e), p.2)
+placed k (Some x ∷ slots) n key h = go (same_pair x.0 k) refl h (placed k slots (n + 1) key)
   where
-    go : (b : Bool) → same_pair x.0 k ≡ b → cond b (Some n) (position_from (λ e. same_pair e.0 k) (n + 1) es) ≡ Some i → (position_from (λ e. same_pair e.0 k) (n + 1) es ≡ Some i → (j : ℕ) × (i ≡ n + 1 + j) × ((e : End) × (slice_get es j ≡ Some (k, e)))) → (j : ℕ) × (i ≡ n + j) × ((e : End) × (slice_get (x ∷ es) j ≡ Some (k, e)))
-    go true s g rest = let is : n ≡ i = cc in (zero, omega (arith, is), (x.1, ap (λ (p : Pair). Some (p, x.1)) (same_is x.0 k s)))
-    go false s g rest = let p = rest g in (suc p.0, let e : i ≡ n + 1 + p.0 = p.1 in omega (arith, e), p.2)
+    go : (b : Bool) → same_pair x.0 k ≡ b → cond b (Some n) (key_of (λ e. same_pair e.0 k) (entries_from (n + 1) slots)) ≡ Some key → (key_of (λ e. same_pair e.0 k) (entries_from (n + 1) slots) ≡ Some key → (j : ℕ) × (key ≡ n + 1 + j) × ((e : End) × (get_or slots j None ≡ Some (k, e)))) → (j : ℕ) × (key ≡ n + j) × ((e : End) × (get_or (Some x ∷ slots) j None ≡ Some (k, e)))
+    go true s g rest = let is : n ≡ key = cc in (zero, omega (arith, is), (x.1, ap (λ (p : Pair). Some (p, x.1)) (same_is x.0 k s)))
+    go false s g rest = let p = rest g in (suc p.0, let e : key ≡ n + 1 + p.0 = p.1 in omega (arith, e), p.2)
 
-not_placed : (k : Pair) (es : List (Pair × End)) (n : ℕ) → position_from (λ e. same_pair e.0 k) n es ≡ None → find pair_cmp k es ≡ None
+not_placed : (k : Pair) (slots : List (Option (Pair × End))) (n : ℕ) → key_of (λ e. same_pair e.0 k) (entries_from n slots) ≡ None → find pair_cmp k (vals slots) ≡ None
 not_placed k [] n h = refl
-not_placed k (x ∷ es) n h = go (same_pair x.0 k) refl h (not_placed k es (n + 1))
+not_placed k (None ∷ slots) n h = not_placed k slots (n + 1) h
+not_placed k (Some x ∷ slots) n h = go (same_pair x.0 k) refl h (not_placed k slots (n + 1))
   where
-    go : (b : Bool) → same_pair x.0 k ≡ b → cond b (Some n) (position_from (λ e. same_pair e.0 k) (n + 1) es) ≡ None → (position_from (λ e. same_pair e.0 k) (n + 1) es ≡ None → find pair_cmp k es ≡ None) → find pair_cmp k (x ∷ es) ≡ None
+    go : (b : Bool) → same_pair x.0 k ≡ b → cond b (Some n) (key_of (λ e. same_pair e.0 k) (entries_from (n + 1) slots)) ≡ None → (key_of (λ e. same_pair e.0 k) (entries_from (n + 1) slots) ≡ None → find pair_cmp k (vals slots) ≡ None) → find pair_cmp k (x ∷ vals slots) ≡ None
     go true s g rest = absurd (cc)
     go false s g rest = cond_not (is_pair k x.0) (Some x.1) _ (λ a. let t : true ≡ false = sym (same_itself k) ∙ ap (λ (p : Pair). same_pair p k) (pair_is k x.0 a) ∙ s in absurd (cc)) ∙ rest g
 
-pub is_found : (k : Pair) (es : List (Pair × End)) (r : Option ℕ) → position_from (λ e. same_pair e.0 k) 0 es ≡ r → Found es k r
-is_found k es None h = not_placed k es 0 h
-is_found k es (Some i) h =
-    let p = placed k es 0 i h in
-    let e : p.0 ≡ i = let g : i ≡ 0 + p.0 = p.1 in omega (arith, g) in
-    (p.2.0, subst (λ (j : ℕ). slice_get es j ≡ Some (k, p.2.0)) e p.2.1)
+pub is_found : (k : Pair) (s : Slab (Pair × End)) (r : Option ℕ) → key_of (λ e. same_pair e.0 k) (entries s) ≡ r → Found s k r
+is_found k s None h = not_placed k s.slots 0 h
+is_found k s (Some key) h =
+    let p = placed k s.slots 0 key h in
+    let e : p.0 ≡ key = let g : key ≡ 0 + p.0 = p.1 in omega (arith, g) in
+    (p.2.0, subst (λ (j : ℕ). get s j ≡ Some (k, p.2.0)) e p.2.1)
+
+pub found_has : (k : Pair) (s : Slab (Pair × End)) (r : Option ℕ) → Found s k r → IfSome r (λ key. ContainsKey s key)
+found_has k s None h = tt
+found_has k s (Some key) h = rw h.1 refl
+
+-- an entry in a list, put somewhere
+
+pub are_insert : (es : List (Pair × End)) (i : ℕ) (k : Pair) (e : End) → slice_get es i ≡ Some (k, e) → AreEntries (remove es i) → find pair_cmp k (remove es i) ≡ None → is_over e ≡ false → AreEntries es
+are_insert [] i k e is are none over = absurd (cc)
+are_insert (x ∷ es) zero k e is are none over =
+    let same : x ≡ (k, e) = cc in
+    (subst (λ (y : Pair × End). find pair_cmp y.0 es ≡ None) (sym same) none, subst (λ (y : Pair × End). is_over y.1 ≡ false) (sym same) over, are)
+are_insert (x ∷ es) (suc i) k e is are none over = go (is_pair k x.0) refl none (λ g. are_insert es i k e is are.2 g over)
+  where
+    go : (b : Bool) → is_pair k x.0 ≡ b → cond b (Some x.1) (find pair_cmp k (remove es i)) ≡ None → (find pair_cmp k (remove es i) ≡ None → AreEntries es) → AreEntries (x ∷ es)
+    go true h g rest = absurd (cc)
+    go false h g rest =
+        let all : AreEntries es = rest g in
+        let apart : is_pair x.0 k ≡ true → ⊥ = λ same. let t : true ≡ false = sym same ∙ (eq_by_cmp_equiv pairs_total).symm x.0 k ∙ h in absurd (cc) in
+        (sym (cond_not (is_pair x.0 k) None (find pair_cmp x.0 es) apart) ∙ sym (find_remove es i k e all is x.0) ∙ are.0, are.1, all)
+
+pub map_insert : (es : List (Pair × End)) (i : ℕ) (k : Pair) (e : End) → AreEntries es → slice_get es i ≡ Some (k, e) → from_entries {R = pair_cmp} es ≡ insert (from_entries (remove es i)) k e
+map_insert es i k e are is = same_map pairs_total pairs_exact _ _ (λ q.
+    get_is es q ∙ back q (is_pair q k) refl
+    ∙ ap (cond (is_pair q k) (Some e)) (sym (find_remove es i k e are is q) ∙ sym (get_is (remove es i) q))
+    ∙ sym (get-insert pairs_total (from_entries (remove es i)) k e q))
+  where
+    back : (q : Pair) (b : Bool) → is_pair q k ≡ b → find pair_cmp q es ≡ cond (is_pair q k) (Some e) (cond (is_pair q k) None (find pair_cmp q es))
+    back q true h = ap (λ (p : Pair). find pair_cmp p es) (pair_is q k h) ∙ found es i k e are is ∙ sym (ap (λ (b : Bool). cond b (Some e) (cond b None (find pair_cmp q es))) h)
+    back q false h = sym (ap (λ (b : Bool). cond b (Some e) (cond b None (find pair_cmp q es))) h)
 
 -- a place with an entry is in the list
 pub within : {A : Type 0} (es : List A) (i : ℕ) (x : A) → slice_get es i ≡ Some x → i < length es

@@ -1,8 +1,9 @@
 -- Requests: what a table is after them, and what their acts are by their tests.
-use Rattle.std.proofs.Common.{◌≡◌, ℕ, ◌+◌, ◌<◌, ◌≤◌, inl, inr, Bool, true, false, cond, not, ◌&&◌, ◌||◌, ◌==◌, nat_le, List, Option, Some, None, is_none, Result, Ok, Err, refl, sym, ap, ◌∙◌, subst, arith}
-use Rattle.std.specs.Prelude.{slice_get, slice_set}
+use Rattle.std.proofs.Common.{◌≡◌, ℕ, ◌+◌, ◌<◌, ◌≤◌, inl, inr, Bool, true, false, cond, not, ◌&&◌, ◌||◌, ◌==◌, nat_le, Option, Some, None, is_none, Result, Ok, Err, refl, sym, ap, ◌∙◌, subst, arith}
 use Rattle.std.specs.List.{count_by}
-use Rattle.std.specs.FinMap.{get, insert, remove}
+use Rattle.std.specs.FinMap as map
+use Rattle.std.specs.FinMap.{insert, remove}
+use Rattle.slab.specs.Slab.{get, values, with_value}
 use Rattle.std.proofs.lemmas.Bool.{eqb-true}
 use Rattle.std.proofs.lemmas.Bool.Decides.{nat_tests}
 use Rattle.ncp_control.specs.declared.command.Command.TheVariants.{Rts, Str}
@@ -16,11 +17,12 @@ use Rattle.ncp_model.specs.Act.{Act, Stays, Becomes, is_room, is_data_link, wron
 use Rattle.ncp_model.specs.Calls.{asked_to_send, asked_to_receive}
 use Rattle.ncp_model.specs.Commands.{errs}
 use Rattle.ncp_model.specs.Ends.{Ends, count, any, has_asked, is_by_peer, hears_link, uses_link, free_link, ask_send_in, ask_receive_in, map_after}
-use Rattle.ncp_conn.specs.Entries.{IsTable}
+use Rattle.ncp_conn.specs.Entries.{IsKept, Led}
+use Rattle.ncp_conn.specs.declared.entries.Entries.{Entries}
 use Rattle.ncp_conn.specs.Changes.{with_end, heard_link, heard_size}
 use Rattle.ncp_conn.specs.Asking.{Enters, may_ask, end_to_ask, hear_rts_in, hear_str_in}
 use Rattle.ncp_conn.proofs.Counts.{one}
-use Rattle.ncp_conn.proofs.Tables.{changed, Settles, new_is, table_changed, hears_sends, uses_receives, not_receives, not_sends}
+use Rattle.ncp_conn.proofs.Tables.{acted, kept_asked, hears_sends, uses_receives, not_receives, not_sends}
 
 last_of : (a b : Bool) → (a && b) ≡ true → b ≡ true
 last_of true b h = h
@@ -41,38 +43,49 @@ its_link a here on h = eqb-true here on (last_of a (here == on) h)
 
 -- The table after a request, in turn the own one of a sender and of a receiver, and the peer's.
 
-module _ (es : List (Pair × End)) (i : ℕ) (r f : Pair × End) (new : List (Pair × End)) (capacity : ℕ) (t : IsTable es capacity) (is : slice_get es i ≡ Some r) (s : Settles (slice_set es i f) i new) where
-  pub table_asks_send : (of_size room : ℕ) → f ≡ with_end r (asked_to_send of_size room r.1) → sends r.0 ≡ true → count_by has_asked es < 64 → IsTable new capacity
-  table_asks_send of_size room e sender less =
-      let own : count_by has_asked es + 1 ≤ 64 + one r.1.asked = omega (arith, less) in
-      let by_peer : count_by is_by_peer es + 0 ≤ 64 + one (not r.1.asked) = let x = t.by_peer in omega (arith, x) in
-      rw (new_is es i r f new is s ∙ ap (changed es i) e)
-      (table_changed es i r (with_end r (asked_to_send of_size room r.1)) capacity t is refl own by_peer (λ on p. inl p) (λ on p. no_use on (with_end r (asked_to_send of_size room r.1)) sender p))
+second_of : (a b c : Bool) → (a && b && c) ≡ true → b ≡ true
+second_of true true c h = refl
+second_of true false c h = absurd (cc)
+second_of false b c h = absurd (cc)
 
-  pub table_asks_receive : (on room : ℕ) → f ≡ with_end r (asked_to_receive on room r.1) → receives r.0 ≡ true → count_by has_asked es < 64 → count_by (uses_link on) es ≡ 0 → IsTable new capacity
-  table_asks_receive on room e receiver less free =
-      let own : count_by has_asked es + 1 ≤ 64 + one r.1.asked = omega (arith, less) in
-      let by_peer : count_by is_by_peer es + 0 ≤ 64 + one (not r.1.asked) = let x = t.by_peer in omega (arith, x) in
-      rw (new_is es i r f new is s ∙ ap (changed es i) e)
-      (table_changed es i r (with_end r (asked_to_receive on room r.1)) capacity t is refl own by_peer
-      (λ other p. no_hearing other (with_end r (asked_to_receive on room r.1)) receiver p)
-      (λ other p. inr (subst (λ (n : ℕ). count_by (uses_link n) es ≡ 0) (its_link (receives r.0 && true) on other p) free)))
+module _ {S : Type 0} (e new : Entries S) (key : ℕ) (r f : Pair × End) (at : get e.slab key ≡ Some r) (l : (p : Pair × End) → get (with_value e.slab key f) key ≡ Some p → Led (acted e key f) new key p) (t : IsKept e) where
+  pub kept_asks_send : (of_size room : ℕ) → f ≡ with_end r (asked_to_send of_size room r.1) → sends r.0 ≡ true → count_by has_asked (values e.slab) < 64 → IsKept new
+  kept_asks_send of_size room is sender less =
+      let g = with_end r (asked_to_send of_size room r.1) in
+      let own : count_by has_asked (values e.slab) + 1 ≤ 64 + one r.1.asked = omega (arith, less) in
+      let by_peer : count_by is_by_peer (values e.slab) + 0 ≤ 64 + one (not r.1.asked) = let x = t.table.by_peer in omega (arith, x) in
+      kept_asked e new key r g at (subst (λ (p : Pair × End). (q : Pair × End) → get (with_value e.slab key p) key ≡ Some q → Led (acted e key p) new key q) is l) refl t refl own by_peer
+      (λ on p. inl p) (λ on p. no_use on g sender p) (λ on p. p) (λ on p. no_use on r sender p)
 
-  pub table_hears_link : (on : ℕ) → f ≡ with_end r (heard_link on r.1) → sends r.0 ≡ true → count_by (hears_link on) es ≡ 0 → IsTable new capacity
-  table_hears_link on e sender free =
-      let own : count_by has_asked es + one r.1.asked ≤ 64 + one r.1.asked = let x = t.own in omega (arith, x) in
-      let by_peer : count_by is_by_peer es + one (not r.1.asked) ≤ 64 + one (not r.1.asked) = let x = t.by_peer in omega (arith, x) in
-      rw (new_is es i r f new is s ∙ ap (changed es i) e)
-      (table_changed es i r (with_end r (heard_link on r.1)) capacity t is refl own by_peer
-      (λ other p. inr (subst (λ (n : ℕ). count_by (hears_link n) es ≡ 0) (its_link (sends r.0 && true) on other p) free))
-      (λ other p. no_use other (with_end r (heard_link on r.1)) sender p))
+  pub kept_asks_receive : (on room : ℕ) → f ≡ with_end r (asked_to_receive on room r.1) → receives r.0 ≡ true → r.1.asked ≡ false → count_by has_asked (values e.slab) < 64 → count_by (uses_link on) (values e.slab) ≡ 0 → IsKept new
+  kept_asks_receive on room is receiver first less free =
+      let g = with_end r (asked_to_receive on room r.1) in
+      let own : count_by has_asked (values e.slab) + 1 ≤ 64 + one r.1.asked = omega (arith, less) in
+      let by_peer : count_by is_by_peer (values e.slab) + 0 ≤ 64 + one (not r.1.asked) = let x = t.table.by_peer in omega (arith, x) in
+      kept_asked e new key r g at (subst (λ (p : Pair × End). (q : Pair × End) → get (with_value e.slab key p) key ≡ Some q → Led (acted e key p) new key q) is l) refl t refl own by_peer
+      (λ other p. no_hearing other g receiver p)
+      (λ other p. inr (subst (λ (n : ℕ). count_by (uses_link n) (values e.slab) ≡ 0) (its_link (receives r.0 && true) on other p) free))
+      (λ other p. no_hearing other r receiver p)
+      (λ other p. never r.1.asked (second_of (receives r.0) r.1.asked (r.1.link == other) p) first)
 
-  pub table_hears_size : (of_size : ℕ) → f ≡ with_end r (heard_size of_size r.1) → receives r.0 ≡ true → IsTable new capacity
-  table_hears_size of_size e receiver =
-      let own : count_by has_asked es + one r.1.asked ≤ 64 + one r.1.asked = let x = t.own in omega (arith, x) in
-      let by_peer : count_by is_by_peer es + one (not r.1.asked) ≤ 64 + one (not r.1.asked) = let x = t.by_peer in omega (arith, x) in
-      rw (new_is es i r f new is s ∙ ap (changed es i) e)
-      (table_changed es i r (with_end r (heard_size of_size r.1)) capacity t is refl own by_peer (λ on p. no_hearing on (with_end r (heard_size of_size r.1)) receiver p) (λ on p. inl p))
+  pub kept_hears_link : (on : ℕ) → f ≡ with_end r (heard_link on r.1) → sends r.0 ≡ true → r.1.heard ≡ false → count_by (hears_link on) (values e.slab) ≡ 0 → IsKept new
+  kept_hears_link on is sender first free =
+      let g = with_end r (heard_link on r.1) in
+      let own : count_by has_asked (values e.slab) + one r.1.asked ≤ 64 + one r.1.asked = let x = t.table.own in omega (arith, x) in
+      let by_peer : count_by is_by_peer (values e.slab) + one (not r.1.asked) ≤ 64 + one (not r.1.asked) = let x = t.table.by_peer in omega (arith, x) in
+      kept_asked e new key r g at (subst (λ (p : Pair × End). (q : Pair × End) → get (with_value e.slab key p) key ≡ Some q → Led (acted e key p) new key q) is l) refl t refl own by_peer
+      (λ other p. inr (subst (λ (n : ℕ). count_by (hears_link n) (values e.slab) ≡ 0) (its_link (sends r.0 && true) on other p) free))
+      (λ other p. no_use other g sender p)
+      (λ other p. never r.1.heard (second_of (sends r.0) r.1.heard (r.1.link == other) p) first)
+      (λ other p. no_use other r sender p)
+
+  pub kept_hears_size : (of_size : ℕ) → f ≡ with_end r (heard_size of_size r.1) → receives r.0 ≡ true → IsKept new
+  kept_hears_size of_size is receiver =
+      let g = with_end r (heard_size of_size r.1) in
+      let own : count_by has_asked (values e.slab) + one r.1.asked ≤ 64 + one r.1.asked = let x = t.table.own in omega (arith, x) in
+      let by_peer : count_by is_by_peer (values e.slab) + one (not r.1.asked) ≤ 64 + one (not r.1.asked) = let x = t.table.by_peer in omega (arith, x) in
+      kept_asked e new key r g at (subst (λ (p : Pair × End). (q : Pair × End) → get (with_value e.slab key p) key ≡ Some q → Led (acted e key p) new key q) is l) refl t refl own by_peer
+      (λ on p. no_hearing on g receiver p) (λ on p. inl p) (λ on p. no_hearing on r receiver p) (λ on p. p)
 
 pub when : {A : Type 0} (b : Bool) (x y : A) → b ≡ true → cond b x y ≡ x
 when true x y h = refl
@@ -94,7 +107,7 @@ not_both false b h = absurd (cc)
 below : (n : ℕ) → nat_le 64 n ≡ false → n < 64
 below n h = grind (arith, nat_tests)
 
-module _ (m : Ends) (k : Pair) (none : get m k ≡ None) where
+module _ (m : Ends) (k : Pair) (none : map.get m k ≡ None) where
   pub new_sender : (of_size room : ℕ) → sends k ≡ true → count has_asked m < 64 → Enters m (k, asked_to_send of_size room new_end)
   new_sender of_size room sender less = record {
     none = none;
@@ -135,7 +148,7 @@ module _ (m : Ends) (k : Pair) (none : get m k ≡ None) where
     uses = λ on h. not_both (receives k) (0 == on) h;
   }
 
-pub entered : {A : Type 0} → (m new : Ends) (k : Pair) (p : Pair × End) (act : End → End) (a : A) → is_over (act new_end) ≡ false → get m k ≡ None → p ≡ (k, act new_end) → new ≡ insert m p.0 p.1 → new ≡ map_after m k (Becomes (act (or_new (get m k))) a)
+pub entered : {A : Type 0} → (m new : Ends) (k : Pair) (p : Pair × End) (act : End → End) (a : A) → is_over (act new_end) ≡ false → map.get m k ≡ None → p ≡ (k, act new_end) → new ≡ insert m p.0 p.1 → new ≡ map_after m k (Becomes (act (or_new (map.get m k))) a)
 entered m new k p act a over none is h =
     h ∙ ap (λ (x : Pair × End). insert m x.0 x.1) is ∙ sym (unless (is_over (act new_end)) (remove m k) (insert m k (act new_end)) over) ∙ ap (λ (o : Option End). map_after m k (Becomes (act (or_new o)) a)) (sym none)
 
@@ -152,21 +165,21 @@ really false h = absurd (cc)
 
 -- whether an RTS is wrong, and an STR
 abbrev pub wrong_rts : Pair → ℕ → Ends → Bool
-wrong_rts k on m = not (sends k) || not (is_data_link on) || (or_new (get m k)).heard || any (hears_link on) m
+wrong_rts k on m = not (sends k) || not (is_data_link on) || (or_new (map.get m k)).heard || any (hears_link on) m
 
 abbrev pub wrong_str : Pair → ℕ → Ends → Bool
-wrong_str k of_size m = not (receives k) || of_size == 0 || (or_new (get m k)).heard
+wrong_str k of_size m = not (receives k) || of_size == 0 || (or_new (map.get m k)).heard
 
-pub right_rts : (k : Pair) (on : ℕ) (m : Ends) → wrong_rts k on m ≡ false → (sends k ≡ true) × (any (hears_link on) m ≡ false)
+pub right_rts : (k : Pair) (on : ℕ) (m : Ends) → wrong_rts k on m ≡ false → (sends k ≡ true) × (any (hears_link on) m ≡ false) × (is_data_link on ≡ true) × ((or_new (map.get m k)).heard ≡ false)
 right_rts k on m h =
-    let a = neither (not (sends k) || not (is_data_link on) || (or_new (get m k)).heard) (any (hears_link on) m) h in
-    let b = neither (not (sends k) || not (is_data_link on)) (or_new (get m k)).heard a.0 in
+    let a = neither (not (sends k) || not (is_data_link on) || (or_new (map.get m k)).heard) (any (hears_link on) m) h in
+    let b = neither (not (sends k) || not (is_data_link on)) (or_new (map.get m k)).heard a.0 in
     let d = neither (not (sends k)) (not (is_data_link on)) b.0 in
-    (really (sends k) d.0, a.1)
+    (really (sends k) d.0, a.1, really (is_data_link on) d.1, b.1)
 
 pub right_str : (k : Pair) (of_size : ℕ) (m : Ends) → wrong_str k of_size m ≡ false → receives k ≡ true
 right_str k of_size m h =
-    let a = neither (not (receives k) || of_size == 0) (or_new (get m k)).heard h in
+    let a = neither (not (receives k) || of_size == 0) (or_new (map.get m k)).heard h in
     let b = neither (not (receives k)) (of_size == 0) a.0 in
     really (receives k) b.0
 
@@ -177,23 +190,23 @@ pub str_wrong : (k : Pair) (of_size : ℕ) (m : Ends) → wrong_str k of_size m 
 str_wrong k of_size m h = when (wrong_str k of_size m) _ _ h
 
 module _ (k : Pair) (on : ℕ) (m : Ends) (right : wrong_rts k on m ≡ false) where
-  pub rts_full : get m k ≡ None → nat_le 64 (count is_by_peer m) ≡ true → hear_rts_in k on m ≡ Stays Full
+  pub rts_full : map.get m k ≡ None → nat_le 64 (count is_by_peer m) ≡ true → hear_rts_in k on m ≡ Stays Full
   rts_full none n = unless (wrong_rts k on m) _ _ right ∙ ap (λ (o : Option End). cond (is_none o && nat_le 64 (count is_by_peer m)) (Stays Full) (Becomes (heard_link on (or_new o)) Nothing)) none ∙ when (nat_le 64 (count is_by_peer m)) (Stays Full) _ n
 
-  pub rts_new : get m k ≡ None → nat_le 64 (count is_by_peer m) ≡ false → hear_rts_in k on m ≡ Becomes (heard_link on new_end) Nothing
+  pub rts_new : map.get m k ≡ None → nat_le 64 (count is_by_peer m) ≡ false → hear_rts_in k on m ≡ Becomes (heard_link on new_end) Nothing
   rts_new none n = unless (wrong_rts k on m) _ _ right ∙ ap (λ (o : Option End). cond (is_none o && nat_le 64 (count is_by_peer m)) (Stays Full) (Becomes (heard_link on (or_new o)) Nothing)) none ∙ unless (nat_le 64 (count is_by_peer m)) (Stays Full) _ n
 
-  pub rts_more : (e : End) → get m k ≡ Some e → hear_rts_in k on m ≡ Becomes (heard_link on e) Nothing
+  pub rts_more : (e : End) → map.get m k ≡ Some e → hear_rts_in k on m ≡ Becomes (heard_link on e) Nothing
   rts_more e there = unless (wrong_rts k on m) _ _ right ∙ ap (λ (o : Option End). cond (is_none o && nat_le 64 (count is_by_peer m)) (Stays Full) (Becomes (heard_link on (or_new o)) Nothing)) there
 
 module _ (k : Pair) (of_size : ℕ) (m : Ends) (right : wrong_str k of_size m ≡ false) where
-  pub str_full : get m k ≡ None → nat_le 64 (count is_by_peer m) ≡ true → hear_str_in k of_size m ≡ Stays Full
+  pub str_full : map.get m k ≡ None → nat_le 64 (count is_by_peer m) ≡ true → hear_str_in k of_size m ≡ Stays Full
   str_full none n = unless (wrong_str k of_size m) _ _ right ∙ ap (λ (o : Option End). cond (is_none o && nat_le 64 (count is_by_peer m)) (Stays Full) (Becomes (heard_size of_size (or_new o)) Nothing)) none ∙ when (nat_le 64 (count is_by_peer m)) (Stays Full) _ n
 
-  pub str_new : get m k ≡ None → nat_le 64 (count is_by_peer m) ≡ false → hear_str_in k of_size m ≡ Becomes (heard_size of_size new_end) Nothing
+  pub str_new : map.get m k ≡ None → nat_le 64 (count is_by_peer m) ≡ false → hear_str_in k of_size m ≡ Becomes (heard_size of_size new_end) Nothing
   str_new none n = unless (wrong_str k of_size m) _ _ right ∙ ap (λ (o : Option End). cond (is_none o && nat_le 64 (count is_by_peer m)) (Stays Full) (Becomes (heard_size of_size (or_new o)) Nothing)) none ∙ unless (nat_le 64 (count is_by_peer m)) (Stays Full) _ n
 
-  pub str_more : (e : End) → get m k ≡ Some e → hear_str_in k of_size m ≡ Becomes (heard_size of_size e) Nothing
+  pub str_more : (e : End) → map.get m k ≡ Some e → hear_str_in k of_size m ≡ Becomes (heard_size of_size e) Nothing
   str_more e there = unless (wrong_str k of_size m) _ _ right ∙ ap (λ (o : Option End). cond (is_none o && nat_le 64 (count is_by_peer m)) (Stays Full) (Becomes (heard_size of_size (or_new o)) Nothing)) there
 
 -- the own requests: what the tests of the pair give is what the act gives
@@ -213,29 +226,29 @@ chain_ok false false false true w h = absurd (cc)
 chain_ok false false false false w h = refl
 
 abbrev going : Ends → Pair → Bool
-going m k = is_going (or_new (get m k))
+going m k = is_going (or_new (map.get m k))
 
 abbrev again : Ends → Pair → Bool
-again m k = (or_new (get m k)).asked && not (going m k)
+again m k = (or_new (map.get m k)).asked && not (going m k)
 
 module _ (k : Pair) (of_size room : ℕ) (full : Bool) (m : Ends) (ps : sends k ≡ true) (pz : (of_size == 0) ≡ false) (pr : is_room room ≡ true) where
-  send_tested : ask_send_in k of_size room full m ≡ cond (again m k) (Stays (Err AlreadyAsked)) (cond (going m k) (Stays (Err Closing)) (cond (nat_le 64 (count has_asked m)) (Stays (Err TableFull)) (cond full (Stays (Err QueueFull)) (Becomes (asked_to_send of_size room (or_new (get m k))) (Ok (Str k.local k.remote of_size))))))
+  send_tested : ask_send_in k of_size room full m ≡ cond (again m k) (Stays (Err AlreadyAsked)) (cond (going m k) (Stays (Err Closing)) (cond (nat_le 64 (count has_asked m)) (Stays (Err TableFull)) (cond full (Stays (Err QueueFull)) (Becomes (asked_to_send of_size room (or_new (map.get m k))) (Ok (Str k.local k.remote of_size))))))
   send_tested = unless (not (sends k)) _ _ (ap not ps) ∙ unless (of_size == 0) _ _ pz ∙ unless (not (is_room room)) _ _ (ap not pr)
 
   pub send_err : (f : CallFault) → may_ask k full m ≡ Err f → ask_send_in k of_size room full m ≡ Stays (Err f)
   send_err f h = send_tested ∙ chain_err (again m k) (going m k) (nat_le 64 (count has_asked m)) full f _ h
 
-  pub send_ok : may_ask k full m ≡ Ok tt → ask_send_in k of_size room full m ≡ Becomes (asked_to_send of_size room (or_new (get m k))) (Ok (Str k.local k.remote of_size))
+  pub send_ok : may_ask k full m ≡ Ok tt → ask_send_in k of_size room full m ≡ Becomes (asked_to_send of_size room (or_new (map.get m k))) (Ok (Str k.local k.remote of_size))
   send_ok h = send_tested ∙ chain_ok (again m k) (going m k) (nat_le 64 (count has_asked m)) full _ h
 
 module _ (k : Pair) (room : ℕ) (full : Bool) (m : Ends) (ps : receives k ≡ true) (pr : is_room room ≡ true) where
-  receive_tested : ask_receive_in k room full m ≡ cond (again m k) (Stays (Err AlreadyAsked)) (cond (going m k) (Stays (Err Closing)) (cond (nat_le 64 (count has_asked m)) (Stays (Err TableFull)) (cond full (Stays (Err QueueFull)) (Becomes (asked_to_receive (free_link m) room (or_new (get m k))) (Ok (Rts k.local k.remote (free_link m)))))))
+  receive_tested : ask_receive_in k room full m ≡ cond (again m k) (Stays (Err AlreadyAsked)) (cond (going m k) (Stays (Err Closing)) (cond (nat_le 64 (count has_asked m)) (Stays (Err TableFull)) (cond full (Stays (Err QueueFull)) (Becomes (asked_to_receive (free_link m) room (or_new (map.get m k))) (Ok (Rts k.local k.remote (free_link m)))))))
   receive_tested = unless (not (receives k)) _ _ (ap not ps) ∙ unless (not (is_room room)) _ _ (ap not pr)
 
   pub receive_err : (f : CallFault) → may_ask k full m ≡ Err f → ask_receive_in k room full m ≡ Stays (Err f)
   receive_err f h = receive_tested ∙ chain_err (again m k) (going m k) (nat_le 64 (count has_asked m)) full f _ h
 
-  pub receive_ok : may_ask k full m ≡ Ok tt → ask_receive_in k room full m ≡ Becomes (asked_to_receive (free_link m) room (or_new (get m k))) (Ok (Rts k.local k.remote (free_link m)))
+  pub receive_ok : may_ask k full m ≡ Ok tt → ask_receive_in k room full m ≡ Becomes (asked_to_receive (free_link m) room (or_new (map.get m k))) (Ok (Rts k.local k.remote (free_link m)))
   receive_ok h = receive_tested ∙ chain_ok (again m k) (going m k) (nat_le 64 (count has_asked m)) full _ h
 
 -- and whether a pair may ask, by its end, the table and the queue
@@ -250,10 +263,10 @@ ask_chain_ok true b c d h = absurd (cc)
 ask_chain_ok false true c d h = absurd (cc)
 ask_chain_ok false false c d h = refl
 
-pub may_err : (k : Pair) (full : Bool) (m : Ends) (f : CallFault) → end_to_ask (or_new (get m k)) ≡ Err f → may_ask k full m ≡ Err f
+pub may_err : (k : Pair) (full : Bool) (m : Ends) (f : CallFault) → end_to_ask (or_new (map.get m k)) ≡ Err f → may_ask k full m ≡ Err f
 may_err k full m f h = ask_chain_err (again m k) (going m k) (nat_le 64 (count has_asked m)) full f h
 
-pub may_room : (k : Pair) (full : Bool) (m : Ends) → end_to_ask (or_new (get m k)) ≡ Ok tt → may_ask k full m ≡ cond (nat_le 64 (count has_asked m)) (Err TableFull) (cond full (Err QueueFull) (Ok tt))
+pub may_room : (k : Pair) (full : Bool) (m : Ends) → end_to_ask (or_new (map.get m k)) ≡ Ok tt → may_ask k full m ≡ cond (nat_le 64 (count has_asked m)) (Err TableFull) (cond full (Err QueueFull) (Ok tt))
 may_room k full m h = ask_chain_ok (again m k) (going m k) (nat_le 64 (count has_asked m)) full h
 
 not_asked : (a b c : Bool) → cond (a && not (b || c)) (Err AlreadyAsked) (cond (b || c) (Err Closing) (Ok (tt {0}))) ≡ Ok (tt {0}) → a ≡ false

@@ -1,12 +1,15 @@
--- How a table keeps its connections: a list of pairs with their ends.
-use Rattle.std.specs.Prelude.{◌≡◌, ℕ, ◌+◌, ◌≤◌, Bool, false, ◌&&◌, ◌==◌, if◌then◌else◌, List, [], ◌∷◌, Option, None, Some, slice_get}
-use Rattle.std.specs.List.{count_by, remove}
+-- How a table keeps its connections: pairs with their ends, under keys.
+use Rattle.std.specs.Prelude.{◌≡◌, ℕ, ◌+◌, ◌≤◌, Bool, true, false, ◌&&◌, ◌==◌, if◌then◌else◌, List, [], ◌∷◌, Option, None, Some}
+use Rattle.std.specs.List.{count_by}
 use Rattle.std.specs.FinMap.{find}
+use Rattle.slab.specs.Slab.{Slab, get, values, Updates}
 use Rattle.ncp_model.specs.declared.pair.Pair.{Pair}
 use Rattle.ncp_model.specs.declared.limits.TheConstants.{MAX_OWN, MAX_BY_PEER}
 use Rattle.ncp_model.specs.Pairs.{pair_cmp}
 use Rattle.ncp_model.specs.End.{End, is_over}
-use Rattle.ncp_model.specs.Ends.{has_asked, is_by_peer, hears_link, uses_link, first_by}
+use Rattle.ncp_model.specs.Ends.{has_asked, is_by_peer, hears_link, uses_link}
+use Rattle.ncp_conn.specs.Indexes.{IsIndex, LeadsTo}
+use Rattle.ncp_conn.specs.declared.entries.Entries.{Entries}
 
 abbrev pub same_pair : Pair → Pair → Bool
 same_pair a b = a.local == b.local && a.remote == b.remote
@@ -16,11 +19,7 @@ abbrev pub AreEntries : List (Pair × End) → Type 0
 AreEntries [] = Unit {0}
 AreEntries (e ∷ es) = (find pair_cmp e.0 es ≡ None) × (is_over e.1 ≡ false) × AreEntries es
 
--- an entry where it is, or gone where its end is over
-abbrev pub settled : List (Pair × End) → ℕ → End → List (Pair × End)
-settled es place e = if is_over e then remove es place else es
-
--- what holds of a table
+-- what holds of the entries of a table
 pub record IsTable (es : List (Pair × End)) (capacity : ℕ) : Type 0 where
   pub are : AreEntries es
   pub own : count_by has_asked es ≤ MAX_OWN
@@ -30,12 +29,38 @@ pub record IsTable (es : List (Pair × End)) (capacity : ℕ) : Type 0 where
   pub hears : (on : ℕ) → count_by (hears_link on) es ≤ 1
   pub uses : (on : ℕ) → count_by (uses_link on) es ≤ 1
 
--- where a pair's entry is, None: nowhere
-abbrev pub Found : List (Pair × End) → Pair → Option ℕ → Type 0
-Found es pair None = find pair_cmp pair es ≡ None
-Found es pair (Some place) = (e : End) × (slice_get es place ≡ Some (pair, e))
+module _ {S : Type 0} where
+  -- that, and each link leads to the sending entry that heard it, and to the receiving entry that
+  -- asked with it
+  pub record IsKept (e : Entries S) : Type 0 where
+    pub table : IsTable (values e.slab) e.slab.capacity
+    pub senders : IsIndex hears_link e.senders e.slab
+    pub receivers : IsIndex uses_link e.receivers e.slab
 
--- where the first entry is that passes a test
-abbrev pub FoundBy : (Pair × End → Bool) → List (Pair × End) → Option ℕ → Type 0
-FoundBy test es None = first_by test es ≡ None
-FoundBy test es (Some place) = (p : Pair × End) × (slice_get es place ≡ Some p) × (first_by test es ≡ Some p)
+  -- the slab has this under a key now, and the links of an entry lead to a key, or nowhere
+  pub record Puts (old new : Entries S) (key : ℕ) (slot : Option (Pair × End)) (p : Pair × End) (to : Option ℕ) : Type 0 where
+    pub updates : Updates old.slab new.slab key slot
+    pub capacity : new.slab.capacity ≡ old.slab.capacity
+    pub senders : LeadsTo hears_link p to old.senders new.senders
+    pub receivers : LeadsTo uses_link p to old.receivers new.receivers
+
+  -- the links of an entry lead to its key
+  pub record Led (old new : Entries S) (key : ℕ) (p : Pair × End) : Type 0 where
+    pub slab : new.slab ≡ old.slab
+    pub senders : LeadsTo hears_link p (Some key) old.senders new.senders
+    pub receivers : LeadsTo uses_link p (Some key) old.receivers new.receivers
+
+  -- an entry is out where its end is over: its links lead nowhere
+  pub record Settled (old new : Entries S) (key : ℕ) (p : Pair × End) : Type 0 where
+    pub stays : is_over p.1 ≡ false → new ≡ old
+    pub leaves : is_over p.1 ≡ true → Puts old new key None p None
+
+-- the first key whose value passes a test
+abbrev pub key_of : {A : Type 0} → (A → Bool) → List (ℕ × A) → Option ℕ
+key_of test [] = None
+key_of test (e ∷ es) = if test e.1 then Some e.0 else key_of test es
+
+-- under which key a pair's entry is, None: under none
+abbrev pub Found : Slab (Pair × End) → Pair → Option ℕ → Type 0
+Found s pair None = find pair_cmp pair (values s) ≡ None
+Found s pair (Some key) = (e : End) × (get s key ≡ Some (pair, e))

@@ -1,5 +1,6 @@
 pub mod Stores
 pub mod Records
 pub mod Changes
+pub mod Indexes
 pub mod Entries
 pub mod Asking

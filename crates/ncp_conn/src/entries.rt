@@ -1,108 +1,161 @@
-//! Finding and counting entries.
-ghost use Rattle.std.specs.Prelude.{◌≡◌, ◌<◌, ◌≤◌, ◌+◌, ◌-◌, not, nat_lt, IfSome, Some, slice_get, length, vec_len, vec_capacity};
-ghost use Rattle.std.specs.List.{position, count_by};
-ghost use Rattle.ncp_model.specs.End.{End};
-ghost use Rattle.ncp_model.specs.Ends.{has_asked, is_by_peer, hears_link, uses_link, lowest};
-ghost use Rattle.ncp_conn.specs.Entries.{Found, FoundBy, same_pair, settled};
+//! The entries of a table, and where links lead.
+ghost use Rattle.std.specs.Prelude.{◌≡◌, ◌<◌, ◌≤◌, ◌+◌, ◌-◌, ℕ, true, false, IfOk, IfSome, Some, None, [], if◌then◌else◌, is_none};
+ghost use Rattle.std.specs.List.{count_by};
+ghost use Rattle.slab.specs.Slab.{get, values, entries, ContainsKey, HasRoomFor, Updates};
+ghost use Rattle.ncp_model.specs.End.{End, is_over};
+ghost use Rattle.ncp_model.specs.Ends.{has_asked, hears_link, uses_link, lowest};
+ghost use Rattle.ncp_conn.specs.Entries.{Found, Led, Puts, Settled, key_of, same_pair};
+ghost use Rattle.ncp_conn.specs.Indexes.{key_at, LeadsTo};
 
 use crate::entry::Entry;
+use crate::link_index::LinkIndex;
 use ncp_bits::BitStore;
-use ncp_model::{LAST_LINK, Pair};
+use ncp_model::{LAST_LINK, MAX_BY_PEER, MAX_OWN, Pair};
+use slab::Slab;
+use std::alloc::{AllocError, Global};
 
-// The first place with a pair.
-fn place_of<S: BitStore>(entries: &[Entry<S>], pair: Pair) -> Option<usize>
-    ensures { result ≡ position (λ e. same_pair e.0 pair) entries.now }
-{
-    entries.iter().position(|entry| entry.is_for(pair))
+/// The entries under their keys, with the keys of the senders that heard a link and of the
+/// receivers that asked with one.
+#[derive(Drop)]
+pub(crate) struct Entries<S: BitStore> {
+    pub(crate) slab: Slab<Entry<S>>,
+    pub(crate) senders: LinkIndex,
+    pub(crate) receivers: LinkIndex,
 }
 
-/// Where a pair's entry is.
-pub(crate) fn find<S: BitStore>(entries: &[Entry<S>], pair: Pair) -> Option<usize>
-    ensures found { Found entries.now pair result }
-    ensures inside { IfSome result (λ place. place < length entries.now) }
-{
-    place_of(entries, pair)
+impl<S: BitStore> Entries<S> {
+    /// No entries, and room for all that there may be.
+    pub(crate) fn new(alloc: Global) -> Result<Self, AllocError>
+        ensures slots { IfOk result (λ new. new.slab.slots ≡ []) }
+        ensures room { IfOk result (λ new. MAX_OWN + MAX_BY_PEER ≤ new.slab.capacity) }
+        ensures senders { IfOk result (λ new. (on : ℕ) → key_at new.senders on ≡ None) }
+        ensures receivers { IfOk result (λ new. (on : ℕ) → key_at new.receivers on ≡ None) }
+    {
+        Ok(Entries {
+            slab: Slab::with_capacity(alloc, MAX_OWN + MAX_BY_PEER)?,
+            senders: LinkIndex::new(),
+            receivers: LinkIndex::new(),
+        })
+    }
+
+    /// Removes all entries.
+    pub(crate) fn clear(&mut self)
+        ensures slots { self.new.slab.slots ≡ [] }
+        ensures room { self.new.slab.capacity ≡ self.old.slab.capacity }
+        ensures senders { (on : ℕ) → key_at self.new.senders on ≡ None }
+        ensures receivers { (on : ℕ) → key_at self.new.receivers on ≡ None }
+    {
+        self.slab.clear();
+        self.senders = LinkIndex::new();
+        self.receivers = LinkIndex::new();
+    }
+
+    // The first key with a pair.
+    fn key_of(&self, pair: Pair) -> Option<usize>
+        ensures { result ≡ key_of (λ e. same_pair e.0 pair) (entries self.now.slab) }
+    {
+        for (key, entry) in self.slab.iter() {
+            if entry.is_for(pair) {
+                return Some(key);
+            }
+        }
+        None
+    }
+
+    /// Under which key a pair's entry is.
+    pub(crate) fn find(&self, pair: Pair) -> Option<usize>
+        ensures found { Found self.now.slab pair result }
+        ensures inside { IfSome result (λ key. ContainsKey self.now.slab key) }
+    {
+        self.key_of(pair)
+    }
+
+    /// How many entries have an own request.
+    pub(crate) fn own_requests(&self) -> usize
+        requires { count_by has_asked (values self.now.slab) ≤ MAX_OWN }
+        ensures { result ≡ count_by has_asked (values self.now.slab) }
+    {
+        let mut count = 0;
+        for (_, entry) in self.slab.iter() {
+            if entry.is_asked() {
+                count += 1;
+            }
+        }
+        count
+    }
+
+    /// The links of the entry under a key lead to it.
+    pub(crate) fn lead(&mut self, key: usize)
+        requires { ContainsKey self.old.slab key }
+        ensures { (p : Pair × End) → get self.old.slab key ≡ Some p → Led self.old self.new key p }
+    {
+        lead_to(
+            &self.slab[key],
+            &mut self.senders,
+            &mut self.receivers,
+            Some(key),
+        );
+    }
+
+    /// Stores a new entry, to which its links lead.
+    pub(crate) fn insert(&mut self, entry: Entry<S>)
+        requires { HasRoomFor self.old.slab 1 }
+        ensures vacant { get self.old.slab self.old.slab.vacant_key ≡ None }
+        ensures enters { Puts self.old self.new self.old.slab.vacant_key (Some entry) entry (Some self.old.slab.vacant_key) }
+    {
+        let key = self.slab.insert_reserved(entry);
+        self.lead(key);
+    }
+
+    // Takes an entry out: its links then lead nowhere.
+    fn remove(&mut self, key: usize)
+        requires { ContainsKey self.old.slab key }
+        ensures { (p : Pair × End) → get self.old.slab key ≡ Some p → Puts self.old self.new key None p None }
+    {
+        let entry = self.slab.remove(key);
+        lead_to(&entry, &mut self.senders, &mut self.receivers, None);
+    }
+
+    /// Takes an entry out whose end is over.
+    pub(crate) fn settle(&mut self, key: usize)
+        requires { ContainsKey self.old.slab key }
+        ensures { (p : Pair × End) → get self.old.slab key ≡ Some p → Settled self.old self.new key p }
+    {
+        if self.slab[key].is_over() {
+            self.remove(key);
+        }
+    }
 }
 
-// The first place with a sender that heard a link.
-fn place_of_sender<S: BitStore>(entries: &[Entry<S>], link: u8) -> Option<usize>
-    ensures { result ≡ position (hears_link link) entries.now }
+// Makes the links of an entry lead to a key, or nowhere.
+fn lead_to<S: BitStore>(
+    entry: &Entry<S>,
+    senders: &mut LinkIndex,
+    receivers: &mut LinkIndex,
+    key: Option<usize>,
+)
+    ensures senders { LeadsTo hears_link entry.now key senders.old senders.new }
+    ensures receivers { LeadsTo uses_link entry.now key receivers.old receivers.new }
 {
-    entries.iter().position(|entry| entry.hears(link))
+    let link = entry.link();
+    if entry.hears(link) {
+        senders.set(link, key);
+    }
+    if entry.uses(link) {
+        receivers.set(link, key);
+    }
 }
 
-// The first place with a receiver that asked with a link.
-fn place_of_receiver<S: BitStore>(entries: &[Entry<S>], link: u8) -> Option<usize>
-    ensures { result ≡ position (uses_link link) entries.now }
-{
-    entries.iter().position(|entry| entry.uses(link))
-}
-
-/// Where the entry is that sends and heard a link.
-pub(crate) fn find_sender<S: BitStore>(entries: &[Entry<S>], link: u8) -> Option<usize>
-    ensures found { FoundBy (hears_link link) entries.now result }
-    ensures inside { IfSome result (λ place. place < length entries.now) }
-{
-    place_of_sender(entries, link)
-}
-
-/// Where the entry is that receives and asked with a link.
-pub(crate) fn find_receiver<S: BitStore>(entries: &[Entry<S>], link: u8) -> Option<usize>
-    ensures found { FoundBy (uses_link link) entries.now result }
-    ensures inside { IfSome result (λ place. place < length entries.now) }
-{
-    place_of_receiver(entries, link)
-}
-
-/// How many entries have an own request.
-pub(crate) fn own_requests<S: BitStore>(entries: &[Entry<S>]) -> usize
-    ensures { result ≡ count_by has_asked entries.now }
-{
-    entries.iter().filter(|entry| entry.is_asked()).count()
-}
-
-/// How many entries are there by the peer's request alone.
-pub(crate) fn peer_requests<S: BitStore>(entries: &[Entry<S>]) -> usize
-    ensures { result ≡ count_by is_by_peer entries.now }
-{
-    entries.iter().filter(|entry| !entry.is_asked()).count()
-}
-
-/// How many sending entries heard a link.
-pub(crate) fn hearing<S: BitStore>(entries: &[Entry<S>], link: u8) -> usize
-    ensures { result ≡ count_by (hears_link link) entries.now }
-{
-    entries.iter().filter(|entry| entry.hears(link)).count()
-}
-
-// How many receiving entries use a link, left ones too.
-fn using<S: BitStore>(entries: &[Entry<S>], link: u8) -> usize
-    ensures { result ≡ count_by (uses_link link) entries.now }
-{
-    entries.iter().filter(|entry| entry.uses(link)).count()
-}
-
-/// The lowest link from one on that no receiving entry uses, or the one behind them all.
-pub(crate) fn free_from<S: BitStore>(entries: &[Entry<S>], link: u8) -> u8
+/// The lowest link from one on that leads nowhere, or the one behind them all.
+pub(crate) fn free_from(index: &LinkIndex, link: u8) -> u8
     requires { link ≤ LAST_LINK + 1 }
-    ensures { result ≡ lowest (λ on. not (nat_lt 0 (count_by (uses_link on) entries.now))) (LAST_LINK + 1 - link) link }
+    ensures { result ≡ lowest (λ on. is_none (key_at index.now on)) (LAST_LINK + 1 - link) link }
 {
     if link > LAST_LINK {
         return link;
     }
-    if using(entries, link) == 0 {
+    if index.key(link).is_none() {
         return link;
     }
-    free_from(entries, link + 1)
-}
-
-/// Takes an entry out whose end is over.
-pub(crate) fn settle<S: BitStore>(entries: &mut Vec<Entry<S>>, place: usize)
-    requires { place < vec_len entries.old }
-    ensures items { (p : Pair × End) → slice_get entries.old.items place ≡ Some p → entries.new.items ≡ settled entries.old.items place p.1 }
-    ensures capacity { vec_capacity entries.new ≡ vec_capacity entries.old }
-{
-    if entries[place].is_over() {
-        entries.remove(place);
-    }
+    free_from(index, link + 1)
 }

@@ -16,7 +16,7 @@ mod texts;
 use crate::record::{End, Record};
 use ncp_bits::{BitStore, Bits, MAX_BITS};
 use ncp_control::{Command, error_for};
-use ncp_model::{Heard, MAX_ROOM, Pair};
+use ncp_model::{Heard, LAST_LINK, MAX_ROOM, Pair};
 use std::marker::Model;
 
 /// A pair of sockets, and what is known of its connection here.
@@ -53,7 +53,7 @@ impl<S: BitStore> Model for Entry<S> {
 
     ghost view = { λ e. (e.pair, record { asked = e.asked; heard = e.heard; opened = e.opened; leaving = e.leaving; left = e.left; cls = e.cls; link = e.link; size = e.size; messages = e.messages; bits = e.bits; stored = stored_in S.held e.store; room = room_in S.capacity e.store; busy = e.busy; recall = e.recall; interrupts = e.interrupts }) };
 
-    ghost invariant = { λ e. Fits e.pair e.asked e.bits (stored_in S.held e.store) (room_in S.capacity e.store) };
+    ghost invariant = { λ e. Fits e.pair e.asked e.link e.bits (stored_in S.held e.store) (room_in S.capacity e.store) };
 }
 
 // The ERR about a command that came.
@@ -116,6 +116,14 @@ impl<S: BitStore> Entry<S> {
         ensures { result ≡ self.now.1.heard }
     {
         self.heard
+    }
+
+    /// The link that was heard or asked with, 0 until then.
+    pub(crate) fn link(&self) -> u8
+        ensures link { result ≡ self.now.1.link }
+        ensures last { result ≤ LAST_LINK }
+    {
+        self.link
     }
 
     /// Whether it sends, and heard a link.

@@ -6,6 +6,7 @@
 
 mod entries;
 mod entry;
+mod link_index;
 mod record;
 mod table;
 #[cfg(test)]

@@ -10,8 +10,7 @@ mod asking;
 mod hearing;
 mod texts;
 
-use crate::entries::{find, settle};
-use crate::entry::Entry;
+use crate::entries::Entries;
 use crate::record::Record;
 use ncp_bits::BitStore;
 use ncp_control::Command;
@@ -23,24 +22,24 @@ use std::marker::Model;
 #[derive(Drop)]
 pub struct Table<S: BitStore> {
     alloc: Global,
-    entries: Vec<Entry<S>>,
+    entries: Entries<S>,
 }
 
 impl<S: BitStore> Model for Table<S> {
-    ghost use Rattle.std.specs.Prelude.{vec_capacity};
     ghost use Rattle.std.specs.FinMap.{code, from_entries};
     ghost use Rattle.ncp_model.specs.Pairs.{coded_pair};
     ghost use Rattle.ncp_model.specs.End.{coded_end};
     ghost use Rattle.ncp_model.specs.Ends.{Ends};
-    ghost use Rattle.ncp_conn.specs.Entries.{IsTable};
+    ghost use Rattle.slab.specs.Slab.{values};
+    ghost use Rattle.ncp_conn.specs.Entries.{IsKept};
 
     ghost Value = { Ends };
 
     ghost coded = { code coded_pair coded_end };
 
-    ghost view = { λ t. from_entries t.entries.items };
+    ghost view = { λ t. from_entries (values t.entries.slab) };
 
-    ghost invariant = { λ t. IsTable t.entries.items (vec_capacity t.entries) };
+    ghost invariant = { λ t. IsKept t.entries };
 }
 
 impl<S: BitStore> Table<S> {
@@ -51,7 +50,7 @@ impl<S: BitStore> Table<S> {
     {
         Ok(Table {
             alloc,
-            entries: Vec::with_capacity(alloc, MAX_OWN + MAX_BY_PEER)?,
+            entries: Entries::new(alloc)?,
         })
     }
 
@@ -78,10 +77,10 @@ impl<S: BitStore> Table<S> {
     pub fn record(&self, pair: Pair) -> Option<Record>
         ensures { result ≡ record_in pair self.now }
     {
-        let Some(place) = find(&self.entries, pair) else {
+        let Some(key) = self.entries.find(pair) else {
             return None;
         };
-        Some(self.entries[place].record())
+        Some(self.entries.slab[key].record())
     }
 
     /// Closes this side of a connection. The command, if any, is to be queued: while a text is out
@@ -94,11 +93,11 @@ impl<S: BitStore> Table<S> {
         ensures table { self.new ≡ map_after self.old pair (close pair full (get self.old pair)) }
         ensures err { OnErr result (self.new ≡ self.old) }
     {
-        let Some(place) = find(&self.entries, pair) else {
+        let Some(key) = self.entries.find(pair) else {
             return Err(CallFault::NoEntry);
         };
-        let answer = self.entries[place].close(full);
-        settle(&mut self.entries, place);
+        let answer = self.entries.slab[key].close(full);
+        self.entries.settle(key);
         answer
     }
 }

@@ -6,7 +6,7 @@ ghost use Rattle.ncp_conn.specs.Asking.{end_to_ask};
 
 use crate::entry::Entry;
 use ncp_bits::BitStore;
-use ncp_model::{CallFault, MAX_ROOM};
+use ncp_model::{CallFault, LAST_LINK, MAX_ROOM};
 
 impl<S: BitStore> Entry<S> {
     /// Whether the own request may be made, as far as this entry goes.
@@ -37,6 +37,7 @@ impl<S: BitStore> Entry<S> {
 
     /// The own request of a receiver.
     pub(crate) fn ask_receive(&mut self, link: u8, store: S)
+        requires last { link ≤ LAST_LINK }
         requires first { self.old.1.asked ≡ false }
         requires empty { S.held store ≡ [] }
         requires small { S.capacity store ≤ MAX_ROOM }
@@ -50,6 +51,7 @@ impl<S: BitStore> Entry<S> {
 
     /// The request of a receiver came.
     pub(crate) fn hear_link(&mut self, link: u8)
+        requires last { link ≤ LAST_LINK }
         ensures { self.new ≡ with_end self.old (heard_link link self.old.1) }
     {
         self.heard = true;

@@ -9,12 +9,12 @@ ghost use Rattle.ncp_model.specs.Ends.{any, uses_link, free_link, ask_send_in, a
 ghost use Rattle.ncp_conn.specs.Changes.{map_with};
 ghost use Rattle.ncp_conn.specs.Asking.{end_to_ask, may_ask, MayAsk, Enters, DoneOrNoMemory};
 
-use crate::entries::{find, free_from, own_requests, settle};
+use crate::entries::free_from;
 use crate::entry::Entry;
 use crate::table::Table;
 use ncp_bits::BitStore;
 use ncp_control::Command;
-use ncp_model::{CallFault, FIRST_LINK, MAX_OWN, MAX_ROOM, Pair};
+use ncp_model::{CallFault, FIRST_LINK, LAST_LINK, MAX_OWN, MAX_ROOM, Pair};
 use std::alloc::Global;
 
 // Whether a store may have so many bits.
@@ -38,10 +38,10 @@ impl<S: BitStore> Table<S> {
     fn end_may_ask(&self, pair: Pair) -> Result<(), CallFault>
         ensures { result ≡ end_to_ask (or_new (get self.now pair)) }
     {
-        let Some(place) = find(&self.entries, pair) else {
+        let Some(key) = self.entries.find(pair) else {
             return Ok(());
         };
-        self.entries[place].may_ask()
+        self.entries.slab[key].may_ask()
     }
 
     // Whether a pair may ask.
@@ -50,7 +50,7 @@ impl<S: BitStore> Table<S> {
         ensures ok { OnOk result (MayAsk pair self.now) }
     {
         self.end_may_ask(pair)?;
-        if own_requests(&self.entries) >= MAX_OWN {
+        if self.entries.own_requests() >= MAX_OWN {
             return Err(CallFault::TableFull);
         }
         if full {
@@ -64,7 +64,7 @@ impl<S: BitStore> Table<S> {
         requires enters { Enters self.old entry }
         ensures { self.new ≡ insert self.old entry.0 entry.1 }
     {
-        self.entries.push_reserved(entry);
+        self.entries.insert(entry);
     }
 
     // The own request of a sender that may ask.
@@ -75,14 +75,14 @@ impl<S: BitStore> Table<S> {
         requires small { S.capacity store ≤ MAX_ROOM }
         ensures { self.new ≡ map_with self.old pair (asked_to_send size (S.capacity store) (or_new (get self.old pair))) }
     {
-        let Some(place) = find(&self.entries, pair) else {
+        let Some(key) = self.entries.find(pair) else {
             let mut entry = Entry::new(pair);
             entry.ask_send(size, store);
             self.enter(entry);
             return;
         };
-        self.entries[place].ask_send(size, store);
-        settle(&mut self.entries, place);
+        self.entries.slab[key].ask_send(size, store);
+        self.entries.lead(key);
     }
 
     /// Asks to send, with so many bits a byte and room for so many bits that wait. The STR is to
@@ -124,26 +124,27 @@ impl<S: BitStore> Table<S> {
     fn free_link(&self) -> u8
         ensures { result ≡ free_link self.now }
     {
-        free_from(&self.entries, FIRST_LINK)
+        free_from(&self.entries.receivers, FIRST_LINK)
     }
 
     // The own request of a receiver that may ask.
     fn ask_receive_of(&mut self, pair: Pair, link: u8, store: S)
         requires receives { receives pair ≡ true }
         requires may { MayAsk pair self.old }
+        requires last { link ≤ LAST_LINK }
         requires link { any (uses_link link) self.old ≡ false }
         requires empty { S.held store ≡ [] }
         requires small { S.capacity store ≤ MAX_ROOM }
         ensures { self.new ≡ map_with self.old pair (asked_to_receive link (S.capacity store) (or_new (get self.old pair))) }
     {
-        let Some(place) = find(&self.entries, pair) else {
+        let Some(key) = self.entries.find(pair) else {
             let mut entry = Entry::new(pair);
             entry.ask_receive(link, store);
             self.enter(entry);
             return;
         };
-        self.entries[place].ask_receive(link, store);
-        settle(&mut self.entries, place);
+        self.entries.slab[key].ask_receive(link, store);
+        self.entries.lead(key);
     }
 
     /// Asks to receive, with room for so many bits that are held, on the lowest link that no

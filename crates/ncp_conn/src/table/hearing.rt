@@ -8,7 +8,6 @@ ghost use Rattle.ncp_model.specs.Commands.{hear_cls, hear_all, hear_gvb, hear_re
 ghost use Rattle.ncp_model.specs.Ends.{any, count, is_by_peer, hears_link, sender_on, receiver_on, end_of, pair_of, hear, leads_to, map_after, map_after_at};
 ghost use Rattle.ncp_conn.specs.Asking.{hear_rts_in, hear_str_in};
 
-use crate::entries::{find, find_receiver, find_sender, hearing, peer_requests, settle};
 use crate::entry::{Entry, refused};
 use crate::table::Table;
 use ncp_bits::BitStore;
@@ -27,24 +26,24 @@ impl<S: BitStore> Table<S> {
     fn is_heard(&self, pair: Pair) -> bool
         ensures { result ≡ (or_new (get self.now pair)).heard }
     {
-        let Some(place) = find(&self.entries, pair) else {
+        let Some(key) = self.entries.find(pair) else {
             return false;
         };
-        self.entries[place].is_heard()
+        self.entries.slab[key].is_heard()
     }
 
     // Whether a sending end heard a link.
     fn is_taken(&self, link: u8) -> bool
         ensures { result ≡ any (hears_link link) self.now }
     {
-        hearing(&self.entries, link) > 0
+        self.entries.senders.key(link).is_some()
     }
 
     // Whether there is no place for another request of the peer alone.
     fn is_full(&self) -> bool
         ensures { result ≡ nat_le MAX_BY_PEER (count is_by_peer self.now) }
     {
-        peer_requests(&self.entries) >= MAX_BY_PEER
+        self.entries.slab.len() - self.entries.own_requests() >= MAX_BY_PEER
     }
 
     // Whether an RTS has parameters that it may not have.
@@ -67,7 +66,7 @@ impl<S: BitStore> Table<S> {
             };
             return refused(ERRONEOUS_PARAMETERS, &command);
         }
-        let Some(place) = find(&self.entries, pair) else {
+        let Some(key) = self.entries.find(pair) else {
             if self.is_full() {
                 return Heard::Full;
             }
@@ -76,8 +75,8 @@ impl<S: BitStore> Table<S> {
             self.enter(entry);
             return Heard::Nothing;
         };
-        self.entries[place].hear_link(link);
-        settle(&mut self.entries, place);
+        self.entries.slab[key].hear_link(link);
+        self.entries.lead(key);
         Heard::Nothing
     }
 
@@ -101,7 +100,7 @@ impl<S: BitStore> Table<S> {
             };
             return refused(ERRONEOUS_PARAMETERS, &command);
         }
-        let Some(place) = find(&self.entries, pair) else {
+        let Some(key) = self.entries.find(pair) else {
             if self.is_full() {
                 return Heard::Full;
             }
@@ -110,8 +109,8 @@ impl<S: BitStore> Table<S> {
             self.enter(entry);
             return Heard::Nothing;
         };
-        self.entries[place].hear_size(size);
-        settle(&mut self.entries, place);
+        self.entries.slab[key].hear_size(size);
+        self.entries.lead(key);
         Heard::Nothing
     }
 
@@ -127,11 +126,11 @@ impl<S: BitStore> Table<S> {
         if !pair.is_proper() {
             return refused(ERRONEOUS_PARAMETERS, &command);
         }
-        let Some(place) = find(&self.entries, pair) else {
+        let Some(key) = self.entries.find(pair) else {
             return refused(NONEXISTENT_SOCKET, &command);
         };
-        let answer = self.entries[place].hear_cls();
-        settle(&mut self.entries, place);
+        let answer = self.entries.slab[key].hear_cls();
+        self.entries.settle(key);
         answer
     }
 
@@ -140,7 +139,7 @@ impl<S: BitStore> Table<S> {
         ensures answer { result ≡ answer (hear_all link messages bits (end_of (sender_on link self.old))) }
         ensures table { self.new ≡ map_after_at self.old (pair_of (sender_on link self.old)) (hear_all link messages bits (end_of (sender_on link self.old))) }
     {
-        let Some(place) = find_sender(&self.entries, link) else {
+        let Some(key) = self.entries.senders.key(link) else {
             let command = Command::All {
                 link,
                 messages,
@@ -148,8 +147,8 @@ impl<S: BitStore> Table<S> {
             };
             return refused(SOCKET_NOT_CONNECTED, &command);
         };
-        let answer = self.entries[place].hear_all(link, messages, bits);
-        settle(&mut self.entries, place);
+        let answer = self.entries.slab[key].hear_all(link, messages, bits);
+        self.entries.settle(key);
         answer
     }
 
@@ -158,11 +157,11 @@ impl<S: BitStore> Table<S> {
         ensures answer { result ≡ answer (hear_gvb link fm fb (end_of (sender_on link self.old))) }
         ensures table { self.new ≡ map_after_at self.old (pair_of (sender_on link self.old)) (hear_gvb link fm fb (end_of (sender_on link self.old))) }
     {
-        let Some(place) = find_sender(&self.entries, link) else {
+        let Some(key) = self.entries.senders.key(link) else {
             return refused(SOCKET_NOT_CONNECTED, &Command::Gvb { link, fm, fb });
         };
-        let answer = self.entries[place].hear_gvb(link, fm, fb);
-        settle(&mut self.entries, place);
+        let answer = self.entries.slab[key].hear_gvb(link, fm, fb);
+        self.entries.settle(key);
         answer
     }
 
@@ -171,7 +170,7 @@ impl<S: BitStore> Table<S> {
         ensures answer { result ≡ answer (hear_ret link messages bits (end_of (receiver_on link self.old))) }
         ensures table { self.new ≡ map_after_at self.old (pair_of (receiver_on link self.old)) (hear_ret link messages bits (end_of (receiver_on link self.old))) }
     {
-        let Some(place) = find_receiver(&self.entries, link) else {
+        let Some(key) = self.entries.receivers.key(link) else {
             let command = Command::Ret {
                 link,
                 messages,
@@ -179,8 +178,8 @@ impl<S: BitStore> Table<S> {
             };
             return refused(SOCKET_NOT_CONNECTED, &command);
         };
-        let answer = self.entries[place].hear_ret(link, messages, bits);
-        settle(&mut self.entries, place);
+        let answer = self.entries.slab[key].hear_ret(link, messages, bits);
+        self.entries.settle(key);
         answer
     }
 
@@ -190,11 +189,11 @@ impl<S: BitStore> Table<S> {
         ensures table { self.new ≡ map_after_at self.old (pair_of (sender_on link self.old)) (hear_inr link (end_of (sender_on link self.old))) }
     {
         let command = Command::Inr { link };
-        let Some(place) = find_sender(&self.entries, link) else {
+        let Some(key) = self.entries.senders.key(link) else {
             return refused(SOCKET_NOT_CONNECTED, &command);
         };
-        let answer = self.entries[place].hear_interrupt(&command);
-        settle(&mut self.entries, place);
+        let answer = self.entries.slab[key].hear_interrupt(&command);
+        self.entries.settle(key);
         answer
     }
 
@@ -204,11 +203,11 @@ impl<S: BitStore> Table<S> {
         ensures table { self.new ≡ map_after_at self.old (pair_of (receiver_on link self.old)) (hear_ins link (end_of (receiver_on link self.old))) }
     {
         let command = Command::Ins { link };
-        let Some(place) = find_receiver(&self.entries, link) else {
+        let Some(key) = self.entries.receivers.key(link) else {
             return refused(SOCKET_NOT_CONNECTED, &command);
         };
-        let answer = self.entries[place].hear_interrupt(&command);
-        settle(&mut self.entries, place);
+        let answer = self.entries.slab[key].hear_interrupt(&command);
+        self.entries.settle(key);
         answer
     }
 

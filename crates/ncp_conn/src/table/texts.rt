@@ -6,7 +6,6 @@ ghost use Rattle.ncp_model.specs.Calls.{give, take_held, allocate, call_back, in
 ghost use Rattle.ncp_model.specs.Texts.{Taken};
 ghost use Rattle.ncp_model.specs.Ends.{sender_on, receiver_on, pair_of, text_in, cut_in, answered_in, map_after, map_after_at};
 
-use crate::entries::{find, find_receiver, find_sender, settle};
 use crate::table::Table;
 use ncp_bits::{BitStore, Bits, Part};
 use ncp_control::Command;
@@ -22,11 +21,11 @@ impl<S: BitStore> Table<S> {
         ensures table { self.new ≡ map_after self.old pair (give pair text.now (get self.old pair)) }
         ensures err { OnErr result (self.new ≡ self.old) }
     {
-        let Some(place) = find(&self.entries, pair) else {
+        let Some(key) = self.entries.find(pair) else {
             return Err(CallFault::NoEntry);
         };
-        let answer = self.entries[place].give(text);
-        settle(&mut self.entries, place);
+        let answer = self.entries.slab[key].give(text);
+        self.entries.settle(key);
         answer
     }
 
@@ -39,11 +38,11 @@ impl<S: BitStore> Table<S> {
         ensures table { self.new ≡ map_after self.old pair (take_held pair bytes (get self.old pair)) }
         ensures err { OnErr result (self.new ≡ self.old) }
     {
-        let Some(place) = find(&self.entries, pair) else {
+        let Some(key) = self.entries.find(pair) else {
             return Err(CallFault::NoEntry);
         };
-        let answer = self.entries[place].take(bytes);
-        settle(&mut self.entries, place);
+        let answer = self.entries.slab[key].take(bytes);
+        self.entries.settle(key);
         answer
     }
 
@@ -63,11 +62,11 @@ impl<S: BitStore> Table<S> {
         ensures table { self.new ≡ map_after self.old pair (allocate pair messages bits full (get self.old pair)) }
         ensures err { OnErr result (self.new ≡ self.old) }
     {
-        let Some(place) = find(&self.entries, pair) else {
+        let Some(key) = self.entries.find(pair) else {
             return Err(CallFault::NoEntry);
         };
-        let answer = self.entries[place].allocate(messages, bits, full);
-        settle(&mut self.entries, place);
+        let answer = self.entries.slab[key].allocate(messages, bits, full);
+        self.entries.settle(key);
         answer
     }
 
@@ -87,11 +86,11 @@ impl<S: BitStore> Table<S> {
         ensures table { self.new ≡ map_after self.old pair (call_back pair fm fb full (get self.old pair)) }
         ensures err { OnErr result (self.new ≡ self.old) }
     {
-        let Some(place) = find(&self.entries, pair) else {
+        let Some(key) = self.entries.find(pair) else {
             return Err(CallFault::NoEntry);
         };
-        let answer = self.entries[place].call_back(fm, fb, full);
-        settle(&mut self.entries, place);
+        let answer = self.entries.slab[key].call_back(fm, fb, full);
+        self.entries.settle(key);
         answer
     }
 
@@ -103,11 +102,11 @@ impl<S: BitStore> Table<S> {
         ensures table { self.new ≡ map_after self.old pair (interrupt pair full (get self.old pair)) }
         ensures err { OnErr result (self.new ≡ self.old) }
     {
-        let Some(place) = find(&self.entries, pair) else {
+        let Some(key) = self.entries.find(pair) else {
             return Err(CallFault::NoEntry);
         };
-        let answer = self.entries[place].interrupt(full);
-        settle(&mut self.entries, place);
+        let answer = self.entries.slab[key].interrupt(full);
+        self.entries.settle(key);
         answer
     }
 
@@ -116,11 +115,11 @@ impl<S: BitStore> Table<S> {
         ensures answer { result ≡ answer (text_in link size text.entry self.old) }
         ensures table { self.new ≡ map_after_at self.old (pair_of (receiver_on link self.old)) (text_in link size text.entry self.old) }
     {
-        let Some(place) = find_receiver(&self.entries, link) else {
+        let Some(key) = self.entries.receivers.key(link) else {
             return Took::NotOpen;
         };
-        let answer = self.entries[place].hear_text(size, text);
-        settle(&mut self.entries, place);
+        let answer = self.entries.slab[key].hear_text(size, text);
+        self.entries.settle(key);
         answer
     }
 
@@ -130,11 +129,11 @@ impl<S: BitStore> Table<S> {
         ensures answer { result ≡ answer (cut_in link self.old) }
         ensures table { self.new ≡ map_after_at self.old (pair_of (sender_on link self.old)) (cut_in link self.old) }
     {
-        let Some(place) = find_sender(&self.entries, link) else {
+        let Some(key) = self.entries.senders.key(link) else {
             return None;
         };
-        let answer = self.entries[place].cut();
-        settle(&mut self.entries, place);
+        let answer = self.entries.slab[key].cut();
+        self.entries.settle(key);
         answer
     }
 
@@ -144,11 +143,11 @@ impl<S: BitStore> Table<S> {
         ensures answer { result ≡ answer (answered_in link Taken self.old) }
         ensures table { self.new ≡ map_after_at self.old (pair_of (sender_on link self.old)) (answered_in link Taken self.old) }
     {
-        let Some(place) = find_sender(&self.entries, link) else {
+        let Some(key) = self.entries.senders.key(link) else {
             return None;
         };
-        let answer = self.entries[place].answered();
-        settle(&mut self.entries, place);
+        let answer = self.entries.slab[key].answered();
+        self.entries.settle(key);
         answer
     }
 }

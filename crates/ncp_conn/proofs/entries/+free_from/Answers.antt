@@ -1,24 +1,22 @@
-use Rattle.std.proofs.Common.{◌≡◌, ◌-◌, ◌+◌, not, nat_lt, true, false, sym, ap, ◌∙◌, arith, add-one}
-use Rattle.std.specs.List.{count_by}
-use Rattle.ncp_model.specs.Ends.{lowest, uses_link}
-use Rattle.ncp_conn.proofs.Asking.{lowest_end, lowest_yes, lowest_no, lt_yes, lt_no}
+use Rattle.std.proofs.Common.{◌≡◌, ◌-◌, ◌+◌, is_none, not, true, false, sym, ap, ◌∙◌, arith, add-one}
+use Rattle.ncp_model.specs.Ends.{lowest}
+use Rattle.ncp_conn.specs.Indexes.{key_at}
+use Rattle.ncp_conn.proofs.Asking.{lowest_end, lowest_yes, lowest_no}
 use Rattle.ncp_conn.proofs.entries.+free_from.Goals as goal
 
 pub returns-then-link-gt-LAST_LINK : goal.returns-then-link-gt-LAST_LINK
-returns-then-link-gt-LAST_LINK g t c =
+returns-then-link-gt-LAST_LINK t c =
     let h = c.if-link-gt-LAST_LINK.true in
-    sym (lowest_end (λ on. not (nat_lt 0 (count_by (uses_link on) c.args.entries.now))) (72 - c.args.link) c.args.link (omega (arith, h)))
+    sym (lowest_end (λ on. is_none (key_at c.args.index.now on)) (72 - c.args.link) c.args.link (omega (arith, h)))
 
-pub returns-then-using-eq0 : goal.returns-then-using-eq0
-returns-then-using-eq0 g t c =
+pub returns-then-is_none : goal.returns-then-is_none
+returns-then-is_none t c =
     let h = c.if-link-gt-LAST_LINK.false in
-    let z = c.if-using-eq0.true in
-    let e : nat_lt 0 (count_by (uses_link c.args.link) c.args.entries.now) ≡ false = ap (nat_lt 0) (sym c.using.ensures) ∙ lt_no 0 c.using.result (omega (arith, z)) in
-    sym (lowest_yes (λ on. not (nat_lt 0 (count_by (uses_link on) c.args.entries.now))) (72 - c.args.link) (72 - (c.args.link + 1)) c.args.link (omega (arith, h)) (ap not e))
+    let e : is_none (key_at c.args.index.now c.args.link) ≡ true = ap is_none (sym c.key.ensures) ∙ ap not c.if-is_none.ensures in
+    sym (lowest_yes (λ on. is_none (key_at c.args.index.now on)) (72 - c.args.link) (72 - (c.args.link + 1)) c.args.link (omega (arith, h)) e)
 
 pub returns : goal.returns
-returns g t c =
+returns t c =
     let h = c.if-link-gt-LAST_LINK.false in
-    let z = c.if-using-eq0.false in
-    let e : nat_lt 0 (count_by (uses_link c.args.link) c.args.entries.now) ≡ true = ap (nat_lt 0) (sym c.using.ensures) ∙ lt_yes 0 c.using.result (omega (arith, z)) in
-    c.free_from.ensures ∙ ap (lowest (λ on. not (nat_lt 0 (count_by (uses_link on) c.args.entries.now))) (72 - (c.args.link + 1))) (add-one c.args.link) ∙ sym (lowest_no (λ on. not (nat_lt 0 (count_by (uses_link on) c.args.entries.now))) (72 - c.args.link) (72 - (c.args.link + 1)) c.args.link (omega (arith, h)) (ap not e))
+    let e : is_none (key_at c.args.index.now c.args.link) ≡ false = ap is_none (sym c.key.ensures) ∙ ap not c.if-is_none.ensures in
+    c.free_from.ensures ∙ ap (lowest (λ on. is_none (key_at c.args.index.now on)) (72 - (c.args.link + 1))) (add-one c.args.link) ∙ sym (lowest_no (λ on. is_none (key_at c.args.index.now on)) (72 - c.args.link) (72 - (c.args.link + 1)) c.args.link (omega (arith, h)) e)

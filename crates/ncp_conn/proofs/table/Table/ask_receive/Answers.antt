@@ -1,9 +1,9 @@
-use Rattle.std.proofs.Common.{◌≡◌, ◌≤◌, ℕ, true, arith, inl, sym, ap, ◌∙◌, Err}
+use Rattle.std.proofs.Common.{◌≡◌, ◌≤◌, ℕ, true, arith, inl, sym, ap, subst, ◌∙◌, Err}
 use Rattle.std.proofs.lemmas.Result.{err_from_is_err_and}
 use Rattle.ncp_model.specs.Pairs.{receives}
 use Rattle.ncp_model.specs.Act.{answer, is_room}
 use Rattle.ncp_model.specs.Ends.{count, any, has_asked, uses_link, map_after}
-use Rattle.ncp_model.specs.declared.limits.TheConstants.{MAX_OWN}
+use Rattle.ncp_model.specs.declared.limits.TheConstants.{LAST_LINK, MAX_OWN}
 use Rattle.ncp_model.proofs.FreeLinks.{free-free, free-room}
 use Rattle.ncp_conn.proofs.Requests.{receive_err}
 use Rattle.ncp_conn.proofs.table.Table.ask_receive.Goals as goal
@@ -21,3 +21,8 @@ ask_receive_of-requires-clause-link g c =
     let own : count has_asked c.args.self.now ≤ MAX_OWN = let h = c.in_ok-may_ask.ensures.ok.own in omega (arith, h) in
     ap (λ (on : ℕ). any (uses_link on) c.args.self.now) c.free_link-link.ensures
     ∙ free-free c.args.self.now (free-room c.args.self.now own)
+
+pub ask_receive_of-requires-clause-last : goal.ask_receive_of-requires-clause-last
+ask_receive_of-requires-clause-last g c =
+    let own : count has_asked c.args.self.now ≤ MAX_OWN = let h = c.in_ok-may_ask.ensures.ok.own in omega (arith, h) in
+    subst (λ (on : ℕ). on ≤ LAST_LINK) (sym c.free_link-link.ensures) (free-room c.args.self.now own)

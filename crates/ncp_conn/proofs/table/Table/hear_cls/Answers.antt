@@ -6,43 +6,39 @@ use Rattle.ncp_model.specs.End.{End}
 use Rattle.ncp_model.specs.Act.{answer}
 use Rattle.ncp_model.specs.Commands.{hear_cls_at}
 use Rattle.ncp_model.specs.Ends.{map_after}
-use Rattle.ncp_conn.proofs.Tables.{there, its_pair, got, got_none, map_acted, table_acted, pair_answer, pair_table, none_answer, none_table, cls_proper}
+use Rattle.ncp_conn.proofs.Tables.{its_pair, got, got_none, kept_acted, ends_acted, pair_answer, pair_table, none_answer, none_table, cls_proper}
 use Rattle.ncp_conn.proofs.table.Table.hear_cls.Goals as goal
 
 pub returns-in_default-clause-answer : goal.returns-in_default-clause-answer
 returns-in_default-clause-answer g c =
     let proper : is_proper c.args.pair ≡ true = sym c.is_proper.ensures ∙ c.if-not-is_proper.false in
-    none_answer (λ (p : Pair) (o : Option End). hear_cls_at p o) c.args.pair c.args.self.now _ (got_none c.deref.result.now c.self.inside.entries.items c.args.pair c.args.self.now c.deref.ensures.value c.in_default.ensures.found c.self.view_is) c.refused-in_default.ensures
+    none_answer (λ (p : Pair) (o : Option End). hear_cls_at p o) c.args.pair c.args.self.now _ (got_none c.self.inside.entries c.args.self.now c.self.view_is c.self.invariant c.args.pair c.in_default.ensures.found) c.refused-in_default.ensures
     ∙ ap answer (sym (cls_proper c.args.pair (get c.args.self.now c.args.pair) proper))
 
 pub returns-in_default-clause-table : goal.returns-in_default-clause-table
 returns-in_default-clause-table g c =
     let proper : is_proper c.args.pair ≡ true = sym c.is_proper.ensures ∙ c.if-not-is_proper.false in
-    none_table (λ (p : Pair) (o : Option End). hear_cls_at p o) c.args.pair c.args.self.now _ (got_none c.deref.result.now c.self.inside.entries.items c.args.pair c.args.self.now c.deref.ensures.value c.in_default.ensures.found c.self.view_is) refl
+    none_table (λ (p : Pair) (o : Option End). hear_cls_at p o) c.args.pair c.args.self.now _ (got_none c.self.inside.entries c.args.self.now c.self.view_is c.self.invariant c.args.pair c.in_default.ensures.found) refl
     ∙ ap (map_after c.args.self.now c.args.pair) (sym (cls_proper c.args.pair (get c.args.self.now c.args.pair) proper))
 
 pub invariant_of-self : goal.invariant_of-self
 invariant_of-self g c =
-    let h = there c.deref.result.now c.self.inside.entries.items c.in-Some.place c.args.pair c.index_mut.result.now c.deref.ensures.value c.in-Some.ensures.found c.index_mut.ensures.value in
-    rw c.settle.ensures.capacity
-    (table_acted c.self.inside.entries.items c.in-Some.place c.index_mut.result.now c.hear_cls-answer.new.self c.settle.new.entries.items _ _ c.self.invariant h c.settle.ensures.items c.hear_cls-answer.ensures.entry c.hear_cls-answer.ensures.marks)
+    kept_acted c.self.inside.entries c.settle.new.self c.in-Some.key c.index_mut.result.now c.hear_cls-answer.new.self c.index_mut.ensures.value c.settle.ensures _ c.self.invariant c.hear_cls-answer.ensures.entry c.hear_cls-answer.ensures.marks
 
 pub returns-clause-answer : goal.returns-clause-answer
 returns-clause-answer g c =
     let proper : is_proper c.args.pair ≡ true = sym c.is_proper.ensures ∙ c.if-not-is_proper.false in
-    let h = there c.deref.result.now c.self.inside.entries.items c.in-Some.place c.args.pair c.index_mut.result.now c.deref.ensures.value c.in-Some.ensures.found c.index_mut.ensures.value in
-    let p = its_pair c.deref.result.now c.self.inside.entries.items c.in-Some.place c.args.pair c.index_mut.result.now c.deref.ensures.value c.in-Some.ensures.found c.index_mut.ensures.value in
+    let p = its_pair c.self.inside.entries.slab c.in-Some.key c.args.pair c.index_mut.result.now c.in-Some.ensures.found c.index_mut.ensures.value in
     pair_answer (λ (p : Pair) (o : Option End). hear_cls_at p o) c.index_mut.result.now c.args.pair c.args.self.now _ p
-    (got c.self.inside.entries.items c.in-Some.place c.args.pair c.index_mut.result.now c.args.self.now c.self.invariant.are c.self.view_is h p)
+    (got c.self.inside.entries c.args.self.now c.self.view_is c.self.invariant c.in-Some.key c.args.pair c.index_mut.result.now c.index_mut.ensures.value p)
     c.hear_cls-answer.ensures.answer
     ∙ ap answer (sym (cls_proper c.args.pair (get c.args.self.now c.args.pair) proper))
 
 pub returns-clause-table : goal.returns-clause-table
 returns-clause-table g c =
     let proper : is_proper c.args.pair ≡ true = sym c.is_proper.ensures ∙ c.if-not-is_proper.false in
-    let h = there c.deref.result.now c.self.inside.entries.items c.in-Some.place c.args.pair c.index_mut.result.now c.deref.ensures.value c.in-Some.ensures.found c.index_mut.ensures.value in
-    let p = its_pair c.deref.result.now c.self.inside.entries.items c.in-Some.place c.args.pair c.index_mut.result.now c.deref.ensures.value c.in-Some.ensures.found c.index_mut.ensures.value in
+    let p = its_pair c.self.inside.entries.slab c.in-Some.key c.args.pair c.index_mut.result.now c.in-Some.ensures.found c.index_mut.ensures.value in
     pair_table (λ (p : Pair) (o : Option End). hear_cls_at p o) c.index_mut.result.now c.args.pair c.args.self.now _ p
-    (got c.self.inside.entries.items c.in-Some.place c.args.pair c.index_mut.result.now c.args.self.now c.self.invariant.are c.self.view_is h p)
-    (map_acted c.self.inside.entries.items c.in-Some.place c.index_mut.result.now c.hear_cls-answer.new.self c.settle.new.entries.items c.args.self.now _ c.self.invariant.are c.self.view_is h c.settle.ensures.items c.hear_cls-answer.ensures.entry)
+    (got c.self.inside.entries c.args.self.now c.self.view_is c.self.invariant c.in-Some.key c.args.pair c.index_mut.result.now c.index_mut.ensures.value p)
+    (ends_acted c.self.inside.entries c.settle.new.self c.in-Some.key c.index_mut.result.now c.hear_cls-answer.new.self c.index_mut.ensures.value c.settle.ensures _ c.args.self.now c.self.view_is c.self.invariant c.hear_cls-answer.ensures.entry)
     ∙ ap (map_after c.args.self.now c.args.pair) (sym (cls_proper c.args.pair (get c.args.self.now c.args.pair) proper))

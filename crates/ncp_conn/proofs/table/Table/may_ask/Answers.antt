@@ -1,33 +1,32 @@
 use Rattle.std.proofs.Common.{◌≡◌, ◌<◌, true, false, nat_le, sym, ap, ◌∙◌, arith}
-use Rattle.std.specs.List.{count_by}
 use Rattle.std.specs.FinMap.{get}
 use Rattle.ncp_model.specs.End.{or_new}
 use Rattle.ncp_model.specs.Ends.{count, has_asked}
 use Rattle.ncp_conn.proofs.Asking.{le_yes, le_no}
-use Rattle.ncp_conn.proofs.Tables.{counted}
+use Rattle.ncp_conn.proofs.Tables.{sum_is}
 use Rattle.ncp_conn.proofs.Requests.{may_room, may_first, when, unless}
 use Rattle.ncp_conn.proofs.table.Table.may_ask.Goals as goal
 
 pub returns-then-own_requests-ge-MAX_OWN-clause-told : goal.returns-then-own_requests-ge-MAX_OWN-clause-told
 returns-then-own_requests-ge-MAX_OWN-clause-told g c =
-    let n : count has_asked c.args.self.now ≡ c.own_requests.result = counted has_asked c.self.inside.entries.items c.args.self.now c.self.view_is c.self.invariant.are ∙ sym (c.own_requests.ensures ∙ ap (count_by has_asked) c.deref.ensures.value) in
+    let n : count has_asked c.args.self.now ≡ c.own_requests.result = sum_is c.self.inside.entries c.args.self.now c.self.view_is c.self.invariant has_asked ∙ sym c.own_requests.ensures in
     let b : nat_le 64 (count has_asked c.args.self.now) ≡ true = ap (nat_le 64) n ∙ le_yes 64 c.own_requests.result c.if-own_requests-ge-MAX_OWN.true in
     sym (may_room c.args.pair c.args.full c.args.self.now (sym c.in_ok-end_may_ask.ensures) ∙ when (nat_le 64 (count has_asked c.args.self.now)) _ _ b)
 
 pub returns-then-full-clause-told : goal.returns-then-full-clause-told
 returns-then-full-clause-told g c =
-    let n : count has_asked c.args.self.now ≡ c.own_requests.result = counted has_asked c.self.inside.entries.items c.args.self.now c.self.view_is c.self.invariant.are ∙ sym (c.own_requests.ensures ∙ ap (count_by has_asked) c.deref.ensures.value) in
+    let n : count has_asked c.args.self.now ≡ c.own_requests.result = sum_is c.self.inside.entries c.args.self.now c.self.view_is c.self.invariant has_asked ∙ sym c.own_requests.ensures in
     let b : nat_le 64 (count has_asked c.args.self.now) ≡ false = ap (nat_le 64) n ∙ le_no 64 c.own_requests.result c.if-own_requests-ge-MAX_OWN.false in
     sym (may_room c.args.pair c.args.full c.args.self.now (sym c.in_ok-end_may_ask.ensures) ∙ unless (nat_le 64 (count has_asked c.args.self.now)) _ _ b ∙ when c.args.full _ _ c.if-full.true)
 
 pub returns-clause-told : goal.returns-clause-told
 returns-clause-told g c =
-    let n : count has_asked c.args.self.now ≡ c.own_requests.result = counted has_asked c.self.inside.entries.items c.args.self.now c.self.view_is c.self.invariant.are ∙ sym (c.own_requests.ensures ∙ ap (count_by has_asked) c.deref.ensures.value) in
+    let n : count has_asked c.args.self.now ≡ c.own_requests.result = sum_is c.self.inside.entries c.args.self.now c.self.view_is c.self.invariant has_asked ∙ sym c.own_requests.ensures in
     let b : nat_le 64 (count has_asked c.args.self.now) ≡ false = ap (nat_le 64) n ∙ le_no 64 c.own_requests.result c.if-own_requests-ge-MAX_OWN.false in
     sym (may_room c.args.pair c.args.full c.args.self.now (sym c.in_ok-end_may_ask.ensures) ∙ unless (nat_le 64 (count has_asked c.args.self.now)) _ _ b ∙ unless c.args.full _ _ c.if-full.false)
 
 pub returns-clause-ok : goal.returns-clause-ok
 returns-clause-ok g c =
-    let n : count has_asked c.args.self.now ≡ c.own_requests.result = counted has_asked c.self.inside.entries.items c.args.self.now c.self.view_is c.self.invariant.are ∙ sym (c.own_requests.ensures ∙ ap (count_by has_asked) c.deref.ensures.value) in
+    let n : count has_asked c.args.self.now ≡ c.own_requests.result = sum_is c.self.inside.entries c.args.self.now c.self.view_is c.self.invariant has_asked ∙ sym c.own_requests.ensures in
     let less : count has_asked c.args.self.now < 64 = let h = c.if-own_requests-ge-MAX_OWN.false in omega (arith, n, h) in
     record { first = may_first (or_new (get c.args.self.now c.args.pair)) (sym c.in_ok-end_may_ask.ensures); own = less }

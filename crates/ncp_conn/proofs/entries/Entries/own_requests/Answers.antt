@@ -1,0 +1,30 @@
+use Rattle.std.proofs.Common.{◌≡◌, sym, ap, ◌∙◌, arith, zero-add, ◌+◌, [], List, ℕ}
+use Rattle.std.specs.List.{count_by}
+use Rattle.slab.specs.Slab.{entries, values}
+use Rattle.ncp_model.specs.declared.pair.Pair.{Pair}
+use Rattle.ncp_model.specs.End.{End}
+use Rattle.ncp_model.specs.Ends.{has_asked}
+use Rattle.ncp_conn.proofs.Counts.{one, count_entries, count_cons}
+use Rattle.ncp_conn.proofs.entries.Entries.own_requests.Goals as goal
+
+abbrev counted : List (ℕ × (Pair × End)) → ℕ
+counted es = count_by (λ e. has_asked e.1) es
+
+pub loop-entry-init : goal.loop-entry-init
+loop-entry-init g c = (tt, tt, zero-add (counted c.into_iter-entry-iterator.result) ∙ ap counted (c.into_iter-entry-iterator.ensures.into_iter_gives ∙ c.iter-entry-items.ensures.rest))
+
+pub overflow_add-count : goal.overflow_add-count
+overflow_add-count g c =
+    let i = c.loop-entry.invariant.2 in
+    let all : counted (entries c.args.self.now.slab) ≡ count_by has_asked (values c.args.self.now.slab) = count_entries has_asked 0 c.args.self.now.slab.slots in
+    let few = c.requires in
+    let here : counted c.loop-entry.entry-iterator ≡ one (has_asked c.in-Some.entry.now) + counted c.next.new.self = ap counted c.in-Some.ensures.steps ∙ count_cons (λ (e : ℕ × (Pair × End)). has_asked e.1) (c.in-Some.field-0-0, c.in-Some.entry.now) c.next.new.self in
+    let asked : one (has_asked c.in-Some.entry.now) ≡ 1 = ap one (sym c.is_asked.ensures ∙ c.if-is_asked.true) in
+    omega (arith, i, all, few, here, asked)
+
+pub returns : goal.returns
+returns g c =
+    let i = c.loop-entry.invariant.2 in
+    let none : counted c.loop-entry.entry-iterator ≡ counted [] = ap counted c.in-None.ensures.steps.0 in
+    let all : counted (entries c.args.self.now.slab) ≡ count_by has_asked (values c.args.self.now.slab) = count_entries has_asked 0 c.args.self.now.slab.slots in
+    omega (arith, i, none, all)
