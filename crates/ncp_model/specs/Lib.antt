@@ -12,6 +12,7 @@ pub mod Delivery
 pub mod Resets
 pub mod Rows
 pub mod Happenings
+pub mod Refusals
 pub mod Leading
 pub mod Histories
 pub mod Sound

@@ -17,6 +17,7 @@ pub mod links;
 mod outcomes;
 mod pair;
 pub mod phases;
+pub mod refusals;
 pub mod resets;
 pub mod rows;
 pub mod runs;

@@ -1,0 +1,36 @@
+//! The refusals, from another side: for each call and for each thing that comes a table of its cases
+//! in their order, of which the first that holds is answered.
+ghost use Rattle.std.specs.Prelude.{◌≡◌, ℕ, Bool, true, false, List, [], ◌∷◌, map, Option, None, Some};
+ghost use Rattle.ncp_model.specs.Faults.{number_of};
+ghost use Rattle.ncp_model.specs.End.{End};
+ghost use Rattle.ncp_model.specs.Happenings.{Happening, happens};
+ghost use Rattle.ncp_model.specs.Happenings as all;
+ghost use Rattle.ncp_model.specs.Refusals.{first_of, reasons, refusal_of, rises, first_that, cases, is_refusal};
+
+use crate::call_fault::CallFault;
+use crate::pair::Pair;
+
+/// Each call is refused for the first reason of its table that holds, and accepted where none does.
+pub fn calls_are_refused_for_the_first_reason()
+    ensures asks_to_send { (pair : Pair) (of_size with_room own : ℕ) (full : Bool) (before : Option End) → let call : Happening = all.Asks_to_send of_size with_room own full in refusal_of (happens pair call before).outcome ≡ first_of (reasons pair call before) }
+    ensures asks_to_receive { (pair : Pair) (with_room on own : ℕ) (full : Bool) (before : Option End) → let call : Happening = all.Asks_to_receive with_room on own full in refusal_of (happens pair call before).outcome ≡ first_of (reasons pair call before) }
+    ensures closes { (pair : Pair) (full : Bool) (before : Option End) → let call : Happening = all.Closes full in refusal_of (happens pair call before).outcome ≡ first_of (reasons pair call before) }
+    ensures gives { (pair : Pair) (text : List Bool) (before : Option End) → let call : Happening = all.Gives text in refusal_of (happens pair call before).outcome ≡ first_of (reasons pair call before) }
+    ensures takes { (pair : Pair) (bytes : ℕ) (before : Option End) → let call : Happening = all.Takes bytes in refusal_of (happens pair call before).outcome ≡ first_of (reasons pair call before) }
+    ensures allocates { (pair : Pair) (of_messages of_bits : ℕ) (full : Bool) (before : Option End) → let call : Happening = all.Allocates of_messages of_bits full in refusal_of (happens pair call before).outcome ≡ first_of (reasons pair call before) }
+    ensures calls_back { (pair : Pair) (of_messages of_bits : ℕ) (full : Bool) (before : Option End) → let call : Happening = all.Calls_back of_messages of_bits full in refusal_of (happens pair call before).outcome ≡ first_of (reasons pair call before) }
+    ensures interrupts { (pair : Pair) (full : Bool) (before : Option End) → let call : Happening = all.Interrupts full in refusal_of (happens pair call before).outcome ≡ first_of (reasons pair call before) }
+{}
+
+/// What comes meets the first case of its table that holds, and has its effect where none does.
+pub fn what_comes_meets_the_first_case()
+    ensures rts { (pair : Pair) (on by_peer : ℕ) (taken : Bool) (before : Option End) → let what : Happening = all.Rts_comes on taken by_peer in (happens pair what before).outcome ≡ first_that (cases pair what before) all.Accepted }
+    ensures str { (pair : Pair) (of_size by_peer : ℕ) (before : Option End) → let what : Happening = all.Str_comes of_size by_peer in (happens pair what before).outcome ≡ first_that (cases pair what before) all.Accepted }
+    ensures cls { (pair : Pair) (before : Option End) → (happens pair all.Cls_comes before).outcome ≡ first_that (cases pair all.Cls_comes before) all.Accepted }
+    ensures all { (pair : Pair) (on of_messages of_bits : ℕ) (before : Option End) → let what : Happening = all.All_comes on of_messages of_bits in (happens pair what before).outcome ≡ first_that (cases pair what before) all.Accepted }
+    ensures gvb { (pair : Pair) (on of_messages of_bits : ℕ) (before : Option End) → let what : Happening = all.Gvb_comes on of_messages of_bits in (happens pair what before).outcome ≡ first_that (cases pair what before) all.Accepted }
+    ensures ret { (pair : Pair) (on of_messages of_bits : ℕ) (before : Option End) → let what : Happening = all.Ret_comes on of_messages of_bits in (happens pair what before).outcome ≡ first_that (cases pair what before) all.Accepted }
+    ensures inr { (pair : Pair) (on : ℕ) (before : Option End) → let what : Happening = all.Inr_comes on in (happens pair what before).outcome ≡ first_that (cases pair what before) all.Accepted }
+    ensures ins { (pair : Pair) (on : ℕ) (before : Option End) → let what : Happening = all.Ins_comes on in (happens pair what before).outcome ≡ first_that (cases pair what before) all.Accepted }
+    ensures text { (pair : Pair) (head : List Bool) (of_size : ℕ) (text : List Bool) (before : Option End) → let what : Happening = all.Text_comes head of_size text in (happens pair what before).outcome ≡ first_that (cases pair what before) all.Admitted }
+{}
