@@ -46,5 +46,7 @@ pub mod LinkSums
 pub mod HostsHeadline
 pub mod LimitsKept
 pub mod Makes
+pub mod Refused
+pub mod Kept
 pub mod SoundEnds
 pub mod BooksKept

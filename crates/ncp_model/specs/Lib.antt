@@ -13,6 +13,7 @@ pub mod Resets
 pub mod Rows
 pub mod Happenings
 pub mod Refusals
+pub mod Keeping
 pub mod Leading
 pub mod Histories
 pub mod Sound

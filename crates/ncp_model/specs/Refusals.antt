@@ -12,6 +12,7 @@ use Rattle.ncp_model.specs.declared.call_fault.CallFault.TheVariants.{BadSex, Ba
 use Rattle.ncp_model.specs.declared.limits.TheConstants.{FIRST_LINK, LAST_LINK, MAX_ROOM, MAX_MESSAGES, MAX_AMOUNT, MAX_OWN, MAX_BY_PEER}
 use Rattle.ncp_model.specs.Pairs.{is_receive, is_send}
 use Rattle.ncp_model.specs.End.{End, or_new}
+use Rattle.ncp_model.specs.Act.{text_error}
 use Rattle.ncp_model.specs.Happenings.{Happening, Outcome}
 use Rattle.ncp_model.specs.Happenings as all
 
@@ -199,3 +200,9 @@ is_refusal all.WrongSize = true
 is_refusal all.Over = true
 is_refusal all.NotOpen = true
 is_refusal outcome = false
+
+-- what is made all the same: the ERR that the outcome is, and the ERR for a text that finds no open end
+abbrev pub made_by_refusal : Happening → Outcome → List Command
+made_by_refusal what (all.Erred error) = error ∷ []
+made_by_refusal (all.Text_comes head of_size text) all.NotOpen = text_error head text ∷ []
+made_by_refusal what outcome = []

@@ -12,6 +12,7 @@ pub mod connections;
 pub mod headline;
 pub mod histories;
 pub mod hosts;
+pub mod keeping;
 mod limits;
 pub mod links;
 mod outcomes;

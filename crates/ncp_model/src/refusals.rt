@@ -5,7 +5,7 @@ ghost use Rattle.ncp_model.specs.Faults.{number_of};
 ghost use Rattle.ncp_model.specs.End.{End};
 ghost use Rattle.ncp_model.specs.Happenings.{Happening, happens};
 ghost use Rattle.ncp_model.specs.Happenings as all;
-ghost use Rattle.ncp_model.specs.Refusals.{first_of, reasons, refusal_of, rises, first_that, cases, is_refusal};
+ghost use Rattle.ncp_model.specs.Refusals.{first_of, reasons, refusal_of, rises, first_that, cases, is_refusal, made_by_refusal};
 
 use crate::call_fault::CallFault;
 use crate::pair::Pair;
@@ -33,4 +33,23 @@ pub fn what_comes_meets_the_first_case()
     ensures inr { (pair : Pair) (on : ℕ) (before : Option End) → let what : Happening = all.Inr_comes on in (happens pair what before).outcome ≡ first_that (cases pair what before) all.Accepted }
     ensures ins { (pair : Pair) (on : ℕ) (before : Option End) → let what : Happening = all.Ins_comes on in (happens pair what before).outcome ≡ first_that (cases pair what before) all.Accepted }
     ensures text { (pair : Pair) (head : List Bool) (of_size : ℕ) (text : List Bool) (before : Option End) → let what : Happening = all.Text_comes head of_size text in (happens pair what before).outcome ≡ first_that (cases pair what before) all.Admitted }
+{}
+
+/// The reasons of each call stand in the order of their numbers.
+pub fn refusals_come_in_the_order_of_their_numbers()
+    ensures asks_to_send { (pair : Pair) (of_size with_room own : ℕ) (full : Bool) (before : Option End) → rises 0 (map (λ reason. number_of reason.0) (reasons pair (all.Asks_to_send of_size with_room own full) before)) ≡ true }
+    ensures asks_to_receive { (pair : Pair) (with_room on own : ℕ) (full : Bool) (before : Option End) → rises 0 (map (λ reason. number_of reason.0) (reasons pair (all.Asks_to_receive with_room on own full) before)) ≡ true }
+    ensures closes { (pair : Pair) (full : Bool) (before : Option End) → rises 0 (map (λ reason. number_of reason.0) (reasons pair (all.Closes full) before)) ≡ true }
+    ensures gives { (pair : Pair) (text : List Bool) (before : Option End) → rises 0 (map (λ reason. number_of reason.0) (reasons pair (all.Gives text) before)) ≡ true }
+    ensures takes { (pair : Pair) (bytes : ℕ) (before : Option End) → rises 0 (map (λ reason. number_of reason.0) (reasons pair (all.Takes bytes) before)) ≡ true }
+    ensures allocates { (pair : Pair) (of_messages of_bits : ℕ) (full : Bool) (before : Option End) → rises 0 (map (λ reason. number_of reason.0) (reasons pair (all.Allocates of_messages of_bits full) before)) ≡ true }
+    ensures calls_back { (pair : Pair) (of_messages of_bits : ℕ) (full : Bool) (before : Option End) → rises 0 (map (λ reason. number_of reason.0) (reasons pair (all.Calls_back of_messages of_bits full) before)) ≡ true }
+    ensures interrupts { (pair : Pair) (full : Bool) (before : Option End) → rises 0 (map (λ reason. number_of reason.0) (reasons pair (all.Interrupts full) before)) ≡ true }
+{}
+
+/// A refusal changes nothing at the end, or that there is none; and it makes nothing but the ERR that it
+/// is, or that a text gets.
+pub fn refusals_change_nothing()
+    ensures end { (pair : Pair) (what : Happening) (before : Option End) → is_refusal (happens pair what before).outcome ≡ true → (happens pair what before).after ≡ before }
+    ensures made { (pair : Pair) (what : Happening) (before : Option End) → is_refusal (happens pair what before).outcome ≡ true → (happens pair what before).made ≡ made_by_refusal what (happens pair what before).outcome }
 {}
