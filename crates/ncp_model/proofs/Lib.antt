@@ -48,5 +48,6 @@ pub mod LimitsKept
 pub mod Makes
 pub mod Refused
 pub mod Kept
+pub mod Bytes
 pub mod SoundEnds
 pub mod BooksKept

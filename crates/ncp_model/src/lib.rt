@@ -7,8 +7,11 @@
 #![tactic(auto)]
 
 mod amounts;
+pub mod byte_sizes;
 mod call_fault;
 pub mod connections;
+pub mod equality;
+pub mod giving_back;
 pub mod headline;
 pub mod histories;
 pub mod hosts;
@@ -18,6 +21,7 @@ pub mod links;
 mod outcomes;
 mod pair;
 pub mod phases;
+pub mod profile;
 pub mod refusals;
 pub mod resets;
 pub mod rows;
