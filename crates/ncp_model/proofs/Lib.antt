@@ -49,5 +49,7 @@ pub mod Makes
 pub mod Refused
 pub mod Kept
 pub mod Bytes
+pub mod OneCls
+pub mod Used
 pub mod SoundEnds
 pub mod BooksKept

@@ -1,7 +1,10 @@
--- The names of a call's refusals, and their numbers.
+-- The names of a call's refusals, and their numbers; and the names of what became of a text.
 use Rattle.std.specs.Prelude.{ℕ, List, codes}
 use Rattle.ncp_model.specs.declared.call_fault.CallFault.{CallFault}
 use Rattle.ncp_model.specs.declared.call_fault.CallFault.TheVariants.{UnknownPeer, NotUp, BadSex, BadSize, BadRoom, NoEntry, AlreadyAsked, Closing, NotOpen, WrongEnd, NotWhole, Busy, NoRoom, TooMuch, TableFull, QueueFull, OutOfMemory}
+use Rattle.ncp_model.specs.declared.outcomes.Took.{Took}
+use Rattle.ncp_model.specs.declared.outcomes.Took.TheVariants.{Admitted, Late, WrongSize, Over}
+use Rattle.ncp_model.specs.declared.outcomes.Took.TheVariants as took
 
 -- as a program prints it
 abbrev pub name_of : CallFault → List ℕ
@@ -42,3 +45,11 @@ number_of TooMuch = 14
 number_of TableFull = 15
 number_of QueueFull = 16
 number_of OutOfMemory = 17
+
+-- what became of a text, as a program prints it
+abbrev pub name_of_took : Took → List ℕ
+name_of_took Admitted = codes "admitted"
+name_of_took Late = codes "late"
+name_of_took WrongSize = codes "wrong-size"
+name_of_took Over = codes "over"
+name_of_took took.NotOpen = codes "not-open"

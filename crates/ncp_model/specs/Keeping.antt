@@ -1,5 +1,8 @@
--- Which happenings move which of an end's marks and numbers.
-use Rattle.std.specs.Prelude.{Bool, true, false}
+-- Which happenings move which of an end's marks and numbers, and which commands tell of it.
+use Rattle.std.specs.Prelude.{Bool, true, false, Option, None, Some}
+use Rattle.ncp_control.specs.declared.command.Command.{Command}
+use Rattle.ncp_control.specs.declared.command.Command.TheVariants.{Cls}
+use Rattle.ncp_model.specs.End.{End}
 use Rattle.ncp_model.specs.Texts.{Taken}
 use Rattle.ncp_model.specs.Happenings.{Happening}
 use Rattle.ncp_model.specs.Happenings as all
@@ -38,3 +41,18 @@ counts (all.Ret_comes on of_messages of_bits) = true
 counts (all.Text_comes head of_size text) = true
 counts all.Text_goes_out = true
 counts what = false
+
+-- a CLS that is made
+abbrev pub is_cls : Command → Bool
+is_cls (Cls my your) = true
+is_cls c = false
+
+-- a clearing makes none
+abbrev pub is_clearing : Happening → Bool
+is_clearing all.Is_cleared = true
+is_clearing what = false
+
+-- the end's CLS was made, or it ended by that
+abbrev pub was_left : Option End → Bool
+was_left None = true
+was_left (Some e) = e.left
