@@ -51,5 +51,6 @@ pub mod Kept
 pub mod Bytes
 pub mod OneCls
 pub mod Used
+pub mod Opens
 pub mod SoundEnds
 pub mod BooksKept

@@ -1,11 +1,12 @@
 //! What each act leaves as it was: all of the end, but for the fields that are named.
-ghost use Rattle.std.specs.Prelude.{◌≡◌, ℕ, Bool, true, false, List, Option, None, Some};
-ghost use Rattle.ncp_model.specs.End.{End, or_new};
+ghost use Rattle.std.specs.Prelude.{◌≡◌, ℕ, Bool, true, false, ◌≤◌, List, Option, None, Some};
+ghost use Rattle.ncp_model.specs.End.{End, or_new, is_open};
 ghost use Rattle.ncp_model.specs.Texts.{Answered};
 ghost use Rattle.ncp_model.specs.Happenings.{Happening, happens};
 ghost use Rattle.ncp_model.specs.Happenings as all;
 ghost use Rattle.ncp_model.specs.Keeping.{calls_back, is_ret, is_interrupt, is_sending, is_rfnm, counts};
 
+use crate::limits::{MAX_AMOUNT, MAX_COUNT, MAX_MESSAGES, MAX_ROOM};
 use crate::pair::Pair;
 
 /// What a user's call changes at the end, if that is there afterwards. An end that was not there
@@ -57,4 +58,18 @@ pub fn marks_move_by_their_causes()
     ensures freed { (pair : Pair) (what : Happening) (before : Option End) (e : End) → (happens pair what before).after ≡ Some e → is_rfnm what ≡ false → (or_new before).busy ≡ true → e.busy ≡ true }
     ensures messages { (pair : Pair) (what : Happening) (before : Option End) (e : End) → (happens pair what before).after ≡ Some e → counts what ≡ false → e.messages ≡ (or_new before).messages }
     ensures bits { (pair : Pair) (what : Happening) (before : Option End) (e : End) → (happens pair what before).after ≡ Some e → counts what ≡ false → e.bits ≡ (or_new before).bits }
+{}
+
+/// An end opens where both requests are there and it is not on its way out, and nowhere else.
+pub fn ends_open_by_both_requests()
+    ensures opens { (pair : Pair) (what : Happening) (before : Option End) (e : End) → (happens pair what before).after ≡ Some e → (or_new before).opened ≡ false → e.opened ≡ true → (e.asked ≡ true) × (e.heard ≡ true) × (e.leaving ≡ false) × (e.left ≡ false) }
+    ensures meets { (pair : Pair) (what : Happening) (before : Option End) (e : End) → (happens pair what before).after ≡ Some e → is_open (or_new before) ≡ false → (or_new before).leaving ≡ false → (or_new before).left ≡ false → is_open e ≡ true → e.opened ≡ true }
+{}
+
+/// No number goes past its limit.
+pub fn numbers_stay_in_their_limits()
+    ensures messages { (pair : Pair) (what : Happening) (before : Option End) (e : End) → (happens pair what before).after ≡ Some e → (or_new before).messages ≤ MAX_MESSAGES → e.messages ≤ MAX_MESSAGES }
+    ensures bits { (pair : Pair) (what : Happening) (before : Option End) (e : End) → (happens pair what before).after ≡ Some e → (or_new before).room ≤ MAX_ROOM → (or_new before).bits ≤ MAX_AMOUNT → e.bits ≤ MAX_AMOUNT }
+    ensures interrupts { (pair : Pair) (what : Happening) (before : Option End) (e : End) → (happens pair what before).after ≡ Some e → (or_new before).interrupts ≤ MAX_COUNT → e.interrupts ≤ MAX_COUNT }
+    ensures room { (pair : Pair) (what : Happening) (before : Option End) (e : End) → (happens pair what before).after ≡ Some e → (or_new before).room ≤ MAX_ROOM → e.room ≤ MAX_ROOM }
 {}
