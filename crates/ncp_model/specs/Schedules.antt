@@ -1,11 +1,9 @@
 -- Schedules from which the worked rows of resets begin.
 use Rattle.std.specs.Prelude.{true, false, List, [], ◌∷◌, ◌++◌}
 use Rattle.ncp_control.specs.declared.command.Command.TheVariants.{Rts, Inr}
-use Rattle.ncp_model.specs.Phase.{Phase, Reaction}
+use Rattle.ncp_model.specs.Phase.{Reaction}
+pub use Rattle.ncp_model.specs.Phase.{up_phase}
 use Rattle.ncp_model.specs.Resets.{Event, Side, This, That, Step, Resets, Makes, Falls, Settles, Sends, Hears, Loses, Dies, Is_answered}
-
-abbrev pub up_phase : Phase
-up_phase = record { down = false; want = false; owe = false; wait = false; waiting = [] }
 
 abbrev pub by : Side → Step → Event
 by side step = record { side = side; step = step }
