@@ -8,13 +8,13 @@ ghost use Rattle.ncp_control.specs.declared.command.Command.{Command};
 ghost use Rattle.ncp_model.specs.Pairs.{sends};
 ghost use Rattle.ncp_model.specs.Act.{answer};
 ghost use Rattle.ncp_model.specs.Ends.{hear, text_in};
-ghost use Rattle.ncp_model.specs.Phase.{is_rst, is_rrp, is_other};
+ghost use Rattle.ncp_model.specs.Phase.{is_rst, is_rrp, is_other, up_phase};
 ghost use Rattle.ncp_model.specs.Happenings.{of_hearing, of_text, is_violation};
 ghost use Rattle.ncp_resets.specs.Delivery.{Accepted, Held, Free};
 ghost use Rattle.ncp_resets.specs.Resets.{is_up, underway};
 ghost use Rattle.ncp_hosts.specs.Hosts.{Node, World, swap, past_of, is_empty, TextOut, Step, steps, hears, hears_all, hears_text, Call, calls, calls_echo, Event, at, run};
 ghost use Rattle.ncp_hosts.specs.Headline.{BothOpen, sender_at, receiver_at, granted_underway, returned_underway, how_many, text_underway, MessagesAgree, BitsAgree, OnOneLink, WithinAllocation, Parted, TakenOrHeld, Begins, StaysOut, SenderOpens, ReceiverOpens, SenderOpensAt, ReceiverOpensAt};
-ghost use Rattle.ncp_model.specs.Rows.{outward, inward, ones, noughts, counting, up_phase};
+ghost use Rattle.ncp_model.specs.Rows.{outward, inward, ones, noughts, counting};
 ghost use Rattle.ncp_hosts.specs.HostRuns.{calls_back_under_text, sender_cleared, held_past_reset, up_after_held, opened_after_held};
 ghost use Rattle.ncp_model.specs.Amounts.{granted_messages, returned_messages};
 

@@ -8,11 +8,12 @@ ghost use Rattle.ncp_resets.specs.Resets.{is_up, Agrees, Silent};
 ghost use Rattle.ncp_resets.specs.Resets as resets;
 ghost use Rattle.ncp_hosts.specs.Hosts.{Event, run, base, past_of};
 ghost use Rattle.ncp_resets.specs.Delivery.{Travelling, Held, Free, Accepted, idle};
-ghost use Rattle.ncp_model.specs.Rows.{outward, inward, ones, noughts, asked_receive, opened_end, counting, sent_one, due, gone, shut, up_phase};
+ghost use Rattle.ncp_model.specs.Rows.{outward, inward, ones, noughts, asked_receive, opened_end, counting, sent_one, due, gone, shut};
 ghost use Rattle.ncp_hosts.specs.HostRuns.{with_text_out, got_and_taken, lost_twice, held_back, woken_again, both_reset, reset_under_text, reset_over, asks_again, closed_by_receiver, over_by_receiver, opened_again, closed_by_sender, over_by_sender, other_outward, other_inward, opens_another, reset_under_other_text};
 ghost use Rattle.ncp_hosts.specs.Seen.{CallsAgree, EchoesAgree, ResetsAgree, FallsAgree, HearsAgree, TextsAgree, FreesAgree, SettlesAgree, MessagesAgree, CutsAgree, SendsAgree, StepsAgree, OthersStay};
 ghost use Rattle.ncp_hosts.specs.Watching.{WatchesAgree, OtherWatchesStay};
 ghost use Rattle.ncp_hosts.specs.Moving.{ControlMoves, TextsMove, ControlIsHeard, TextsAreHeard};
+ghost use Rattle.ncp_model.specs.Phase.{up_phase};
 
 use ncp_model::Pair;
 

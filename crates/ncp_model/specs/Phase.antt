@@ -40,6 +40,10 @@ new_phase = record { down = true; want = false; owe = false; wait = false; waiti
 abbrev pub up : Phase → Bool
 up p = not (p.down || p.want || p.owe || p.wait)
 
+-- a host that is up, and has nothing to say
+abbrev pub up_phase : Phase
+up_phase = record { down = false; want = false; owe = false; wait = false; waiting = [] }
+
 -- a purge strikes what waits, all but RST and RRP
 abbrev pub purge : Phase → Phase
 purge p = record p { waiting = filter is_reset p.waiting }

@@ -6,7 +6,6 @@ use Rattle.ncp_control.specs.declared.command.Command.TheVariants as variants
 use Rattle.ncp_model.specs.declared.pair.Pair.{Pair}
 use Rattle.ncp_model.specs.End.{End, new_end}
 use Rattle.ncp_model.specs.Ends.{Ends}
-use Rattle.ncp_model.specs.Phase.{Phase}
 
 -- socket 3 sends to socket 2: as its own host names it, and as the receiver's does
 abbrev pub outward : Pair
@@ -47,6 +46,17 @@ counting of_messages of_bits = record opened_end { messages = of_messages; bits 
 abbrev pub storing : List Bool → End
 storing bits_there = record opened_end { stored = bits_there }
 
+-- of a byte size, with stores of 1,024 bits
+abbrev pub sized : ℕ → End
+sized of_size = record opened_end { size = of_size; room = 1024 }
+
+-- the same with counters, and with bits stored
+abbrev pub counted : ℕ → ℕ → End → End
+counted of_messages of_bits e = record e { messages = of_messages; bits = of_bits }
+
+abbrev pub with_stored : List Bool → End → End
+with_stored bits_there e = record e { stored = bits_there }
+
 -- a text is out; the CLS is due; the CLS was made
 abbrev pub sent_one : End → End
 sent_one e = record e { busy = true }
@@ -72,7 +82,3 @@ ends_both_ways =
 
 abbrev pub both_ways : Ends
 both_ways = from_sorted ends_both_ways
-
--- a host that is up, with nothing that waits
-abbrev pub up_phase : Phase
-up_phase = record { down = false; want = false; owe = false; wait = false; waiting = [] }

@@ -1,4 +1,7 @@
 //! What came of a command or a text.
+ghost use Rattle.std.specs.Prelude.{◌≡◌};
+ghost use Rattle.ncp_model.specs.Faults.{name_of_took};
+
 use ncp_control::{Command, ERROR_DATA};
 
 /// What a command that came gave.
@@ -27,6 +30,21 @@ pub enum Took {
     Over,
     /// No open connection has its link.
     NotOpen,
+}
+
+impl Took {
+    /// The name, as a program prints it.
+    pub fn name(self) -> &'static str
+        ensures { result.now ≡ name_of_took self }
+    {
+        match self {
+            Took::Admitted => "admitted",
+            Took::Late => "late",
+            Took::WrongSize => "wrong-size",
+            Took::Over => "over",
+            Took::NotOpen => "not-open",
+        }
+    }
 }
 
 /// An ERR that came.

@@ -2,14 +2,14 @@
 ghost use Rattle.std.specs.Prelude.{◌≡◌, ℕ, Bool, true, false, ◌+◌, ◌++◌, ◌<◌, ◌≤◌, List, [], ◌∷◌, length, take, replicate, None, Some, Result, Ok, Err, Option};
 ghost use Rattle.std.specs.List.{filter, list_any};
 ghost use Rattle.ncp_control.specs.declared.command.Command.{Command};
-ghost use Rattle.ncp_model.specs.Phase.{Phase, Reaction, new_phase, up, is_rst, is_rrp, is_reset, is_other, purge, settles, is_resetting, reset_answer, wants_reset, resets, owes_answer, hears_rst, hears_rrp, is_stray_rrp, goes_down, makes, makes_all, is_dropped, hears};
+ghost use Rattle.ncp_model.specs.Phase.{Phase, Reaction, new_phase, up_phase, up, is_rst, is_rrp, is_reset, is_other, purge, settles, is_resetting, reset_answer, wants_reset, resets, owes_answer, hears_rst, hears_rrp, is_stray_rrp, goes_down, makes, makes_all, is_dropped, hears};
 ghost use Rattle.ncp_control.specs.Spelling.{IsCommand, spelling, spellings};
 ghost use Rattle.ncp_model.specs.Act.{Act, Stays};
 ghost use Rattle.ncp_model.specs.Calls.{ask_send, interrupt};
 ghost use Rattle.ncp_model.specs.Texts.{hear_text};
 ghost use Rattle.ncp_model.specs.Echo.{no_echoes, echo_answer, eco_reply};
 ghost use Rattle.ncp_model.specs.Admitting.{while_up, answer_while_up, text_while_up, hears_fault};
-ghost use Rattle.ncp_model.specs.Rows.{outward, inward, ones, opened_end, counting, err, up_phase};
+ghost use Rattle.ncp_model.specs.Rows.{outward, inward, ones, opened_end, counting, err};
 ghost use Rattle.ncp_model.specs.Sending.{is_full, next_commands};
 ghost use Rattle.ncp_model.specs.declared.pair.Pair.{Pair};
 ghost use Rattle.ncp_model.specs.Happenings.{Happening, happens};

@@ -30,6 +30,10 @@ pub fn asking_to_send()
     ensures least { ask_send outward 1 1 0 false None ≡ Becomes (record new_end { asked = true; size = 1; room = 1 }) (Ok (Command.Str 3 2 1)) }
     ensures opens { ask_send outward 8 64 0 false (Some link_heard) ≡ Becomes opened_end (Ok (Command.Str 3 2 8)) }
     ensures asked_early { ask_send outward 8 64 1 false (Some asked_send) ≡ Stays (Err CallFault.AlreadyAsked) }
+    ensures sex_before_closing { (ask_send inward 8 64 0 false (Some (due opened_end)) ≡ Stays (Err CallFault.BadSex)) × (ask_send inward 8 64 0 false (Some (gone opened_end)) ≡ Stays (Err CallFault.BadSex)) × (ask_send inward 8 64 0 false (Some asked_receive) ≡ Stays (Err CallFault.BadSex)) }
+    ensures size_before_closing { (ask_send outward 0 64 0 false (Some (due (sent_one opened_end))) ≡ Stays (Err CallFault.BadSize)) × (ask_send outward 0 64 0 false (Some (gone opened_end)) ≡ Stays (Err CallFault.BadSize)) × (ask_send outward 0 64 0 false (Some (gone link_heard)) ≡ Stays (Err CallFault.BadSize)) }
+    ensures room_before_closing { (ask_send outward 8 0 0 false (Some (due (sent_one opened_end))) ≡ Stays (Err CallFault.BadRoom)) × (ask_send outward 8 65537 0 false (Some (gone opened_end)) ≡ Stays (Err CallFault.BadRoom)) × (ask_send outward 8 0 0 false (Some (gone link_heard)) ≡ Stays (Err CallFault.BadRoom)) }
+    ensures size_before_room { (ask_send outward 0 65537 0 false None ≡ Stays (Err CallFault.BadSize)) × (ask_send outward 0 64 64 true None ≡ Stays (Err CallFault.BadSize)) }
     ensures empty { ask_send outward 8 64 0 false (Some (record link_heard { stored = ones 8 })) ≡ Becomes opened_end (Ok (Command.Str 3 2 8)) }
 {}
 
@@ -45,6 +49,8 @@ pub fn asking_to_receive()
     ensures most { ask_receive inward 65536 71 0 false None ≡ Becomes (record new_end { asked = true; link = 71; room = 65536 }) (Ok (Command.Rts 2 3 71)) }
     ensures opens { ask_receive inward 64 2 0 false (Some size_heard) ≡ Becomes opened_end (Ok (Command.Rts 2 3 2)) }
     ensures asked_early { ask_receive inward 64 2 1 false (Some asked_receive) ≡ Stays (Err CallFault.AlreadyAsked) }
+    ensures sex_before_closing { (ask_receive outward 64 2 0 false (Some (due opened_end)) ≡ Stays (Err CallFault.BadSex)) × (ask_receive outward 64 2 0 false (Some (gone opened_end)) ≡ Stays (Err CallFault.BadSex)) × (ask_receive outward 64 2 0 false (Some asked_send) ≡ Stays (Err CallFault.BadSex)) }
+    ensures room_before_closing { (ask_receive inward 0 2 0 false (Some (due (storing (ones 8)))) ≡ Stays (Err CallFault.BadRoom)) × (ask_receive inward 65537 2 0 false (Some (gone opened_end)) ≡ Stays (Err CallFault.BadRoom)) × (ask_receive inward 0 2 0 false (Some (gone size_heard)) ≡ Stays (Err CallFault.BadRoom)) }
     ensures table_heard { ask_receive inward 1 2 64 false (Some size_heard) ≡ Stays (Err CallFault.TableFull) }
     ensures empty { ask_receive inward 64 2 0 false (Some (record size_heard { stored = ones 8 })) ≡ Becomes opened_end (Ok (Command.Rts 2 3 2)) }
 {}
@@ -62,6 +68,8 @@ pub fn closing()
     ensures ends { let act = close inward false (Some (shut (due (storing (ones 8))))) in (act ≡ Becomes (shut (gone opened_end)) (Ok (Some (Command.Cls 2 3)))) × (end_after (Some (shut (due (storing (ones 8))))) act ≡ None) }
     ensures unanswered { close outward false (Some asked_send) ≡ Becomes (gone asked_send) (Ok (Some (Command.Cls 3 2))) }
     ensures left_unopened { close outward false (Some (gone asked_send)) ≡ Stays (Err CallFault.Closing) }
+    ensures queue_at_each { (close inward true (Some opened_end) ≡ Stays (Err CallFault.QueueFull)) × (close inward true (Some (shut (due (storing (ones 8))))) ≡ Stays (Err CallFault.QueueFull)) × (close outward true (Some link_heard) ≡ Stays (Err CallFault.QueueFull)) }
+    ensures keeps { close inward false (Some (record (counting 3 24) { recall = true; interrupts = 2; stored = ones 8 })) ≡ Becomes (gone (record (counting 3 24) { recall = true; interrupts = 2 })) (Ok (Some (Command.Cls 2 3))) }
 {}
 
 /// Giving text: whole bytes, up to the room of the store, at the end of what waits.
@@ -75,6 +83,10 @@ pub fn giving()
     ensures fits { give outward (ones 8) (Some (storing (noughts 56))) ≡ Becomes (storing (noughts 56 ++ ones 8)) (Ok tt) }
     ensures nothing { give outward [] (Some (storing (ones 64))) ≡ Becomes (storing (ones 64)) (Ok tt) }
     ensures busy { give outward (ones 8) (Some (sent_one opened_end)) ≡ Becomes (sent_one (storing (ones 8))) (Ok tt) }
+    ensures closing_before_room { (give outward (ones 72) (Some (due (sent_one opened_end))) ≡ Stays (Err CallFault.Closing)) × (give outward (ones 72) (Some (gone opened_end)) ≡ Stays (Err CallFault.Closing)) }
+    ensures closing_before_end { (give inward (ones 8) (Some (due (storing (ones 8)))) ≡ Stays (Err CallFault.Closing)) × (give inward (ones 8) (Some (gone opened_end)) ≡ Stays (Err CallFault.Closing)) }
+    ensures open_before_room { give outward (ones 72) (Some (record asked_send { size = 8 })) ≡ Stays (Err CallFault.NotOpen) }
+    ensures end_before_room { (give inward (ones 72) (Some opened_end) ≡ Stays (Err CallFault.WrongEnd)) × (give inward (ones 8) (Some opened_end) ≡ Stays (Err CallFault.WrongEnd)) }
 {}
 
 /// Taking text: whole bytes, from the front of what is held. A sender's CLS came while six bytes
@@ -87,6 +99,8 @@ pub fn taking()
     ensures front { take_held inward 2 (Some (storing (ones 16 ++ noughts 8))) ≡ Becomes (storing (noughts 8)) (Ok (ones 16, None)) }
     ensures all { take_held inward 100 (Some (storing (ones 16))) ≡ Becomes opened_end (Ok (ones 16, None)) }
     ensures whole { take_held inward 100 (Some (storing (ones 20))) ≡ Becomes (storing (ones 4)) (Ok (ones 16, None)) }
+    ensures receiver_early { (take_held inward 1 (Some asked_receive) ≡ Stays (Err CallFault.NotOpen)) × (take_held inward 1 (Some (gone asked_receive)) ≡ Stays (Err CallFault.Closing)) }
+    ensures keeps { take_held inward 1 (Some (record (counting 3 24) { recall = true; interrupts = 2; stored = ones 16 })) ≡ Becomes (record (counting 3 24) { recall = true; interrupts = 2; stored = ones 8 }) (Ok (ones 8, None)) }
     ensures none { take_held inward 0 (Some (storing (ones 16))) ≡ Becomes (storing (ones 16)) (Ok ([], None)) }
     ensures four { take_held inward 4 (Some (shut (due (storing (ones 48))))) ≡ Becomes (shut (due (storing (ones 16)))) (Ok (ones 32, None)) }
     ensures two { let act = take_held inward 4 (Some (shut (due (storing (ones 16))))) in (act ≡ Becomes (shut (gone opened_end)) (Ok (ones 16, Some (Command.Cls 2 3)))) × (end_after (Some opened_end) act ≡ None) }
@@ -104,6 +118,9 @@ pub fn allocating()
     ensures messages { (allocate inward 1 0 true (Some (counting 65535 0)) ≡ Stays (Err CallFault.TooMuch)) × (allocate inward 1 0 false (Some (counting 65534 0)) ≡ Becomes (counting 65535 0) (Ok (Command.All 2 1 0))) }
     ensures queue { allocate inward 1 64 true (Some opened_end) ≡ Stays (Err CallFault.QueueFull) }
     ensures made { allocate inward 2 16 false (Some opened_end) ≡ Becomes (counting 2 16) (Ok (Command.All 2 2 16)) }
+    ensures recalled { allocate inward 2 16 false (Some (record opened_end { recall = true; interrupts = 2 })) ≡ Becomes (record (counting 2 16) { recall = true; interrupts = 2 }) (Ok (Command.All 2 2 16)) }
+    ensures closing_before_end { (allocate outward 1 8 false (Some (gone opened_end)) ≡ Stays (Err CallFault.Closing)) × (allocate inward 1 65 false (Some (due (storing (ones 8)))) ≡ Stays (Err CallFault.Closing)) × (allocate inward 1 65 false (Some (gone opened_end)) ≡ Stays (Err CallFault.Closing)) }
+    ensures open_before_amounts { allocate inward 1 65 false (Some asked_receive) ≡ Stays (Err CallFault.NotOpen) }
     ensures bits_alone { allocate inward 0 16 false (Some opened_end) ≡ Becomes (counting 0 16) (Ok (Command.All 2 0 16)) }
 {}
 
@@ -116,6 +133,8 @@ pub fn calling_back()
     ensures busy { call_back inward 64 1 true (Some (record opened_end { recall = true })) ≡ Stays (Err CallFault.Busy) }
     ensures queue { call_back inward 64 1 true (Some opened_end) ≡ Stays (Err CallFault.QueueFull) }
     ensures made { call_back inward 64 1 false (Some (counting 5 1000)) ≡ Becomes (record (counting 5 1000) { recall = true }) (Ok (Command.Gvb 2 64 1)) }
+    ensures closing_before_busy { (call_back inward 64 1 false (Some (due (record opened_end { recall = true }))) ≡ Stays (Err CallFault.Closing)) × (call_back inward 64 1 false (Some (gone (record opened_end { recall = true }))) ≡ Stays (Err CallFault.Closing)) }
+    ensures open_before_busy { call_back inward 64 1 false (Some (record asked_receive { recall = true })) ≡ Stays (Err CallFault.NotOpen) }
     ensures nothing_outstanding { call_back inward 128 128 false (Some opened_end) ≡ Becomes (record opened_end { recall = true }) (Ok (Command.Gvb 2 128 128)) }
 {}
 
@@ -124,7 +143,8 @@ pub fn interrupting()
     ensures entry { interrupt outward true None ≡ Stays (Err CallFault.NoEntry) }
     ensures closing { (interrupt outward true (Some (gone asked_send)) ≡ Stays (Err CallFault.Closing)) × (interrupt inward true (Some (due opened_end)) ≡ Stays (Err CallFault.Closing)) }
     ensures open { (interrupt outward true (Some asked_send) ≡ Stays (Err CallFault.NotOpen)) × (interrupt outward true (Some link_heard) ≡ Stays (Err CallFault.NotOpen)) }
-    ensures queue { interrupt outward true (Some opened_end) ≡ Stays (Err CallFault.QueueFull) }
+    ensures queue { (interrupt outward true (Some opened_end) ≡ Stays (Err CallFault.QueueFull)) × (interrupt inward true (Some opened_end) ≡ Stays (Err CallFault.QueueFull)) }
+    ensures keeps { interrupt inward false (Some (record (counting 3 24) { recall = true; interrupts = 2 })) ≡ Becomes (record (counting 3 24) { recall = true; interrupts = 2 }) (Ok (Command.Inr 2)) }
     ensures sender { interrupt outward false (Some opened_end) ≡ Becomes opened_end (Ok (Command.Ins 2)) }
     ensures receiver { interrupt inward false (Some opened_end) ≡ Becomes opened_end (Ok (Command.Inr 2)) }
 {}
@@ -167,6 +187,8 @@ pub fn hearing_cls()
     ensures again { hear_cls outward (Some (shut (due (sent_one opened_end)))) ≡ Stays (Heard.Reply (err 3 (3 ∷ 0 ∷ 0 ∷ 0 ∷ 2 ∷ 0 ∷ 0 ∷ 0 ∷ 3 ∷ 0 ∷ []))) }
     ensures left { let act = hear_cls outward (Some (gone opened_end)) in (act ≡ Becomes (shut (gone opened_end)) Heard.Nothing) × (end_after (Some (gone opened_end)) act ≡ None) }
     ensures leaving { let act = hear_cls outward (Some (due (sent_one opened_end))) in (act ≡ Becomes (shut (due (sent_one opened_end))) Heard.Nothing) × (end_after None act ≡ Some (shut (due (sent_one opened_end)))) }
+    ensures again_at_receiver { hear_cls inward (Some (shut (due (storing (ones 8))))) ≡ Stays (Heard.Reply (err 3 (3 ∷ 0 ∷ 0 ∷ 0 ∷ 3 ∷ 0 ∷ 0 ∷ 0 ∷ 2 ∷ 0 ∷ []))) }
+    ensures keeps { hear_cls inward (Some (record (counting 3 24) { recall = true; interrupts = 2; stored = ones 8 })) ≡ Becomes (shut (due (record (counting 3 24) { recall = true; interrupts = 2; stored = ones 8 }))) Heard.Nothing }
     ensures leaving_too { hear_cls inward (Some (due opened_end)) ≡ Becomes (shut (due opened_end)) Heard.Nothing }
     ensures busy { let act = hear_cls outward (Some (sent_one (storing (ones 8)))) in (act ≡ Becomes (shut (due (sent_one opened_end))) Heard.Nothing) × (end_after None act ≡ Some (shut (due (sent_one opened_end)))) }
     ensures holding { hear_cls inward (Some (storing (ones 8))) ≡ Becomes (shut (due (storing (ones 8)))) Heard.Nothing }

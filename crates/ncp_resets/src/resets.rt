@@ -2,12 +2,11 @@
 ghost use Rattle.std.specs.Prelude.{◌≡◌, Bool, true, false, ◌++◌, ◌<◌, List, [], ◌∷◌, length};
 ghost use Rattle.std.specs.List.{filter, list_any};
 ghost use Rattle.ncp_control.specs.declared.command.Command.{Command};
-ghost use Rattle.ncp_model.specs.Phase.{Phase, Reaction, up, is_rrp, is_reset, is_other, makes, makes_all, hears, hears_rst};
+ghost use Rattle.ncp_model.specs.Phase.{Phase, Reaction, up, is_rrp, is_reset, is_other, makes, makes_all, hears, hears_rst, up_phase};
 ghost use Rattle.ncp_resets.specs.Delivery.{Empty, Ready, Travelling, Held, Free, Accepted};
 ghost use Rattle.ncp_resets.specs.Resets.{Host, Event, Step, World, This, That, Sends, Hears, Is_answered, Wakes, steps, run, is_up, anew, Silent, Agrees, NothingFollows, host_resets, host_settles, host_falls, host_makes, host_makes_all, host_hears, host_hears_all};
 ghost use Rattle.ncp_model.specs.Phase.{settles, resets, goes_down};
 ghost use Rattle.ncp_resets.specs.Schedules.{by, quietly, coming_up, both_ask, both_hear, both_answer, goes_and_is_lost, goes_and_finds_none, goes_and_comes, two_of_three, heard_with_text_out, answered_after_text, falls_answering};
-ghost use Rattle.ncp_model.specs.Rows.{up_phase};
 
 /// After every schedule, between two hosts that are up: no RST or RRP is underway, and the
 /// commands that came and those underway are those that were made, in order.

@@ -1,0 +1,208 @@
+-- The refusals as tables, from another side than the rules: for each thing that can happen to an end
+-- its cases in the order in which they are judged, each with whether it holds. The first that holds
+-- is answered. Which there are, and their order, is this profile's rule.
+use Rattle.std.specs.Prelude.{ℕ, ◌+◌, ◌%◌, ◌==◌, Bool, true, false, not, ◌&&◌, ◌||◌, nat_lt, nat_le, if◌then◌else◌, List, [], ◌∷◌, length, Option, None, Some, is_none}
+use Rattle.ncp_control.specs.declared.command.Command.TheVariants.{Rts, Str, Cls, All, Gvb, Ret, Inr, Ins}
+use Rattle.ncp_control.specs.declared.fault.TheConstants.{ERRONEOUS_PARAMETERS, NONEXISTENT_SOCKET, SOCKET_NOT_CONNECTED}
+use Rattle.ncp_control.specs.Spelling.{error_of}
+use Rattle.ncp_control.specs.declared.command.Command.{Command}
+use Rattle.ncp_model.specs.declared.pair.Pair.{Pair}
+use Rattle.ncp_model.specs.declared.call_fault.CallFault.{CallFault}
+use Rattle.ncp_model.specs.declared.call_fault.CallFault.TheVariants.{BadSex, BadSize, BadRoom, NoEntry, AlreadyAsked, Closing, NotOpen, WrongEnd, NotWhole, Busy, NoRoom, TooMuch, TableFull, QueueFull}
+use Rattle.ncp_model.specs.declared.limits.TheConstants.{FIRST_LINK, LAST_LINK, MAX_ROOM, MAX_MESSAGES, MAX_AMOUNT, MAX_OWN, MAX_BY_PEER}
+use Rattle.ncp_model.specs.Pairs.{is_receive, is_send}
+use Rattle.ncp_model.specs.End.{End, or_new}
+use Rattle.ncp_model.specs.Act.{text_error}
+use Rattle.ncp_model.specs.Happenings.{Happening, Outcome}
+use Rattle.ncp_model.specs.Happenings as all
+
+-- The words of the tables. An end that is not there counts as a new one.
+
+abbrev pub was_asked : Option End → Bool
+was_asked before = (or_new before).asked
+
+abbrev pub was_heard : Option End → Bool
+was_heard before = (or_new before).heard
+
+abbrev pub is_leaving_or_left : Option End → Bool
+is_leaving_or_left before = (or_new before).leaving || (or_new before).left
+
+abbrev pub room_of : Option End → ℕ
+room_of before = (or_new before).room
+
+abbrev pub size_of : Option End → ℕ
+size_of before = (or_new before).size
+
+abbrev pub messages_of : Option End → ℕ
+messages_of before = (or_new before).messages
+
+abbrev pub bits_of : Option End → ℕ
+bits_of before = (or_new before).bits
+
+abbrev pub stored_bits : Option End → ℕ
+stored_bits before = length (or_new before).stored
+
+-- for a sender the socket here is odd, and the one there even; for a receiver the other way round
+abbrev pub is_sender : Pair → Bool
+is_sender pair = is_send pair.local && is_receive pair.remote
+
+abbrev pub is_receiver : Pair → Bool
+is_receiver pair = is_receive pair.local && is_send pair.remote
+
+-- The calls: the first reason that holds is the refusal.
+
+abbrev pub first_of : List (CallFault × Bool) → Option CallFault
+first_of [] = None
+first_of (reason ∷ more) = if reason.1 then Some reason.0 else first_of more
+
+abbrev pub reasons : Pair → Happening → Option End → List (CallFault × Bool)
+reasons pair (all.Asks_to_send of_size with_room own full) before =
+    (BadSex, not (is_sender pair))
+    ∷ (BadSize, of_size == 0)
+    ∷ (BadRoom, nat_lt with_room 1 || nat_lt MAX_ROOM with_room)
+    ∷ (AlreadyAsked, was_asked before && not (is_leaving_or_left before))
+    ∷ (Closing, is_leaving_or_left before)
+    ∷ (TableFull, nat_le MAX_OWN own)
+    ∷ (QueueFull, full)
+    ∷ []
+reasons pair (all.Asks_to_receive with_room on own full) before =
+    (BadSex, not (is_receiver pair))
+    ∷ (BadRoom, nat_lt with_room 1 || nat_lt MAX_ROOM with_room)
+    ∷ (AlreadyAsked, was_asked before && not (is_leaving_or_left before))
+    ∷ (Closing, is_leaving_or_left before)
+    ∷ (TableFull, nat_le MAX_OWN own)
+    ∷ (QueueFull, full)
+    ∷ []
+reasons pair (all.Closes full) before =
+    (NoEntry, is_none before)
+    ∷ (Closing, (or_new before).left || (or_new before).leaving && is_sender pair)
+    ∷ (QueueFull, full)
+    ∷ []
+reasons pair (all.Gives text) before =
+    (NoEntry, is_none before)
+    ∷ (Closing, is_leaving_or_left before)
+    ∷ (NotOpen, not (was_asked before) || not (was_heard before))
+    ∷ (WrongEnd, not (is_sender pair))
+    ∷ (NotWhole, nat_lt 0 (length text % size_of before))
+    ∷ (NoRoom, nat_lt (room_of before) (stored_bits before + length text))
+    ∷ []
+reasons pair (all.Takes bytes) before =
+    (NoEntry, is_none before)
+    ∷ (Closing, (or_new before).left)
+    ∷ (NotOpen, not (or_new before).opened)
+    ∷ (WrongEnd, not (is_receiver pair))
+    ∷ []
+reasons pair (all.Allocates of_messages of_bits full) before =
+    (NoEntry, is_none before)
+    ∷ (Closing, is_leaving_or_left before)
+    ∷ (NotOpen, not (was_asked before) || not (was_heard before))
+    ∷ (WrongEnd, not (is_receiver pair))
+    ∷ (TooMuch, nat_lt (room_of before) (bits_of before + stored_bits before + of_bits))
+    ∷ (TooMuch, nat_lt MAX_MESSAGES (messages_of before + of_messages))
+    ∷ (QueueFull, full)
+    ∷ []
+reasons pair (all.Calls_back of_messages of_bits full) before =
+    (NoEntry, is_none before)
+    ∷ (Closing, is_leaving_or_left before)
+    ∷ (NotOpen, not (was_asked before) || not (was_heard before))
+    ∷ (WrongEnd, not (is_receiver pair))
+    ∷ (Busy, (or_new before).recall)
+    ∷ (QueueFull, full)
+    ∷ []
+reasons pair (all.Interrupts full) before =
+    (NoEntry, is_none before)
+    ∷ (Closing, is_leaving_or_left before)
+    ∷ (NotOpen, not (was_asked before) || not (was_heard before))
+    ∷ (QueueFull, full)
+    ∷ []
+reasons pair what before = []
+
+-- what a call was refused for
+abbrev pub refusal_of : Outcome → Option CallFault
+refusal_of (all.Refused fault) = Some fault
+refusal_of outcome = None
+
+-- whether the numbers of the refusals rise
+abbrev pub rises : ℕ → List ℕ → Bool
+rises from [] = true
+rises from (number ∷ more) = nat_le from number && rises number more
+
+-- What comes: the first case that holds is the outcome, else it has its effect.
+
+abbrev pub first_that : List (Bool × Outcome) → Outcome → Outcome
+first_that [] otherwise = otherwise
+first_that (test ∷ more) otherwise = if test.0 then test.1 else first_that more otherwise
+
+abbrev pub wrong : Command → Outcome
+wrong command = all.Erred (error_of ERRONEOUS_PARAMETERS command)
+
+-- a command that names a link, at the end to which the link leads
+abbrev pub on_a_link : Command → Option End → List (Bool × Outcome) → List (Bool × Outcome)
+on_a_link command before more =
+    (is_leaving_or_left before, all.Late)
+    ∷ (not (or_new before).opened, all.Erred (error_of SOCKET_NOT_CONNECTED command))
+    ∷ more
+
+abbrev pub cases : Pair → Happening → Option End → List (Bool × Outcome)
+cases pair (all.Rts_comes on taken by_peer) before =
+    let bad = wrong (Rts pair.remote pair.local on) in
+    (not (is_receive pair.remote), bad)
+    ∷ (not (is_send pair.local), bad)
+    ∷ (nat_lt on FIRST_LINK, bad)
+    ∷ (nat_lt LAST_LINK on, bad)
+    ∷ (was_heard before, bad)
+    ∷ (taken, bad)
+    ∷ (is_none before && nat_le MAX_BY_PEER by_peer, all.Full)
+    ∷ []
+cases pair (all.Str_comes of_size by_peer) before =
+    let bad = wrong (Str pair.remote pair.local of_size) in
+    (not (is_send pair.remote), bad)
+    ∷ (not (is_receive pair.local), bad)
+    ∷ (of_size == 0, bad)
+    ∷ (was_heard before, bad)
+    ∷ (is_none before && nat_le MAX_BY_PEER by_peer, all.Full)
+    ∷ []
+cases pair all.Cls_comes before =
+    let command = Cls pair.remote pair.local in
+    (not (is_sender pair || is_receiver pair), wrong command)
+    ∷ (is_none before, all.Erred (error_of NONEXISTENT_SOCKET command))
+    ∷ ((or_new before).cls, wrong command)
+    ∷ []
+cases pair (all.All_comes on of_messages of_bits) before =
+    on_a_link (All on of_messages of_bits) before
+    ((nat_lt MAX_MESSAGES (messages_of before + of_messages), wrong (All on of_messages of_bits))
+    ∷ (nat_lt MAX_AMOUNT (bits_of before + of_bits), wrong (All on of_messages of_bits))
+    ∷ [])
+cases pair (all.Gvb_comes on of_messages of_bits) before = on_a_link (Gvb on of_messages of_bits) before []
+cases pair (all.Ret_comes on of_messages of_bits) before =
+    on_a_link (Ret on of_messages of_bits) before
+    ((nat_lt (messages_of before) of_messages, wrong (Ret on of_messages of_bits))
+    ∷ (nat_lt (bits_of before) of_bits, wrong (Ret on of_messages of_bits))
+    ∷ [])
+cases pair (all.Inr_comes on) before = on_a_link (Inr on) before []
+cases pair (all.Ins_comes on) before = on_a_link (Ins on) before []
+cases pair (all.Text_comes head of_size text) before =
+    (is_leaving_or_left before, all.Late)
+    ∷ (not (or_new before).opened, all.NotOpen)
+    ∷ (not (of_size == size_of before), all.WrongSize)
+    ∷ (messages_of before == 0, all.Over)
+    ∷ (nat_lt (bits_of before) (length text), all.Over)
+    ∷ []
+cases pair what before = []
+
+-- what changes nothing
+abbrev pub is_refusal : Outcome → Bool
+is_refusal (all.Refused fault) = true
+is_refusal (all.Erred error) = true
+is_refusal all.Late = true
+is_refusal all.Full = true
+is_refusal all.WrongSize = true
+is_refusal all.Over = true
+is_refusal all.NotOpen = true
+is_refusal outcome = false
+
+-- what is made all the same: the ERR that the outcome is, and the ERR for a text that finds no open end
+abbrev pub made_by_refusal : Happening → Outcome → List Command
+made_by_refusal what (all.Erred error) = error ∷ []
+made_by_refusal (all.Text_comes head of_size text) all.NotOpen = text_error head text ∷ []
+made_by_refusal what outcome = []
