@@ -1,3 +1,4 @@
+pub mod Seeing
 pub mod ResetLists
 pub mod ResetKept
 pub mod ResetRuns

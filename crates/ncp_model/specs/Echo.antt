@@ -5,13 +5,9 @@ use Rattle.std.specs.Prelude.{ℕ, ◌-◌, Bool, false, not, ◌||◌, if◌the
 use Rattle.ncp_control.specs.declared.command.Command.{Command}
 use Rattle.ncp_control.specs.declared.command.Command.TheVariants.{Eco, Erp}
 use Rattle.ncp_model.specs.declared.call_fault.CallFault.{CallFault}
+pub use Rattle.ncp_model.specs.declared.outcomes.Error.{Error}
 use Rattle.ncp_model.specs.declared.call_fault.CallFault.TheVariants.{Busy, QueueFull}
 use Rattle.ncp_model.specs.declared.limits.TheConstants.{MAX_ERRORS}
-
--- an ERR that came: its code and its data
-pub record Error : Type 0 where
-  pub code : ℕ
-  pub bytes : List ℕ
 
 pub record Echoes : Type 0 where
   pub awaited : Bool  -- an echo has had no answer

@@ -24,6 +24,9 @@ use Rattle.ncp_model.specs.Histories.{Past, no_past, adds, opens}
 use Rattle.ncp_model.specs.Echo.{Echoes, no_echoes, echo_answer, echo_asked, eco_reply, hear_erp, hear_err, purge_echo}
 use Rattle.ncp_model.specs.Phase.{new_phase, is_resetting, Reaction}
 use Rattle.ncp_model.specs.Sending.{is_full}
+use Rattle.ncp_model.specs.Peers.{Peer}
+pub use Rattle.ncp_model.specs.Peers.{Call, Ask_to_send, Ask_to_receive, Close, Give, Take, Allocate, Call_back, Interrupt, called, put, made_by_echo, is_full_up, echo_replies, echoes_after}
+use Rattle.ncp_model.specs.Peers as peers
 use Rattle.ncp_model.specs.Delivery.{Slot, Empty, Ready, Travelling, Held, Subnet, Accepted, Delivered, Lost, Dead, Link, idle, undelivered, answered, woken}
 use Rattle.ncp_model.specs.Resets.{Host, is_up, anew, host_resets, host_settles, host_falls, host_makes, host_makes_all, host_hears}
 use Rattle.ncp_model.specs.Resets as resets
@@ -80,10 +83,10 @@ cleared h n = record n { host = h; ends = no_ends; echoes = purge_echo n.echoes 
 
 -- a host that made commands has gone down in the midst of it, or keeps these ends
 abbrev pub kept : Host → Ends → Ends
-kept h m = if is_up h then m else no_ends
+kept h m = peers.kept h.phase m
 
 abbrev pub kept_echoes : Host → Echoes → Echoes
-kept_echoes h s = if is_up h then s else purge_echo s
+kept_echoes h s = peers.kept_echoes h.phase s
 
 -- the histories after something happened to a pair
 abbrev pub past_after : Option End → Happening → Happened → Past → Past
@@ -100,30 +103,6 @@ pasts_after_at pair what m pasts = pasts
 -- The calls of a user, while the host is up. What they ask of the other ends and of what waits is
 -- looked up.
 
-pub data Call : Type 0 where
-  Ask_to_send : (of_size : ℕ) → (with_room : ℕ) → Call
-  Ask_to_receive : (with_room : ℕ) → Call
-  Close : Call
-  Give : (text : List Bool) → Call
-  Take : (bytes : ℕ) → Call
-  Allocate : (of_messages : ℕ) → (of_bits : ℕ) → Call
-  Call_back : (of_messages : ℕ) → (of_bits : ℕ) → Call
-  Interrupt : Call
-
-abbrev pub called : Call → Bool → Ends → Happening
-called (Ask_to_send of_size with_room) full m = all.Asks_to_send of_size with_room (count has_asked m) full
-called (Ask_to_receive with_room) full m = all.Asks_to_receive with_room (free_link m) (count has_asked m) full
-called Close full m = all.Closes full
-called (Give text) full m = all.Gives text
-called (Take bytes) full m = all.Takes bytes
-called (Allocate of_messages of_bits) full m = all.Allocates of_messages of_bits full
-called (Call_back of_messages of_bits) full m = all.Calls_back of_messages of_bits full
-called Interrupt full m = all.Interrupts full
-
-abbrev pub put : Ends → Pair → Option End → Ends
-put m pair None = remove m pair
-put m pair (Some e) = insert m pair e
-
 abbrev pub happens_at : Pair → Happening → Node → Node
 happens_at pair what n =
     let did : Happened = happens pair what (get n.ends pair) in
@@ -139,10 +118,6 @@ happens_at pair what n =
 abbrev pub calls : Pair → Call → Node → Node
 calls pair call n = if is_up n.host then happens_at pair (called call (is_full n.host.phase) n.ends) n else n
 
-abbrev pub made_by_echo : Result Command CallFault → List Command
-made_by_echo (Ok c) = c ∷ []
-made_by_echo (Err fault) = []
-
 abbrev pub echo_called : ℕ → Node → Node
 echo_called byte n =
     let host : Host = host_makes_all (made_by_echo (echo_answer byte (is_full n.host.phase) n.echoes)) n.host in
@@ -156,25 +131,12 @@ calls_reset n = if is_resetting n.host.phase then n else cleared (host_resets (q
 
 -- A command comes. What names a link acts on the end to which a look-up by link leads.
 
-abbrev pub is_full_up : Heard → Bool
-is_full_up heard.Full = true
-is_full_up answer_given = false
-
-abbrev pub echo_replies : Command → List Command
-echo_replies (Eco byte) = eco_reply byte ∷ []
-echo_replies c = []
-
-abbrev pub echoes_after : Command → Echoes → Echoes
-echoes_after (Erp byte) s = hear_erp byte s
-echoes_after (commands.Err code data_bytes) s = hear_err (record { code = code; bytes = data_bytes }) s
-echoes_after c s = s
+-- the phase, the ends and the echo of a host: what it keeps of its peer, without what only watches
+abbrev pub peer_of : Node → Peer
+peer_of n = record { phase = n.host.phase; ends = n.ends; echoes = n.echoes }
 
 abbrev pub reaction : Command → Node → Reaction
-reaction c n = record {
-  quiet = quiet n;
-  full = is_full_up (answer (hear c n.ends));
-  replies = made_by_hearing (answer (hear c n.ends)) ++ echo_replies c;
-}
+reaction c n = peers.reaction (quiet n) c (peer_of n)
 
 abbrev pub hears_other : Command → Node → Node
 hears_other c n =

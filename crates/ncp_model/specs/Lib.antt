@@ -27,6 +27,8 @@ pub mod Clearings
 pub mod Sharing
 pub mod Finding
 pub mod Runs
+pub mod Peers
 pub mod Hosts
+pub mod Seen
 pub mod HostRuns
 pub mod Headline

@@ -11,6 +11,7 @@ ghost use Rattle.ncp_model.specs.Delivery.{Travelling, Held, Free, Accepted, idl
 ghost use Rattle.ncp_model.specs.Rows.{outward, inward, ones, noughts, asked_receive, opened_end, counting, sent_one, due, gone, shut};
 ghost use Rattle.ncp_model.specs.HostRuns.{with_text_out, got_and_taken, lost_twice, held_back, woken_again, both_reset, reset_under_text, reset_over, asks_again, closed_by_receiver, over_by_receiver, opened_again, closed_by_sender, over_by_sender, other_outward, other_inward, opens_another, reset_under_other_text};
 ghost use Rattle.ncp_model.specs.Schedules.{up_phase};
+ghost use Rattle.ncp_model.specs.Seen.{CallsAgree, EchoesAgree, ResetsAgree, FallsAgree, HearsAgree, TextsAgree, FreesAgree, SettlesAgree};
 
 use crate::pair::Pair;
 
@@ -74,4 +75,17 @@ pub fn closing_waits_for_text()
 pub fn connections_open_beside_each_other()
     ensures beside { let w = run opens_another in (get w.this.ends outward ≡ Some opened_end) × (get w.that.ends inward ≡ Some opened_end) × (get w.this.ends other_outward ≡ Some (record opened_end { link = 3 })) × (get w.that.ends other_inward ≡ Some (record opened_end { link = 3 })) }
     ensures waits { let w = run reset_under_other_text in (w.this.host.phase ≡ record up_phase { owe = true }) × (w.this.texts 2 ≡ idle) × (w.this.texts 3 ≡ record { slot = Travelling (record { of_size = 8; bits = ones 16 }); subnet = Accepted (record { of_size = 8; bits = ones 16 }) }) }
+{}
+
+/// What a host keeps of its peer goes its way alone: each step of a host is a step of that, and
+/// histories only watch.
+pub fn hosts_are_watched_peers()
+    ensures calls { CallsAgree }
+    ensures echoes { EchoesAgree }
+    ensures resets { ResetsAgree }
+    ensures falls { FallsAgree }
+    ensures hears { HearsAgree }
+    ensures texts { TextsAgree }
+    ensures frees { FreesAgree }
+    ensures settles { SettlesAgree }
 {}

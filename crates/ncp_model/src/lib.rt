@@ -30,5 +30,5 @@ pub use limits::{
     FIRST_LINK, GIVE_BACK_PARTS, LAST_LINK, MAX_AMOUNT, MAX_BY_PEER, MAX_CALLED, MAX_CONTROL,
     MAX_COUNT, MAX_ERRORS, MAX_MESSAGES, MAX_OWN, MAX_ROOM, MAX_TEXT, MAX_WAITING,
 };
-pub use outcomes::{Heard, Took};
+pub use outcomes::{Error, Heard, Took};
 pub use pair::Pair;

@@ -1,5 +1,5 @@
 //! What came of a command or a text.
-use ncp_control::Command;
+use ncp_control::{Command, ERROR_DATA};
 
 /// What a command that came gave.
 #[derive(Clone, Copy, Debug, Drop, PartialEq, Eq)]
@@ -27,4 +27,11 @@ pub enum Took {
     Over,
     /// No open connection has its link.
     NotOpen,
+}
+
+/// An ERR that came.
+#[derive(Clone, Copy, Debug, Drop, PartialEq, Eq)]
+pub struct Error {
+    pub code: u8,
+    pub bytes: [u8; ERROR_DATA],
 }

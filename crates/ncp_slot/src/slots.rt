@@ -131,6 +131,14 @@ impl Slots {
         slots[place_of(link)].answer(answer)
     }
 
+    /// Whether a link has no message.
+    pub fn is_empty(&self, link: u8) -> bool
+        requires { HasSlot link }
+        ensures { result ≡ is_empty (slot_at self.now link) }
+    {
+        self.slots[place_of(link)].is_empty()
+    }
+
     /// The lowest link with a message that is to go out.
     pub fn first_ready(&self) -> Option<u8>
         ensures none { IfNone result ((link : ℕ) → ¬ IsReady self.now link) }

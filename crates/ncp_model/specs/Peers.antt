@@ -1,0 +1,197 @@
+-- One host and one peer: what the host keeps of the peer, and all that may happen to it. Nothing here
+-- only watches: what was made, what came and what was given is no part of it. Whether the data
+-- links are quiet is data here, since the links stand elsewhere.
+use Rattle.std.specs.Prelude.{ℕ, Bool, true, false, ◌||◌, if◌then◌else◌, List, [], ◌∷◌, ◌++◌, length, drop, Option, None, Some, Result, Ok, Err}
+use Rattle.std.specs.FinMap.{get, insert, remove}
+use Rattle.ncp_control.specs.declared.command.Command.{Command}
+use Rattle.ncp_control.specs.declared.command.Command.TheVariants.{Eco, Erp, Rst, Rrp}
+use Rattle.ncp_control.specs.declared.command.Command.TheVariants as commands
+use Rattle.ncp_control.specs.declared.fault.CommandFault.{CommandFault}
+use Rattle.ncp_model.specs.declared.pair.Pair.{Pair}
+use Rattle.ncp_model.specs.declared.call_fault.CallFault.{CallFault}
+use Rattle.ncp_model.specs.declared.call_fault.CallFault.TheVariants.{NotUp}
+use Rattle.ncp_model.specs.declared.outcomes.Heard.{Heard}
+use Rattle.ncp_model.specs.declared.outcomes.Heard.TheVariants as heard
+use Rattle.ncp_model.specs.End.{End}
+use Rattle.ncp_model.specs.Act.{answer, made_if_any, made_by_hearing}
+use Rattle.ncp_model.specs.Texts.{made_by_text, Taken}
+use Rattle.ncp_model.specs.Ends.{Ends, count, has_asked, free_link, sender_on, receiver_on, pair_of, leads_to, hear, text_in, cut_in, answered_in, map_after_at, no_ends}
+use Rattle.ncp_model.specs.Happenings.{Happening, Outcome, Refused, Took_out, Happened, happens}
+use Rattle.ncp_model.specs.Happenings as all
+use Rattle.ncp_model.specs.Echo.{Echoes, no_echoes, echo_answer, echo_asked, eco_reply, hear_erp, hear_err, purge_echo}
+use Rattle.ncp_model.specs.Phase.{Phase, new_phase, up, is_resetting, Reaction, makes_all, resets, hears_rst, hears_rrp, goes_down}
+use Rattle.ncp_model.specs.Phase as phases
+use Rattle.ncp_model.specs.Sending.{is_full, next_commands}
+
+pub record Peer : Type 0 where
+  pub phase : Phase  -- the flags, and the commands that wait
+  pub ends : Ends
+  pub echoes : Echoes
+
+abbrev pub new_peer : Peer
+new_peer = record { phase = new_phase; ends = no_ends; echoes = no_echoes }
+
+-- A clearing leaves no end, and ends the echo.
+
+abbrev pub cleared : Phase → Peer → Peer
+cleared q p = record { phase = q; ends = no_ends; echoes = purge_echo p.echoes }
+
+-- going down
+abbrev pub falls : Peer → Peer
+falls p = cleared (goes_down p.phase) p
+
+-- a host that made commands has gone down in the midst of it, or keeps its ends and its echo
+abbrev pub kept : Phase → Ends → Ends
+kept q m = if up q then m else no_ends
+
+abbrev pub kept_echoes : Phase → Echoes → Echoes
+kept_echoes q s = if up q then s else purge_echo s
+
+abbrev pub standing : Phase → Ends → Echoes → Peer
+standing q m s = record { phase = q; ends = kept q m; echoes = kept_echoes q s }
+
+-- commands of a call or replies are made, while the host is up
+abbrev pub makes : List Command → Peer → Peer
+makes cs p = standing (makes_all cs p.phase) p.ends p.echoes
+
+-- The calls of a user, while the host is up. What they ask of the other ends and of what waits is
+-- looked up.
+
+pub data Call : Type 0 where
+  Ask_to_send : (of_size : ℕ) → (with_room : ℕ) → Call
+  Ask_to_receive : (with_room : ℕ) → Call
+  Close : Call
+  Give : (text : List Bool) → Call
+  Take : (bytes : ℕ) → Call
+  Allocate : (of_messages : ℕ) → (of_bits : ℕ) → Call
+  Call_back : (of_messages : ℕ) → (of_bits : ℕ) → Call
+  Interrupt : Call
+
+abbrev pub called : Call → Bool → Ends → Happening
+called (Ask_to_send of_size with_room) full m = all.Asks_to_send of_size with_room (count has_asked m) full
+called (Ask_to_receive with_room) full m = all.Asks_to_receive with_room (free_link m) (count has_asked m) full
+called Close full m = all.Closes full
+called (Give text) full m = all.Gives text
+called (Take bytes) full m = all.Takes bytes
+called (Allocate of_messages of_bits) full m = all.Allocates of_messages of_bits full
+called (Call_back of_messages of_bits) full m = all.Calls_back of_messages of_bits full
+called Interrupt full m = all.Interrupts full
+
+abbrev pub put : Ends → Pair → Option End → Ends
+put m pair None = remove m pair
+put m pair (Some e) = insert m pair e
+
+abbrev pub happened_at : Pair → Call → Peer → Happened
+happened_at pair call p = happens pair (called call (is_full p.phase) p.ends) (get p.ends pair)
+
+abbrev pub calls_up : Pair → Call → Peer → Peer
+calls_up pair call p = makes (happened_at pair call p).made (record p { ends = put p.ends pair (happened_at pair call p).after })
+
+abbrev pub calls : Pair → Call → Peer → Peer
+calls pair call p = if up p.phase then calls_up pair call p else p
+
+-- what comes of a call, and how a call is answered
+abbrev pub comes_of : Pair → Call → Peer → Outcome
+comes_of pair call p = if up p.phase then (happened_at pair call p).outcome else Refused NotUp
+
+abbrev pub reply : Outcome → Result (Unit {0}) CallFault
+reply (Refused fault) = Err fault
+reply outcome = Ok tt
+
+-- the answer of a taking
+abbrev pub reply_of_take : Outcome → Result (List Bool) CallFault
+reply_of_take (Refused fault) = Err fault
+reply_of_take (Took_out text) = Ok text
+reply_of_take outcome = Ok []
+
+abbrev pub made_by_echo : Result Command CallFault → List Command
+made_by_echo (Ok c) = c ∷ []
+made_by_echo (Err fault) = []
+
+abbrev pub echo_called : ℕ → Peer → Peer
+echo_called byte p = makes (made_by_echo (echo_answer byte (is_full p.phase) p.echoes)) (record p { echoes = echo_asked (is_full p.phase) p.echoes })
+
+abbrev pub calls_echo : ℕ → Peer → Peer
+calls_echo byte p = if up p.phase then echo_called byte p else p
+
+-- a command that is made answers a call that it is good
+abbrev pub accepted : {A : Type 0} → Result A CallFault → Result (Unit {0}) CallFault
+accepted (Ok a) = Ok tt
+accepted (Err fault) = Err fault
+
+abbrev pub reply_of_echo : ℕ → Peer → Result (Unit {0}) CallFault
+reply_of_echo byte p = if up p.phase then accepted (echo_answer byte (is_full p.phase) p.echoes) else Err NotUp
+
+abbrev pub calls_reset : Bool → Peer → Peer
+calls_reset quiet p = if is_resetting p.phase then p else cleared (resets quiet p.phase) p
+
+-- A command comes. What names a link acts on the end to which a look-up by link leads.
+
+abbrev pub is_full_up : Heard → Bool
+is_full_up heard.Full = true
+is_full_up answer_given = false
+
+abbrev pub echo_replies : Command → List Command
+echo_replies (Eco byte) = eco_reply byte ∷ []
+echo_replies c = []
+
+abbrev pub echoes_after : Command → Echoes → Echoes
+echoes_after (Erp byte) s = hear_erp byte s
+echoes_after (commands.Err code data_bytes) s = hear_err (record { code = code; bytes = data_bytes }) s
+echoes_after c s = s
+
+-- how the host reacts to a command
+abbrev pub reaction : Bool → Command → Peer → Reaction
+reaction quiet c p = record {
+  quiet = quiet;
+  full = is_full_up (answer (hear c p.ends));
+  replies = made_by_hearing (answer (hear c p.ends)) ++ echo_replies c;
+}
+
+-- while up, any but RST and RRP
+abbrev pub hears_other : Bool → Command → Peer → Peer
+hears_other quiet c p = standing
+    (phases.hears c (reaction quiet c p) p.phase)
+    (map_after_at p.ends (leads_to c p.ends) (hear c p.ends))
+    (echoes_after c p.echoes)
+
+abbrev pub hears : Bool → Command → Peer → Peer
+hears quiet Rst p = cleared (hears_rst quiet p.phase) p
+hears quiet Rrp p = record p { phase = hears_rrp p.phase }
+hears quiet c p = if up p.phase then hears_other quiet c p else p
+
+-- the fault of a control text comes: its ERR is made
+abbrev pub hears_fault : CommandFault → Peer → Peer
+hears_fault fault p = if up p.phase then makes (commands.Err fault.code fault.bytes ∷ []) p else p
+
+-- A text comes on a link, with its leader and prefix. While the host is not up it is dropped.
+
+abbrev pub takes_text : ℕ → List Bool → ℕ → List Bool → Peer → Peer
+takes_text on head of_size text p =
+    let took = text_in on of_size text p.ends in
+    makes (made_by_text head text (answer took)) (record p { ends = map_after_at p.ends (pair_of (receiver_on on p.ends)) took })
+
+abbrev pub hears_text : ℕ → List Bool → ℕ → List Bool → Peer → Peer
+hears_text on head of_size text p = if up p.phase then takes_text on head of_size text p else p
+
+-- A text goes out on a link.
+abbrev pub cuts : ℕ → Peer → Peer
+cuts on p = record p { ends = map_after_at p.ends (pair_of (sender_on on p.ends)) (cut_in on p.ends) }
+
+-- The commands go out that the next control message takes.
+abbrev pub sends : Peer → Peer
+sends p = record p { phase = record p.phase { waiting = drop (length (next_commands p.phase.waiting)) p.phase.waiting } }
+
+-- A text that went out was taken (RFNM): its sender is free, and a leaving one makes its CLS. Ends
+-- stand only while the host is up.
+abbrev pub frees_up : ℕ → Peer → Peer
+frees_up on p =
+    let act = answered_in on Taken p.ends in
+    makes (made_if_any (answer act)) (record p { ends = map_after_at p.ends (pair_of (sender_on on p.ends)) act })
+
+abbrev pub frees : ℕ → Peer → Peer
+frees on p = if up p.phase then frees_up on p else p
+
+-- settling, where the data links are quiet
+abbrev pub settles : Bool → Peer → Peer
+settles quiet p = record p { phase = phases.settles quiet p.phase }
