@@ -1,3 +1,4 @@
 pub mod Places
 pub mod Runs
 pub mod Turns
+pub mod Waking

@@ -3,7 +3,7 @@
 use Rattle.std.specs.Prelude.{Bool, true, false, not, ◌&&◌, ◌||◌, List, [], ◌∷◌, Option, Some, None, unwrap_or, if◌then◌else◌}
 use Rattle.std.specs.List.{zip, filter_map, list_any, last_or}
 use Rattle.ncp_slot.specs.declared.slot.Answer.{Answer}
-use Rattle.ncp_slot.specs.declared.slot.Answer.TheVariants.{Rfnm, Incomplete}
+use Rattle.ncp_slot.specs.declared.slot.Answer.TheVariants.{Rfnm, Incomplete, Dead}
 use Rattle.ncp_slot.specs.declared.laws.LinkEvent.{LinkEvent}
 use Rattle.ncp_slot.specs.declared.laws.LinkEvent.TheVariants as event
 use Rattle.ncp_slot.specs.declared.laws.LinkNote.{LinkNote}
@@ -21,12 +21,14 @@ pub data Deed : Type 0 where
   Accepted : List Bool → Deed  -- a message was accepted by Put
   HandedOut : List Bool → Deed  -- a message was handed out
   Answered : Answer → Deed  -- an answer was accepted
+  Woken : Deed  -- a Wake came
 
 -- what took effect by an event, if anything did
 abbrev pub deed_of : LinkEvent × LinkNote → Option Deed
 deed_of (event.Put message, note.Put true) = Some (Accepted message)
 deed_of (event.Hand, note.Handed (Some message)) = Some (HandedOut message)
 deed_of (event.Answer answer, note.Answered true) = Some (Answered answer)
+deed_of (event.Wake, note.Woken) = Some Woken
 deed_of happened = None
 
 abbrev pub deeds_in : LinkHistory → List Deed
@@ -41,6 +43,7 @@ accepted_in [] = []
 accepted_in (Accepted message ∷ deeds) = message ∷ accepted_in deeds
 accepted_in (HandedOut message ∷ deeds) = accepted_in deeds
 accepted_in (Answered answer ∷ deeds) = accepted_in deeds
+accepted_in (Woken ∷ deeds) = accepted_in deeds
 
 -- the messages that were handed out
 abbrev pub handed_in : List Deed → List (List Bool)
@@ -48,6 +51,7 @@ handed_in [] = []
 handed_in (Accepted message ∷ deeds) = handed_in deeds
 handed_in (HandedOut message ∷ deeds) = message ∷ handed_in deeds
 handed_in (Answered answer ∷ deeds) = handed_in deeds
+handed_in (Woken ∷ deeds) = handed_in deeds
 
 -- the answers that were accepted
 abbrev pub answers_in : List Deed → List Answer
@@ -55,10 +59,17 @@ answers_in [] = []
 answers_in (Accepted message ∷ deeds) = answers_in deeds
 answers_in (HandedOut message ∷ deeds) = answers_in deeds
 answers_in (Answered answer ∷ deeds) = answer ∷ answers_in deeds
+answers_in (Woken ∷ deeds) = answers_in deeds
 
 abbrev pub is_rfnm : Answer → Bool
 is_rfnm Rfnm = true
 is_rfnm Incomplete = false
+is_rfnm Dead = false
+
+abbrev pub is_dead : Answer → Bool
+is_dead Rfnm = false
+is_dead Incomplete = false
+is_dead Dead = true
 
 abbrev pub has_rfnm : List Deed → Bool
 has_rfnm deeds = list_any is_rfnm (answers_in deeds)
@@ -72,6 +83,7 @@ all_answered [] = true
 all_answered (Accepted message ∷ deeds) = has_rfnm deeds && all_answered deeds
 all_answered (HandedOut message ∷ deeds) = all_answered deeds
 all_answered (Answered answer ∷ deeds) = all_answered deeds
+all_answered (Woken ∷ deeds) = all_answered deeds
 
 -- a message was handed out and no answer was accepted since
 abbrev pub is_out : List Deed → Bool
@@ -79,6 +91,23 @@ is_out [] = false
 is_out (Accepted message ∷ deeds) = is_out deeds
 is_out (HandedOut message ∷ deeds) = not (has_answer deeds) || is_out deeds
 is_out (Answered answer ∷ deeds) = is_out deeds
+is_out (Woken ∷ deeds) = is_out deeds
+
+-- a Wake came
+abbrev pub has_wake : List Deed → Bool
+has_wake [] = false
+has_wake (Accepted message ∷ deeds) = has_wake deeds
+has_wake (HandedOut message ∷ deeds) = has_wake deeds
+has_wake (Answered answer ∷ deeds) = has_wake deeds
+has_wake (Woken ∷ deeds) = true
+
+-- the last accepted answer was Dead and no Wake came since
+abbrev pub is_held_back : List Deed → Bool
+is_held_back [] = false
+is_held_back (Accepted message ∷ deeds) = is_held_back deeds
+is_held_back (HandedOut message ∷ deeds) = is_held_back deeds
+is_held_back (Answered answer ∷ deeds) = is_dead answer && not (has_answer deeds || has_wake deeds) || is_held_back deeds
+is_held_back (Woken ∷ deeds) = is_held_back deeds
 
 -- the messages that were handed out where no answer was accepted before, or RFNM was the last;
 -- `again` says whether before these deeds another answer was the last
@@ -87,6 +116,7 @@ fresh_in again [] = []
 fresh_in again (Accepted message ∷ deeds) = fresh_in again deeds
 fresh_in again (HandedOut message ∷ deeds) = if again then fresh_in again deeds else message ∷ fresh_in again deeds
 fresh_in again (Answered answer ∷ deeds) = fresh_in (not (is_rfnm answer)) deeds
+fresh_in again (Woken ∷ deeds) = fresh_in again deeds
 
 -- the last accepted message
 abbrev pub last_accepted : List Deed → List Bool

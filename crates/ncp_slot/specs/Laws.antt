@@ -1,20 +1,21 @@
 -- What holds of every link that is given any list of events.
-use Rattle.std.specs.Prelude.{◌≡◌, ◌≤◌, Bool, false, ◌||◌, List, [], ◌∷◌, ◌++◌, length, Option, is_none, if◌then◌else◌}
-use Rattle.ncp_slot.specs.declared.slot.Slot.{Slot}
-use Rattle.ncp_slot.specs.declared.slot.Slot.TheVariants.{Empty, Ready, Travelling}
+use Rattle.std.specs.Prelude.{◌≡◌, ◌≤◌, Bool, false, ◌||◌, List, [], ◌∷◌, ◌++◌, ◌⊎◌, length, Option, is_none, if◌then◌else◌}
+use Rattle.ncp_slot.specs.declared.slot.Slot.TheVariants.{Empty, Ready, Travelling, Held}
 use Rattle.ncp_slot.specs.declared.slot.Answer.{Answer}
-use Rattle.ncp_slot.specs.declared.slot.Answer.TheVariants.{Incomplete}
+use Rattle.ncp_slot.specs.declared.slot.Answer.TheVariants.{Incomplete, Dead}
 use Rattle.ncp_slot.specs.declared.laws.LinkEvent.{LinkEvent}
 use Rattle.ncp_slot.specs.declared.laws.LinkEvent.TheVariants as event
 use Rattle.ncp_slot.specs.declared.laws.LinkNote.{LinkNote}
 use Rattle.ncp_slot.specs.declared.laws.LinkNote.TheVariants as note
-use Rattle.ncp_slot.specs.Deeds.{LinkHistory, Deed, HandedOut, deeds_in, accepted_in, handed_in, answers_in, all_answered, is_out, fresh_in, last_accepted}
+use Rattle.ncp_slot.specs.Slots.{LinkSlot}
+use Rattle.ncp_slot.specs.Deeds.{LinkHistory, Deed, HandedOut, deeds_in, accepted_in, handed_in, answers_in, all_answered, is_out, is_held_back, fresh_in, last_accepted}
 
 -- a note of an event's kind
 abbrev pub IsNoteOf : LinkEvent → LinkNote → Type 0
 IsNoteOf (event.Put message) (note.Put accepted) = Unit {0}
 IsNoteOf event.Hand (note.Handed message) = Unit {0}
 IsNoteOf (event.Answer answer) (note.Answered accepted) = Unit {0}
+IsNoteOf event.Wake note.Woken = Unit {0}
 IsNoteOf happened told = ⊥
 
 -- one note an event, of its kind
@@ -30,12 +31,13 @@ OneAnswerBetween deeds =
     → deeds ≡ earlier ++ HandedOut message ∷ (between ++ HandedOut next ∷ later)
     → handed_in between ≡ [] → length (answers_in between) ≡ 1
 
--- a message handed out after Incomplete equals the one before it
-abbrev pub SameAfterIncomplete : List Deed → Type 0
-SameAfterIncomplete deeds =
+-- a message handed out after Incomplete or Dead equals the one before it
+abbrev pub SameAfterFailure : List Deed → Type 0
+SameAfterFailure deeds =
     (earlier between later : List Deed) (message next : List Bool)
     → deeds ≡ earlier ++ HandedOut message ∷ (between ++ HandedOut next ∷ later)
-    → handed_in between ≡ [] → answers_in between ≡ Incomplete ∷ [] → next ≡ message
+    → handed_in between ≡ []
+    → (answers_in between ≡ Incomplete ∷ []) ⊎ (answers_in between ≡ Dead ∷ []) → next ≡ message
 
 -- the other messages handed out are, in order, a beginning of the accepted ones, shorter by at
 -- most one
@@ -61,16 +63,18 @@ AnswersTold history =
     → Happens history before (event.Answer answer) (note.Answered accepted)
     → accepted ≡ is_out (deeds_in before)
 
--- a Hand gives None exactly there, and where each message accepted before was answered RFNM
+-- a Hand gives None exactly there, where the last accepted answer was Dead and no Wake came since,
+-- and where each message accepted before was answered RFNM
 abbrev pub HandsTold : LinkHistory → Type 0
 HandsTold history =
     (before : LinkHistory) (message : Option (List Bool))
     → Happens history before event.Hand (note.Handed message)
-    → is_none message ≡ (is_out (deeds_in before) || all_answered (deeds_in before))
+    → is_none message ≡ (is_out (deeds_in before) || is_held_back (deeds_in before) || all_answered (deeds_in before))
 
 -- the slot that the link has in the end
-abbrev pub slot_told : List Deed → Slot
+abbrev pub slot_told : List Deed → LinkSlot
 slot_told deeds =
     if all_answered deeds then Empty
     else if is_out deeds then Travelling (last_accepted deeds)
+    else if is_held_back deeds then Held (last_accepted deeds)
     else Ready (last_accepted deeds)

@@ -1,40 +1,56 @@
 -- The slots of a host's links to one peer. Link 0 is the control link; links 2 to 71 carry
 -- connections (NIC 8246). Each has a slot.
-use Rattle.std.specs.Prelude.{◌≡◌, ◌≢◌, ℕ, ◌+◌, ◌-◌, ◌<◌, ◌≤◌, Bool, IsTrue, List, [], ◌∷◌, unwrap_or, refl, nat_eq, if◌then◌else◌}
+use Rattle.std.specs.Prelude.{◌≡◌, ◌≢◌, ℕ, ◌+◌, ◌<◌, ◌≤◌, Bool, IsTrue, List, [], ◌∷◌, map, unwrap_or, replicate, refl, nat_eq, if◌then◌else◌}
 use Rattle.std.specs.List.{list_all, range_with_len}
 use Rattle.std.specs.Ordering.{nat_cmp}
-use Rattle.std.specs.FinMap.{FinMap, code, get, insert, from_entries}
+use Rattle.std.specs.FinMap.{FinMap, code, entries, get, insert, from_entries}
 use Rattle.std.specs.Coded.{Coded, code_by, coded×, coded_ℕ, coded_bool, coded_list}
-use Rattle.ncp_slot.specs.declared.slots.TheConstants.{UNUSED_LINK, FIRST_DATA_LINK, LAST_LINK}
+use Rattle.ncp_slot.specs.declared.slots.TheConstants.{UNUSED_LINK, FIRST_DATA_LINK, LAST_LINK, DATA_LINKS, SLOTS}
 use Rattle.ncp_slot.specs.declared.slot.Slot.{Slot}
-use Rattle.ncp_slot.specs.declared.slot.Slot.TheVariants.{Empty, Ready, Travelling}
-use Rattle.ncp_slot.specs.Slot.{is_empty, is_ready}
+use Rattle.ncp_slot.specs.declared.slot.Slot.TheVariants.{Empty, Ready, Travelling, Held}
+use Rattle.ncp_slot.specs.Slot.{woken, is_empty, is_ready, is_held}
 
 -- link 0 and links 2 to 71
 abbrev pub HasSlot : ℕ → Type 0
 HasSlot link = (link ≢ UNUSED_LINK) × (link ≤ LAST_LINK)
 
+-- the slot of a link: its messages are lists of bits
+abbrev pub LinkSlot : Type 0
+LinkSlot = Slot (List Bool)
+
 -- the slots, each by its link
 abbrev pub LinkSlots : Type 0
-LinkSlots = FinMap nat_cmp Slot
+LinkSlots = FinMap nat_cmp LinkSlot
 
 -- the slot of a link; one that is not there is as good as empty
-unfoldable pub slot_at : LinkSlots → ℕ → Slot
+unfoldable pub slot_at : LinkSlots → ℕ → LinkSlot
 slot_at slots link = unwrap_or (get slots link) Empty
 
 -- the slots with this one for a link
-unfoldable pub with_slot : LinkSlots → ℕ → Slot → LinkSlots
+unfoldable pub with_slot : LinkSlots → ℕ → LinkSlot → LinkSlots
 with_slot slots link slot = insert slots link slot
+
+-- the slots after the user asked for what is held
+unfoldable pub all_woken : LinkSlots → LinkSlots
+all_woken slots = from_entries (map (λ (entry : ℕ × LinkSlot). (entry.0, woken entry.1)) (entries slots))
 
 -- no call changes the slot of another link
 abbrev pub OthersStay : LinkSlots → LinkSlots → ℕ → Type 0
 OthersStay old new link = (other : ℕ) → other ≢ link → slot_at new other ≡ slot_at old other
 
+-- a link that had an empty slot still has one
+abbrev pub OthersStayEmpty : LinkSlots → LinkSlots → ℕ → Type 0
+OthersStayEmpty old new link = (other : ℕ) → other ≢ link → slot_at old other ≡ Empty → slot_at new other ≡ Empty
+
 -- a link has a message that is to go out
 abbrev pub IsReady : LinkSlots → ℕ → Type 0
 IsReady slots link = IsTrue (is_ready (slot_at slots link))
 
--- the lowest such link
+-- a link has a message that is held
+abbrev pub IsHeld : LinkSlots → ℕ → Type 0
+IsHeld slots link = IsTrue (is_held (slot_at slots link))
+
+-- the lowest link with a message that is to go out
 abbrev pub IsFirstReady : LinkSlots → ℕ → Type 0
 IsFirstReady slots link = IsReady slots link × ((lower : ℕ) → lower < link → ¬ IsReady slots lower)
 
@@ -44,7 +60,7 @@ IsQuiet slots = (link : ℕ) → FIRST_DATA_LINK ≤ link → link ≤ LAST_LINK
 
 -- the data links
 abbrev pub data_links : List ℕ
-data_links = range_with_len FIRST_DATA_LINK (LAST_LINK + 1 - FIRST_DATA_LINK)
+data_links = range_with_len FIRST_DATA_LINK DATA_LINKS
 
 -- whether they are quiet
 unfoldable pub is_quiet : LinkSlots → Bool
@@ -55,29 +71,39 @@ abbrev pub link_at : ℕ → ℕ
 link_at place = if nat_eq place 0 then 0 else place + 1
 
 -- slots in a row from a place on, each beside its link
-abbrev pub with_links : ℕ → List Slot → List (ℕ × Slot)
+abbrev pub with_links : ℕ → List LinkSlot → List (ℕ × LinkSlot)
 with_links place [] = []
 with_links place (slot ∷ slots) = (link_at place, slot) ∷ with_links (place + 1) slots
 
 -- the slots in a row, in the order of their links
-unfoldable pub slots_in : List Slot → LinkSlots
+unfoldable pub slots_in : List LinkSlot → LinkSlots
 slots_in slots = from_entries (with_links 0 slots)
 
+-- each link has an empty slot
+unfoldable pub no_slots : LinkSlots
+no_slots = slots_in (replicate SLOTS Empty)
+
 -- a slot is stored as a number for its kind, and its message
-abbrev pub slot_parts : Slot → ℕ × List Bool
+abbrev pub slot_parts : LinkSlot → ℕ × List Bool
 slot_parts Empty = (0, [])
 slot_parts (Ready message) = (1, message)
 slot_parts (Travelling message) = (2, message)
+slot_parts (Held message) = (3, message)
 
-abbrev pub slot_of_parts : ℕ × List Bool → Slot
-slot_of_parts parts = if nat_eq parts.0 0 then Empty else if nat_eq parts.0 1 then Ready parts.1 else Travelling parts.1
+abbrev pub slot_of_parts : ℕ × List Bool → LinkSlot
+slot_of_parts parts =
+    if nat_eq parts.0 0 then Empty
+    else if nat_eq parts.0 1 then Ready parts.1
+    else if nat_eq parts.0 2 then Travelling parts.1
+    else Held parts.1
 
-abbrev pub slot_of_parts-slot_parts : (slot : Slot) → slot_of_parts (slot_parts slot) ≡ slot
+abbrev pub slot_of_parts-slot_parts : (slot : LinkSlot) → slot_of_parts (slot_parts slot) ≡ slot
 slot_of_parts-slot_parts Empty = refl
 slot_of_parts-slot_parts (Ready message) = refl
 slot_of_parts-slot_parts (Travelling message) = refl
+slot_of_parts-slot_parts (Held message) = refl
 
-abbrev pub coded_slot : Coded Slot
+abbrev pub coded_slot : Coded LinkSlot
 coded_slot = code_by (ℕ × List Bool) (coded× coded_ℕ (coded_list coded_bool)) slot_parts slot_of_parts slot_of_parts-slot_parts
 
 abbrev pub coded_slots : Coded LinkSlots

@@ -2,9 +2,11 @@
 //! different links are apart.
 ghost use Rattle.std.specs.Prelude.{◌≡◌, ◌≢◌, ℕ, ◌↔◌, IsTrue, IfOk};
 ghost use Rattle.ncp_slot.specs.declared.slot.Slot.{Slot};
-ghost use Rattle.ncp_slot.specs.Slots.{HasSlot, LinkSlots, slot_at, with_slot, OthersStay, IsQuiet, is_quiet};
+ghost use Rattle.ncp_slot.specs.Slot.{woken};
+ghost use Rattle.ncp_slot.specs.Slots.{HasSlot, all_woken, LinkSlot, LinkSlots, slot_at, with_slot, OthersStay, OthersStayEmpty, IsQuiet, is_quiet};
 ghost use Rattle.ncp_slot.specs.Deeds.{history_of, deeds_of};
-ghost use Rattle.ncp_slot.specs.Laws.{AreNotesOf, OneAnswerBetween, SameAfterIncomplete, OthersInOrder, PutsTold, AnswersTold, HandsTold, slot_told};
+ghost use Rattle.ncp_slot.specs.Laws.{AreNotesOf, OneAnswerBetween, SameAfterFailure, OthersInOrder, PutsTold, AnswersTold, HandsTold, slot_told};
+ghost use Rattle.ncp_slot.specs.declared.slots.TheConstants.{UNUSED_LINK, FIRST_DATA_LINK, LAST_LINK, DATA_LINKS, SLOTS};
 ghost use Rattle.ncp_slot.specs.Steps.{slot_after, note_at};
 
 use crate::slot::Answer;
@@ -18,6 +20,7 @@ pub enum LinkEvent {
     Put(Bits),
     Hand,
     Answer(Answer),
+    Wake,
 }
 
 /// What came of an event: whether it was accepted, or the message that was handed out.
@@ -26,6 +29,7 @@ pub enum LinkNote {
     Put(bool),
     Handed(Option<Bits>),
     Answered(bool),
+    Woken,
 }
 
 // Does what the event says, and notes what came of it.
@@ -33,12 +37,16 @@ fn note_event(slots: &mut Slots, link: u8, event: &LinkEvent) -> LinkNote
     requires { HasSlot link }
     ensures note { result ≡ note_at (slot_at slots.old link) event.now }
     ensures slot { slot_at slots.new link ≡ slot_after (slot_at slots.old link) event.now }
-    ensures others { OthersStay slots.old slots.new link }
+    ensures others { OthersStayEmpty slots.old slots.new link }
 {
     match event {
         LinkEvent::Put(message) => LinkNote::Put(slots.put(link, message).is_ok()),
         LinkEvent::Hand => LinkNote::Handed(slots.hand(link)),
         LinkEvent::Answer(answer) => LinkNote::Answered(slots.answer(link, *answer).is_ok()),
+        LinkEvent::Wake => {
+            slots.wake();
+            LinkNote::Woken
+        }
     }
 }
 
@@ -56,7 +64,7 @@ pub fn run_link(
 
     // Which messages are handed out.
     ensures between { IfOk result (λ run. OneAnswerBetween (deeds_of events.now run.1.items)) }
-    ensures again { IfOk result (λ run. SameAfterIncomplete (deeds_of events.now run.1.items)) }
+    ensures again { IfOk result (λ run. SameAfterFailure (deeds_of events.now run.1.items)) }
     ensures in_order { IfOk result (λ run. OthersInOrder (deeds_of events.now run.1.items)) }
 
     // When each event is accepted.
@@ -78,8 +86,23 @@ pub fn run_link(
 
 /// The slots of different links are apart.
 pub fn slots_are_apart()
-    ensures same { (slots : LinkSlots) (link : ℕ) (slot : Slot) → slot_at (with_slot slots link slot) link ≡ slot }
-    ensures others { (slots : LinkSlots) (link : ℕ) (slot : Slot) → OthersStay slots (with_slot slots link slot) link }
+    ensures same { (slots : LinkSlots) (link : ℕ) (slot : LinkSlot) → slot_at (with_slot slots link slot) link ≡ slot }
+    ensures others { (slots : LinkSlots) (link : ℕ) (slot : LinkSlot) → OthersStay slots (with_slot slots link slot) link }
+    ensures twice { (slots : LinkSlots) (link : ℕ) (first last : LinkSlot) → with_slot (with_slot slots link first) link last ≡ with_slot slots link last }
+{}
+
+/// To wake is to wake the slot of each link.
+pub fn each_slot_is_woken()
+    ensures { (slots : LinkSlots) (link : ℕ) → slot_at (all_woken slots) link ≡ woken (slot_at slots link) }
+{}
+
+/// The links of a host, by their numbers in the standard.
+pub fn links_are_numbered()
+    ensures unused { UNUSED_LINK ≡ 1 }
+    ensures first { FIRST_DATA_LINK ≡ 2 }
+    ensures last { LAST_LINK ≡ 71 }
+    ensures data { DATA_LINKS ≡ 70 }
+    ensures slots { SLOTS ≡ 71 }
 {}
 
 /// The test for quiet data links passes exactly where each of their slots is empty.

@@ -12,4 +12,4 @@ mod slots;
 mod tests;
 
 pub use slot::{Answer, Busy, Slot, Stray};
-pub use slots::{FIRST_DATA_LINK, LAST_LINK, Slots, UNUSED_LINK, has_slot};
+pub use slots::{DATA_LINKS, FIRST_DATA_LINK, LAST_LINK, SLOTS, Slots, UNUSED_LINK, has_slot};

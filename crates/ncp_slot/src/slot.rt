@@ -1,8 +1,10 @@
 //! `Slot`.
 ghost use Rattle.std.specs.Prelude.{◌≡◌, ◌↔◌, IsTrue, IfSome, OnOk, IsOk};
-ghost use Rattle.ncp_slot.specs.Slot.{put_in, handed_out, answered, ready_message, is_empty, is_ready, is_travelling};
+ghost use Rattle.std.specs.Option.{option_copied};
+ghost use Rattle.ncp_slot.specs.Slot.{put_in, handed_out, answered, woken, ready_message, kept_message, is_empty, is_ready, is_travelling};
 
 use ncp_bits::Bits;
+use std::mem;
 use thiserror::Error;
 
 /// What the subnet answers to a message that went out on a link.
@@ -12,9 +14,11 @@ pub enum Answer {
     Rfnm,
     /// Incomplete Transmission: the message was not delivered.
     Incomplete,
+    /// Destination Dead: the message was not delivered, and is held until the user asks for it.
+    Dead,
 }
 
-/// The link has a message that is not answered yet.
+/// The link has a message that is not taken yet.
 #[derive(Clone, Copy, Debug, Drop, PartialEq, Eq, Error)]
 #[error("a message of this link is not answered yet")]
 pub struct Busy;
@@ -25,59 +29,58 @@ pub struct Busy;
 pub struct Stray;
 
 /// What a link keeps. A contract sees the slot of each link as one of these.
-#[derive(Drop)]
-pub enum Slot {
+#[derive(Debug, Drop, PartialEq, Eq)]
+pub enum Slot<M> {
     /// No message.
     Empty,
     /// A message that is to go out, for the first time or again.
-    Ready(Bits),
+    Ready(M),
     /// A message that went out and is not answered yet.
-    Travelling(Bits),
+    Travelling(M),
+    /// A message whose destination was dead. It goes out again only after the user asked for it.
+    Held(M),
 }
 
-impl Slot {
-    /// Keeps a copy of a message, to go out. Busy where there is a message.
-    pub(crate) fn put(&mut self, bits: &Bits) -> Result<(), Busy>
-        ensures variant { IsOk result ↔ (self.old ≡ Slot.Empty) }
-        ensures slot { self.new ≡ put_in bits.now self.old }
-        ensures ok { OnOk result (self.new ≡ Slot.Ready bits.now) }
-    {
-        match self {
-            Slot::Empty => {
-                *self = Slot::Ready(bits.whole().to_bits());
-                Ok(())
-            }
-            Slot::Ready(_) | Slot::Travelling(_) => Err(Busy),
-        }
-    }
-
-    /// Hands out a copy of the message that is to go out, if there is one.
-    pub(crate) fn hand(&mut self) -> Option<Bits>
-        ensures handed { result ≡ ready_message self.old }
-        ensures slot { self.new ≡ handed_out self.old }
-        ensures some { IfSome result (λ message. self.new ≡ Slot.Travelling message) }
-    {
-        let Slot::Ready(bits) = self else {
-            return None;
-        };
-        let message = bits.whole().to_bits();
-        *self = Slot::Travelling(message.whole().to_bits());
-        Some(message)
-    }
-
+impl<M: Drop> Slot<M> {
     /// Takes the answer to the message that went out. Stray where none is unanswered.
     pub(crate) fn answer(&mut self, answer: Answer) -> Result<(), Stray>
         ensures variant { IsOk result ↔ IsTrue (is_travelling self.old) }
         ensures slot { self.new ≡ answered answer self.old }
     {
-        let Slot::Travelling(bits) = self else {
-            return Err(Stray);
+        match mem::replace(self, Slot::Empty) {
+            Slot::Travelling(message) => {
+                *self = match answer {
+                    Answer::Rfnm => Slot::Empty,
+                    Answer::Incomplete => Slot::Ready(message),
+                    Answer::Dead => Slot::Held(message),
+                };
+                Ok(())
+            }
+            other => {
+                *self = other;
+                Err(Stray)
+            }
+        }
+    }
+
+    /// Makes a message ready that is held, if there is one.
+    pub(crate) fn wake(&mut self)
+        ensures { self.new ≡ woken self.old }
+    {
+        *self = match mem::replace(self, Slot::Empty) {
+            Slot::Held(message) => Slot::Ready(message),
+            other => other,
         };
-        *self = match answer {
-            Answer::Rfnm => Slot::Empty,
-            Answer::Incomplete => Slot::Ready(bits.whole().to_bits()),
-        };
-        Ok(())
+    }
+
+    /// The message that is not taken yet, if there is one.
+    pub(crate) fn kept(&self) -> Option<&M>
+        ensures { option_copied result ≡ kept_message self.now }
+    {
+        match self {
+            Slot::Empty => None,
+            Slot::Ready(message) | Slot::Travelling(message) | Slot::Held(message) => Some(message),
+        }
     }
 
     /// Whether there is no message.
@@ -92,5 +95,40 @@ impl Slot {
         ensures { result ≡ is_ready self.now }
     {
         matches!(self, Slot::Ready(_))
+    }
+}
+
+impl Slot<Bits> {
+    /// Keeps a copy of a message, to go out. Busy where there is a message.
+    pub(crate) fn put(&mut self, bits: &Bits) -> Result<(), Busy>
+        ensures variant { IsOk result ↔ (self.old ≡ Slot.Empty) }
+        ensures slot { self.new ≡ put_in bits.now self.old }
+        ensures ok { OnOk result (self.new ≡ Slot.Ready bits.now) }
+    {
+        match self {
+            Slot::Empty => {
+                *self = Slot::Ready(bits.whole().to_bits());
+                Ok(())
+            }
+            Slot::Ready(_) | Slot::Travelling(_) | Slot::Held(_) => Err(Busy),
+        }
+    }
+
+    /// Hands out a copy of the message that is to go out, if there is one.
+    pub(crate) fn hand(&mut self) -> Option<Bits>
+        ensures handed { result ≡ ready_message self.old }
+        ensures slot { self.new ≡ handed_out self.old }
+        ensures some { IfSome result (λ message. self.new ≡ Slot.Travelling message) }
+    {
+        match mem::replace(self, Slot::Empty) {
+            Slot::Ready(message) => {
+                *self = Slot::Travelling(message.whole().to_bits());
+                Some(message)
+            }
+            other => {
+                *self = other;
+                None
+            }
+        }
     }
 }

@@ -1,8 +1,8 @@
 //! `Slots`.
-ghost use Rattle.std.specs.Prelude.{◌≡◌, ◌≢◌, ℕ, ◌-◌, ◌+◌, ◌<◌, ◌≤◌, ◌↔◌, true, false, length, slice_get, IsTrue, Some, IfOk, IfSome, IfNone, OnOk, OnErr, IsOk, IsErr};
+ghost use Rattle.std.specs.Prelude.{◌≡◌, ◌≢◌, ℕ, ◌-◌, ◌+◌, ◌<◌, ◌≤◌, ◌↔◌, true, false, map, length, slice_get, IsTrue, Some, IfOk, IfSome, IfNone, OnOk, OnErr, IsOk, IsErr};
 ghost use Rattle.std.specs.List.{list_all};
-ghost use Rattle.ncp_slot.specs.Slot.{put_in, handed_out, answered, ready_message, is_empty, is_ready, is_travelling};
-ghost use Rattle.ncp_slot.specs.Slots.{HasSlot, slot_at, with_slot, OthersStay, IsReady, IsFirstReady, IsQuiet, is_quiet, link_at};
+ghost use Rattle.ncp_slot.specs.Slot.{put_in, handed_out, answered, woken, ready_message, kept_message, is_empty, is_ready, is_travelling};
+ghost use Rattle.ncp_slot.specs.Slots.{HasSlot, no_slots, slot_at, with_slot, all_woken, OthersStay, IsReady, IsHeld, IsFirstReady, IsQuiet, is_quiet, link_at};
 
 use crate::slot::{Answer, Busy, Slot, Stray};
 use ncp_bits::Bits;
@@ -18,8 +18,11 @@ pub const LAST_LINK: u8 = 71;
 /// The link between the control link and the data links. It has no slot.
 pub const UNUSED_LINK: u8 = 1;
 
+/// How many links carry connections.
+pub const DATA_LINKS: usize = (LAST_LINK - FIRST_DATA_LINK + 1) as usize;
+
 /// How many slots there are: that of the control link, 0, and those of the data links.
-const SLOTS: usize = 71;
+pub const SLOTS: usize = 1 + DATA_LINKS;
 
 /// Whether a link has a slot: link 0 and links [`FIRST_DATA_LINK`] to [`LAST_LINK`].
 pub fn has_slot(link: u8) -> bool
@@ -45,8 +48,17 @@ fn link_of(place: usize) -> u8
     if place == 0 { 0 } else { place as u8 + 1 }
 }
 
+// Makes each message that is held ready.
+fn wake_each(slots: &mut [Slot<Bits>])
+    ensures { slots.new ≡ map woken slots.old }
+{
+    for slot in slots.iter_mut() {
+        slot.wake();
+    }
+}
+
 // Whether there is no message in these slots.
-fn all_empty(slots: &[Slot]) -> bool
+fn all_empty(slots: &[Slot<Bits>]) -> bool
     ensures { result ≡ list_all is_empty slots.now }
 {
     slots.iter().all(|slot| slot.is_empty())
@@ -56,7 +68,7 @@ fn all_empty(slots: &[Slot]) -> bool
 /// allocates.
 #[derive(Drop)]
 pub struct Slots {
-    slots: Vec<Slot>,
+    slots: Vec<Slot<Bits>>,
 }
 
 impl Model for Slots {
@@ -76,7 +88,8 @@ impl Model for Slots {
 impl Slots {
     /// Empty slots.
     pub fn new(alloc: Global) -> Result<Slots, AllocError>
-        ensures { IfOk result (λ slots. (link : ℕ) → slot_at slots link ≡ Slot.Empty) }
+        ensures each { IfOk result (λ slots. (link : ℕ) → slot_at slots link ≡ Slot.Empty) }
+        ensures all { IfOk result (λ slots. slots ≡ no_slots) }
     {
         let mut slots = Vec::with_capacity(alloc, SLOTS)?;
         for _place in 0..SLOTS {
@@ -129,6 +142,16 @@ impl Slots {
             return Err(Stray);
         }
         slots[place_of(link)].answer(answer)
+    }
+
+    /// Makes each message that is held ready to go out again, on every link: the user asks for
+    /// them. Nothing else changes, and nothing at all where no message is held.
+    pub fn wake(&mut self)
+        ensures all { self.new ≡ all_woken self.old }
+        ensures each { (link : ℕ) → slot_at self.new link ≡ woken (slot_at self.old link) }
+        ensures none { ((link : ℕ) → ¬ IsHeld self.old link) → self.new ≡ self.old }
+    {
+        wake_each(&mut self.slots);
     }
 
     /// Whether a link has no message.

@@ -1,4 +1,4 @@
-use Rattle.ncp_slot.proofs.Places.{slot_at-with_slot_same, slot_at-with_slot_other}
+use Rattle.ncp_slot.proofs.Places.{slot_at-with_slot_same, slot_at-with_slot_other, with_slot-twice}
 use Rattle.ncp_slot.proofs.laws.slots_are_apart.Goals as goal
 
 pub returns-clause-same : goal.returns-clause-same
@@ -6,3 +6,6 @@ returns-clause-same c = slot_at-with_slot_same
 
 pub returns-clause-others : goal.returns-clause-others
 returns-clause-others c = slot_at-with_slot_other
+
+pub returns-clause-twice : goal.returns-clause-twice
+returns-clause-twice c = with_slot-twice

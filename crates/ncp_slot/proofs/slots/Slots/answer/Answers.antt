@@ -1,4 +1,4 @@
-use Rattle.std.proofs.Common.{◌≡◌, ◌<◌, ◌∙◌, length, ◌≢◌, ◌≤◌, ◌-◌, inl, inr, true, slice_set, Result, Ok, Err, OnOk, sym, ap, arith}
+use Rattle.std.proofs.Common.{◌≡◌, ◌<◌, ◌∙◌, length, ◌≢◌, ◌≤◌, ◌-◌, inl, inr, Bool, List, true, slice_set, Result, Ok, Err, OnOk, sym, ap, arith}
 use Rattle.std.proofs.lemmas.Bool.{cases_lt}
 use Rattle.ncp_slot.specs.declared.slot.Slot.TheVariants.{Empty}
 use Rattle.ncp_slot.specs.Slots.{HasSlot}
@@ -19,7 +19,7 @@ pub returns-then-not-has_slot-clause-variant : goal.returns-then-not-has_slot-cl
 returns-then-not-has_slot-clause-variant c =
     let past : c.args.link ≢ 1 → length c.self.inside.slots.items ≤ c.args.link - 1 = λ has. elim (cases_lt 71 c.args.link) [ inl h ↦ omega arith | inr h ↦ absurd (no c (has, h)) ] in
     let none : slot_at c.args.self.now c.args.link ≡ Empty = slot_at-past c.self.inside.slots.items c.args.self.now c.args.link c.self.view_is past in
-    (λ no_ok. cc, λ travelling. let t : is_travelling Empty ≡ true = rw none at travelling in t)
+    (λ no_ok. cc, λ travelling. let t : is_travelling {M = List Bool} Empty ≡ true = rw none at travelling in t)
 
 pub returns-then-not-has_slot-clause-slot : goal.returns-then-not-has_slot-clause-slot
 returns-then-not-has_slot-clause-slot c =
