@@ -12,7 +12,7 @@ use Rattle.ncp_conn.specs.declared.record.Record.{Record}
 use Rattle.ncp_conn.specs.Records.{record_in}
 use Rattle.ncp_host.specs.declared.counts.Counts.{Counts}
 use Rattle.ncp_host.specs.declared.flags.Flags.{Flags}
-use Rattle.ncp_host.specs.PeerState.{PeerState, calls, calls_echo, calls_reset}
+use Rattle.ncp_host.specs.PeerState.{PeerState, calls, calls_echo, calls_reset, calls_wake}
 use Rattle.ncp_host.specs.Host.{Host, state_of, changed, if_known}
 
 -- A call on a connection.
@@ -40,6 +40,14 @@ echo_reply number byte h = if_known (state_of h number) (λ s. reply_of_echo byt
 
 abbrev pub after_echo : ℕ → ℕ → Host → Host
 after_echo number byte h = changed number (calls_echo byte) h
+
+-- What is held for a dead destination is asked for: in any phase (this profile's rule).
+
+abbrev pub wake_reply : ℕ → Host → Result (Unit {0}) CallFault
+wake_reply number h = if_known (state_of h number) (λ s. Ok tt)
+
+abbrev pub after_wake : ℕ → Host → Host
+after_wake number h = changed number calls_wake h
 
 -- A call that takes memory does all that it is to do, or nothing where there is no memory for it. That is
 -- answered last, where no other refusal comes.

@@ -2,7 +2,7 @@
 //! call states, is answered. All but `ask_send` and `ask_receive` take no memory.
 ghost use Rattle.std.specs.Prelude.{◌≡◌, OnErr};
 ghost use Rattle.ncp_model.specs.Peers.{Close, Give, Take, Allocate, Call_back, Interrupt, Ask_to_send, Ask_to_receive};
-ghost use Rattle.ncp_host.specs.Calls.{DoneOrNoMemory, call_reply, after_call, take_reply, reset_reply, after_reset, echo_reply, after_echo};
+ghost use Rattle.ncp_host.specs.Calls.{DoneOrNoMemory, call_reply, after_call, take_reply, reset_reply, after_reset, echo_reply, after_echo, wake_reply, after_wake};
 
 use crate::host::{Host, find};
 use ncp_bits::{BitStore, Bits};
@@ -150,5 +150,19 @@ impl<S: BitStore> Host<S> {
     {
         let place = find(self.numbers.as_slice(), &self.peers, peer)?;
         self.peers[place].echo(byte)
+    }
+
+    /// Asks for the messages to a peer that are held since their destination was dead: they are to
+    /// go out again. In any phase; where none is held nothing changes.
+    ///
+    /// Refused: `UnknownPeer`.
+    pub fn wake(&mut self, peer: u8) -> Result<(), CallFault>
+        ensures reply { result ≡ wake_reply peer self.old }
+        ensures host { self.new ≡ after_wake peer self.old }
+        ensures err { OnErr result (self.new ≡ self.old) }
+    {
+        let place = find(self.numbers.as_slice(), &self.peers, peer)?;
+        self.peers[place].wake();
+        Ok(())
     }
 }

@@ -3,7 +3,7 @@ ghost use Rattle.std.specs.Prelude.{◌≡◌, slice_get, OnErr};
 ghost use Rattle.ncp_conn.specs.Records.{record_in};
 ghost use Rattle.ncp_model.specs.Phase.{reset_answer};
 ghost use Rattle.ncp_model.specs.Peers.{comes_of, reply, reply_of_take, reply_of_echo, Close, Give, Take, Allocate, Call_back, Interrupt, Ask_to_send, Ask_to_receive};
-ghost use Rattle.ncp_host.specs.PeerState.{calls, calls_echo, calls_reset};
+ghost use Rattle.ncp_host.specs.PeerState.{calls, calls_echo, calls_reset, calls_wake};
 ghost use Rattle.ncp_host.specs.Calls.{DoneOrNoMemory, flags_of, record_answer};
 
 use crate::counts::Counts;
@@ -103,6 +103,13 @@ impl<S: BitStore> Peer<S> {
         ensures err { OnErr result (self.new ≡ self.old) }
     {
         self.association.echo(byte)
+    }
+
+    /// Makes ready what is held for a dead destination.
+    pub(crate) fn wake(&mut self)
+        ensures { self.new ≡ calls_wake self.old }
+    {
+        self.slots.wake();
     }
 
     /// A copy of what is known of a connection.

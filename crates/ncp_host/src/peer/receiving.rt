@@ -3,7 +3,7 @@
 ghost use Rattle.std.specs.Prelude.{◌≡◌, length};
 ghost use Rattle.ncp_leader.specs.Message.{message_in};
 ghost use Rattle.ncp_host.specs.PeerState.{answer_comes};
-ghost use Rattle.ncp_host.specs.Hearing.{control_after, control_received, text_after, text_received, message_after, message_received, answer_received, after_bits, received_of};
+ghost use Rattle.ncp_host.specs.Hearing.{control_after, control_received, text_after, text_received, message_after, message_received, answer_of, answer_received, after_bits, received_of};
 
 use crate::counts::one_more;
 use crate::peer::{CONTROL_LINK, CONTROL_SIZE, Peer};
@@ -18,6 +18,9 @@ pub(crate) const REGULAR: u8 = 0;
 
 /// The type of an RFNM.
 pub(crate) const RFNM: u8 = 5;
+
+/// The type of a Destination Dead.
+pub(crate) const DESTINATION_DEAD: u8 = 7;
 
 /// The type of an Incomplete Transmission.
 pub(crate) const INCOMPLETE: u8 = 9;
@@ -102,7 +105,7 @@ impl<S: BitStore> Peer<S> {
         self.hear_text(link, bits.slice(0, FRONT_BITS), &message)
     }
 
-    /// Bits with this leader came from the peer, of type 0, 5 or 9.
+    /// Bits with this leader came from the peer, of type 0, 5, 7 or 9.
     pub(crate) fn receive(&mut self, leader: &Leader, bits: &Bits) -> Received
         ensures received { result ≡ received_of leader.now bits.now self.old }
         ensures state { self.new ≡ after_bits leader.now bits.now self.old }
@@ -110,11 +113,19 @@ impl<S: BitStore> Peer<S> {
         if leader.kind == REGULAR {
             return self.hear_message(leader.link, bits);
         }
-        let answer = if leader.kind == RFNM {
-            Answer::Rfnm
-        } else {
-            Answer::Incomplete
-        };
-        self.hear_answer(leader.link, answer)
+        self.hear_answer(leader.link, answer_of(leader.kind))
+    }
+}
+
+// The answer of a type that is one.
+fn answer_of(kind: u8) -> Answer
+    ensures { result ≡ answer_of kind }
+{
+    if kind == RFNM {
+        Answer::Rfnm
+    } else if kind == DESTINATION_DEAD {
+        Answer::Dead
+    } else {
+        Answer::Incomplete
     }
 }
