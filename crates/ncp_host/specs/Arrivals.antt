@@ -1,0 +1,77 @@
+-- Any bits come to a host: too few for a leader; of a type that says nothing to it; from a host that is no
+-- peer; else from a peer (BBN 1822, section 3, IMP-to-host leader; the order and the counts are this
+-- profile's).
+use Rattle.std.specs.Prelude.{◌≡◌, ◌≢◌, ◌⊎◌, ℕ, Bool, if◌then◌else◌, List, Option, None, Some, Result, Ok, Err}
+use Rattle.ncp_leader.specs.declared.leader.Leader.{Leader}
+use Rattle.ncp_leader.specs.declared.leader.Short.{Short}
+use Rattle.ncp_leader.specs.Leader.{leader_in}
+use Rattle.ncp_host.specs.declared.counts.Ignored.{Ignored}
+use Rattle.ncp_host.specs.declared.received.Received.{Received}
+use Rattle.ncp_host.specs.declared.received.Received.TheVariants as received
+use Rattle.ncp_host.specs.Counting.{one_more}
+use Rattle.ncp_host.specs.PeerState.{PeerState}
+use Rattle.ncp_host.specs.Hearing.{is_kind, after_bits, received_of}
+use Rattle.ncp_host.specs.Host.{Host, state_of, changed, numbers_of}
+
+-- what is counted of messages that are of no peer
+
+abbrev pub one_short : Host → Host
+one_short h = record h { ignored = record h.ignored { short = one_more h.ignored.short } }
+
+abbrev pub one_other : Host → Host
+one_other h = record h { ignored = record h.ignored { other = one_more h.ignored.other } }
+
+abbrev pub one_unknown : Host → Host
+one_unknown h = record h { ignored = record h.ignored { unknown = one_more h.ignored.unknown } }
+
+-- the host that a leader names is a peer or is none
+
+abbrev pub received_from : Option PeerState → Leader → List Bool → Received
+received_from None leader bits = received.Unknown
+received_from (Some s) leader bits = received_of leader bits s
+
+abbrev pub after_from : Option PeerState → Leader → List Bool → Host → Host
+after_from None leader bits h = one_unknown h
+after_from (Some s) leader bits h = changed leader.host (after_bits leader bits) h
+
+-- the leader has a type that says something or it has none of these
+
+abbrev pub received_under : Leader → List Bool → Host → Received
+received_under leader bits h = if is_kind leader.kind then received_from (state_of h leader.host) leader bits else received.Other leader.kind
+
+abbrev pub after_hearing : Leader → List Bool → Host → Host
+after_hearing leader bits h = if is_kind leader.kind then after_from (state_of h leader.host) leader bits h else one_other h
+
+-- there is a leader or there is none
+
+abbrev pub received_with : Result Leader Short → List Bool → Host → Received
+received_with (Err short) bits h = received.Short
+received_with (Ok leader) bits h = received_under leader bits h
+
+abbrev pub after_with : Result Leader Short → List Bool → Host → Host
+after_with (Err short) bits h = one_short h
+after_with (Ok leader) bits h = after_hearing leader bits h
+
+abbrev pub received_in : List Bool → Host → Received
+received_in bits h = received_with (leader_in bits) bits h
+
+abbrev pub after_received : List Bool → Host → Host
+after_received bits h = after_with (leader_in bits) bits h
+
+-- What bits may change, whatever they are: what the host has for the peer that they name, or one count of
+-- messages that are of no peer.
+
+-- all but what the host has for one peer is as it was
+pub record OthersStay (number : ℕ) (before now : Host) : Type 0 where
+  pub me : now.me ≡ before.me
+  pub numbers : numbers_of now.peers ≡ numbers_of before.peers
+  pub others : (other : ℕ) → other ≢ number → state_of now other ≡ state_of before other
+  pub ignored : now.ignored ≡ before.ignored
+
+-- one count is one higher, where it can rise, and all else is as it was
+abbrev pub OneIgnored : Host → Host → Type 0
+OneIgnored before now = (now ≡ one_short before) ⊎ ((now ≡ one_other before) ⊎ (now ≡ one_unknown before))
+
+abbrev pub OnlyNamedPeerChanges : Result Leader Short → Host → Host → Type 0
+OnlyNamedPeerChanges (Err short) before now = OneIgnored before now
+OnlyNamedPeerChanges (Ok leader) before now = OthersStay leader.host before now ⊎ OneIgnored before now

@@ -1,0 +1,85 @@
+-- The calls of a user: what each answers, and what it leaves of the host. Each names a peer first; that the
+-- host has no such peer is judged before all else (this profile's rule).
+use Rattle.std.specs.Prelude.{◌≡◌, ◌⊎◌, ℕ, Bool, List, slice_get, Option, None, Some, Result, Ok, Err}
+use Rattle.ncp_control.specs.declared.command.Command.{Command}
+use Rattle.ncp_model.specs.declared.pair.Pair.{Pair}
+use Rattle.ncp_model.specs.declared.call_fault.CallFault.{CallFault}
+use Rattle.ncp_model.specs.declared.call_fault.CallFault.TheVariants.{NoEntry, OutOfMemory}
+use Rattle.ncp_model.specs.declared.outcomes.Error.{Error}
+use Rattle.ncp_model.specs.Phase.{Phase, reset_answer}
+use Rattle.ncp_model.specs.Peers.{Call, Take, comes_of, reply, reply_of_take, reply_of_echo}
+use Rattle.ncp_conn.specs.declared.record.Record.{Record}
+use Rattle.ncp_conn.specs.Records.{record_in}
+use Rattle.ncp_host.specs.declared.counts.Counts.{Counts}
+use Rattle.ncp_host.specs.declared.flags.Flags.{Flags}
+use Rattle.ncp_host.specs.PeerState.{PeerState, calls, calls_echo, calls_reset, calls_wake}
+use Rattle.ncp_host.specs.Host.{Host, state_of, changed, if_known}
+
+-- A call on a connection.
+
+abbrev pub call_reply : ℕ → Pair → Call → Host → Result (Unit {0}) CallFault
+call_reply number pair call h = if_known (state_of h number) (λ s. reply (comes_of pair call s.peer))
+
+abbrev pub after_call : ℕ → Pair → Call → Host → Host
+after_call number pair call h = changed number (calls pair call) h
+
+-- the answer to the one that has bits
+abbrev pub take_reply : ℕ → Pair → ℕ → Host → Result (List Bool) CallFault
+take_reply number pair bytes h = if_known (state_of h number) (λ s. reply_of_take (comes_of pair (Take bytes) s.peer))
+
+-- A reset, and an echo.
+
+abbrev pub reset_reply : ℕ → Host → Result (Unit {0}) CallFault
+reset_reply number h = if_known (state_of h number) (λ s. reset_answer s.peer.phase)
+
+abbrev pub after_reset : ℕ → Host → Host
+after_reset number h = changed number calls_reset h
+
+abbrev pub echo_reply : ℕ → ℕ → Host → Result (Unit {0}) CallFault
+echo_reply number byte h = if_known (state_of h number) (λ s. reply_of_echo byte s.peer)
+
+abbrev pub after_echo : ℕ → ℕ → Host → Host
+after_echo number byte h = changed number (calls_echo byte) h
+
+-- What is held for a dead destination is asked for: in any phase (this profile's rule).
+
+abbrev pub wake_reply : ℕ → Host → Result (Unit {0}) CallFault
+wake_reply number h = if_known (state_of h number) (λ s. Ok tt)
+
+abbrev pub after_wake : ℕ → Host → Host
+after_wake number h = changed number calls_wake h
+
+-- A call that takes memory does all that it is to do, or nothing where there is no memory for it. That is
+-- answered last, where no other refusal comes.
+abbrev pub DoneOrNoMemory : {A : Type 0} → Result (Unit {0}) CallFault → A → Result (Unit {0}) CallFault → A → A → Type 0
+DoneOrNoMemory reply after result before now =
+    ((result ≡ reply) × (now ≡ after)) ⊎ ((result ≡ Err OutOfMemory) × (reply ≡ Ok tt) × (now ≡ before))
+
+-- What is read changes nothing, and is answered in any phase.
+
+abbrev pub record_answer : Option Record → Result Record CallFault
+record_answer None = Err NoEntry
+record_answer (Some r) = Ok r
+
+abbrev pub record_told : ℕ → Pair → Host → Result Record CallFault
+record_told number pair h = if_known (state_of h number) (λ s. record_answer (record_in pair s.peer.ends))
+
+abbrev pub flags_of : Phase → Flags
+flags_of p = record { down = p.down; want = p.want; owe = p.owe; wait = p.wait }
+
+abbrev pub flags_told : ℕ → Host → Result Flags CallFault
+flags_told number h = if_known (state_of h number) (λ s. Ok (flags_of s.peer.phase))
+
+abbrev pub echoed_told : ℕ → Host → Result (Option ℕ) CallFault
+echoed_told number h = if_known (state_of h number) (λ s. Ok s.peer.echoes.echoed)
+
+abbrev pub errors_told : ℕ → Host → Result (List Error) CallFault
+errors_told number h = if_known (state_of h number) (λ s. Ok s.peer.echoes.errors)
+
+abbrev pub counts_told : ℕ → Host → Result Counts CallFault
+counts_told number h = if_known (state_of h number) (λ s. Ok s.counts)
+
+-- the command that waits at a place behind the first, if the host has the peer and so many wait
+abbrev pub waiting_at : Option PeerState → ℕ → Option Command
+waiting_at None place = None
+waiting_at (Some s) place = slice_get s.peer.phase.waiting place

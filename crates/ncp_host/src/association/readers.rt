@@ -1,0 +1,52 @@
+//! What a user may read of a peer.
+ghost use Rattle.std.specs.Prelude.{◌≡◌, slice_get};
+ghost use Rattle.ncp_conn.specs.Records.{record_in};
+ghost use Rattle.ncp_host.specs.Calls.{flags_of, record_answer};
+
+use crate::association::Association;
+use crate::echoes::Errors;
+use crate::flags::Flags;
+use ncp_bits::BitStore;
+use ncp_conn::Record;
+use ncp_control::Command;
+use ncp_model::{CallFault, Pair};
+
+impl<S: BitStore> Association<S> {
+    /// A copy of what is known of a connection. Refused: `NoEntry`.
+    pub(crate) fn state(&self, pair: Pair) -> Result<Record, CallFault>
+        ensures { result ≡ record_answer (record_in pair self.now.ends) }
+    {
+        match self.table.record(pair) {
+            Some(record) => Ok(record),
+            None => Err(CallFault::NoEntry),
+        }
+    }
+
+    /// The four flags.
+    pub(crate) fn flags(&self) -> Flags
+        ensures { result ≡ flags_of self.now.phase }
+    {
+        self.phase.flags()
+    }
+
+    /// The byte of the last ERP that answered an echo.
+    pub(crate) fn echoed(&self) -> Option<u8>
+        ensures { result ≡ self.now.echoes.echoed }
+    {
+        self.echoes.echoed()
+    }
+
+    /// The last errors that came, oldest first.
+    pub(crate) fn errors(&self) -> Errors<'_>
+        ensures { result ≡ self.now.echoes.errors }
+    {
+        self.echoes.errors()
+    }
+
+    /// The command that waits at a place behind the first.
+    pub(crate) fn waiting(&self, place: usize) -> Option<Command>
+        ensures { result ≡ slice_get self.now.phase.waiting place }
+    {
+        self.phase.waiting(place)
+    }
+}

@@ -1,0 +1,74 @@
+//! What a user may read, in any phase. Each but the last two is refused with `UnknownPeer` first.
+ghost use Rattle.std.specs.Prelude.{◌≡◌};
+ghost use Rattle.ncp_host.specs.Host.{state_of};
+ghost use Rattle.ncp_host.specs.Calls.{record_told, flags_told, echoed_told, errors_told, counts_told, waiting_at};
+
+use crate::counts::{Counts, Ignored};
+use crate::echoes::Errors;
+use crate::flags::Flags;
+use crate::host::{Host, find};
+use ncp_bits::BitStore;
+use ncp_conn::Record;
+use ncp_control::Command;
+use ncp_model::{CallFault, Pair};
+
+impl<S: BitStore> Host<S> {
+    /// A copy of what is known of a connection, with the number of the stored bits in place of the
+    /// bits. Refused, in this order: `UnknownPeer`, `NoEntry`.
+    pub fn state(&self, peer: u8, pair: Pair) -> Result<Record, CallFault>
+        ensures { result ≡ record_told peer pair self.now }
+    {
+        let place = find(self.numbers.as_slice(), &self.peers, peer)?;
+        self.peers[place].state(pair)
+    }
+
+    /// The four flags for a peer.
+    pub fn phase(&self, peer: u8) -> Result<Flags, CallFault>
+        ensures { result ≡ flags_told peer self.now }
+    {
+        let place = find(self.numbers.as_slice(), &self.peers, peer)?;
+        Ok(self.peers[place].flags())
+    }
+
+    /// The byte of the last ERP that answered an echo, if one did.
+    pub fn echoed(&self, peer: u8) -> Result<Option<u8>, CallFault>
+        ensures { result ≡ echoed_told peer self.now }
+    {
+        let place = find(self.numbers.as_slice(), &self.peers, peer)?;
+        Ok(self.peers[place].echoed())
+    }
+
+    /// The last `MAX_ERRORS` ERRs that came from a peer, oldest first.
+    pub fn errors(&self, peer: u8) -> Result<Errors<'_>, CallFault>
+        ensures { result ≡ errors_told peer self.now }
+    {
+        let place = find(self.numbers.as_slice(), &self.peers, peer)?;
+        Ok(self.peers[place].errors())
+    }
+
+    /// What was counted of what came from a peer.
+    pub fn counts(&self, peer: u8) -> Result<Counts, CallFault>
+        ensures { result ≡ counts_told peer self.now }
+    {
+        let place = find(self.numbers.as_slice(), &self.peers, peer)?;
+        Ok(self.peers[place].counts())
+    }
+
+    /// What was counted of messages that are of no peer.
+    pub fn ignored(&self) -> Ignored
+        ensures { result ≡ self.now.ignored }
+    {
+        self.ignored
+    }
+
+    /// The command that waits for a peer at a place behind the first, which is at 0: none where the
+    /// host has no such peer, or fewer commands wait.
+    pub fn waiting(&self, peer: u8, place: u32) -> Option<Command>
+        ensures { result ≡ waiting_at (state_of self.now peer) place }
+    {
+        let Ok(at) = find(self.numbers.as_slice(), &self.peers, peer) else {
+            return None;
+        };
+        self.peers[at].waiting(place as usize)
+    }
+}

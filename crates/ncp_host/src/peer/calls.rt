@@ -1,0 +1,156 @@
+//! The calls of a user, and what a user may read.
+ghost use Rattle.std.specs.Prelude.{◌≡◌, slice_get, OnErr};
+ghost use Rattle.ncp_conn.specs.Records.{record_in};
+ghost use Rattle.ncp_model.specs.Phase.{reset_answer};
+ghost use Rattle.ncp_model.specs.Peers.{comes_of, reply, reply_of_take, reply_of_echo, Close, Give, Take, Allocate, Call_back, Interrupt, Ask_to_send, Ask_to_receive};
+ghost use Rattle.ncp_host.specs.PeerState.{calls, calls_echo, calls_reset, calls_wake};
+ghost use Rattle.ncp_host.specs.Calls.{DoneOrNoMemory, flags_of, record_answer};
+
+use crate::counts::Counts;
+use crate::echoes::Errors;
+use crate::flags::Flags;
+use crate::peer::Peer;
+use ncp_bits::{BitStore, Bits};
+use ncp_conn::Record;
+use ncp_control::Command;
+use ncp_model::{CallFault, Pair};
+
+impl<S: BitStore> Peer<S> {
+    /// Resets.
+    pub(crate) fn reset(&mut self) -> Result<(), CallFault>
+        ensures reply { result ≡ reset_answer self.old.peer.phase }
+        ensures state { self.new ≡ calls_reset self.old }
+        ensures err { OnErr result (self.new ≡ self.old) }
+    {
+        let quiet = self.slots.quiet();
+        self.association.reset(quiet)
+    }
+
+    /// Asks to send.
+    pub(crate) fn ask_send(&mut self, pair: Pair, size: u8, room: u32) -> Result<(), CallFault>
+        ensures done { DoneOrNoMemory (reply (comes_of pair (Ask_to_send size room) self.old.peer)) (calls pair (Ask_to_send size room) self.old) result self.old self.new }
+        ensures err { OnErr result (self.new ≡ self.old) }
+    {
+        self.association.ask_send(pair, size, room)
+    }
+
+    /// Asks to receive.
+    pub(crate) fn ask_receive(&mut self, pair: Pair, room: u32) -> Result<(), CallFault>
+        ensures done { DoneOrNoMemory (reply (comes_of pair (Ask_to_receive room) self.old.peer)) (calls pair (Ask_to_receive room) self.old) result self.old self.new }
+        ensures err { OnErr result (self.new ≡ self.old) }
+    {
+        self.association.ask_receive(pair, room)
+    }
+
+    /// Gives text to send.
+    pub(crate) fn give(&mut self, pair: Pair, text: &Bits) -> Result<(), CallFault>
+        ensures reply { result ≡ reply (comes_of pair (Give text.now) self.old.peer) }
+        ensures state { self.new ≡ calls pair (Give text.now) self.old }
+        ensures err { OnErr result (self.new ≡ self.old) }
+    {
+        self.association.give(pair, text)
+    }
+
+    /// Takes held text from its front.
+    pub(crate) fn take(&mut self, pair: Pair, bytes: u32) -> Result<Bits, CallFault>
+        ensures reply { result ≡ reply_of_take (comes_of pair (Take bytes) self.old.peer) }
+        ensures state { self.new ≡ calls pair (Take bytes) self.old }
+        ensures err { OnErr result (self.new ≡ self.old) }
+    {
+        self.association.take(pair, bytes)
+    }
+
+    /// Allows the sender so many messages and bits more.
+    pub(crate) fn allocate(&mut self, pair: Pair, messages: u16, bits: u32) -> Result<(), CallFault>
+        ensures reply { result ≡ reply (comes_of pair (Allocate messages bits) self.old.peer) }
+        ensures state { self.new ≡ calls pair (Allocate messages bits) self.old }
+        ensures err { OnErr result (self.new ≡ self.old) }
+    {
+        self.association.allocate(pair, messages, bits)
+    }
+
+    /// Asks the sender to give back a part of its counters.
+    pub(crate) fn call_back(&mut self, pair: Pair, fm: u8, fb: u8) -> Result<(), CallFault>
+        ensures reply { result ≡ reply (comes_of pair (Call_back fm fb) self.old.peer) }
+        ensures state { self.new ≡ calls pair (Call_back fm fb) self.old }
+        ensures err { OnErr result (self.new ≡ self.old) }
+    {
+        self.association.call_back(pair, fm, fb)
+    }
+
+    /// Interrupts the other side.
+    pub(crate) fn interrupt(&mut self, pair: Pair) -> Result<(), CallFault>
+        ensures reply { result ≡ reply (comes_of pair Interrupt self.old.peer) }
+        ensures state { self.new ≡ calls pair Interrupt self.old }
+        ensures err { OnErr result (self.new ≡ self.old) }
+    {
+        self.association.interrupt(pair)
+    }
+
+    /// Closes this side of a connection.
+    pub(crate) fn close(&mut self, pair: Pair) -> Result<(), CallFault>
+        ensures reply { result ≡ reply (comes_of pair Close self.old.peer) }
+        ensures state { self.new ≡ calls pair Close self.old }
+        ensures err { OnErr result (self.new ≡ self.old) }
+    {
+        self.association.close(pair)
+    }
+
+    /// Asks for an echo.
+    pub(crate) fn echo(&mut self, byte: u8) -> Result<(), CallFault>
+        ensures reply { result ≡ reply_of_echo byte self.old.peer }
+        ensures state { self.new ≡ calls_echo byte self.old }
+        ensures err { OnErr result (self.new ≡ self.old) }
+    {
+        self.association.echo(byte)
+    }
+
+    /// Makes ready what is held for a dead destination.
+    pub(crate) fn wake(&mut self)
+        ensures { self.new ≡ calls_wake self.old }
+    {
+        self.slots.wake();
+    }
+
+    /// A copy of what is known of a connection.
+    pub(crate) fn state(&self, pair: Pair) -> Result<Record, CallFault>
+        ensures { result ≡ record_answer (record_in pair self.now.peer.ends) }
+    {
+        self.association.state(pair)
+    }
+
+    /// The four flags.
+    pub(crate) fn flags(&self) -> Flags
+        ensures { result ≡ flags_of self.now.peer.phase }
+    {
+        self.association.flags()
+    }
+
+    /// The byte of the last ERP that answered an echo.
+    pub(crate) fn echoed(&self) -> Option<u8>
+        ensures { result ≡ self.now.peer.echoes.echoed }
+    {
+        self.association.echoed()
+    }
+
+    /// The last errors that came, oldest first.
+    pub(crate) fn errors(&self) -> Errors<'_>
+        ensures { result ≡ self.now.peer.echoes.errors }
+    {
+        self.association.errors()
+    }
+
+    /// What was counted.
+    pub(crate) fn counts(&self) -> Counts
+        ensures { result ≡ self.now.counts }
+    {
+        self.counts
+    }
+
+    /// The command that waits at a place behind the first.
+    pub(crate) fn waiting(&self, place: usize) -> Option<Command>
+        ensures { result ≡ slice_get self.now.peer.phase.waiting place }
+    {
+        self.association.waiting(place)
+    }
+}

@@ -1,0 +1,131 @@
+//! What comes from a peer: regular messages (NIC 8246, message form), and the answers to those that
+//! went out (BBN 1822, section 3).
+ghost use Rattle.std.specs.Prelude.{◌≡◌, length};
+ghost use Rattle.ncp_leader.specs.Message.{message_in};
+ghost use Rattle.ncp_host.specs.PeerState.{answer_comes};
+ghost use Rattle.ncp_host.specs.Hearing.{control_after, control_received, text_after, text_received, message_after, message_received, answer_of, answer_received, after_bits, received_of};
+
+use crate::counts::one_more;
+use crate::peer::{CONTROL_LINK, CONTROL_SIZE, Peer};
+use crate::received::Received;
+use ncp_bits::{BitStore, Bits, Part};
+use ncp_leader::{FRONT_BITS, Leader, Regular, read_regular};
+use ncp_model::Took;
+use ncp_slot::{Answer, LAST_LINK, UNUSED_LINK};
+
+/// The type of a regular message.
+pub(crate) const REGULAR: u8 = 0;
+
+/// The type of an RFNM.
+pub(crate) const RFNM: u8 = 5;
+
+/// The type of a Destination Dead.
+pub(crate) const DESTINATION_DEAD: u8 = 7;
+
+/// The type of an Incomplete Transmission.
+pub(crate) const INCOMPLETE: u8 = 9;
+
+impl<S: BitStore> Peer<S> {
+    // An answer to the message that went out on a link.
+    fn hear_answer(&mut self, link: u8, answer: Answer) -> Received
+        ensures received { result ≡ answer_received link self.old }
+        ensures state { self.new ≡ answer_comes link answer self.old }
+    {
+        if self.slots.answer(link, answer).is_err() {
+            self.counts.stray = one_more(self.counts.stray);
+            return Received::Stray;
+        }
+        if let Answer::Rfnm = answer {
+            if link != CONTROL_LINK {
+                self.association.free(link);
+            }
+            let quiet = self.slots.quiet();
+            self.association.settle(quiet);
+        }
+        Received::Answered
+    }
+
+    // A message on the control link.
+    fn hear_control(&mut self, message: &Regular<'_>) -> Received
+        ensures received { result ≡ control_received message.now }
+        ensures state { self.new ≡ control_after message.now self.old }
+    {
+        if message.size() != CONTROL_SIZE {
+            self.counts.wrong_size = one_more(self.counts.wrong_size);
+            return Received::WrongSize;
+        }
+        let quiet = self.slots.quiet();
+        let count = self
+            .association
+            .hear_all(quiet, message.text(), &mut self.counts);
+        Received::Control(count)
+    }
+
+    // A text on a data link.
+    fn hear_text(&mut self, link: u8, head: Part<'_>, message: &Regular<'_>) -> Received
+        requires { length head ≡ FRONT_BITS }
+        ensures received { result ≡ text_received link message.now self.old }
+        ensures state { self.new ≡ text_after link head.entry message.now self.old }
+    {
+        if !self.association.is_up() {
+            self.counts.not_up = one_more(self.counts.not_up);
+            return Received::NotUp;
+        }
+        let took = self
+            .association
+            .hear_text(link, head, message.size(), message.text());
+        match took {
+            Took::Late => self.counts.late = one_more(self.counts.late),
+            Took::WrongSize => self.counts.wrong_size = one_more(self.counts.wrong_size),
+            Took::Over => self.counts.over = one_more(self.counts.over),
+            Took::Admitted | Took::NotOpen => (),
+        }
+        Received::Text(took)
+    }
+
+    // A regular message with this link in its leader.
+    fn hear_message(&mut self, link: u8, bits: &Bits) -> Received
+        ensures received { result ≡ message_received link (message_in bits.now) self.old }
+        ensures state { self.new ≡ message_after link bits.now (message_in bits.now) self.old }
+    {
+        let message = match read_regular(bits) {
+            Ok(message) => message,
+            Err(fault) => {
+                self.counts.faults = one_more(self.counts.faults);
+                return Received::Fault(fault);
+            }
+        };
+        if link == UNUSED_LINK || link > LAST_LINK {
+            self.counts.wrong_link = one_more(self.counts.wrong_link);
+            return Received::WrongLink;
+        }
+        if link == CONTROL_LINK {
+            return self.hear_control(&message);
+        }
+        self.hear_text(link, bits.slice(0, FRONT_BITS), &message)
+    }
+
+    /// Bits with this leader came from the peer, of type 0, 5, 7 or 9.
+    pub(crate) fn receive(&mut self, leader: &Leader, bits: &Bits) -> Received
+        ensures received { result ≡ received_of leader.now bits.now self.old }
+        ensures state { self.new ≡ after_bits leader.now bits.now self.old }
+    {
+        if leader.kind == REGULAR {
+            return self.hear_message(leader.link, bits);
+        }
+        self.hear_answer(leader.link, answer_of(leader.kind))
+    }
+}
+
+// The answer of a type that is one.
+fn answer_of(kind: u8) -> Answer
+    ensures { result ≡ answer_of kind }
+{
+    if kind == RFNM {
+        Answer::Rfnm
+    } else if kind == DESTINATION_DEAD {
+        Answer::Dead
+    } else {
+        Answer::Incomplete
+    }
+}
