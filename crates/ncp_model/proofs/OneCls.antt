@@ -1,5 +1,5 @@
 -- The CLSs that acts make.
-use Rattle.std.proofs.Common.{◌≡◌, true, false, List, [], ◌∷◌, Option, None, Some, refl, arith}
+use Rattle.std.proofs.Common.{◌≡◌, true, false, [], ◌∷◌, Option, None, Some, arith}
 use Rattle.std.specs.List.{list_any}
 use Rattle.ncp_control.specs.declared.command.Command.TheVariants.{Cls}
 use Rattle.ncp_model.specs.declared.pair.Pair.{Pair}

@@ -1,13 +1,12 @@
 -- Two hosts with their connections, and the links between them: all that may happen. Each step is
 -- written once, for "this host" and "that host". Every rule is one of an end, of a phase, or of a
 -- message on a link.
-use Rattle.std.specs.Prelude.{ℕ, zero, suc, ◌==◌, Bool, true, false, ◌&&◌, ◌||◌, if◌then◌else◌, List, [], ◌∷◌, ◌++◌, Option, None, Some, Result, Ok, Err}
-use Rattle.std.specs.FinMap.{FinMap, empty, get, insert, remove}
+use Rattle.std.specs.Prelude.{ℕ, zero, suc, ◌==◌, Bool, true, false, ◌&&◌, ◌||◌, if◌then◌else◌, List, [], ◌∷◌, ◌++◌, Option, None, Some}
+use Rattle.std.specs.FinMap.{FinMap, empty, get, insert}
 use Rattle.ncp_control.specs.declared.command.Command.{Command}
 use Rattle.ncp_control.specs.declared.command.Command.TheVariants.{Eco, Erp, Rst, Rrp}
 use Rattle.ncp_control.specs.declared.command.Command.TheVariants as commands
 use Rattle.ncp_model.specs.declared.pair.Pair.{Pair}
-use Rattle.ncp_model.specs.declared.call_fault.CallFault.{CallFault}
 use Rattle.ncp_model.specs.declared.outcomes.Heard.{Heard}
 use Rattle.ncp_model.specs.declared.outcomes.Heard.TheVariants as heard
 use Rattle.ncp_model.specs.declared.limits.TheConstants.{FIRST_LINK}
