@@ -1,6 +1,6 @@
 //! `CallFault`.
 ghost use Rattle.std.specs.Prelude.{◌≡◌};
-ghost use Rattle.ncp_model.specs.Faults.{name_of, number_of};
+ghost use Rattle.ncp_model.specs.Faults.{name_of, fault_number};
 
 use thiserror::Error;
 
@@ -46,7 +46,7 @@ pub enum CallFault {
 impl CallFault {
     /// The number, which says when it is judged: a smaller one before a greater.
     pub fn number(self) -> u8
-        ensures { result ≡ number_of self }
+        ensures { result ≡ fault_number self }
     {
         self as u8
     }
