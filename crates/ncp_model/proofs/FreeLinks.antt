@@ -4,7 +4,7 @@ use Rattle.std.specs.List.{count_by}
 use Rattle.std.specs.FinMap.{entries}
 use Rattle.std.proofs.lemmas.List.Sums.{sum_by-cons}
 use Rattle.ncp_model.specs.declared.pair.Pair.{Pair}
-use Rattle.ncp_model.specs.declared.limits.TheConstants.{FIRST_LINK, LAST_LINK, MAX_OWN}
+use Rattle.ncp_model.specs.declared.limits.TheConstants.{FIRST_LINK, LAST_LINK, DATA_LINKS, MAX_OWN}
 use Rattle.ncp_model.specs.End.{End}
 use Rattle.ncp_model.specs.Ends.{Ends, count, any, has_asked, uses_link, lowest, free_link}
 
@@ -88,21 +88,21 @@ total-full es (suc n) from h = let k = total-full es n (suc from) in grind arith
 -- of the ends with one peer
 
 pub free-from : (m : Ends) → FIRST_LINK ≤ free_link m
-free-from m = lowest-from (λ on. not (any (uses_link on) m)) 70 FIRST_LINK
+free-from m = lowest-from (λ on. not (any (uses_link on) m)) DATA_LINKS FIRST_LINK
 
 pub free-lowest : (m : Ends) (on : ℕ) → FIRST_LINK ≤ on → on < free_link m → any (uses_link on) m ≡ true
-free-lowest m on l h = let k = lowest-below (λ on. not (any (uses_link on) m)) 70 FIRST_LINK on l h in grind arith
+free-lowest m on l h = let k = lowest-below (λ on. not (any (uses_link on) m)) DATA_LINKS FIRST_LINK on l h in grind arith
 
 pub free-free : (m : Ends) → free_link m ≤ LAST_LINK → any (uses_link (free_link m)) m ≡ false
-free-free m h = let k = lowest-passes (λ on. not (any (uses_link on) m)) 70 FIRST_LINK (omega arith) in grind arith
+free-free m h = let k = lowest-passes (λ on. not (any (uses_link on) m)) DATA_LINKS FIRST_LINK (omega arith) in grind arith
 
 pub free-room : (m : Ends) → count has_asked m ≤ MAX_OWN → free_link m ≤ LAST_LINK
 free-room m h =
-    let k = total-full (entries m) 70 FIRST_LINK in
-    let t = total-le (entries m) 70 FIRST_LINK in
-    let u = lowest-upto (λ on. not (any (uses_link on) m)) 70 FIRST_LINK in
+    let k = total-full (entries m) DATA_LINKS FIRST_LINK in
+    let t = total-le (entries m) DATA_LINKS FIRST_LINK in
+    let u = lowest-upto (λ on. not (any (uses_link on) m)) DATA_LINKS FIRST_LINK in
     go (nat_lt LAST_LINK (free_link m)) refl
   where
     go : (b : Bool) → nat_lt LAST_LINK (free_link m) ≡ b → free_link m ≤ LAST_LINK
     go false e = grind arith
-    go true e = let f : 70 ≤ total (entries m) 70 FIRST_LINK = total-full (entries m) 70 FIRST_LINK (grind arith) in absurd (omega (arith, f, total-le (entries m) 70 FIRST_LINK))
+    go true e = let f : DATA_LINKS ≤ total (entries m) DATA_LINKS FIRST_LINK = total-full (entries m) DATA_LINKS FIRST_LINK (grind arith) in absurd (omega (arith, f, total-le (entries m) DATA_LINKS FIRST_LINK))

@@ -5,7 +5,7 @@ use Rattle.ncp_model.specs.End.{End, or_new}
 use Rattle.ncp_model.specs.Texts.{Taken, Again, Kept}
 use Rattle.ncp_model.specs.Happenings.{Happening, happens}
 use Rattle.ncp_model.specs.Happenings as all
-use Rattle.ncp_model.specs.Keeping.{calls_back, is_ret, is_interrupt, is_sending, is_rfnm, counts}
+use Rattle.ncp_model.specs.Keeping.{calls_back, is_ret, is_interrupt, is_sending, frees_the_sender, counts}
 
 pub keeps-asked : (pair : Pair) (what : Happening) (before : Option End) (e : End) → (happens pair what before).after ≡ Some e → (or_new before).asked ≡ true → e.asked ≡ true
 keeps-asked pair (all.Asks_to_send of_size with_room own full) before e h u = grind arith
@@ -358,7 +358,7 @@ keeps-sending pair (all.Is_answered Again) before e h c u = grind arith
 keeps-sending pair (all.Is_answered Kept) before e h c u = grind arith
 keeps-sending pair all.Is_cleared before e h c u = grind arith
 
-pub keeps-freed : (pair : Pair) (what : Happening) (before : Option End) (e : End) → (happens pair what before).after ≡ Some e → is_rfnm what ≡ false → (or_new before).busy ≡ true → e.busy ≡ true
+pub keeps-freed : (pair : Pair) (what : Happening) (before : Option End) (e : End) → (happens pair what before).after ≡ Some e → frees_the_sender what ≡ false → (or_new before).busy ≡ true → e.busy ≡ true
 keeps-freed pair (all.Asks_to_send of_size with_room own full) before e h c u = grind arith
 keeps-freed pair (all.Asks_to_receive with_room on own full) before e h c u = grind arith
 keeps-freed pair (all.Closes full) None e h c u = grind arith

@@ -1,5 +1,5 @@
 -- The CLSs that acts make.
-use Rattle.std.proofs.Common.{◌≡◌, true, false, List, [], ◌∷◌, Option, None, Some, refl, arith}
+use Rattle.std.proofs.Common.{◌≡◌, true, false, [], ◌∷◌, Option, None, Some, arith}
 use Rattle.std.specs.List.{list_any}
 use Rattle.ncp_control.specs.declared.command.Command.TheVariants.{Cls}
 use Rattle.ncp_model.specs.declared.pair.Pair.{Pair}
@@ -8,7 +8,7 @@ use Rattle.ncp_model.specs.End.{End}
 use Rattle.ncp_model.specs.Texts.{Taken, Again, Kept}
 use Rattle.ncp_model.specs.Happenings.{Happening, happens}
 use Rattle.ncp_model.specs.Happenings as all
-use Rattle.ncp_model.specs.Keeping.{is_cls, is_clearing, is_rfnm, was_left}
+use Rattle.ncp_model.specs.Keeping.{is_cls, is_clearing, frees_the_sender, was_left}
 
 pub cls-made : (pair : Pair) (what : Happening) (e : End) → is_clearing what ≡ false → e.left ≡ false → list_any is_cls (happens pair what (Some e)).made ≡ was_left (happens pair what (Some e)).after
 cls-made pair (all.Asks_to_send of_size with_room own full) e c l = grind arith
@@ -121,7 +121,7 @@ cls-sockets pair (all.Is_answered Again) before h = grind arith
 cls-sockets pair (all.Is_answered Kept) before h = grind arith
 cls-sockets pair all.Is_cleared before h = grind arith
 
-pub cls-waits : (pair : Pair) (what : Happening) (e : End) → sends pair ≡ true → e.busy ≡ true → is_rfnm what ≡ false → list_any is_cls (happens pair what (Some e)).made ≡ false
+pub cls-waits : (pair : Pair) (what : Happening) (e : End) → sends pair ≡ true → e.busy ≡ true → frees_the_sender what ≡ false → list_any is_cls (happens pair what (Some e)).made ≡ false
 cls-waits pair (all.Asks_to_send of_size with_room own full) e s u r = grind arith
 cls-waits pair (all.Asks_to_receive with_room on own full) e s u r = grind arith
 cls-waits pair (all.Closes full) e s u r = grind arith

@@ -16,8 +16,8 @@ use Rattle.ncp_model.specs.Act.{Act, Stays, Becomes, met, leaves, closing, is_ro
 
 -- own: how many ends have an own request; full: the commands that wait leave no place for a call's
 
--- Whether an own request may be made: the reasons to refuse it, in order. Each test is given what
--- stands for a refusal, and what stands where there is none.
+-- Whether an own request may be made: the reasons to refuse it, in order. Each test is told what
+-- follows a refusal, and what follows where there is none.
 
 -- the end was asked for, or is on its way out
 abbrev pub if_end_may_ask : {A : Type 0} → End → (CallFault → A) → A → A
@@ -47,7 +47,7 @@ if_may_ask_receive pair with_room own full before refused accepted =
     else if not (is_room with_room) then refused BadRoom
     else if_may_ask own full before refused accepted
 
--- the same as answers
+-- what a request is answered before memory is asked for: as far as the end goes, with the table, and whole
 abbrev pub end_to_ask : End → Result (Unit {0}) CallFault
 end_to_ask e = if_end_may_ask e Err (Ok tt)
 

@@ -27,24 +27,24 @@ name_of QueueFull = codes "QueueFull"
 name_of OutOfMemory = codes "OutOfMemory"
 
 -- the number that says when it is judged: a smaller one before a greater
-abbrev pub number_of : CallFault → ℕ
-number_of UnknownPeer = 1
-number_of NotUp = 2
-number_of BadSex = 3
-number_of BadSize = 4
-number_of BadRoom = 5
-number_of NoEntry = 6
-number_of AlreadyAsked = 7
-number_of Closing = 8
-number_of NotOpen = 9
-number_of WrongEnd = 10
-number_of NotWhole = 11
-number_of Busy = 12
-number_of NoRoom = 13
-number_of TooMuch = 14
-number_of TableFull = 15
-number_of QueueFull = 16
-number_of OutOfMemory = 17
+abbrev pub fault_number : CallFault → ℕ
+fault_number UnknownPeer = 1
+fault_number NotUp = 2
+fault_number BadSex = 3
+fault_number BadSize = 4
+fault_number BadRoom = 5
+fault_number NoEntry = 6
+fault_number AlreadyAsked = 7
+fault_number Closing = 8
+fault_number NotOpen = 9
+fault_number WrongEnd = 10
+fault_number NotWhole = 11
+fault_number Busy = 12
+fault_number NoRoom = 13
+fault_number TooMuch = 14
+fault_number TableFull = 15
+fault_number QueueFull = 16
+fault_number OutOfMemory = 17
 
 -- what became of a text, as a program prints it
 abbrev pub name_of_took : Took → List ℕ

@@ -27,9 +27,9 @@ abbrev pub is_sending : Happening → Bool
 is_sending all.Text_goes_out = true
 is_sending what = false
 
-abbrev pub is_rfnm : Happening → Bool
-is_rfnm (all.Is_answered Taken) = true
-is_rfnm what = false
+abbrev pub frees_the_sender : Happening → Bool
+frees_the_sender (all.Is_answered Taken) = true
+frees_the_sender what = false
 
 -- the numbers grow by ALL that is made or comes, fall by GVB and RET, and by texts (NIC 8246,
 -- allocation)

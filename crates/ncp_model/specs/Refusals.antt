@@ -30,14 +30,14 @@ is_leaving_or_left before = (or_new before).leaving || (or_new before).left
 abbrev pub room_of : Option End → ℕ
 room_of before = (or_new before).room
 
-abbrev pub size_of : Option End → ℕ
-size_of before = (or_new before).size
+abbrev pub byte_size_of : Option End → ℕ
+byte_size_of before = (or_new before).size
 
-abbrev pub messages_of : Option End → ℕ
-messages_of before = (or_new before).messages
+abbrev pub counted_messages : Option End → ℕ
+counted_messages before = (or_new before).messages
 
-abbrev pub bits_of : Option End → ℕ
-bits_of before = (or_new before).bits
+abbrev pub counted_bits : Option End → ℕ
+counted_bits before = (or_new before).bits
 
 abbrev pub stored_bits : Option End → ℕ
 stored_bits before = length (or_new before).stored
@@ -83,7 +83,7 @@ reasons pair (all.Gives text) before =
     ∷ (Closing, is_leaving_or_left before)
     ∷ (NotOpen, not (was_asked before) || not (was_heard before))
     ∷ (WrongEnd, not (is_sender pair))
-    ∷ (NotWhole, nat_lt 0 (length text % size_of before))
+    ∷ (NotWhole, nat_lt 0 (length text % byte_size_of before))
     ∷ (NoRoom, nat_lt (room_of before) (stored_bits before + length text))
     ∷ []
 reasons pair (all.Takes bytes) before =
@@ -97,8 +97,8 @@ reasons pair (all.Allocates of_messages of_bits full) before =
     ∷ (Closing, is_leaving_or_left before)
     ∷ (NotOpen, not (was_asked before) || not (was_heard before))
     ∷ (WrongEnd, not (is_receiver pair))
-    ∷ (TooMuch, nat_lt (room_of before) (bits_of before + stored_bits before + of_bits))
-    ∷ (TooMuch, nat_lt MAX_MESSAGES (messages_of before + of_messages))
+    ∷ (TooMuch, nat_lt (room_of before) (counted_bits before + stored_bits before + of_bits))
+    ∷ (TooMuch, nat_lt MAX_MESSAGES (counted_messages before + of_messages))
     ∷ (QueueFull, full)
     ∷ []
 reasons pair (all.Calls_back of_messages of_bits full) before =
@@ -170,23 +170,23 @@ cases pair all.Cls_comes before =
     ∷ []
 cases pair (all.All_comes on of_messages of_bits) before =
     on_a_link (All on of_messages of_bits) before
-    ((nat_lt MAX_MESSAGES (messages_of before + of_messages), wrong (All on of_messages of_bits))
-    ∷ (nat_lt MAX_AMOUNT (bits_of before + of_bits), wrong (All on of_messages of_bits))
+    ((nat_lt MAX_MESSAGES (counted_messages before + of_messages), wrong (All on of_messages of_bits))
+    ∷ (nat_lt MAX_AMOUNT (counted_bits before + of_bits), wrong (All on of_messages of_bits))
     ∷ [])
 cases pair (all.Gvb_comes on of_messages of_bits) before = on_a_link (Gvb on of_messages of_bits) before []
 cases pair (all.Ret_comes on of_messages of_bits) before =
     on_a_link (Ret on of_messages of_bits) before
-    ((nat_lt (messages_of before) of_messages, wrong (Ret on of_messages of_bits))
-    ∷ (nat_lt (bits_of before) of_bits, wrong (Ret on of_messages of_bits))
+    ((nat_lt (counted_messages before) of_messages, wrong (Ret on of_messages of_bits))
+    ∷ (nat_lt (counted_bits before) of_bits, wrong (Ret on of_messages of_bits))
     ∷ [])
 cases pair (all.Inr_comes on) before = on_a_link (Inr on) before []
 cases pair (all.Ins_comes on) before = on_a_link (Ins on) before []
 cases pair (all.Text_comes head of_size text) before =
     (is_leaving_or_left before, all.Late)
     ∷ (not (or_new before).opened, all.NotOpen)
-    ∷ (not (of_size == size_of before), all.WrongSize)
-    ∷ (messages_of before == 0, all.Over)
-    ∷ (nat_lt (bits_of before) (length text), all.Over)
+    ∷ (not (of_size == byte_size_of before), all.WrongSize)
+    ∷ (counted_messages before == 0, all.Over)
+    ∷ (nat_lt (counted_bits before) (length text), all.Over)
     ∷ []
 cases pair what before = []
 

@@ -1,6 +1,6 @@
 //! `CallFault`.
 ghost use Rattle.std.specs.Prelude.{◌≡◌};
-ghost use Rattle.ncp_model.specs.Faults.{name_of};
+ghost use Rattle.ncp_model.specs.Faults.{name_of, fault_number};
 
 use thiserror::Error;
 
@@ -44,6 +44,13 @@ pub enum CallFault {
 }
 
 impl CallFault {
+    /// The number, which says when it is judged: a smaller one before a greater.
+    pub fn number(self) -> u8
+        ensures { result ≡ fault_number self }
+    {
+        self as u8
+    }
+
     /// The name, as a program prints it.
     pub fn name(self) -> &'static str
         ensures { result.now ≡ name_of self }

@@ -1,6 +1,7 @@
 //! What is conserved: where what is given, taken, sent, granted and returned comes from, and where it
 //! goes.
 ghost use Rattle.std.specs.Prelude.{◌≡◌, ℕ, Bool, true, false, ◌+◌, ◌≤◌, ◌++◌, List, [], ◌∷◌, length, Option, None, Some};
+ghost use Rattle.ncp_model.specs.Pairs.{sends, receives};
 ghost use Rattle.ncp_model.specs.Amounts.{back};
 ghost use Rattle.ncp_model.specs.End.{End};
 ghost use Rattle.ncp_model.specs.Happenings.{happens};
@@ -30,4 +31,13 @@ pub fn texts_take_what_they_use()
     ensures goes_out { (pair : Pair) (of_size : ℕ) (text : List Bool) (x e : End) → (happens pair all.Text_goes_out (Some x)).outcome ≡ all.Sent of_size text → (happens pair all.Text_goes_out (Some x)).after ≡ Some e → (e.messages + 1 ≡ x.messages) × (e.bits + length text ≡ x.bits) × (text ++ e.stored ≡ x.stored) × (e.busy ≡ true) }
     ensures taken { (pair : Pair) (bytes : ℕ) (text : List Bool) (x e : End) → (happens pair (all.Takes bytes) (Some x)).outcome ≡ all.Took_out text → (happens pair (all.Takes bytes) (Some x)).after ≡ Some e → text ++ e.stored ≡ x.stored }
     ensures last { (pair : Pair) (bytes : ℕ) (text : List Bool) (x : End) → (happens pair (all.Takes bytes) (Some x)).outcome ≡ all.Took_out text → (happens pair (all.Takes bytes) (Some x)).made ≡ Command.Cls pair.local pair.remote ∷ [] → text ≡ x.stored }
+{}
+
+/// What a call on an open connection makes names the link of its end: an INS from a sender, an INR from
+/// a receiver.
+pub fn calls_name_the_link_of_their_end()
+    ensures calls_back { (pair : Pair) (of_messages of_bits : ℕ) (full : Bool) (x : End) → (happens pair (all.Calls_back of_messages of_bits full) (Some x)).outcome ≡ all.Accepted → (happens pair (all.Calls_back of_messages of_bits full) (Some x)).made ≡ Command.Gvb x.link of_messages of_bits ∷ [] }
+    ensures recalls { (pair : Pair) (of_messages of_bits : ℕ) (full : Bool) (x e : End) → (happens pair (all.Calls_back of_messages of_bits full) (Some x)).outcome ≡ all.Accepted → (happens pair (all.Calls_back of_messages of_bits full) (Some x)).after ≡ Some e → e.recall ≡ true }
+    ensures sender { (pair : Pair) (full : Bool) (x : End) → sends pair ≡ true → (happens pair (all.Interrupts full) (Some x)).outcome ≡ all.Accepted → (happens pair (all.Interrupts full) (Some x)).made ≡ Command.Ins x.link ∷ [] }
+    ensures receiver { (pair : Pair) (full : Bool) (x : End) → receives pair ≡ true → (happens pair (all.Interrupts full) (Some x)).outcome ≡ all.Accepted → (happens pair (all.Interrupts full) (Some x)).made ≡ Command.Inr x.link ∷ [] }
 {}

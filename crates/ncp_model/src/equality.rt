@@ -1,5 +1,6 @@
 //! That `==` is equality: two values are equal to the program where they are one value.
 ghost use Rattle.std.specs.Prelude.{◌≡◌, ◌↔◌, true};
+ghost use Rattle.ncp_model.specs.Pairs.{same};
 
 use crate::call_fault::CallFault;
 use crate::outcomes::{Heard, Took};
@@ -7,7 +8,8 @@ use crate::pair::Pair;
 
 /// Two pairs.
 pub fn pairs_are_equal(a: &Pair, b: &Pair) -> bool
-    ensures { (result ≡ true) ↔ (a.now ≡ b.now) }
+    ensures one { (result ≡ true) ↔ (a.now ≡ b.now) }
+    ensures same { result ≡ same a.now b.now }
 {
     a == b
 }

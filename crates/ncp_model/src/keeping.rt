@@ -4,7 +4,7 @@ ghost use Rattle.ncp_model.specs.End.{End, or_new, is_open};
 ghost use Rattle.ncp_model.specs.Texts.{Answered};
 ghost use Rattle.ncp_model.specs.Happenings.{Happening, happens};
 ghost use Rattle.ncp_model.specs.Happenings as all;
-ghost use Rattle.ncp_model.specs.Keeping.{calls_back, is_ret, is_interrupt, is_sending, is_rfnm, counts};
+ghost use Rattle.ncp_model.specs.Keeping.{calls_back, is_ret, is_interrupt, is_sending, frees_the_sender, counts};
 
 use crate::limits::{MAX_AMOUNT, MAX_COUNT, MAX_MESSAGES, MAX_ROOM};
 use crate::pair::Pair;
@@ -55,7 +55,7 @@ pub fn marks_move_by_their_causes()
     ensures returned { (pair : Pair) (what : Happening) (before : Option End) (e : End) → (happens pair what before).after ≡ Some e → is_ret what ≡ false → (or_new before).recall ≡ true → e.recall ≡ true }
     ensures interrupts { (pair : Pair) (what : Happening) (before : Option End) (e : End) → (happens pair what before).after ≡ Some e → is_interrupt what ≡ false → e.interrupts ≡ (or_new before).interrupts }
     ensures sending { (pair : Pair) (what : Happening) (before : Option End) (e : End) → (happens pair what before).after ≡ Some e → is_sending what ≡ false → (or_new before).busy ≡ false → e.busy ≡ false }
-    ensures freed { (pair : Pair) (what : Happening) (before : Option End) (e : End) → (happens pair what before).after ≡ Some e → is_rfnm what ≡ false → (or_new before).busy ≡ true → e.busy ≡ true }
+    ensures freed { (pair : Pair) (what : Happening) (before : Option End) (e : End) → (happens pair what before).after ≡ Some e → frees_the_sender what ≡ false → (or_new before).busy ≡ true → e.busy ≡ true }
     ensures messages { (pair : Pair) (what : Happening) (before : Option End) (e : End) → (happens pair what before).after ≡ Some e → counts what ≡ false → e.messages ≡ (or_new before).messages }
     ensures bits { (pair : Pair) (what : Happening) (before : Option End) (e : End) → (happens pair what before).after ≡ Some e → counts what ≡ false → e.bits ≡ (or_new before).bits }
 {}

@@ -3,7 +3,7 @@ ghost use Rattle.std.specs.Prelude.{◌≡◌, ℕ, Bool, true, false, ◌≤◌
 ghost use Rattle.std.specs.FinMap.{get, from_sorted};
 ghost use Rattle.ncp_model.specs.End.{End, new_end};
 ghost use Rattle.ncp_model.specs.Act.{Act, Stays, Becomes, end_after, made_by_call, made_if_any, made_by_hearing};
-ghost use Rattle.ncp_model.specs.Ends.{Ends, count, any, has_asked, is_by_peer, hears_link, uses_link, first_by, free_link, sender_on, receiver_on, pair_of, leads_to, hear, ask_send_in, ask_receive_in, text_in, cut_in, answered_in, put, map_after};
+ghost use Rattle.ncp_model.specs.Ends.{Ends, count, any, has_asked, is_by_peer, hears_link, uses_link, first_by, free_link, sender_on, receiver_on, pair_of, leads_to, hear, ask_send_in, ask_receive_in, text_in, cut_in, answered_in, put, map_after, map_after_at, no_ends};
 ghost use Rattle.ncp_model.specs.Texts.{Answered, made_by_text};
 ghost use Rattle.ncp_model.specs.Happenings.{Happening, happens, happened, of_call, of_hearing, of_text, of_cut};
 ghost use Rattle.ncp_model.specs.Happenings as all;
@@ -49,6 +49,8 @@ pub fn acts_change_one_end<A>()
     ensures there { (m : Ends) (pair : Pair) (act : Act A) → get (map_after m pair act) pair ≡ end_after (get m pair) act }
     ensures elsewhere { (m : Ends) (pair other : Pair) (act : Act A) → ((other ≡ pair) → ⊥) → get (map_after m pair act) other ≡ get m other }
     ensures put { (m : Ends) (pair other : Pair) (act : Act A) → get (map_after m pair act) other ≡ get (put m pair (end_after (get m pair) act)) other }
+    ensures led { (m : Ends) (pair : Pair) (act : Act A) → (map_after_at m (Some pair) act ≡ map_after m pair act) × (map_after_at m None act ≡ m) }
+    ensures cleared { (pair : Pair) → get no_ends pair ≡ None }
 {}
 
 /// Which end a command leads to, at a host with a sender and a receiver on one link and a request
@@ -106,8 +108,8 @@ pub fn texts_lead_to_ends()
     ensures leads_not { (leads outward (all.All_comes 3 1 1) (Some opened_end) ≡ false) × (leads inward (all.All_comes 2 1 1) (Some opened_end) ≡ false) × (leads outward (all.All_comes 2 1 1) None ≡ false) × (leads outward (all.Ret_comes 2 1 1) (Some opened_end) ≡ false) }
     ensures leads_by_head { (leads inward (all.Text_comes (noughts 22 ++ ones 1 ++ noughts 49) 8 []) (Some opened_end) ≡ true) × (leads inward (all.Text_comes (noughts 23 ++ ones 1 ++ noughts 48) 8 []) (Some opened_end) ≡ false) }
     ensures leads_by_link { leads inward (all.Text_comes (ones 16 ++ noughts 6 ++ ones 1 ++ noughts 1 ++ ones 8 ++ noughts 40) 8 []) (Some opened_end) ≡ true }
-    ensures suits { (suits outward (all.All_comes 2 1 1) ≡ true) × (suits outward (all.Gvb_comes 2 1 1) ≡ true) × (suits outward (all.Inr_comes 2) ≡ true) × (suits inward (all.Ret_comes 2 1 1) ≡ true) × (suits inward (all.Ins_comes 2) ≡ true) × (suits inward (all.Text_comes [] 8 []) ≡ true) }
-    ensures suits_not { (suits inward (all.All_comes 2 1 1) ≡ false) × (suits inward (all.Gvb_comes 2 1 1) ≡ false) × (suits inward (all.Inr_comes 2) ≡ false) × (suits outward (all.Ret_comes 2 1 1) ≡ false) × (suits outward (all.Ins_comes 2) ≡ false) × (suits outward (all.Text_comes [] 8 []) ≡ false) }
+    ensures suits { (suits outward (all.All_comes 2 1 1) ≡ true) × (suits outward (all.Gvb_comes 2 1 1) ≡ true) × (suits outward (all.Inr_comes 2) ≡ true) × (suits inward (all.Ret_comes 2 1 1) ≡ true) × (suits inward (all.Ins_comes 2) ≡ true) × (suits inward (all.Text_comes [] 8 []) ≡ true) × (suits outward all.Text_goes_out ≡ true) × (suits outward (all.Is_answered Answered.Taken) ≡ true) }
+    ensures suits_not { (suits inward (all.All_comes 2 1 1) ≡ false) × (suits inward (all.Gvb_comes 2 1 1) ≡ false) × (suits inward (all.Inr_comes 2) ≡ false) × (suits outward (all.Ret_comes 2 1 1) ≡ false) × (suits outward (all.Ins_comes 2) ≡ false) × (suits outward (all.Text_comes [] 8 []) ≡ false) × (suits inward all.Text_goes_out ≡ false) × (suits inward (all.Is_answered Answered.Taken) ≡ false) }
     ensures anew { ask_receive_in inward 64 false (from_sorted []) ≡ Becomes asked_receive (Ok (Command.Rts 2 3 2)) }
     ensures freed { ask_receive_in (record { local = 10; remote = 11 }) 64 false (from_sorted ((record { local = 4; remote = 5 }, record asked_receive { link = 3 }) ∷ [])) ≡ Becomes asked_receive (Ok (Command.Rts 10 11 2)) }
 {}

@@ -5,7 +5,7 @@ ghost use Rattle.ncp_model.specs.Pairs.{sends};
 ghost use Rattle.ncp_model.specs.End.{End};
 ghost use Rattle.ncp_model.specs.Happenings.{Happening, happens};
 ghost use Rattle.ncp_model.specs.Happenings as all;
-ghost use Rattle.ncp_model.specs.Keeping.{is_cls, is_clearing, is_rfnm, was_left};
+ghost use Rattle.ncp_model.specs.Keeping.{is_cls, is_clearing, frees_the_sender, was_left};
 
 use crate::pair::Pair;
 use ncp_control::Command;
@@ -17,6 +17,6 @@ pub fn a_cls_is_made_where_an_end_is_left()
     ensures once { (pair : Pair) (what : Happening) (e : End) → e.left ≡ true → e.leaving ≡ false → list_any is_cls (happens pair what (Some e)).made ≡ false }
     ensures none { (pair : Pair) (what : Happening) → list_any is_cls (happens pair what None).made ≡ false }
     ensures its_sockets { (pair : Pair) (what : Happening) (before : Option End) → list_any is_cls (happens pair what before).made ≡ true → (happens pair what before).made ≡ Command.Cls pair.local pair.remote ∷ [] }
-    ensures waits { (pair : Pair) (what : Happening) (e : End) → sends pair ≡ true → e.busy ≡ true → is_rfnm what ≡ false → list_any is_cls (happens pair what (Some e)).made ≡ false }
+    ensures waits { (pair : Pair) (what : Happening) (e : End) → sends pair ≡ true → e.busy ≡ true → frees_the_sender what ≡ false → list_any is_cls (happens pair what (Some e)).made ≡ false }
     ensures dropped { (pair : Pair) (what : Happening) (x e : End) → (happens pair what (Some x)).after ≡ Some e → x.left ≡ false → e.left ≡ true → e.stored ≡ [] }
 {}

@@ -78,6 +78,7 @@ pub fn goes_down_at_the_513th()
     ensures none { (c : Command) (p : Phase) → is_other c ≡ true → up p ≡ true → MAX_WAITING ≤ length p.waiting → makes c p ≡ goes_down p }
     ensures limit { MAX_WAITING ≡ 512 }
     ensures full { (link : ℕ) (cs : List Command) (quiet : Bool) (p : Phase) → up p ≡ true → hears (Command.Inr link) (record { quiet = quiet; full = true; replies = cs }) p ≡ goes_down p }
+    ensures replies { (c d : Command) (cs : List Command) (p : Phase) → (makes_all [] p ≡ p) × (makes_all (c ∷ d ∷ cs) p ≡ makes_all cs (makes d (makes c p))) }
     ensures reply { (link : ℕ) (quiet : Bool) (c : Command) (p : Phase) → up p ≡ true → hears (Command.Inr link) (record { quiet = quiet; full = false; replies = c ∷ [] }) p ≡ makes c p }
 {}
 

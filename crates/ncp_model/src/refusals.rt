@@ -1,7 +1,7 @@
 //! The refusals, from another side: for each call and for each thing that comes a table of its cases
 //! in their order, of which the first that holds is answered.
 ghost use Rattle.std.specs.Prelude.{◌≡◌, ℕ, Bool, true, false, ◌==◌, List, [], ◌∷◌, map, Option, None, Some, Ok, Err};
-ghost use Rattle.ncp_model.specs.Faults.{number_of};
+ghost use Rattle.ncp_model.specs.Faults.{fault_number};
 ghost use Rattle.ncp_model.specs.Pairs.{sends, receives};
 ghost use Rattle.ncp_model.specs.End.{End, or_new};
 ghost use Rattle.ncp_model.specs.Act.{Stays, Becomes, is_room};
@@ -41,14 +41,14 @@ pub fn what_comes_meets_the_first_case()
 
 /// The reasons of each call stand in the order of their numbers.
 pub fn refusals_come_in_the_order_of_their_numbers()
-    ensures asks_to_send { (pair : Pair) (of_size with_room own : ℕ) (full : Bool) (before : Option End) → rises 0 (map (λ reason. number_of reason.0) (reasons pair (all.Asks_to_send of_size with_room own full) before)) ≡ true }
-    ensures asks_to_receive { (pair : Pair) (with_room on own : ℕ) (full : Bool) (before : Option End) → rises 0 (map (λ reason. number_of reason.0) (reasons pair (all.Asks_to_receive with_room on own full) before)) ≡ true }
-    ensures closes { (pair : Pair) (full : Bool) (before : Option End) → rises 0 (map (λ reason. number_of reason.0) (reasons pair (all.Closes full) before)) ≡ true }
-    ensures gives { (pair : Pair) (text : List Bool) (before : Option End) → rises 0 (map (λ reason. number_of reason.0) (reasons pair (all.Gives text) before)) ≡ true }
-    ensures takes { (pair : Pair) (bytes : ℕ) (before : Option End) → rises 0 (map (λ reason. number_of reason.0) (reasons pair (all.Takes bytes) before)) ≡ true }
-    ensures allocates { (pair : Pair) (of_messages of_bits : ℕ) (full : Bool) (before : Option End) → rises 0 (map (λ reason. number_of reason.0) (reasons pair (all.Allocates of_messages of_bits full) before)) ≡ true }
-    ensures calls_back { (pair : Pair) (of_messages of_bits : ℕ) (full : Bool) (before : Option End) → rises 0 (map (λ reason. number_of reason.0) (reasons pair (all.Calls_back of_messages of_bits full) before)) ≡ true }
-    ensures interrupts { (pair : Pair) (full : Bool) (before : Option End) → rises 0 (map (λ reason. number_of reason.0) (reasons pair (all.Interrupts full) before)) ≡ true }
+    ensures asks_to_send { (pair : Pair) (of_size with_room own : ℕ) (full : Bool) (before : Option End) → rises 0 (map (λ reason. fault_number reason.0) (reasons pair (all.Asks_to_send of_size with_room own full) before)) ≡ true }
+    ensures asks_to_receive { (pair : Pair) (with_room on own : ℕ) (full : Bool) (before : Option End) → rises 0 (map (λ reason. fault_number reason.0) (reasons pair (all.Asks_to_receive with_room on own full) before)) ≡ true }
+    ensures closes { (pair : Pair) (full : Bool) (before : Option End) → rises 0 (map (λ reason. fault_number reason.0) (reasons pair (all.Closes full) before)) ≡ true }
+    ensures gives { (pair : Pair) (text : List Bool) (before : Option End) → rises 0 (map (λ reason. fault_number reason.0) (reasons pair (all.Gives text) before)) ≡ true }
+    ensures takes { (pair : Pair) (bytes : ℕ) (before : Option End) → rises 0 (map (λ reason. fault_number reason.0) (reasons pair (all.Takes bytes) before)) ≡ true }
+    ensures allocates { (pair : Pair) (of_messages of_bits : ℕ) (full : Bool) (before : Option End) → rises 0 (map (λ reason. fault_number reason.0) (reasons pair (all.Allocates of_messages of_bits full) before)) ≡ true }
+    ensures calls_back { (pair : Pair) (of_messages of_bits : ℕ) (full : Bool) (before : Option End) → rises 0 (map (λ reason. fault_number reason.0) (reasons pair (all.Calls_back of_messages of_bits full) before)) ≡ true }
+    ensures interrupts { (pair : Pair) (full : Bool) (before : Option End) → rises 0 (map (λ reason. fault_number reason.0) (reasons pair (all.Interrupts full) before)) ≡ true }
 {}
 
 /// A refusal changes nothing at the end, or that there is none; and it makes nothing but the ERR that it

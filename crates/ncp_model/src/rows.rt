@@ -2,7 +2,7 @@
 //! judged after it, and each effect, at its limits.
 ghost use Rattle.std.specs.Prelude.{◌≡◌, ℕ, Bool, true, false, ◌+◌, ◌*◌, length, ◌++◌, ◌∷◌, [], List, Option, None, Some, Ok, Err};
 ghost use Rattle.ncp_model.specs.Amounts.{back};
-ghost use Rattle.ncp_model.specs.End.{End, new_end, is_open, is_live, is_over};
+ghost use Rattle.ncp_model.specs.End.{End, new_end, or_new, is_open, is_live, is_over};
 ghost use Rattle.ncp_model.specs.Act.{Act, Stays, Becomes, end_after, met, text_error};
 ghost use Rattle.ncp_model.specs.Calls.{bits_to_take, ask_send, ask_receive, close, give, take_held, allocate, call_back, interrupt};
 ghost use Rattle.ncp_model.specs.Commands.{hear_rts, hear_str, hear_cls, hear_all, hear_gvb, hear_ret, hear_inr, hear_ins};
@@ -306,6 +306,7 @@ pub fn refusing_text()
 pub fn answering()
     ensures none { (answered outward Answered.Taken None ≡ Stays None) × (answered outward Answered.Again None ≡ Stays None) × (answered outward Answered.Kept None ≡ Stays None) }
     ensures taken { answered outward Answered.Taken (Some (sent_one (storing (ones 8)))) ≡ Becomes (storing (ones 8)) None }
+    ensures only_leaving { answered outward Answered.Taken (Some (shut (sent_one (counting 2 16)))) ≡ Becomes (shut (counting 2 16)) None }
     ensures again { answered outward Answered.Again (Some (due (sent_one opened_end))) ≡ Stays None }
     ensures kept { answered outward Answered.Kept (Some (due (sent_one opened_end))) ≡ Stays None }
     ensures leaving { let act = answered outward Answered.Taken (Some (due (sent_one opened_end))) in (act ≡ Becomes (gone opened_end) (Some (Command.Cls 3 2))) × (end_after None act ≡ Some (gone opened_end)) }
@@ -316,6 +317,8 @@ pub fn answering()
 
 /// What opened, open, live and over mean of an end.
 pub fn lives_of_an_end()
+    ensures new { new_end ≡ record { asked = false; heard = false; opened = false; leaving = false; left = false; cls = false; link = 0; size = 0; messages = 0; bits = 0; stored = []; room = 0; busy = false; recall = false; interrupts = 0 } }
+    ensures new_where_none { (or_new None ≡ new_end) × (or_new (Some opened_end) ≡ opened_end) }
     ensures open { is_open opened_end ≡ true }
     ensures unmet { (is_open asked_send ≡ false) × (is_open link_heard ≡ false) }
     ensures going { (is_open (due opened_end) ≡ false) × (is_open (gone opened_end) ≡ false) }

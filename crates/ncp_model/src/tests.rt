@@ -2,7 +2,7 @@
 use crate::{
     CallFault, FIRST_LINK, GIVE_BACK_PARTS, LAST_LINK, MAX_AMOUNT, MAX_BY_PEER, MAX_CALLED,
     MAX_CONTROL, MAX_COUNT, MAX_ERRORS, MAX_MESSAGES, MAX_OWN, MAX_ROOM, MAX_TEXT, MAX_WAITING,
-    Pair, give_back,
+    Pair, Took, give_back,
 };
 use std::test::Fail;
 
@@ -89,7 +89,7 @@ fn numbers_and_names_refusals(rt: HostRuntime) -> Result<(), Fail> {
         (CallFault::OutOfMemory, 17, "OutOfMemory", "out of memory"),
     ];
     for (fault, number, name, text) in rows {
-        assert_eq!(rt; fault as u8, number);
+        assert_eq!(rt; fault.number(), number);
         assert_eq!(rt; fault.name(), name);
         assert_eq!(rt; format!(in rt.alloc(); "{fault}")?.as_str(), text);
     }
@@ -121,4 +121,18 @@ fn has_the_limits_of_the_profile(rt: HostRuntime) {
     assert_eq!(rt; (MAX_ROOM, MAX_ERRORS), (65_536, 16));
     assert_eq!(rt; (MAX_MESSAGES, MAX_AMOUNT), (65_535, 4_294_967_295));
     assert_eq!(rt; (MAX_COUNT, GIVE_BACK_PARTS), (4_294_967_295, 128));
+}
+
+#[test]
+fn names_what_became_of_a_text(rt: HostRuntime) {
+    let rows = [
+        (Took::Admitted, "admitted"),
+        (Took::Late, "late"),
+        (Took::WrongSize, "wrong-size"),
+        (Took::Over, "over"),
+        (Took::NotOpen, "not-open"),
+    ];
+    for (took, name) in rows {
+        assert_eq!(rt; took.name(), name);
+    }
 }
