@@ -556,3 +556,9 @@ that-host es = ap (λ (w : LowWorld). w.that.host) (run-low es)
 
 pub right : (es : List Event) → (run es).that.violated ≡ (low_run es).that.violated
 right es = ap (λ (w : LowWorld). w.that.violated) (run-low es)
+
+pub this-echoes : (es : List Event) → (run es).this.echoes ≡ (low_run es).this.echoes
+this-echoes es = ap (λ (w : LowWorld). w.this.echoes) (run-low es)
+
+pub that-echoes : (es : List Event) → (run es).that.echoes ≡ (low_run es).that.echoes
+that-echoes es = ap (λ (w : LowWorld). w.that.echoes) (run-low es)

@@ -12,10 +12,11 @@ ghost use Rattle.ncp_model.specs.Phase.{is_rst, is_rrp, is_other};
 ghost use Rattle.ncp_model.specs.Happenings.{of_hearing, of_text, is_violation};
 ghost use Rattle.ncp_resets.specs.Delivery.{Accepted, Held, Free};
 ghost use Rattle.ncp_resets.specs.Resets.{is_up, underway};
-ghost use Rattle.ncp_hosts.specs.Hosts.{Node, World, swap, past_of, is_empty, TextOut, Step, steps, hears, hears_all, hears_text, Call, calls, calls_echo, Event, at, run};
+ghost use Rattle.ncp_hosts.specs.Hosts.{Node, World, swap, past_of, is_empty, TextOut, Step, steps, hears, hears_all, hears_text, Call, calls, calls_echo, Calls_reset, Hears, Event, at, run};
 ghost use Rattle.ncp_hosts.specs.Headline.{BothOpen, sender_at, receiver_at, granted_underway, returned_underway, how_many, text_underway, MessagesAgree, BitsAgree, OnOneLink, WithinAllocation, Parted, TakenOrHeld, Begins, StaysOut, SenderOpens, ReceiverOpens, SenderOpensAt, ReceiverOpensAt};
 ghost use Rattle.ncp_model.specs.Rows.{outward, inward, ones, noughts, counting, up_phase};
-ghost use Rattle.ncp_hosts.specs.HostRuns.{calls_back_under_text, sender_cleared, held_past_reset, up_after_held, opened_after_held};
+ghost use Rattle.ncp_hosts.specs.HostRuns.{calls_back_under_text, sender_cleared, held_past_reset, up_after_held, opened_after_held, with_text_out, meets, meets_there};
+ghost use Rattle.ncp_resets.specs.Resets.{This, That};
 ghost use Rattle.ncp_model.specs.Amounts.{granted_messages, returned_messages};
 
 use ncp_model::Pair;
@@ -88,4 +89,14 @@ pub fn a_text_is_held_back_past_a_reset()
     ensures owed { let w = run held_past_reset in (w.this.host.phase ≡ record up_phase { owe = true }) × (w.that.host.phase ≡ record up_phase { wait = true }) × (w.this.texts 2 ≡ record { slot = Held (record { of_size = 8; bits = ones 16 }); subnet = Free }) }
     ensures dropped { let w = run up_after_held in (w.this.host.phase ≡ up_phase) × (w.that.host.phase ≡ up_phase) × ((past_of w.that.pasts inward).got ≡ []) }
     ensures anew { let w = run opened_after_held in (get w.this.ends outward ≡ Some (counting 1 0)) × (get w.that.ends inward ≡ Some (record (counting 1 0) { stored = noughts 16 })) × ((past_of w.that.pasts inward).got ≡ noughts 16) }
+{}
+
+/// The premises of the laws on openings are each met: a text stays out in a step; a step of the
+/// sender's host opens a pair with a link, and one of the receiver's does, each hearing one command.
+pub fn openings_and_texts_out_happen()
+    ensures stays_out { StaysOut 2 (run with_text_out) (at That Calls_reset (run with_text_out)) }
+    ensures sender { SenderOpens 2 outward (run meets) (at This Hears (run meets)) }
+    ensures receiver { ReceiverOpens 2 inward (run meets_there) (at That Hears (run meets_there)) }
+    ensures by_one_command { (run meets).that.control.subnet ≡ Accepted (Command.Rts 2 3 2 ∷ []) }
+    ensures by_one_there { (run meets_there).this.control.subnet ≡ Accepted (Command.Str 3 2 8 ∷ []) }
 {}
