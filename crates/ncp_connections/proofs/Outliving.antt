@@ -1,3 +1,5 @@
+-- Meant for other crates too: they cite what is public here.
+--
 -- A host that was cleared is a host that is silent, and what was struck of its commands is underway
 -- for ever. So what is left of a connection is part of a whole one, which keeps what holds of it.
 use Rattle.std.proofs.Common.{◌≡◌, ℕ, Bool, true, false, ◌||◌, nat_lt, if◌then◌else◌, List, [], ◌∷◌, ◌++◌, take, drop, Option, None, Some, refl, ap, sym, ◌∙◌, subst, arith, append_assoc}

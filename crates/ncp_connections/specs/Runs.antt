@@ -4,7 +4,7 @@ use Rattle.std.specs.Prelude.{false, List, [], ◌∷◌, ◌++◌}
 use Rattle.ncp_model.specs.Texts.{Taken, Again}
 use Rattle.ncp_model.specs.Happenings.{Happening}
 use Rattle.ncp_model.specs.Happenings as all
-use Rattle.ncp_model.specs.Rows.{outward, ones, noughts}
+use Rattle.ncp_model.specs.Rows.{ones, noughts}
 use Rattle.ncp_connections.specs.Connections.{Event, Sender_calls, Receiver_calls, Comes_to_sender, Comes_to_receiver, Text_goes_out, Text_comes, Text_is_answered}
 use Rattle.ncp_connections.specs.Clearings.{Change, Occurs, Sender_is_cleared, Receiver_is_cleared, Starts_anew}
 

@@ -1,3 +1,5 @@
+-- Meant for other crates too: they cite what is public here.
+--
 -- A host that is not up has no ends; all its ends are sound and in their limits, and no two are on
 -- one link.
 use Rattle.std.proofs.Common.{◌≡◌, ℕ, Bool, true, false, if◌then◌else◌, List, [], ◌∷◌, Option, None, Some, refl, sym, ap, ◌∙◌, subst, arith}

@@ -1,3 +1,5 @@
+-- Meant for other crates too: they cite what is public here.
+--
 -- Each step of a host of two is a step of what it keeps of its peer.
 use Rattle.std.proofs.Common.{◌≡◌, ℕ, ◌+◌, ◌-◌, ◌*◌, Bool, true, false, if◌then◌else◌, nat_le, List, [], ◌∷◌, take, drop, length, Option, None, Some, refl, sym, ap, ◌∙◌, arith}
 use Rattle.ncp_control.specs.declared.command.Command.{Command}

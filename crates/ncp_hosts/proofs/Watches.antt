@@ -1,3 +1,5 @@
+-- Meant for other crates too: they cite what is public here.
+--
 -- The histories of a host go their way by what a step tells them.
 use Rattle.std.proofs.Common.{◌≡◌, ℕ, Bool, true, false, if◌then◌else◌, List, [], ◌∷◌, ◌++◌, Option, None, Some, refl, sym, ap, ◌∙◌, arith}
 use Rattle.std.specs.List.{filter}

@@ -13,7 +13,7 @@ ghost use Rattle.ncp_model.specs.Happenings.{of_hearing, of_text, is_violation};
 ghost use Rattle.ncp_resets.specs.Delivery.{Accepted, Held, Free};
 ghost use Rattle.ncp_resets.specs.Resets.{is_up, underway};
 ghost use Rattle.ncp_hosts.specs.Hosts.{Node, World, swap, past_of, is_empty, TextOut, Step, steps, hears, hears_all, hears_text, Call, calls, calls_echo, Calls_reset, Hears, Event, at, run};
-ghost use Rattle.ncp_hosts.specs.Headline.{BothOpen, sender_at, receiver_at, granted_underway, returned_underway, how_many, text_underway, MessagesAgree, BitsAgree, OnOneLink, WithinAllocation, Parted, TakenOrHeld, Begins, StaysOut, SenderOpens, ReceiverOpens, SenderOpensAt, ReceiverOpensAt};
+ghost use Rattle.ncp_hosts.specs.Headline.{BothOpen, sender_at, receiver_at, granted_underway, returned_underway, how_many, text_underway, MessagesAgree, BitsAgree, OnOneLink, WithinAllocation, Parted, TakenOrHeld, Begins, StaysOut, SenderOpens, ReceiverOpens, NoPairOpens, NoCommandOpens, Both};
 ghost use Rattle.ncp_model.specs.Rows.{outward, inward, ones, noughts, counting, up_phase};
 ghost use Rattle.ncp_hosts.specs.HostRuns.{calls_back_under_text, sender_cleared, held_past_reset, up_after_held, opened_after_held, with_text_out, meets, meets_there};
 ghost use Rattle.ncp_resets.specs.Resets.{This, That};
@@ -50,13 +50,13 @@ pub fn what_is_against_the_protocol_is_noted()
 /// is a beginning of what was given since the sender last opened, whatever the sender has done since.
 pub fn hosts_lose_and_make_nothing()
     ensures safe { (events : List Event) → ((run events).this.violated ≡ false) × ((run events).that.violated ≡ false) }
-    ensures messages { (events : List Event) (pair : Pair) → sends pair ≡ true → MessagesAgree pair (run events) × MessagesAgree pair (swap (run events)) }
-    ensures bits { (events : List Event) (pair : Pair) → sends pair ≡ true → BitsAgree pair (run events) × BitsAgree pair (swap (run events)) }
-    ensures link { (events : List Event) (pair : Pair) → sends pair ≡ true → OnOneLink pair (run events) × OnOneLink pair (swap (run events)) }
-    ensures allocation { (events : List Event) (pair : Pair) → sends pair ≡ true → WithinAllocation pair (run events) × WithinAllocation pair (swap (run events)) }
-    ensures parted { (events : List Event) (pair : Pair) → sends pair ≡ true → Parted pair (run events) × Parted pair (swap (run events)) }
-    ensures held { (events : List Event) (pair : Pair) → sends pair ≡ true → TakenOrHeld pair (run events) × TakenOrHeld pair (swap (run events)) }
-    ensures beginning { (events : List Event) (pair : Pair) → sends pair ≡ true → Begins pair (run events) × Begins pair (swap (run events)) }
+    ensures messages { (events : List Event) (pair : Pair) → sends pair ≡ true → Both (MessagesAgree pair) (run events) }
+    ensures bits { (events : List Event) (pair : Pair) → sends pair ≡ true → Both (BitsAgree pair) (run events) }
+    ensures link { (events : List Event) (pair : Pair) → sends pair ≡ true → Both (OnOneLink pair) (run events) }
+    ensures allocation { (events : List Event) (pair : Pair) → sends pair ≡ true → Both (WithinAllocation pair) (run events) }
+    ensures parted { (events : List Event) (pair : Pair) → sends pair ≡ true → Both (Parted pair) (run events) }
+    ensures held { (events : List Event) (pair : Pair) → sends pair ≡ true → Both (TakenOrHeld pair) (run events) }
+    ensures beginning { (events : List Event) (pair : Pair) → sends pair ≡ true → Both (Begins pair) (run events) }
 {}
 
 /// From the output of a text on a link to its RFNM no pair whose texts go on that link from that host
@@ -64,14 +64,8 @@ pub fn hosts_lose_and_make_nothing()
 /// control message is heard in one step; in that step too no command of it makes such an opening, even
 /// one that a later command of the same message would end.
 pub fn none_opens_while_its_link_has_a_text()
-    ensures sender { (events : List Event) (e : Event) (pair : Pair) (on : ℕ) → StaysOut on (run events) (at e.side e.step (run events)) → SenderOpens on pair (run events) (at e.side e.step (run events)) → ⊥ }
-    ensures receiver { (events : List Event) (e : Event) (pair : Pair) (on : ℕ) → StaysOut on (run events) (at e.side e.step (run events)) → ReceiverOpens on pair (run events) (at e.side e.step (run events)) → ⊥ }
-    ensures sender_back { (events : List Event) (e : Event) (pair : Pair) (on : ℕ) → StaysOut on (swap (run events)) (swap (at e.side e.step (run events))) → SenderOpens on pair (swap (run events)) (swap (at e.side e.step (run events))) → ⊥ }
-    ensures receiver_back { (events : List Event) (e : Event) (pair : Pair) (on : ℕ) → StaysOut on (swap (run events)) (swap (at e.side e.step (run events))) → ReceiverOpens on pair (swap (run events)) (swap (at e.side e.step (run events))) → ⊥ }
-    ensures sender_each { (events : List Event) (done rest : List Command) (c : Command) (pair : Pair) (on : ℕ) → (run events).that.control.subnet ≡ Accepted (done ++ c ∷ rest) → is_empty ((run events).this.texts on).slot ≡ false → SenderOpensAt on pair (hears_all done (run events).this) (hears c (hears_all done (run events).this)) → ⊥ }
-    ensures receiver_each { (events : List Event) (done rest : List Command) (c : Command) (pair : Pair) (on : ℕ) → (run events).that.control.subnet ≡ Accepted (done ++ c ∷ rest) → is_empty ((run events).that.texts on).slot ≡ false → ReceiverOpensAt on pair (hears_all done (run events).this) (hears c (hears_all done (run events).this)) → ⊥ }
-    ensures sender_each_back { (events : List Event) (done rest : List Command) (c : Command) (pair : Pair) (on : ℕ) → (swap (run events)).that.control.subnet ≡ Accepted (done ++ c ∷ rest) → is_empty ((swap (run events)).this.texts on).slot ≡ false → SenderOpensAt on pair (hears_all done (swap (run events)).this) (hears c (hears_all done (swap (run events)).this)) → ⊥ }
-    ensures receiver_each_back { (events : List Event) (done rest : List Command) (c : Command) (pair : Pair) (on : ℕ) → (swap (run events)).that.control.subnet ≡ Accepted (done ++ c ∷ rest) → is_empty ((swap (run events)).that.texts on).slot ≡ false → ReceiverOpensAt on pair (hears_all done (swap (run events)).this) (hears c (hears_all done (swap (run events)).this)) → ⊥ }
+    ensures steps { (events : List Event) (e : Event) → let w = run events in let after = at e.side e.step w in NoPairOpens w after × NoPairOpens (swap w) (swap after) }
+    ensures commands { (events : List Event) → Both NoCommandOpens (run events) }
 {}
 
 /// That these laws speak of something: both ends are open while an ALL, a text and a RET are underway;

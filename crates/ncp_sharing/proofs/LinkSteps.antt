@@ -1,3 +1,5 @@
+-- Meant for other crates too: they cite what is public here.
+--
 -- No event makes two ends hold one link.
 use Rattle.std.proofs.Common.{◌≡◌, ℕ, Bool, true, false, not, ◌&&◌, nat_le, nat_lt, if◌then◌else◌, List, [], ◌∷◌, ◌++◌, Option, None, Some, Result, refl, sym, ◌∙◌, subst, ◌⊎◌, inl, inr}
 use Rattle.std.proofs.lemmas.Bool.{both_ways, and_from, and_left, or_parts, not-true, eq-eqb, not_from_false}

@@ -1,3 +1,5 @@
+-- Meant for other crates too: they cite what is public here.
+--
 -- No number of an end goes beyond its limit.
 use Rattle.std.proofs.Common.{◌≡◌, ℕ, Bool, true, false, List, [], ◌∷◌, Option, None, Some, refl, arith}
 use Rattle.std.proofs.lemmas.List.{length-append, length-drop}

@@ -1,3 +1,5 @@
+-- Meant for other crates too: they cite what is public here.
+--
 -- Which link an end is on: it stays while the end is there, and no other end there has it.
 use Rattle.std.proofs.Common.{◌≡◌, ℕ, ◌==◌, Bool, true, false, not, ◌&&◌, ◌||◌, nat_le, Option, None, Some, refl, arith}
 use Rattle.ncp_model.specs.declared.pair.Pair.{Pair}
