@@ -17,7 +17,7 @@ use Rattle.ncp_model.specs.declared.limits.TheConstants.{FIRST_LINK}
 use Rattle.ncp_model.specs.Pairs.{pair_cmp}
 use Rattle.ncp_model.specs.End.{End, is_over}
 use Rattle.ncp_model.specs.Act.{Act, Stays, Becomes, answer, made_if_any, made_by_hearing, made_by_call}
-use Rattle.ncp_model.specs.Texts.{hear_text, made_by_text, Taken}
+use Rattle.ncp_model.specs.Texts.{hear_text, made_by_text, Rfnm}
 use Rattle.ncp_model.specs.Commands.{hear_rts, hear_str, hear_cls, hear_all, hear_gvb, hear_ret, hear_inr, hear_ins}
 use Rattle.ncp_model.specs.Ends.{Ends, has_asked, is_by_peer, hears_link, uses_link, first_by, lowest, end_of, pair_of, leads_to, hear, text_in, cut_at, cut_in, answered_at, answered_in, map_after_at, no_ends, put}
 use Rattle.ncp_model.specs.Happenings.{Happening, Happened, happens, of_hearing, of_text, is_violation}
@@ -380,7 +380,7 @@ low_settles n = record n { host = host_settles (low_quiet n) n.host }
 abbrev pub low_frees : ℕ → Low → Low
 low_frees on n =
     let o = first_by (hears_link on) n.ends in
-    let act = answered_at Taken o in
+    let act = answered_at Rfnm o in
     let host : Host = host_makes_all (made_if_any (answer act)) n.host in
     record n {
       host = host;
@@ -391,7 +391,7 @@ low_frees on n =
 
 frees-low : (on : ℕ) (n : Node) → low (frees on n) ≡ low_frees on (low n)
 frees-low on n =
-    let act = answered_in on Taken n.ends in
+    let act = answered_in on Rfnm n.ends in
     let o = pair_of (first_by (hears_link on) (entries n.ends)) in
     let host : Host = host_makes_all (made_if_any (answer act)) n.host in
     let m : Ends = map_after_at n.ends o act in

@@ -6,7 +6,7 @@ use Rattle.ncp_control.specs.declared.command.Command.{Command}
 use Rattle.ncp_control.specs.declared.command.Command.TheVariants.{Rst, Rrp}
 use Rattle.ncp_model.specs.declared.pair.Pair.{Pair}
 use Rattle.ncp_model.specs.Act.{answer, made_if_any, made_by_call}
-use Rattle.ncp_model.specs.Texts.{made_by_text, Taken}
+use Rattle.ncp_model.specs.Texts.{made_by_text, Rfnm}
 use Rattle.ncp_model.specs.Ends.{text_in, receiver_on, sender_on, pair_of, answered_in, put}
 use Rattle.ncp_model.specs.Ends.{Ends, hear, leads_to, map_after_at}
 use Rattle.ncp_model.specs.Echo.{Echoes, echo_answer, echo_asked}
@@ -78,10 +78,10 @@ pub frees_agree : FreesAgree
 frees_agree on n = go (is_up n.host) refl
   where
     cs : List Command
-    cs = made_if_any (answer (answered_in on Taken n.ends))
+    cs = made_if_any (answer (answered_in on Rfnm n.ends))
 
     m : Ends
-    m = map_after_at n.ends (pair_of (sender_on on n.ends)) (answered_in on Taken n.ends)
+    m = map_after_at n.ends (pair_of (sender_on on n.ends)) (answered_in on Rfnm n.ends)
 
     -- the peer, where the test says whether the host is up
     as_told : Bool → Peer
