@@ -13,7 +13,7 @@ use Rattle.ncp_control.specs.declared.command.Command.TheVariants.{Rts, Str, Cls
 use Rattle.ncp_model.specs.declared.pair.Pair.{Pair}
 use Rattle.ncp_model.specs.declared.outcomes.Heard.{Heard}
 use Rattle.ncp_model.specs.declared.outcomes.Heard.TheVariants.{Nothing}
-use Rattle.ncp_model.specs.declared.limits.TheConstants.{FIRST_LINK}
+use Rattle.ncp_model.specs.declared.limits.TheConstants.{DATA_LINKS, FIRST_LINK}
 use Rattle.ncp_model.specs.Pairs.{pair_cmp}
 use Rattle.ncp_model.specs.End.{End, is_over}
 use Rattle.ncp_model.specs.Act.{Act, Stays, Becomes, answer, made_if_any, made_by_hearing, made_by_call}
@@ -66,7 +66,7 @@ entries-remove m k =
 -- What is asked of the ends.
 
 abbrev pub free_listed : Listed → ℕ
-free_listed es = lowest (λ on. not (nat_lt 0 (count_by (uses_link on) es))) 70 FIRST_LINK
+free_listed es = lowest (λ on. not (nat_lt 0 (count_by (uses_link on) es))) DATA_LINKS FIRST_LINK
 
 abbrev pub leads_listed : Command → Listed → Option Pair
 leads_listed (Rts receive send on) es = Some (record { local = send; remote = receive })
@@ -208,7 +208,7 @@ abbrev pub low : Node → Low
 low n = record { host = n.host; ends = entries n.ends; echoes = n.echoes; control = n.control; texts = n.texts; pasts = entries n.pasts; violated = n.violated }
 
 abbrev pub low_quiet : Low → Bool
-low_quiet n = all_empty n.texts 70 FIRST_LINK
+low_quiet n = all_empty n.texts DATA_LINKS FIRST_LINK
 
 abbrev pub low_cleared : Host → Low → Low
 low_cleared h n = record n { host = h; ends = []; echoes = purge_echo n.echoes }

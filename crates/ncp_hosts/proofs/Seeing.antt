@@ -24,7 +24,7 @@ use Rattle.ncp_model.specs.Texts.{may_send, cut_bits, bytes_to_send}
 use Rattle.ncp_model.specs.Sending.{next_commands, fitting}
 use Rattle.ncp_control.specs.Spelling.{spelling}
 use Rattle.std.proofs.Math.Seq.{drop-nil}
-use Rattle.ncp_model.specs.declared.limits.TheConstants.{FIRST_LINK, MAX_CONTROL}
+use Rattle.ncp_model.specs.declared.limits.TheConstants.{DATA_LINKS, FIRST_LINK, MAX_CONTROL}
 use Rattle.ncp_resets.specs.Resets as resets
 use Rattle.ncp_resets.specs.Delivery.{Slot, Empty, Ready, Travelling, Held, Subnet, Free, Accepted, Delivered, Lost, Dead, Link, idle, out}
 use Rattle.ncp_hosts.specs.Hosts.{World, base, moved, set_link, all_empty, hears_all, cuts, sends_text, text_answered, control_answered, text_comes, message_comes, Step, Calls_reset, Calls, Calls_echo, Falls, Sends, Sends_text, Hears, Hears_text, Is_answered, Text_is_answered, steps}
@@ -97,7 +97,7 @@ pub settles_agree : SettlesAgree
 settles_agree n = refl
 
 pub quiet_stays : (c : Command) (n : Node) → quiet (hears c n) ≡ quiet n
-quiet_stays c n = ap (λ (k : ℕ → Link TextOut). all_empty k 70 FIRST_LINK) (hears_all-texts (c ∷ []) n)
+quiet_stays c n = ap (λ (k : ℕ → Link TextOut). all_empty k DATA_LINKS FIRST_LINK) (hears_all-texts (c ∷ []) n)
 
 pub messages_agree : MessagesAgree
 messages_agree [] n = refl

@@ -6,7 +6,7 @@ use Rattle.std.specs.FinMap.{FinMap, empty, get, insert}
 use Rattle.ncp_control.specs.declared.command.Command.{Command}
 use Rattle.ncp_control.specs.declared.command.Command.TheVariants.{Rst, Rrp}
 use Rattle.ncp_model.specs.declared.pair.Pair.{Pair}
-use Rattle.ncp_model.specs.declared.limits.TheConstants.{FIRST_LINK}
+use Rattle.ncp_model.specs.declared.limits.TheConstants.{DATA_LINKS, FIRST_LINK}
 use Rattle.ncp_model.specs.Pairs.{pair_cmp}
 use Rattle.ncp_model.specs.End.{End}
 use Rattle.ncp_model.specs.Act.{answer, made_if_any, made_by_call}
@@ -63,7 +63,7 @@ all_empty texts (suc many) from = is_empty (texts from).slot && all_empty texts 
 
 -- links 2 to 71
 abbrev pub quiet : Node → Bool
-quiet n = all_empty n.texts 70 FIRST_LINK
+quiet n = all_empty n.texts DATA_LINKS FIRST_LINK
 
 abbrev pub set_link : ℕ → Link TextOut → (ℕ → Link TextOut) → ℕ → Link TextOut
 set_link on link texts k = if k == on then link else texts k
