@@ -39,7 +39,7 @@ abbrev pub sum_on : ℕ → (Command → ℕ) → List Command → ℕ
 sum_on on f [] = 0
 sum_on on f (c ∷ cs) = (if names_link on (link_of c) then f c else 0) + sum_on on f cs
 
--- of the text of a link that went out and has not come
+-- how many messages, and which bits, the text of a link is that has not come
 
 abbrev pub how_many : Option TextOut → ℕ
 how_many None = 0
