@@ -1,3 +1,5 @@
+-- Meant for other crates too: they cite what is public here.
+--
 -- What acts change of an end's link, and what they make of requests.
 use Rattle.std.proofs.Common.{◌≡◌, ℕ, Bool, true, false, List, [], ◌∷◌, Option, None, Some, refl, arith}
 use Rattle.std.proofs.lemmas.Bool.{both_ways}
@@ -6,7 +8,7 @@ use Rattle.ncp_control.specs.declared.command.Command.TheVariants.{Rts}
 use Rattle.ncp_model.specs.declared.pair.Pair.{Pair}
 use Rattle.ncp_model.specs.Pairs.{sends, receives}
 use Rattle.ncp_model.specs.End.{End, or_new}
-use Rattle.ncp_model.specs.Texts.{Taken, Again, Kept}
+use Rattle.ncp_model.specs.Texts.{Rfnm, Incomplete, Dead}
 use Rattle.ncp_model.specs.Happenings.{Happening, happens}
 use Rattle.ncp_model.specs.Happenings as all
 use Rattle.ncp_connections.proofs.ReceiverActs.{only_receives}
@@ -67,10 +69,10 @@ sender_calm pair (all.Text_comes head n text) None sd c d = (λ h. (h, refl), λ
 sender_calm pair (all.Text_comes head n text) (Some e) sd c d = (λ h. (grind arith, grind arith), λ l. let m = d l in let m0 = m.0 in let m1 = m.1 in grind arith)
 sender_calm pair all.Text_goes_out None sd c d = (λ h. (h, refl), λ l. l)
 sender_calm pair all.Text_goes_out (Some e) sd c d = (λ h. (grind arith, grind arith), λ l. let m = d l in let m0 = m.0 in let m1 = m.1 in grind arith)
-sender_calm pair (all.Is_answered Taken) None sd c d = (λ h. (h, refl), λ l. l)
-sender_calm pair (all.Is_answered Taken) (Some e) sd c d = (λ h. (grind arith, grind arith), λ l. let m = d l in let m0 = m.0 in let m1 = m.1 in grind arith)
-sender_calm pair (all.Is_answered Again) before sd c d = (λ h. (h, refl), λ l. l)
-sender_calm pair (all.Is_answered Kept) before sd c d = (λ h. (h, refl), λ l. l)
+sender_calm pair (all.Is_answered Rfnm) None sd c d = (λ h. (h, refl), λ l. l)
+sender_calm pair (all.Is_answered Rfnm) (Some e) sd c d = (λ h. (grind arith, grind arith), λ l. let m = d l in let m0 = m.0 in let m1 = m.1 in grind arith)
+sender_calm pair (all.Is_answered Incomplete) before sd c d = (λ h. (h, refl), λ l. l)
+sender_calm pair (all.Is_answered Dead) before sd c d = (λ h. (h, refl), λ l. l)
 sender_calm pair all.Is_cleared before sd c d = absurd (both_ways false refl c)
 
 -- an RTS that comes to an end that heard none
@@ -129,10 +131,10 @@ receiver_calm pair (all.Text_comes head n text) None rd c = λ h. (h, refl)
 receiver_calm pair (all.Text_comes head n text) (Some e) rd c = λ h. (grind arith, grind arith)
 receiver_calm pair all.Text_goes_out None rd c = λ h. (h, refl)
 receiver_calm pair all.Text_goes_out (Some e) rd c = λ h. (grind arith, grind arith)
-receiver_calm pair (all.Is_answered Taken) None rd c = λ h. (h, refl)
-receiver_calm pair (all.Is_answered Taken) (Some e) rd c = λ h. (grind arith, grind arith)
-receiver_calm pair (all.Is_answered Again) before rd c = λ h. (h, refl)
-receiver_calm pair (all.Is_answered Kept) before rd c = λ h. (h, refl)
+receiver_calm pair (all.Is_answered Rfnm) None rd c = λ h. (h, refl)
+receiver_calm pair (all.Is_answered Rfnm) (Some e) rd c = λ h. (grind arith, grind arith)
+receiver_calm pair (all.Is_answered Incomplete) before rd c = λ h. (h, refl)
+receiver_calm pair (all.Is_answered Dead) before rd c = λ h. (h, refl)
 receiver_calm pair all.Is_cleared before rd c = λ h. absurd (both_ways false refl h)
 
 pub makes_no_rts : (pair : Pair) (what : Happening) (before : Option End) → receives pair ≡ true → asks_link what ≡ false → no_rts (happens pair what before).made ≡ true
@@ -169,8 +171,8 @@ makes_no_rts pair (all.Ins_comes on) (Some e) rd c = grind arith
 makes_no_rts pair (all.Text_comes head n text) None rd c = refl
 makes_no_rts pair (all.Text_comes head n text) (Some e) rd c = grind arith
 makes_no_rts pair all.Text_goes_out before rd c = refl
-makes_no_rts pair (all.Is_answered Taken) None rd c = refl
-makes_no_rts pair (all.Is_answered Taken) (Some e) rd c = grind arith
-makes_no_rts pair (all.Is_answered Again) before rd c = refl
-makes_no_rts pair (all.Is_answered Kept) before rd c = refl
+makes_no_rts pair (all.Is_answered Rfnm) None rd c = refl
+makes_no_rts pair (all.Is_answered Rfnm) (Some e) rd c = grind arith
+makes_no_rts pair (all.Is_answered Incomplete) before rd c = refl
+makes_no_rts pair (all.Is_answered Dead) before rd c = refl
 makes_no_rts pair all.Is_cleared before rd c = refl

@@ -1,12 +1,12 @@
 pub mod Lines
 pub mod Joint
-pub mod Numbers
+mod Numbers
 pub mod Senders
 pub mod Receivers
-pub mod Standing
-pub mod SenderActs
-pub mod ReceiverActs
+mod Standing
+mod SenderActs
+mod ReceiverActs
 pub mod Whole
 pub mod Outliving
 pub mod Calm
-pub mod InOrder
+mod InOrder

@@ -1,3 +1,5 @@
+-- Meant for other crates too: they cite what is public here.
+--
 -- Requests and CLSs between two ends x and y: what is underway fits the marks of both.
 use Rattle.std.proofs.Common.{◌≡◌, ℕ, Bool, true, false, ◌||◌, if◌then◌else◌, List, [], ◌∷◌, ◌++◌, refl, ap, sym, ◌∙◌, subst}
 use Rattle.std.proofs.lemmas.Bool.{both_ways, or_right}

@@ -1,3 +1,5 @@
+-- Meant for other crates too: they cite what is public here.
+--
 -- A host that was cleared is a host that is silent, and what was struck of its commands is underway
 -- for ever. So what is left of a connection is part of a whole one, which keeps what holds of it.
 use Rattle.std.proofs.Common.{◌≡◌, ℕ, Bool, true, false, ◌||◌, nat_lt, if◌then◌else◌, List, [], ◌∷◌, ◌++◌, take, drop, Option, None, Some, refl, ap, sym, ◌∙◌, subst, arith, append_assoc}
@@ -8,7 +10,7 @@ use Rattle.ncp_model.specs.declared.pair.Pair.{Pair}
 use Rattle.ncp_model.specs.declared.limits.TheConstants.{MAX_BY_PEER}
 use Rattle.ncp_model.specs.Pairs.{sends, turned}
 use Rattle.ncp_model.specs.End.{End, or_new, is_live, is_open}
-use Rattle.ncp_model.specs.Texts.{Answered, Taken, Again, Kept}
+use Rattle.ncp_model.specs.Texts.{Answer, Rfnm, Incomplete, Dead}
 use Rattle.ncp_model.specs.Happenings.{Happening, happens}
 use Rattle.ncp_model.specs.Happenings as all
 use Rattle.ncp_watch.specs.Histories.{Watched, no_past, opens, watches}
@@ -115,35 +117,35 @@ module _ (pair : Pair) (sd : sends pair ≡ true) where
       go None m = record { gone = k.gone; ghost = k.ghost; to_ghost = k.to_ghost; lost = k.lost; inv = m }
       go (Some what) m = record { gone = k.gone; ghost = k.ghost; to_ghost = k.to_ghost ++ (happens pair what w.sender.end).made; lost = k.lost; inv = m }
 
-  pub fit_text_is_answered : (how : Answered) (b : Bool) (t : Text) (w : Connection) → Fit pair true b (record w { text = t }) → Fit pair true b (text_is_answered pair how t (record w { text = t }))
+  pub fit_text_is_answered : (how : Answer) (b : Bool) (t : Text) (w : Connection) → Fit pair true b (record w { text = t }) → Fit pair true b (text_is_answered pair how t (record w { text = t }))
   fit_text_is_answered how true t w k = text_is_answered_keeps pair sd how t w k.local k.core
-  fit_text_is_answered Taken false No_text w k = k
-  fit_text_is_answered Taken false (Away li n bits) w k = k
-  fit_text_is_answered Taken false (Here li) w k = record {
+  fit_text_is_answered Rfnm false No_text w k = k
+  fit_text_is_answered Rfnm false (Away li n bits) w k = k
+  fit_text_is_answered Rfnm false (Here li) w k = record {
     gone = k.gone;
     ghost = k.ghost;
-    to_ghost = k.to_ghost ++ (happens pair (all.Is_answered Taken) w.sender.end).made;
+    to_ghost = k.to_ghost ++ (happens pair (all.Is_answered Rfnm) w.sender.end).made;
     lost = k.lost;
-    inv = text_is_answered_keeps pair sd Taken (Here li) (record w { receiver = k.ghost; to_receiver = k.to_ghost; to_sender = w.to_sender ++ k.lost }) k.inv.local k.inv.core;
+    inv = text_is_answered_keeps pair sd Rfnm (Here li) (record w { receiver = k.ghost; to_receiver = k.to_ghost; to_sender = w.to_sender ++ k.lost }) k.inv.local k.inv.core;
   }
-  fit_text_is_answered Again false No_text w k = k
-  fit_text_is_answered Again false (Away li n bits) w k = record {
-    gone = k.gone;
-    ghost = k.ghost;
-    to_ghost = k.to_ghost ++ [];
-    lost = k.lost;
-    inv = text_is_answered_keeps pair sd Again (Away li n bits) (record w { receiver = k.ghost; to_receiver = k.to_ghost; to_sender = w.to_sender ++ k.lost }) k.inv.local k.inv.core;
-  }
-  fit_text_is_answered Again false (Here li) w k = k
-  fit_text_is_answered Kept false No_text w k = k
-  fit_text_is_answered Kept false (Away li n bits) w k = record {
+  fit_text_is_answered Incomplete false No_text w k = k
+  fit_text_is_answered Incomplete false (Away li n bits) w k = record {
     gone = k.gone;
     ghost = k.ghost;
     to_ghost = k.to_ghost ++ [];
     lost = k.lost;
-    inv = text_is_answered_keeps pair sd Kept (Away li n bits) (record w { receiver = k.ghost; to_receiver = k.to_ghost; to_sender = w.to_sender ++ k.lost }) k.inv.local k.inv.core;
+    inv = text_is_answered_keeps pair sd Incomplete (Away li n bits) (record w { receiver = k.ghost; to_receiver = k.to_ghost; to_sender = w.to_sender ++ k.lost }) k.inv.local k.inv.core;
   }
-  fit_text_is_answered Kept false (Here li) w k = k
+  fit_text_is_answered Incomplete false (Here li) w k = k
+  fit_text_is_answered Dead false No_text w k = k
+  fit_text_is_answered Dead false (Away li n bits) w k = record {
+    gone = k.gone;
+    ghost = k.ghost;
+    to_ghost = k.to_ghost ++ [];
+    lost = k.lost;
+    inv = text_is_answered_keeps pair sd Dead (Away li n bits) (record w { receiver = k.ghost; to_receiver = k.to_ghost; to_sender = w.to_sender ++ k.lost }) k.inv.local k.inv.core;
+  }
+  fit_text_is_answered Dead false (Here li) w k = k
 
   -- The receiver's host is there.
 
@@ -189,7 +191,7 @@ module _ (pair : Pair) (sd : sends pair ≡ true) where
     core = k.core;
   }
 
-  not_opened : (before : Option End) → opens before (happens pair (all.Is_answered Taken) before).after ≡ false
+  not_opened : (before : Option End) → opens before (happens pair (all.Is_answered Rfnm) before).after ≡ false
   not_opened None = refl
   not_opened (Some e) = grind arith
 
@@ -201,28 +203,28 @@ module _ (pair : Pair) (sd : sends pair ≡ true) where
   missed_by_receiver true p w k = record { gone = k.gone; ghost = k.ghost; to_ghost = k.to_ghost; lost = k.lost; inv = k.inv }
   missed_by_receiver false p w k = record { no_sender = k.no_sender; no_receiver = k.no_receiver; safe = k.safe }
 
-  pub answer_missed : (how : Answered) (b : Bool) (t : Text) (w : Connection) → Fit pair false b (record w { text = t }) → Fit pair false b (record w { text = text_over how t })
+  pub answer_missed : (how : Answer) (b : Bool) (t : Text) (w : Connection) → Fit pair false b (record w { text = t }) → Fit pair false b (record w { text = text_over how t })
   answer_missed how false t w k = record { no_sender = k.no_sender; no_receiver = k.no_receiver; safe = k.safe }
-  answer_missed Taken true No_text w k = k
-  answer_missed Taken true (Away li n bits) w k = k
-  answer_missed Taken true (Here li) w k =
-      let made : List Command = (happens pair (all.Is_answered Taken) k.ghost.end).made in
+  answer_missed Rfnm true No_text w k = k
+  answer_missed Rfnm true (Away li n bits) w k = k
+  answer_missed Rfnm true (Here li) w k =
+      let made : List Command = (happens pair (all.Is_answered Rfnm) k.ghost.end).made in
       record {
         gone = k.gone;
-        ghost = watches pair (all.Is_answered Taken) k.ghost;
+        ghost = watches pair (all.Is_answered Rfnm) k.ghost;
         given = subst (λ (b : Bool). (if b then no_past else k.ghost.past).given ≡ w.sender.past.given) (sym (not_opened k.ghost.end)) k.given;
         to_ghost = k.to_ghost;
         lost = k.lost ++ made;
-        inv = subst (λ (x : List Command). Inv pair (record w { sender = watches pair (all.Is_answered Taken) k.ghost; to_sender = k.to_ghost; to_receiver = x; text = No_text })) (append_assoc w.to_receiver k.lost made)
+        inv = subst (λ (x : List Command). Inv pair (record w { sender = watches pair (all.Is_answered Rfnm) k.ghost; to_sender = k.to_ghost; to_receiver = x; text = No_text })) (append_assoc w.to_receiver k.lost made)
             (remarked _ w.violated k.inv.local.safe
-            (text_is_answered_keeps pair sd Taken (Here li) (record w { sender = k.ghost; to_sender = k.to_ghost; to_receiver = w.to_receiver ++ k.lost }) k.inv.local k.inv.core));
+            (text_is_answered_keeps pair sd Rfnm (Here li) (record w { sender = k.ghost; to_sender = k.to_ghost; to_receiver = w.to_receiver ++ k.lost }) k.inv.local k.inv.core));
       }
-  answer_missed Again true No_text w k = k
-  answer_missed Again true (Away li n bits) w k = k
-  answer_missed Again true (Here li) w k = k
-  answer_missed Kept true No_text w k = k
-  answer_missed Kept true (Away li n bits) w k = k
-  answer_missed Kept true (Here li) w k = k
+  answer_missed Incomplete true No_text w k = k
+  answer_missed Incomplete true (Away li n bits) w k = k
+  answer_missed Incomplete true (Here li) w k = k
+  answer_missed Dead true No_text w k = k
+  answer_missed Dead true (Away li n bits) w k = k
+  answer_missed Dead true (Here li) w k = k
 
   pub text_missed : (head : List Bool) (a : Bool) (t : Text) (w : Connection) → Fit pair a false (record w { text = t }) → Fit pair a false (record w { text = text_dropped t })
   text_missed head false t w k = record { no_sender = k.no_sender; no_receiver = k.no_receiver; safe = k.safe }

@@ -16,7 +16,7 @@ use Rattle.ncp_model.specs.End.{End, new_end, or_new, is_going, is_over}
 use Rattle.ncp_model.specs.Act.{Act, Stays, Becomes, answer, end_after, made_by_call, made_by_close, made_by_take, made_by_hearing, made_if_any, met, leaves, closing, is_room, is_data_link}
 use Rattle.ncp_model.specs.Calls.{ask_send, ask_receive, close, give, take_held, allocate, call_back, interrupt, interrupting}
 use Rattle.ncp_model.specs.Commands.{hear_rts, hear_cls, hear_cls_end, hear_all, hear_gvb, hear_inr, at_open, all_at, gvb_at, interrupted}
-use Rattle.ncp_model.specs.Texts.{cut, may_send, bytes_to_send, Answered, answered, Taken}
+use Rattle.ncp_model.specs.Texts.{cut, may_send, bytes_to_send, Answer, answered, Rfnm}
 use Rattle.ncp_model.specs.Happenings.{Happening, Outcome, of_call, of_take, of_hearing, of_cut, is_violation}
 use Rattle.ncp_model.specs.Happenings as all
 use Rattle.ncp_watch.specs.Histories.{Past, no_past, adds, opens}
@@ -309,7 +309,7 @@ module _ (pair : Pair) (sd : sends pair ≡ true) (past : Past) (r : End) (h : L
 
 module _ (pair : Pair) (past : Past) (r : End) (h : List Bool) (p q : List Command) (li : ℕ) (fr : Firm r) where
   pub sk-taken : sends pair ≡ true → (before : Option End) → Firm (or_new before) → Core (or_new before) past.given r h p q (Here li)
-      → Keeps (all.Is_answered Taken) before past r h p q No_text made_if_any (λ _. all.Accepted) (answered pair Taken before)
+      → Keeps (all.Is_answered Rfnm) before past r h p q No_text made_if_any (λ _. all.Accepted) (answered pair Rfnm before)
   sk-taken sd None fs k = absurd (both_ways false refl k.out)
   sk-taken sd (Some e) fs k =
       let e2 : End = record e { busy = false } in
@@ -330,6 +330,6 @@ module _ (pair : Pair) (past : Past) (r : End) (h : List Bool) (p q : List Comma
           go true c = absurd (both_ways e.leaving v (fs.cls c))
           go false c = grind arith
 
-  pub sk-not_delivered : (how : Answered) (before : Option End) (t : Text) → answered pair how before ≡ Stays None → Core (or_new before) past.given r h p q t
+  pub sk-not_delivered : (how : Answer) (before : Option End) (t : Text) → answered pair how before ≡ Stays None → Core (or_new before) past.given r h p q t
       → Keeps (all.Is_answered how) before past r h p q t made_if_any (λ _. all.Accepted) (answered pair how before)
   sk-not_delivered how before t e k = subst (λ (a : Act (Option Command)). Keeps (all.Is_answered how) before past r h p q t made_if_any (λ _. all.Accepted) a) (sym e) (stays None refl refl refl (λ _. refl) k)

@@ -3,7 +3,7 @@ use Rattle.std.proofs.Common.{◌≡◌, Bool, true, ◌||◌, ◌&&◌, nat_le,
 use Rattle.std.proofs.lemmas.Bool.{and_parts, leb-true}
 use Rattle.ncp_model.specs.declared.pair.Pair.{Pair}
 use Rattle.ncp_model.specs.End.{End, or_new}
-use Rattle.ncp_model.specs.Texts.{Taken, Again, Kept}
+use Rattle.ncp_model.specs.Texts.{Rfnm, Incomplete, Dead}
 use Rattle.ncp_watch.specs.Sound.{SoundAt}
 use Rattle.ncp_model.specs.Happenings.{Happening, happens}
 use Rattle.ncp_model.specs.Happenings as all
@@ -53,10 +53,10 @@ stands-after pair (all.Text_comes head of_size text) None = λ s. refl
 stands-after pair (all.Text_comes head of_size text) (Some e) = λ s. grind arith
 stands-after pair all.Text_goes_out None = λ s. refl
 stands-after pair all.Text_goes_out (Some e) = λ s. grind arith
-stands-after pair (all.Is_answered Taken) None = λ s. refl
-stands-after pair (all.Is_answered Taken) (Some e) = λ s. grind arith
-stands-after pair (all.Is_answered Again) before = λ s. s
-stands-after pair (all.Is_answered Kept) before = λ s. s
+stands-after pair (all.Is_answered Rfnm) None = λ s. refl
+stands-after pair (all.Is_answered Rfnm) (Some e) = λ s. grind arith
+stands-after pair (all.Is_answered Incomplete) before = λ s. s
+stands-after pair (all.Is_answered Dead) before = λ s. s
 stands-after pair all.Is_cleared before = λ s. refl
 
 pub firm_of : (pair : Pair) (o : Option End) → SoundAt pair o → stands o ≡ true → Firm (or_new o)

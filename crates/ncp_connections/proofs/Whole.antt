@@ -1,3 +1,5 @@
+-- Meant for other crates too: they cite what is public here.
+--
 -- What holds after every list of events.
 use Rattle.std.proofs.Common.{◌≡◌, ℕ, Bool, true, false, not, ◌&&◌, nat_lt, cond, List, [], ◌∷◌, ◌++◌, Option, None, Some, refl, ap, sym, ◌∙◌, subst, arith}
 use Rattle.std.proofs.lemmas.Bool.{both_ways, or_from, and_parts, not-true}
@@ -7,7 +9,7 @@ use Rattle.ncp_model.specs.declared.pair.Pair.{Pair}
 use Rattle.ncp_model.specs.declared.limits.TheConstants.{MAX_BY_PEER}
 use Rattle.ncp_model.specs.Pairs.{sends, receives, turned}
 use Rattle.ncp_model.specs.End.{End, new_end, or_new, is_going, is_open, is_live}
-use Rattle.ncp_model.specs.Texts.{Answered, Taken, Again, Kept}
+use Rattle.ncp_model.specs.Texts.{Answer, Rfnm, Incomplete, Dead}
 use Rattle.ncp_watch.specs.Sound.{SoundAt}
 use Rattle.ncp_watch.specs.Books.{BooksAt}
 use Rattle.ncp_model.specs.Leading.{suits}
@@ -232,16 +234,16 @@ module _ (pair : Pair) (sd : sends pair ≡ true) where
   text_comes_keeps head (Away li n bits) w l k = (let m = rk-text (turned pair) rd w.receiver.past (or_new w.sender.end) w.sender.past.given w.to_receiver w.to_sender (s_firm w l) head li n bits w.receiver.end (r_firm w l) k in r_step (all.Text_comes head n bits) (record w { text = Here li }) rd l m.fine m.core)
   text_comes_keeps head (Here li) w l k = record { local = l; core = k }
 
-  pub text_is_answered_keeps : (how : Answered) (t : Text) (w : Connection) → Local pair w → Whole (record w { text = t }) → Inv pair (text_is_answered pair how t (record w { text = t }))
-  text_is_answered_keeps Taken No_text w l k = record { local = l; core = k }
-  text_is_answered_keeps Taken (Away li n bits) w l k = record { local = l; core = k }
-  text_is_answered_keeps Taken (Here li) w l k = (let m = sk-taken pair w.sender.past (or_new w.receiver.end) (live_got w.receiver.end w.receiver.past) w.to_receiver w.to_sender li (r_firm w l) sd w.sender.end (s_firm w l) k in s_step (all.Is_answered Taken) (record w { text = No_text }) l m.fine m.core)
-  text_is_answered_keeps Again No_text w l k = record { local = l; core = k }
-  text_is_answered_keeps Again (Away li n bits) w l k = (let m = sk-not_delivered pair w.sender.past (or_new w.receiver.end) (live_got w.receiver.end w.receiver.past) w.to_receiver w.to_sender li (r_firm w l) Again w.sender.end (Away li n bits) refl k in s_step (all.Is_answered Again) (record w { text = Away li n bits }) l m.fine m.core)
-  text_is_answered_keeps Again (Here li) w l k = record { local = l; core = k }
-  text_is_answered_keeps Kept No_text w l k = record { local = l; core = k }
-  text_is_answered_keeps Kept (Away li n bits) w l k = (let m = sk-not_delivered pair w.sender.past (or_new w.receiver.end) (live_got w.receiver.end w.receiver.past) w.to_receiver w.to_sender li (r_firm w l) Kept w.sender.end (Away li n bits) refl k in s_step (all.Is_answered Kept) (record w { text = Away li n bits }) l m.fine m.core)
-  text_is_answered_keeps Kept (Here li) w l k = record { local = l; core = k }
+  pub text_is_answered_keeps : (how : Answer) (t : Text) (w : Connection) → Local pair w → Whole (record w { text = t }) → Inv pair (text_is_answered pair how t (record w { text = t }))
+  text_is_answered_keeps Rfnm No_text w l k = record { local = l; core = k }
+  text_is_answered_keeps Rfnm (Away li n bits) w l k = record { local = l; core = k }
+  text_is_answered_keeps Rfnm (Here li) w l k = (let m = sk-taken pair w.sender.past (or_new w.receiver.end) (live_got w.receiver.end w.receiver.past) w.to_receiver w.to_sender li (r_firm w l) sd w.sender.end (s_firm w l) k in s_step (all.Is_answered Rfnm) (record w { text = No_text }) l m.fine m.core)
+  text_is_answered_keeps Incomplete No_text w l k = record { local = l; core = k }
+  text_is_answered_keeps Incomplete (Away li n bits) w l k = (let m = sk-not_delivered pair w.sender.past (or_new w.receiver.end) (live_got w.receiver.end w.receiver.past) w.to_receiver w.to_sender li (r_firm w l) Incomplete w.sender.end (Away li n bits) refl k in s_step (all.Is_answered Incomplete) (record w { text = Away li n bits }) l m.fine m.core)
+  text_is_answered_keeps Incomplete (Here li) w l k = record { local = l; core = k }
+  text_is_answered_keeps Dead No_text w l k = record { local = l; core = k }
+  text_is_answered_keeps Dead (Away li n bits) w l k = (let m = sk-not_delivered pair w.sender.past (or_new w.receiver.end) (live_got w.receiver.end w.receiver.past) w.to_receiver w.to_sender li (r_firm w l) Dead w.sender.end (Away li n bits) refl k in s_step (all.Is_answered Dead) (record w { text = Away li n bits }) l m.fine m.core)
+  text_is_answered_keeps Dead (Here li) w l k = record { local = l; core = k }
 
   split : (b : Bool) (x y : Connection) → (b ≡ true → Inv pair x) → (b ≡ false → Inv pair y) → Inv pair (cond b x y)
   split true x y f g = f refl

@@ -4,7 +4,7 @@
 use Rattle.std.specs.Prelude.{◌≡◌, ℕ, Bool, true, false, ◌||◌, if◌then◌else◌, List, [], ◌∷◌, take, drop}
 use Rattle.ncp_model.specs.declared.pair.Pair.{Pair}
 use Rattle.ncp_model.specs.End.{is_live}
-use Rattle.ncp_model.specs.Texts.{Answered, Taken}
+use Rattle.ncp_model.specs.Texts.{Answer, Rfnm}
 use Rattle.ncp_model.specs.Happenings as all
 use Rattle.ncp_connections.specs.Connections.{Text, No_text, Away, Here, Connection, new_connection, sender_does, receiver_does, Event, Sender_calls, Receiver_calls, Comes_to_sender, Comes_to_receiver, Text_goes_out, Text_comes, Text_is_answered, occurs}
 use Rattle.ncp_connections.specs.Ledger.{is_out}
@@ -33,8 +33,8 @@ text_dropped (Away on of_size bits) = Here on
 text_dropped text = text
 
 -- a text that is answered
-abbrev pub text_over : Answered → Text → Text
-text_over Taken (Here on) = No_text
+abbrev pub text_over : Answer → Text → Text
+text_over Rfnm (Here on) = No_text
 text_over how text = text
 
 -- at a host that was cleared: what comes is dropped, and nothing else happens

@@ -9,7 +9,7 @@ use Rattle.ncp_model.specs.declared.pair.Pair.{Pair}
 use Rattle.ncp_model.specs.declared.limits.TheConstants.{MAX_BY_PEER}
 use Rattle.ncp_model.specs.End.{End, or_new}
 use Rattle.ncp_model.specs.Act.{is_data_link}
-use Rattle.ncp_model.specs.Texts.{Answered, Taken, Again, Kept}
+use Rattle.ncp_model.specs.Texts.{Answer, Rfnm, Incomplete, Dead}
 use Rattle.ncp_model.specs.Happenings.{Happening, Outcome, Happened, happens, is_violation}
 use Rattle.ncp_model.specs.Happenings as all
 use Rattle.ncp_watch.specs.Histories.{Watched, no_past, watches}
@@ -97,7 +97,7 @@ pub data Event : Type 0 where
   Comes_to_receiver : (by_peer : ℕ) → Event
   Text_goes_out : Event
   Text_comes : (head : List Bool) → Event  -- with this leader and prefix
-  Text_is_answered : (how : Answered) → Event
+  Text_is_answered : (how : Answer) → Event
 
 abbrev pub sender_hears : Pair → Option Happening → Connection → Connection
 sender_hears pair None w = w
@@ -122,10 +122,10 @@ text_comes pair head (Here on) w = w
 
 -- A text that came is answered by RFNM. One that has not come is answered as not delivered: it is
 -- still out, and goes out again.
-abbrev pub text_is_answered : Pair → Answered → Text → Connection → Connection
-text_is_answered pair Taken (Here on) w = sender_does pair (all.Is_answered Taken) (record w { text = No_text })
-text_is_answered pair Again (Away on of_size bits) w = sender_does pair (all.Is_answered Again) w
-text_is_answered pair Kept (Away on of_size bits) w = sender_does pair (all.Is_answered Kept) w
+abbrev pub text_is_answered : Pair → Answer → Text → Connection → Connection
+text_is_answered pair Rfnm (Here on) w = sender_does pair (all.Is_answered Rfnm) (record w { text = No_text })
+text_is_answered pair Incomplete (Away on of_size bits) w = sender_does pair (all.Is_answered Incomplete) w
+text_is_answered pair Dead (Away on of_size bits) w = sender_does pair (all.Is_answered Dead) w
 text_is_answered pair how text w = w
 
 abbrev pub occurs : Pair → Event → Connection → Connection

@@ -8,8 +8,7 @@ ghost use Rattle.ncp_connections.specs.Connections.{Text, Away, Event, occur, is
 ghost use Rattle.ncp_connections.specs.Ledger.{BothOpen, MessagesAgree, BitsAgree, Parted, Held, Begins, OutIsOpened};
 ghost use Rattle.ncp_connections.specs.Clearings.{Change, change, OutStaysOpened};
 
-use ncp_model::MAX_BY_PEER;
-use ncp_model::Pair;
+use ncp_model::{MAX_BY_PEER, Pair};
 
 /// After every list of events: no end made an ERR for a command of its peer, or answered a text as
 /// not connected, of the wrong size or beyond the allocation. While both ends are open the ledger

@@ -5,7 +5,7 @@ use Rattle.ncp_control.specs.declared.command.Command.TheVariants.{Rst, Rrp}
 use Rattle.ncp_model.specs.Phase.{Reaction, is_resetting}
 use Rattle.std.specs.FinMap.{get}
 use Rattle.ncp_model.specs.Act.{answer, made_if_any, made_by_call}
-use Rattle.ncp_model.specs.Texts.{made_by_text, Taken}
+use Rattle.ncp_model.specs.Texts.{made_by_text, Rfnm}
 use Rattle.ncp_model.specs.Ends.{cut_in, text_in, answered_in}
 use Rattle.ncp_model.specs.Happenings.{happens}
 use Rattle.ncp_model.specs.Echo.{echo_answer}
@@ -128,7 +128,7 @@ settling w n = one (resets.Settles (quiet n)) (base (record w { this = n })) (ba
 freeing : (w : World) (on : ℕ) → Becomes w (settles (frees on w.this))
 freeing w on =
     further (base w) (base (record w { this = frees on w.this })) (base (record w { this = settles (frees on w.this) }))
-    (makes (made_if_any (answer (answered_in on Taken w.this.ends))) (base w)) (settling w (frees on w.this))
+    (makes (made_if_any (answer (answered_in on Rfnm w.this.ends))) (base w)) (settling w (frees on w.this))
 
 answering_text : (w : World) (on : ℕ) (slot : Slot TextOut) (subnet : Subnet TextOut) → Becomes w (text_answered on slot subnet w.this)
 answering_text w on (Travelling t) Delivered = freeing w on

@@ -1,3 +1,5 @@
+-- Meant for other crates too: they cite what is public here.
+--
 -- What holds of two hosts follows from what holds of the connections between them.
 use Rattle.std.proofs.Common.{◌≡◌, ℕ, ◌+◌, Bool, true, false, not, List, [], ◌∷◌, ◌++◌, length, Option, None, Some, refl, sym, ap, ◌∙◌, subst, arith}
 use Rattle.std.specs.FinMap.{get, get-empty}

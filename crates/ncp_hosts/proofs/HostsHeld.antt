@@ -1,3 +1,5 @@
+-- Meant for other crates too: they cite what is public here.
+--
 -- Two hosts stay joined with the machines of their connections, whatever happens.
 use Rattle.std.proofs.Common.{◌≡◌, ℕ, ◌+◌, Bool, true, false, if◌then◌else◌, List, [], ◌∷◌, take, drop, Option, None, Some, refl, sym, ◌∙◌, subst}
 use Rattle.std.proofs.lemmas.List.{take-append-drop}

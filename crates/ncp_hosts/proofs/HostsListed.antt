@@ -13,11 +13,11 @@ use Rattle.ncp_control.specs.declared.command.Command.TheVariants.{Rts, Str, Cls
 use Rattle.ncp_model.specs.declared.pair.Pair.{Pair}
 use Rattle.ncp_model.specs.declared.outcomes.Heard.{Heard}
 use Rattle.ncp_model.specs.declared.outcomes.Heard.TheVariants.{Nothing}
-use Rattle.ncp_model.specs.declared.limits.TheConstants.{FIRST_LINK}
+use Rattle.ncp_model.specs.declared.limits.TheConstants.{DATA_LINKS, FIRST_LINK}
 use Rattle.ncp_model.specs.Pairs.{pair_cmp}
 use Rattle.ncp_model.specs.End.{End, is_over}
 use Rattle.ncp_model.specs.Act.{Act, Stays, Becomes, answer, made_if_any, made_by_hearing, made_by_call}
-use Rattle.ncp_model.specs.Texts.{hear_text, made_by_text, Taken}
+use Rattle.ncp_model.specs.Texts.{hear_text, made_by_text, Rfnm}
 use Rattle.ncp_model.specs.Commands.{hear_rts, hear_str, hear_cls, hear_all, hear_gvb, hear_ret, hear_inr, hear_ins}
 use Rattle.ncp_model.specs.Ends.{Ends, has_asked, is_by_peer, hears_link, uses_link, first_by, lowest, end_of, pair_of, leads_to, hear, text_in, cut_at, cut_in, answered_at, answered_in, map_after_at, no_ends, put}
 use Rattle.ncp_model.specs.Happenings.{Happening, Happened, happens, of_hearing, of_text, is_violation}
@@ -66,7 +66,7 @@ entries-remove m k =
 -- What is asked of the ends.
 
 abbrev pub free_listed : Listed → ℕ
-free_listed es = lowest (λ on. not (nat_lt 0 (count_by (uses_link on) es))) 70 FIRST_LINK
+free_listed es = lowest (λ on. not (nat_lt 0 (count_by (uses_link on) es))) DATA_LINKS FIRST_LINK
 
 abbrev pub leads_listed : Command → Listed → Option Pair
 leads_listed (Rts receive send on) es = Some (record { local = send; remote = receive })
@@ -208,7 +208,7 @@ abbrev pub low : Node → Low
 low n = record { host = n.host; ends = entries n.ends; echoes = n.echoes; control = n.control; texts = n.texts; pasts = entries n.pasts; violated = n.violated }
 
 abbrev pub low_quiet : Low → Bool
-low_quiet n = all_empty n.texts 70 FIRST_LINK
+low_quiet n = all_empty n.texts DATA_LINKS FIRST_LINK
 
 abbrev pub low_cleared : Host → Low → Low
 low_cleared h n = record n { host = h; ends = []; echoes = purge_echo n.echoes }
@@ -380,7 +380,7 @@ low_settles n = record n { host = host_settles (low_quiet n) n.host }
 abbrev pub low_frees : ℕ → Low → Low
 low_frees on n =
     let o = first_by (hears_link on) n.ends in
-    let act = answered_at Taken o in
+    let act = answered_at Rfnm o in
     let host : Host = host_makes_all (made_if_any (answer act)) n.host in
     record n {
       host = host;
@@ -391,7 +391,7 @@ low_frees on n =
 
 frees-low : (on : ℕ) (n : Node) → low (frees on n) ≡ low_frees on (low n)
 frees-low on n =
-    let act = answered_in on Taken n.ends in
+    let act = answered_in on Rfnm n.ends in
     let o = pair_of (first_by (hears_link on) (entries n.ends)) in
     let host : Host = host_makes_all (made_if_any (answer act)) n.host in
     let m : Ends = map_after_at n.ends o act in
@@ -556,3 +556,9 @@ that-host es = ap (λ (w : LowWorld). w.that.host) (run-low es)
 
 pub right : (es : List Event) → (run es).that.violated ≡ (low_run es).that.violated
 right es = ap (λ (w : LowWorld). w.that.violated) (run-low es)
+
+pub this-echoes : (es : List Event) → (run es).this.echoes ≡ (low_run es).this.echoes
+this-echoes es = ap (λ (w : LowWorld). w.this.echoes) (run-low es)
+
+pub that-echoes : (es : List Event) → (run es).that.echoes ≡ (low_run es).that.echoes
+that-echoes es = ap (λ (w : LowWorld). w.that.echoes) (run-low es)

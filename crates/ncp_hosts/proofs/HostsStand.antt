@@ -1,3 +1,5 @@
+-- Meant for other crates too: they cite what is public here.
+--
 -- A host that is not up has no ends; all its ends are sound and in their limits, and no two are on
 -- one link.
 use Rattle.std.proofs.Common.{◌≡◌, ℕ, Bool, true, false, if◌then◌else◌, List, [], ◌∷◌, Option, None, Some, refl, sym, ap, ◌∙◌, subst, arith}
@@ -8,7 +10,7 @@ use Rattle.ncp_model.specs.declared.pair.Pair.{Pair}
 use Rattle.ncp_model.specs.Pairs.{pair_cmp}
 use Rattle.ncp_model.specs.End.{End}
 use Rattle.ncp_model.specs.Act.{Act, answer, end_after}
-use Rattle.ncp_model.specs.Texts.{hear_text, Taken}
+use Rattle.ncp_model.specs.Texts.{hear_text, Rfnm}
 use Rattle.ncp_model.specs.Ends.{Ends, hears_link, uses_link, sender_on, receiver_on, pair_of, leads_to, hear, text_in, cut_at, cut_in, answered_in, map_after, map_after_at, no_ends, put}
 use Rattle.ncp_model.specs.Happenings.{Happening, Happened, happens, happened, of_hearing, of_text, of_cut}
 use Rattle.ncp_model.specs.Happenings as all
@@ -76,10 +78,10 @@ cut-good m on =
     looked m (pair_of (sender_on on m)) (cut_in on m)
     (λ pair e. (all.Text_goes_out, ap (λ (d : Happened). d.after) (cut-led m on pair e).1, none-fresh m all.Text_goes_out (λ l. refl) (λ l. refl), (cut-led m on pair e).0))
 
-answered-good : (m : Ends) (on : ℕ) → Good m → Good (map_after_at m (pair_of (sender_on on m)) (answered_in on Taken m))
+answered-good : (m : Ends) (on : ℕ) → Good m → Good (map_after_at m (pair_of (sender_on on m)) (answered_in on Rfnm m))
 answered-good m on =
-    looked m (pair_of (sender_on on m)) (answered_in on Taken m)
-    (λ pair e. (all.Is_answered Taken, ap (λ (d : Happened). d.after) (answered-led m on Taken pair e).1, none-fresh m (all.Is_answered Taken) (λ l. refl) (λ l. refl), (answered-led m on Taken pair e).0))
+    looked m (pair_of (sender_on on m)) (answered_in on Rfnm m)
+    (λ pair e. (all.Is_answered Rfnm, ap (λ (d : Happened). d.after) (answered-led m on Rfnm pair e).1, none-fresh m (all.Is_answered Rfnm) (λ l. refl) (λ l. refl), (answered-led m on Rfnm pair e).0))
 
 -- Each step.
 
@@ -154,7 +156,7 @@ freeing-stands : (on : ℕ) (n : Node) → Stands n → Stands (frees on n)
 freeing-stands on n p = go (is_up n.host) refl
   where
     m : Ends
-    m = map_after_at n.ends (pair_of (sender_on on n.ends)) (answered_in on Taken n.ends)
+    m = map_after_at n.ends (pair_of (sender_on on n.ends)) (answered_in on Rfnm n.ends)
 
     go : (b : Bool) → is_up n.host ≡ b → Stand (is_up (frees on n).host) (if b then kept (frees on n).host m else n.ends)
     go true u = keeping (frees on n).host m (answered-good n.ends on p.good)

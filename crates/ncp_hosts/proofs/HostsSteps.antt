@@ -10,7 +10,7 @@ use Rattle.ncp_model.specs.declared.call_fault.CallFault.{CallFault}
 use Rattle.ncp_model.specs.Pairs.{pair_cmp, turned}
 use Rattle.ncp_model.specs.End.{End}
 use Rattle.ncp_model.specs.Act.{answer, made_by_hearing, made_if_any, made_by_call}
-use Rattle.ncp_model.specs.Texts.{made_by_text, Taken}
+use Rattle.ncp_model.specs.Texts.{made_by_text, Rfnm}
 use Rattle.ncp_model.specs.Ends.{Ends, no_ends, uses_link, hears_link, hear, leads_to, text_in, cut_in, answered_in, sender_on, receiver_on, pair_of, map_after_at, put}
 use Rattle.ncp_model.specs.Happenings.{Happening, happens, of_hearing, of_text, is_violation}
 use Rattle.ncp_model.specs.Happenings as all
@@ -277,13 +277,13 @@ module _ (own own' : Owners) (n m : Node) (x y : List Command) (on : ℕ) (k : J
 
   -- the answer to one that came
   abbrev freed : Node
-  freed = record n { ends = map_after_at n.ends (pair_of (sender_on on n.ends)) (answered_in on Taken n.ends); texts = set_link on idle n.texts }
+  freed = record n { ends = map_after_at n.ends (pair_of (sender_on on n.ends)) (answered_in on Rfnm n.ends); texts = set_link on idle n.texts }
 
   freeing : (t : TextOut) → (n.texts on).slot ≡ Travelling t → (n.texts on).subnet ≡ Delivered → Joined (owned_by on None own) own' (frees on n) m x y
   freeing t s d = go (is_up n.host) refl
     where
       made : List Command
-      made = made_if_any (answer (answered_in on Taken n.ends))
+      made = made_if_any (answer (answered_in on Rfnm n.ends))
 
       owner : (p : Pair) × (own on ≡ Some p)
       owner = owner-of own n.texts k.ties.g.text on k.ties.there.texts (λ z. absurd (cc (z, s)))
@@ -301,7 +301,7 @@ module _ (own own' : Owners) (n m : Node) (x y : List Command) (on : ℕ) (k : J
           (ties-answered-gone (is_alive m n x) own own' n m (lives n m x) (lives m n y) on t s d (subst (λ (a : Bool). Ties a (is_alive m n x) own own' n m (lives n m x) (lives m n y)) f k.ties))
 
       nothing : is_up n.host ≡ false → made ≡ []
-      nothing e = ap made_if_any (ap (λ (d : Ends). answer (answered_in on Taken d)) (k.this.none e) ∙ gone-answer on)
+      nothing e = ap made_if_any (ap (λ (d : Ends). answer (answered_in on Rfnm d)) (k.this.none e) ∙ gone-answer on)
 
       at_up : Bool → List Command → Node
       at_up b cs =

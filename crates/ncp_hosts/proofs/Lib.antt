@@ -1,21 +1,21 @@
 pub mod Seeing
-pub mod HostsBase
+mod HostsBase
 pub mod EndsGood
 pub mod HostsStand
-pub mod HostsListed
-pub mod Ties
-pub mod TiesBase
-pub mod Lives
-pub mod TiesClear
-pub mod TiesCalls
-pub mod TiesHears
-pub mod TiesTexts
-pub mod HostsJoined
-pub mod TiesFull
-pub mod HostsSteps
+mod HostsListed
+mod Ties
+mod TiesBase
+mod Lives
+mod TiesClear
+mod TiesCalls
+mod TiesHears
+mod TiesTexts
+mod HostsJoined
+mod TiesFull
+mod HostsSteps
 pub mod HostsHeld
-pub mod OpensNot
-pub mod LinkSums
+mod OpensNot
+mod LinkSums
 pub mod HostsHeadline
 pub mod Moves
 pub mod Watches

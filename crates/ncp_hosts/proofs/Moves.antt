@@ -1,3 +1,5 @@
+-- Meant for other crates too: they cite what is public here.
+--
 -- The links of a host move as slots do, and nothing else changes a link.
 use Rattle.std.proofs.Common.{◌≡◌, ℕ, ◌+◌, ◌==◌, take, Bool, true, false, if◌then◌else◌, List, [], ◌∷◌, Option, None, Some, refl, sym, ap, ◌∙◌}
 use Rattle.std.proofs.lemmas.Bool.{eqb-true}

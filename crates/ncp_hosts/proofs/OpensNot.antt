@@ -8,7 +8,8 @@ use Rattle.ncp_model.specs.declared.pair.Pair.{Pair}
 use Rattle.ncp_model.specs.Pairs.{pair_cmp}
 use Rattle.ncp_model.specs.End.{End, is_live}
 use Rattle.ncp_model.specs.Act.{Act, answer, end_after}
-use Rattle.ncp_model.specs.Texts.{hear_text, Taken, Again, Kept}
+use Rattle.ncp_model.specs.Texts.{hear_text, Rfnm, Incomplete}
+use Rattle.ncp_slot.specs.declared.slot.Answer.TheVariants as answers
 use Rattle.ncp_model.specs.Ends.{Ends, has_asked, uses_link, sender_on, receiver_on, pair_of, leads_to, hear, text_in, cut_in, answered_in, map_after, map_after_at, no_ends, put}
 use Rattle.ncp_model.specs.Happenings.{Happening, Happened, happens}
 use Rattle.ncp_model.specs.Happenings as all
@@ -73,10 +74,10 @@ unopened-after pair (all.Text_comes head of_size text) None a u = u
 unopened-after pair (all.Text_comes head of_size text) (Some e) a u = grind arith
 unopened-after pair all.Text_goes_out None a u = u
 unopened-after pair all.Text_goes_out (Some e) a u = grind arith
-unopened-after pair (all.Is_answered Taken) None a u = u
-unopened-after pair (all.Is_answered Taken) (Some e) a u = grind arith
-unopened-after pair (all.Is_answered Again) before a u = u
-unopened-after pair (all.Is_answered Kept) before a u = u
+unopened-after pair (all.Is_answered Rfnm) None a u = u
+unopened-after pair (all.Is_answered Rfnm) (Some e) a u = grind arith
+unopened-after pair (all.Is_answered Incomplete) before a u = u
+unopened-after pair (all.Is_answered answers.Dead) before a u = u
 unopened-after pair all.Is_cleared before a u = (refl, refl)
 
 -- one call where no end is: the peer's request is not there, so nothing opens
@@ -134,10 +135,10 @@ cut-opens m on =
     looked m (pair_of (sender_on on m)) (cut_in on m)
     (λ pair e. (all.Text_goes_out, ap (λ (d : Happened). d.after) (cut-led m on pair e).1, refl))
 
-answered-opens : (m : Ends) (on : ℕ) → NoneOpen m → NoneOpen (map_after_at m (pair_of (sender_on on m)) (answered_in on Taken m))
+answered-opens : (m : Ends) (on : ℕ) → NoneOpen m → NoneOpen (map_after_at m (pair_of (sender_on on m)) (answered_in on Rfnm m))
 answered-opens m on =
-    looked m (pair_of (sender_on on m)) (answered_in on Taken m)
-    (λ pair e. (all.Is_answered Taken, ap (λ (d : Happened). d.after) (answered-led m on Taken pair e).1, refl))
+    looked m (pair_of (sender_on on m)) (answered_in on Rfnm m)
+    (λ pair e. (all.Is_answered Rfnm, ap (λ (d : Happened). d.after) (answered-led m on Rfnm pair e).1, refl))
 
 -- Each step. A host that goes down in the midst of it has no ends.
 
@@ -191,7 +192,7 @@ text_answered-opens : (on : ℕ) (slot : Slot TextOut) (subnet : Subnet TextOut)
 text_answered-opens on (Travelling t) Delivered n u = go (is_up n.host)
   where
     m : Ends
-    m = map_after_at n.ends (pair_of (sender_on on n.ends)) (answered_in on Taken n.ends)
+    m = map_after_at n.ends (pair_of (sender_on on n.ends)) (answered_in on Rfnm n.ends)
 
     go : (b : Bool) → NoneOpen (if b then kept (frees on n).host m else n.ends)
     go true = keeping (frees on n).host m (answered-opens n.ends on u)

@@ -1,10 +1,12 @@
+-- Meant for other crates too: they cite what is public here.
+--
 -- Each step of a host of two is a step of what it keeps of its peer.
 use Rattle.std.proofs.Common.{◌≡◌, ℕ, ◌+◌, ◌-◌, ◌*◌, Bool, true, false, if◌then◌else◌, nat_le, List, [], ◌∷◌, take, drop, length, Option, None, Some, refl, sym, ap, ◌∙◌, arith}
 use Rattle.ncp_control.specs.declared.command.Command.{Command}
 use Rattle.ncp_control.specs.declared.command.Command.TheVariants.{Rst, Rrp}
 use Rattle.ncp_model.specs.declared.pair.Pair.{Pair}
 use Rattle.ncp_model.specs.Act.{answer, made_if_any, made_by_call}
-use Rattle.ncp_model.specs.Texts.{made_by_text, Taken}
+use Rattle.ncp_model.specs.Texts.{made_by_text, Rfnm}
 use Rattle.ncp_model.specs.Ends.{text_in, receiver_on, sender_on, pair_of, answered_in, put}
 use Rattle.ncp_model.specs.Ends.{Ends, hear, leads_to, map_after_at}
 use Rattle.ncp_model.specs.Echo.{Echoes, echo_answer, echo_asked}
@@ -22,7 +24,7 @@ use Rattle.ncp_model.specs.Texts.{may_send, cut_bits, bytes_to_send}
 use Rattle.ncp_model.specs.Sending.{next_commands, fitting}
 use Rattle.ncp_control.specs.Spelling.{spelling}
 use Rattle.std.proofs.Math.Seq.{drop-nil}
-use Rattle.ncp_model.specs.declared.limits.TheConstants.{FIRST_LINK, MAX_CONTROL}
+use Rattle.ncp_model.specs.declared.limits.TheConstants.{DATA_LINKS, FIRST_LINK, MAX_CONTROL}
 use Rattle.ncp_resets.specs.Resets as resets
 use Rattle.ncp_resets.specs.Delivery.{Slot, Empty, Ready, Travelling, Held, Subnet, Free, Accepted, Delivered, Lost, Dead, Link, idle, out}
 use Rattle.ncp_hosts.specs.Hosts.{World, base, moved, set_link, all_empty, hears_all, cuts, sends_text, text_answered, control_answered, text_comes, message_comes, Step, Calls_reset, Calls, Calls_echo, Falls, Sends, Sends_text, Hears, Hears_text, Is_answered, Text_is_answered, steps}
@@ -76,10 +78,10 @@ pub frees_agree : FreesAgree
 frees_agree on n = go (is_up n.host) refl
   where
     cs : List Command
-    cs = made_if_any (answer (answered_in on Taken n.ends))
+    cs = made_if_any (answer (answered_in on Rfnm n.ends))
 
     m : Ends
-    m = map_after_at n.ends (pair_of (sender_on on n.ends)) (answered_in on Taken n.ends)
+    m = map_after_at n.ends (pair_of (sender_on on n.ends)) (answered_in on Rfnm n.ends)
 
     -- the peer, where the test says whether the host is up
     as_told : Bool → Peer
@@ -95,7 +97,7 @@ pub settles_agree : SettlesAgree
 settles_agree n = refl
 
 pub quiet_stays : (c : Command) (n : Node) → quiet (hears c n) ≡ quiet n
-quiet_stays c n = ap (λ (k : ℕ → Link TextOut). all_empty k 70 FIRST_LINK) (hears_all-texts (c ∷ []) n)
+quiet_stays c n = ap (λ (k : ℕ → Link TextOut). all_empty k DATA_LINKS FIRST_LINK) (hears_all-texts (c ∷ []) n)
 
 pub messages_agree : MessagesAgree
 messages_agree [] n = refl

@@ -6,7 +6,7 @@ use Rattle.std.proofs.Math.Seq.{take-append_seam}
 use Rattle.std.specs.FinMap.{get, get-empty}
 use Rattle.ncp_control.specs.declared.command.Command.{Command}
 use Rattle.ncp_model.specs.declared.pair.Pair.{Pair}
-use Rattle.ncp_model.specs.declared.limits.TheConstants.{FIRST_LINK}
+use Rattle.ncp_model.specs.declared.limits.TheConstants.{DATA_LINKS, FIRST_LINK}
 use Rattle.ncp_model.specs.Pairs.{pair_cmp, turned}
 use Rattle.ncp_model.specs.End.{End, is_live}
 use Rattle.ncp_model.specs.Ends.{Ends, no_ends}
@@ -123,8 +123,8 @@ quiet-owns-none n own f q x on = go (own on) (x.owned on)
     go (Some p) w =
         let d : is_data_link on ≡ true = w.data_link in
         let l : FIRST_LINK ≤ on = grind (arith, d) in
-        let h : on < FIRST_LINK + 70 = grind (arith, d) in
-        absurd (carried_some (n.texts on).slot (n.texts on).subnet (quiet_empty n.texts 70 FIRST_LINK on q l h) w.carried)
+        let h : on < FIRST_LINK + DATA_LINKS = grind (arith, d) in
+        absurd (carried_some (n.texts on).slot (n.texts on).subnet (quiet_empty n.texts DATA_LINKS FIRST_LINK on q l h) w.carried)
 
 -- what is out is on a link that its pair owns
 none_out : (own : Owners) (links : ℕ → Link TextOut) (f : Pair → Text) → ((on : ℕ) → own on ≡ None) → Texts own links f → (p : Pair) → f p ≡ No_text

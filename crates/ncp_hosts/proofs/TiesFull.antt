@@ -15,7 +15,7 @@ use Rattle.ncp_model.specs.Pairs.{pair_cmp, sends, receives, turned}
 use Rattle.ncp_model.specs.End.{End, or_new, is_live}
 use Rattle.ncp_model.specs.Act.{Stays, Becomes, answer, end_after, met, is_data_link, made_if_any, made_by_hearing, wrong_parameters}
 use Rattle.ncp_model.specs.Commands.{errs, hear_cls, hear_all, hear_gvb, hear_ret, hear_inr, hear_ins}
-use Rattle.ncp_model.specs.Texts.{Taken, made_by_text}
+use Rattle.ncp_model.specs.Texts.{Rfnm, made_by_text}
 use Rattle.ncp_model.specs.Ends.{Ends, count, any, is_by_peer, hears_link, sender_on, receiver_on, end_of, pair_of, leads_to, hear, text_in, answered_at, answered_in, map_after_at, no_ends}
 use Rattle.ncp_model.specs.Happenings.{Happening, happens, of_hearing, is_violation}
 use Rattle.ncp_model.specs.Happenings as all
@@ -177,20 +177,20 @@ hear-other c m = more_other (made_by_hearing (answer (hear c m))) (echo_replies 
 pub text-other : (head : List Bool) (on of_size : ℕ) (text : List Bool) (m : Ends) → AllOther (made_by_text head text (answer (text_in on of_size text m)))
 text-other head on of_size text m = called-other any_pair (all.Text_comes head of_size text) (end_of (receiver_on on m))
 
-pub answered-other : (on : ℕ) (m : Ends) → AllOther (made_if_any (answer (answered_in on Taken m)))
+pub answered-other : (on : ℕ) (m : Ends) → AllOther (made_if_any (answer (answered_in on Rfnm m)))
 answered-other on m = go (sender_on on m)
   where
-    go : (o : Option (Pair × End)) → AllOther (made_if_any (answer (answered_at Taken o)))
+    go : (o : Option (Pair × End)) → AllOther (made_if_any (answer (answered_at Rfnm o)))
     go None = tt
-    go (Some q) = called-other q.0 (all.Is_answered Taken) (Some q.1)
+    go (Some q) = called-other q.0 (all.Is_answered Rfnm) (Some q.1)
 
 -- No end is found where there is none.
 
 none_sends_on : (on : ℕ) → sender_on on no_ends ≡ None
 none_sends_on on = nowhere (hears_link on) no_ends (λ p. ap (passes (hears_link on) p) (get-empty pair_cmp p))
 
-pub gone-answer : (on : ℕ) → answer (answered_in on Taken no_ends) ≡ None
-gone-answer on = ap (λ o. answer (answered_at Taken o)) (none_sends_on on)
+pub gone-answer : (on : ℕ) → answer (answered_in on Rfnm no_ends) ≡ None
+gone-answer on = ap (λ o. answer (answered_at Rfnm o)) (none_sends_on on)
 
-pub gone-answer-map : (on : ℕ) → map_after_at no_ends (pair_of (sender_on on no_ends)) (answered_in on Taken no_ends) ≡ no_ends
-gone-answer-map on = ap (λ o. map_after_at no_ends (pair_of o) (answered_at Taken o)) (none_sends_on on)
+pub gone-answer-map : (on : ℕ) → map_after_at no_ends (pair_of (sender_on on no_ends)) (answered_in on Rfnm no_ends) ≡ no_ends
+gone-answer-map on = ap (λ o. map_after_at no_ends (pair_of o) (answered_at Rfnm o)) (none_sends_on on)

@@ -10,7 +10,7 @@ use Rattle.ncp_model.specs.declared.pair.Pair.{Pair}
 use Rattle.ncp_model.specs.Pairs.{pair_cmp, sends, receives, turned, same}
 use Rattle.ncp_model.specs.End.{End, or_new}
 use Rattle.ncp_model.specs.Act.{answer, is_data_link, made_if_any}
-use Rattle.ncp_model.specs.Texts.{hear_text, made_by_text, Taken}
+use Rattle.ncp_model.specs.Texts.{hear_text, made_by_text, Rfnm}
 use Rattle.ncp_model.specs.Ends.{Ends, hears_link, uses_link, sender_on, receiver_on, pair_of, text_in, cut_in, cut_at, answered_in, map_after_at}
 use Rattle.ncp_model.specs.Happenings.{Happening, Outcome, Happened, happens, happened, of_text, of_cut, is_violation}
 use Rattle.ncp_model.specs.Happenings as all
@@ -193,7 +193,7 @@ comes_event : (p : Pair) (head : List Bool) (on of_size : ℕ) (bits : List Bool
 comes_event p head on of_size bits g s a t = rw (s, a, t) refl
 
 answered_event : (p : Pair) (on : ℕ) (g : Shared) → sends p ≡ true → g.sends ≡ true → g.text p ≡ Here on
-    → shared_occurs (On p (Text_is_answered Taken)) g ≡ sender_did p (all.Is_answered Taken) No_text g
+    → shared_occurs (On p (Text_is_answered Rfnm)) g ≡ sender_did p (all.Is_answered Rfnm) No_text g
 answered_event p on g s a t = rw (s, a, t) refl
 
 -- only the text of a pair changes
@@ -212,7 +212,7 @@ drops_event : (p : Pair) (head : List Bool) (on of_size : ℕ) (bits : List Bool
 drops_event p head on of_size bits g s a t = rw (s, a, t) refl
 
 gone_event : (p : Pair) (on : ℕ) (g : Shared) → sends p ≡ true → g.sends ≡ false → g.text p ≡ Here on
-    → shared_occurs (On p (Text_is_answered Taken)) g ≡ text_did p No_text g
+    → shared_occurs (On p (Text_is_answered Rfnm)) g ≡ text_did p No_text g
 gone_event p on g s a t = rw (s, a, t) refl
 
 -- one more event, that is this
@@ -222,8 +222,8 @@ by_event g h p r e = reached-same (shared_occurs (On p Text_goes_out) g) h e (fu
 by_coming : (g h : Shared) (p : Pair) (head : List Bool) → Reached g → shared_occurs (On p (Text_comes head)) g ≡ h → Reached h
 by_coming g h p head r e = reached-same (shared_occurs (On p (Text_comes head)) g) h e (further g (On p (Text_comes head)) r tt)
 
-by_answer : (g h : Shared) (p : Pair) → Reached g → shared_occurs (On p (Text_is_answered Taken)) g ≡ h → Reached h
-by_answer g h p r e = reached-same (shared_occurs (On p (Text_is_answered Taken)) g) h e (further g (On p (Text_is_answered Taken)) r tt)
+by_answer : (g h : Shared) (p : Pair) → Reached g → shared_occurs (On p (Text_is_answered Rfnm)) g ≡ h → Reached h
+by_answer g h p r e = reached-same (shared_occurs (On p (Text_is_answered Rfnm)) g) h e (further g (On p (Text_is_answered Rfnm)) r tt)
 
 -- Where a text is out, the ends of its connection hold its link.
 
@@ -323,7 +323,7 @@ cut-opens : (p : Pair) (o : Option End) → opens o (happens p all.Text_goes_out
 cut-opens p None = refl
 cut-opens p (Some e) = grind arith
 
-answer-opens : (p : Pair) (o : Option End) → opens o (happens p (all.Is_answered Taken) o).after ≡ false
+answer-opens : (p : Pair) (o : Option End) → opens o (happens p (all.Is_answered Rfnm) o).after ≡ false
 answer-opens p None = refl
 answer-opens p (Some e) = grind arith
 
@@ -538,41 +538,41 @@ ties-text-comes a b own own' n m u v on head t alive s k = go (owner-of own' m.t
 
 -- the host, where the look-up by link led there
 abbrev after_answer : Node → ℕ → Option Pair → Node
-after_answer n on o = record n { ends = map_after_at n.ends o (answered_in on Taken n.ends); texts = set_link on idle n.texts }
+after_answer n on o = record n { ends = map_after_at n.ends o (answered_in on Rfnm n.ends); texts = set_link on idle n.texts }
 
 module _ (a b : Bool) (own own' : Owners) (n m : Node) (u v : List Command) (on : ℕ) (t : TextOut) where
   -- from the owner of the link, to which the link leads
   answered-from : (p : Pair) → own on ≡ Some p → a ≡ true → (n.texts on).slot ≡ Travelling t → (n.texts on).subnet ≡ Delivered → pair_of (sender_on on n.ends) ≡ Some p → Ties a b own own' n m u v
-      → Ties a b (owned_by on None own) own' (after_answer n on (Some p)) m (u ++ made_if_any (answer (answered_in on Taken n.ends))) v
+      → Ties a b (owned_by on None own) own' (after_answer n on (Some p)) m (u ++ made_if_any (answer (answered_in on Rfnm n.ends))) v
   answered-from p o alive f s leads k = subst (λ (d : Happened). Ties a b (owned_by on None own) own' (after_answer n on (Some p)) m (u ++ d.made) v) does acts.ties
     where
       sent : sends p ≡ true
       sent = (owned-at own n.texts k.g.text k.there.texts on p o).sending
 
-      does : happens p (all.Is_answered Taken) (get n.ends p) ≡ happened (get n.ends p) (answered_in on Taken n.ends) made_if_any (λ _. all.Accepted)
-      does = (answered-led n.ends on Taken p leads).1
+      does : happens p (all.Is_answered Rfnm) (get n.ends p) ≡ happened (get n.ends p) (answered_in on Rfnm n.ends) made_if_any (λ _. all.Accepted)
+      does = (answered-led n.ends on Rfnm p leads).1
 
-      reaches : Reached (sender_did p (all.Is_answered Taken) No_text k.g)
-      reaches = by_answer k.g (sender_did p (all.Is_answered Taken) No_text k.g) p k.reached
+      reaches : Reached (sender_did p (all.Is_answered Rfnm) No_text k.g)
+      reaches = by_answer k.g (sender_did p (all.Is_answered Rfnm) No_text k.g) p k.reached
           (answered_event p on k.g sent (k.there.alive ∙ alive) (delivered-text own n.texts k.g.text k.there.texts on p t o f s))
 
-      sees : Sees n (after_answer n on (Some p)) p (all.Is_answered Taken)
-      sees = sees-still n (after_answer n on (Some p)) p (all.Is_answered Taken)
-          (act-changes n.ends p (all.Is_answered Taken) (answered_in on Taken n.ends) (ap (λ (d : Happened). d.after) does))
+      sees : Sees n (after_answer n on (Some p)) p (all.Is_answered Rfnm)
+      sees = sees-still n (after_answer n on (Some p)) p (all.Is_answered Rfnm)
+          (act-changes n.ends p (all.Is_answered Rfnm) (answered_in on Rfnm n.ends) (ap (λ (d : Happened). d.after) does))
           refl (answer-opens p (get n.ends p)) (λ o x. refl)
 
       acts : record {
-        ties : Ties a b (owned_by on None own) own' (after_answer n on (Some p)) m (u ++ (happens p (all.Is_answered Taken) (get n.ends p)).made) v;
-        safe : is_violation (happens p (all.Is_answered Taken) (get n.ends p)).outcome ≡ false;
+        ties : Ties a b (owned_by on None own) own' (after_answer n on (Some p)) m (u ++ (happens p (all.Is_answered Rfnm) (get n.ends p)).made) v;
+        safe : is_violation (happens p (all.Is_answered Rfnm) (get n.ends p)).outcome ≡ false;
       }
-      acts = sender-acts a b own own' n (after_answer n on (Some p)) m u v (all.Is_answered Taken) k.g k.back p No_text (owned_by on None own) sent
+      acts = sender-acts a b own own' n (after_answer n on (Some p)) m u v (all.Is_answered Rfnm) k.g k.back p No_text (owned_by on None own) sent
           k.there k.here k.going k.coming reaches k.reached_back sees (texts-end own n.texts k.g.text k.there.texts on p o)
 
-pub ties-answered : (a b : Bool) (own own' : Owners) (n m : Node) (u v : List Command) (on : ℕ) (t : TextOut) → a ≡ true → (n.texts on).slot ≡ Travelling t → (n.texts on).subnet ≡ Delivered → Ties a b own own' n m u v → Ties a b (owned_by on None own) own' (record n { ends = map_after_at n.ends (pair_of (sender_on on n.ends)) (answered_in on Taken n.ends); texts = set_link on idle n.texts }) m (u ++ made_if_any (answer (answered_in on Taken n.ends))) v
+pub ties-answered : (a b : Bool) (own own' : Owners) (n m : Node) (u v : List Command) (on : ℕ) (t : TextOut) → a ≡ true → (n.texts on).slot ≡ Travelling t → (n.texts on).subnet ≡ Delivered → Ties a b own own' n m u v → Ties a b (owned_by on None own) own' (record n { ends = map_after_at n.ends (pair_of (sender_on on n.ends)) (answered_in on Rfnm n.ends); texts = set_link on idle n.texts }) m (u ++ made_if_any (answer (answered_in on Rfnm n.ends))) v
 ties-answered a b own own' n m u v on t alive f s k = go (owner-of own n.texts k.g.text k.there.texts on (travelling-not-idle (n.texts on) t f))
   where
-    go : (p : Pair) × (own on ≡ Some p) → Ties a b (owned_by on None own) own' (after_answer n on (pair_of (sender_on on n.ends))) m (u ++ made_if_any (answer (answered_in on Taken n.ends))) v
+    go : (p : Pair) × (own on ≡ Some p) → Ties a b (owned_by on None own) own' (after_answer n on (pair_of (sender_on on n.ends))) m (u ++ made_if_any (answer (answered_in on Rfnm n.ends))) v
     go (p, o) =
         let found = sender-out a b own n m k.g k.there k.reached alive on p o in
         let leads = leads-there (hears_link on) n.ends p found.0 found.1 in
-        subst (λ (x : Option Pair). Ties a b (owned_by on None own) own' (after_answer n on x) m (u ++ made_if_any (answer (answered_in on Taken n.ends))) v) (sym leads) (answered-from a b own own' n m u v on t p o alive f s leads k)
+        subst (λ (x : Option Pair). Ties a b (owned_by on None own) own' (after_answer n on x) m (u ++ made_if_any (answer (answered_in on Rfnm n.ends))) v) (sym leads) (answered-from a b own own' n m u v on t p o alive f s leads k)

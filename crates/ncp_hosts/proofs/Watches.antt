@@ -1,3 +1,5 @@
+-- Meant for other crates too: they cite what is public here.
+--
 -- The histories of a host go their way by what a step tells them.
 use Rattle.std.proofs.Common.{◌≡◌, ℕ, Bool, true, false, if◌then◌else◌, List, [], ◌∷◌, ◌++◌, Option, None, Some, refl, sym, ap, ◌∙◌, arith}
 use Rattle.std.specs.List.{filter}
@@ -6,7 +8,7 @@ use Rattle.ncp_control.specs.declared.command.Command.{Command}
 use Rattle.ncp_control.specs.declared.command.Command.TheVariants.{Rst, Rrp}
 use Rattle.ncp_model.specs.declared.pair.Pair.{Pair}
 use Rattle.ncp_model.specs.Act.{answer, made_if_any, made_by_call}
-use Rattle.ncp_model.specs.Texts.{made_by_text, Taken}
+use Rattle.ncp_model.specs.Texts.{made_by_text, Rfnm}
 use Rattle.ncp_model.specs.Ends.{cut_in, text_in, answered_in}
 use Rattle.ncp_model.specs.Echo.{echo_answer}
 use Rattle.ncp_model.specs.Phase as phases
@@ -133,7 +135,7 @@ freed_seen : (on : ℕ) (n : Node) → watch_of (frees on n) ≡ sees_taken on (
 freed_seen on n = go (up n.host.phase) refl
   where
     cs : List Command
-    cs = made_if_any (answer (answered_in on Taken n.ends))
+    cs = made_if_any (answer (answered_in on Rfnm n.ends))
 
     go : (b : Bool) → up n.host.phase ≡ b → of_host (host_makes_all cs n.host) n.pasts n.violated ≡ (if b then notes (up (makes_all cs n.host.phase)) [] cs (watch_of n) else watch_of n)
     go true u = noted cs n.host n.pasts n.violated u

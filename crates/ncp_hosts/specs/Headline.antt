@@ -11,9 +11,10 @@ use Rattle.ncp_model.specs.Ends.{hears_link, uses_link, link_of}
 use Rattle.ncp_model.specs.Leading.{passes}
 use Rattle.ncp_watch.specs.Histories.{opens, IsBeginning}
 use Rattle.ncp_watch.specs.Books.{BooksAt}
+use Rattle.ncp_resets.specs.Delivery.{Accepted}
 pub use Rattle.ncp_resets.specs.Delivery.{not_come}
 use Rattle.ncp_resets.specs.Resets.{underway}
-use Rattle.ncp_hosts.specs.Hosts.{TextOut, Node, World, past_of, is_empty}
+use Rattle.ncp_hosts.specs.Hosts.{TextOut, Node, World, swap, past_of, is_empty, hears, hears_all}
 use Rattle.ncp_model.specs.Pairs.{turned}
 use Rattle.ncp_model.specs.Amounts.{granted_messages, granted_bits, returned_messages, returned_bits}
 
@@ -38,7 +39,7 @@ abbrev pub sum_on : ℕ → (Command → ℕ) → List Command → ℕ
 sum_on on f [] = 0
 sum_on on f (c ∷ cs) = (if names_link on (link_of c) then f c else 0) + sum_on on f cs
 
--- of the text of a link that went out and has not come
+-- how many messages, and which bits, the text of a link is that has not come
 
 abbrev pub how_many : Option TextOut → ℕ
 how_many None = 0
@@ -126,3 +127,18 @@ SenderOpens on pair w after = SenderOpensAt on pair w.this after.this
 
 abbrev pub ReceiverOpens : ℕ → Pair → World → World → Type 0
 ReceiverOpens on pair w after = ReceiverOpensAt on pair w.that after.that
+
+-- No pair opens, at either host, with a link on which a text of this host stays out: not in a step, and
+-- not by a command of the message that is coming to this host, whatever a later command of it does.
+
+abbrev pub NoPairOpens : World → World → Type 0
+NoPairOpens w after = (pair : Pair) (on : ℕ) → StaysOut on w after → (SenderOpens on pair w after → ⊥) × (ReceiverOpens on pair w after → ⊥)
+
+abbrev pub NoCommandOpens : World → Type 0
+NoCommandOpens w = (done rest : List Command) (c : Command) → w.that.control.subnet ≡ Accepted (done ++ c ∷ rest)
+    → (let n = hears_all done w.this in
+    (pair : Pair) (on : ℕ) → (is_empty (w.this.texts on).slot ≡ false → SenderOpensAt on pair n (hears c n) → ⊥) × (is_empty (w.that.texts on).slot ≡ false → ReceiverOpensAt on pair n (hears c n) → ⊥))
+
+-- either way: of what goes from this host to that one, and of what goes back
+abbrev pub Both : (World → Type 0) → World → Type 0
+Both P w = P w × P (swap w)

@@ -4,7 +4,7 @@ use Rattle.std.specs.Prelude.{List, [], ◌∷◌, ◌++◌}
 use Rattle.ncp_model.specs.declared.pair.Pair.{Pair}
 use Rattle.ncp_resets.specs.Resets.{Side, This, That}
 use Rattle.ncp_model.specs.Rows.{outward, inward, ones, noughts}
-use Rattle.ncp_hosts.specs.Hosts.{Event, Step, Calls_reset, Calls, Sends, Sends_text, Hears, Hears_text, Loses_text, Text_dies, Is_answered, Text_is_answered, Wakes, Ask_to_send, Ask_to_receive, Close, Give, Take, Allocate, Call_back}
+use Rattle.ncp_hosts.specs.Hosts.{Event, Step, Calls_reset, Calls, Calls_echo, Falls, Sends, Sends_text, Hears, Hears_text, Loses, Loses_text, Dies, Text_dies, Is_answered, Text_is_answered, Wakes, Ask_to_send, Ask_to_receive, Close, Give, Take, Allocate, Call_back, Interrupt}
 
 abbrev pub by : Side → Step → Event
 by side step = record { side = side; step = step }
@@ -133,3 +133,51 @@ opens_another =
 abbrev pub reset_under_other_text : List Event
 reset_under_other_text =
     opens_another ++ by That (Calls other_inward (Allocate 2 16)) ∷ message That ++ by This (Calls other_outward (Give (ones 16))) ∷ by This (Sends_text 3) ∷ by That Calls_reset ∷ message That
+
+-- this host asks to send, and the control message that says so is lost, answered so, and goes out again
+abbrev pub request_goes : List Event
+request_goes = comes_up This ++ by This (Calls outward (Ask_to_send 8 64)) ∷ by This (Sends 9) ∷ []
+
+abbrev pub request_lost : List Event
+request_lost = request_goes ++ by This Loses ∷ by This Is_answered ∷ []
+
+abbrev pub request_again : List Event
+request_again = request_lost ++ message This
+
+-- its destination is dead: it is held, and does not go out until the user asks for it
+abbrev pub request_held : List Event
+request_held = request_goes ++ by This Dies ∷ by This Is_answered ∷ message This
+
+abbrev pub request_woken : List Event
+request_woken = request_held ++ by This Wakes ∷ message This
+
+-- this host asks for an echo, and that one answers
+abbrev pub echo_asks : List Event
+echo_asks = comes_up This ++ by This (Calls_echo 65) ∷ []
+
+abbrev pub echo_comes_back : List Event
+echo_comes_back = echo_asks ++ message This ++ message That
+
+-- this host goes down while its connection is open and its echo is awaited
+abbrev pub open_with_echo : List Event
+open_with_echo = comes_up This ++ opens_both ++ by This (Calls_echo 65) ∷ []
+
+abbrev pub fallen : List Event
+fallen = open_with_echo ++ by This Falls ∷ []
+
+-- the sender's user interrupts, and the receiver's does
+abbrev pub both_interrupt : List Event
+both_interrupt = comes_up This ++ opens_both ++ by This (Calls outward Interrupt) ∷ by That (Calls inward Interrupt) ∷ message This ++ message That
+
+-- both have asked, and the receiver's request is underway to the sender; then the sender's to it
+abbrev pub meets : List Event
+meets = comes_up This ++ by This (Calls outward (Ask_to_send 8 64)) ∷ by That (Calls inward (Ask_to_receive 64)) ∷ by That (Sends 9) ∷ []
+
+abbrev pub met : List Event
+met = meets ++ by This Hears ∷ []
+
+abbrev pub meets_there : List Event
+meets_there = met ++ by That Is_answered ∷ by This (Sends 9) ∷ []
+
+abbrev pub met_there : List Event
+met_there = meets_there ++ by That Hears ∷ []

@@ -6,11 +6,11 @@ use Rattle.std.specs.FinMap.{FinMap, empty, get, insert}
 use Rattle.ncp_control.specs.declared.command.Command.{Command}
 use Rattle.ncp_control.specs.declared.command.Command.TheVariants.{Rst, Rrp}
 use Rattle.ncp_model.specs.declared.pair.Pair.{Pair}
-use Rattle.ncp_model.specs.declared.limits.TheConstants.{FIRST_LINK}
+use Rattle.ncp_model.specs.declared.limits.TheConstants.{DATA_LINKS, FIRST_LINK}
 use Rattle.ncp_model.specs.Pairs.{pair_cmp}
 use Rattle.ncp_model.specs.End.{End}
 use Rattle.ncp_model.specs.Act.{answer, made_if_any, made_by_call}
-use Rattle.ncp_model.specs.Texts.{made_by_text, Taken}
+use Rattle.ncp_model.specs.Texts.{made_by_text, Rfnm}
 use Rattle.ncp_model.specs.Ends.{Ends, sender_on, receiver_on, pair_of, leads_to, hear, text_in, cut_in, answered_in, map_after_at, no_ends, put}
 use Rattle.ncp_model.specs.Happenings.{Happening, Outcome, Happened, happens, of_hearing, of_text, is_violation}
 use Rattle.ncp_model.specs.Happenings as all
@@ -63,7 +63,7 @@ all_empty texts (suc many) from = is_empty (texts from).slot && all_empty texts 
 
 -- links 2 to 71
 abbrev pub quiet : Node → Bool
-quiet n = all_empty n.texts 70 FIRST_LINK
+quiet n = all_empty n.texts DATA_LINKS FIRST_LINK
 
 abbrev pub set_link : ℕ → Link TextOut → (ℕ → Link TextOut) → ℕ → Link TextOut
 set_link on link texts k = if k == on then link else texts k
@@ -191,7 +191,7 @@ settles n = record n { host = host_settles (quiet n) n.host }
 
 abbrev pub frees : ℕ → Node → Node
 frees on n =
-    let act = answered_in on Taken n.ends in
+    let act = answered_in on Rfnm n.ends in
     let host : Host = host_makes_all (made_if_any (answer act)) n.host in
     record n {
       host = host;

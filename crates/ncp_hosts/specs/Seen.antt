@@ -3,7 +3,7 @@
 use Rattle.std.specs.Prelude.{◌≡◌, ℕ, ◌+◌, List, [], ◌∷◌, Bool, drop, length}
 use Rattle.ncp_control.specs.declared.command.Command.{Command}
 use Rattle.ncp_model.specs.declared.pair.Pair.{Pair}
-use Rattle.ncp_model.specs.declared.limits.TheConstants.{FIRST_LINK}
+use Rattle.ncp_model.specs.declared.limits.TheConstants.{DATA_LINKS, FIRST_LINK}
 use Rattle.ncp_model.specs.Sending.{next_commands}
 use Rattle.ncp_resets.specs.Delivery.{Slot, Empty, Travelling, Subnet, Accepted, Delivered, Link, idle, out}
 use Rattle.ncp_resets.specs.Resets.{host_falls}
@@ -68,7 +68,7 @@ links_of n = record { control = n.control; texts = n.texts }
 
 -- links 2 to 71
 abbrev pub are_quiet : Links → Bool
-are_quiet k = all_empty k.texts 70 FIRST_LINK
+are_quiet k = all_empty k.texts DATA_LINKS FIRST_LINK
 
 -- What each step makes of what the host keeps of its peer: by its own links, and those of the other.
 

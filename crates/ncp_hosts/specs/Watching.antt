@@ -8,7 +8,7 @@ use Rattle.ncp_control.specs.declared.command.Command.{Command}
 use Rattle.ncp_control.specs.declared.command.Command.TheVariants.{Rst, Rrp}
 use Rattle.ncp_model.specs.declared.pair.Pair.{Pair}
 use Rattle.ncp_model.specs.Act.{answer, made_if_any, made_by_call}
-use Rattle.ncp_model.specs.Texts.{made_by_text, Taken}
+use Rattle.ncp_model.specs.Texts.{made_by_text, Rfnm}
 use Rattle.ncp_model.specs.Ends.{pair_of, receiver_on, leads_to, hear, text_in, answered_in}
 use Rattle.ncp_model.specs.Happenings.{of_hearing, of_text, is_violation}
 use Rattle.ncp_model.specs.Happenings as all
@@ -85,7 +85,7 @@ sees_text on head t p w =
 abbrev pub sees_taken : ℕ → Peer → Watch → Watch
 sees_taken on p w =
     if up p.phase
-    then notes (up (peers.frees_up on p).phase) [] (made_if_any (answer (answered_in on Taken p.ends))) w
+    then notes (up (peers.frees_up on p).phase) [] (made_if_any (answer (answered_in on Rfnm p.ends))) w
     else w
 
 -- What each step adds, by the links of the host and of the other.

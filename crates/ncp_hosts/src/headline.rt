@@ -12,10 +12,11 @@ ghost use Rattle.ncp_model.specs.Phase.{is_rst, is_rrp, is_other, up_phase};
 ghost use Rattle.ncp_model.specs.Happenings.{of_hearing, of_text, is_violation};
 ghost use Rattle.ncp_resets.specs.Delivery.{Accepted, Held, Free};
 ghost use Rattle.ncp_resets.specs.Resets.{is_up, underway};
-ghost use Rattle.ncp_hosts.specs.Hosts.{Node, World, swap, past_of, is_empty, TextOut, Step, steps, hears, hears_all, hears_text, Call, calls, calls_echo, Event, at, run};
-ghost use Rattle.ncp_hosts.specs.Headline.{BothOpen, sender_at, receiver_at, granted_underway, returned_underway, how_many, text_underway, MessagesAgree, BitsAgree, OnOneLink, WithinAllocation, Parted, TakenOrHeld, Begins, StaysOut, SenderOpens, ReceiverOpens, SenderOpensAt, ReceiverOpensAt};
+ghost use Rattle.ncp_hosts.specs.Hosts.{Node, World, swap, past_of, is_empty, TextOut, Step, steps, hears, hears_all, hears_text, Call, calls, calls_echo, Calls_reset, Hears, Event, at, run};
+ghost use Rattle.ncp_hosts.specs.Headline.{BothOpen, sender_at, receiver_at, granted_underway, returned_underway, how_many, text_underway, MessagesAgree, BitsAgree, OnOneLink, WithinAllocation, Parted, TakenOrHeld, Begins, StaysOut, SenderOpens, ReceiverOpens, NoPairOpens, NoCommandOpens, Both};
 ghost use Rattle.ncp_model.specs.Rows.{outward, inward, ones, noughts, counting};
-ghost use Rattle.ncp_hosts.specs.HostRuns.{calls_back_under_text, sender_cleared, held_past_reset, up_after_held, opened_after_held};
+ghost use Rattle.ncp_hosts.specs.HostRuns.{calls_back_under_text, sender_cleared, held_past_reset, up_after_held, opened_after_held, with_text_out, meets, meets_there};
+ghost use Rattle.ncp_resets.specs.Resets.{This, That};
 ghost use Rattle.ncp_model.specs.Amounts.{granted_messages, returned_messages};
 
 use ncp_model::Pair;
@@ -49,13 +50,13 @@ pub fn what_is_against_the_protocol_is_noted()
 /// is a beginning of what was given since the sender last opened, whatever the sender has done since.
 pub fn hosts_lose_and_make_nothing()
     ensures safe { (events : List Event) → ((run events).this.violated ≡ false) × ((run events).that.violated ≡ false) }
-    ensures messages { (events : List Event) (pair : Pair) → sends pair ≡ true → MessagesAgree pair (run events) × MessagesAgree pair (swap (run events)) }
-    ensures bits { (events : List Event) (pair : Pair) → sends pair ≡ true → BitsAgree pair (run events) × BitsAgree pair (swap (run events)) }
-    ensures link { (events : List Event) (pair : Pair) → sends pair ≡ true → OnOneLink pair (run events) × OnOneLink pair (swap (run events)) }
-    ensures allocation { (events : List Event) (pair : Pair) → sends pair ≡ true → WithinAllocation pair (run events) × WithinAllocation pair (swap (run events)) }
-    ensures parted { (events : List Event) (pair : Pair) → sends pair ≡ true → Parted pair (run events) × Parted pair (swap (run events)) }
-    ensures held { (events : List Event) (pair : Pair) → sends pair ≡ true → TakenOrHeld pair (run events) × TakenOrHeld pair (swap (run events)) }
-    ensures beginning { (events : List Event) (pair : Pair) → sends pair ≡ true → Begins pair (run events) × Begins pair (swap (run events)) }
+    ensures messages { (events : List Event) (pair : Pair) → sends pair ≡ true → Both (MessagesAgree pair) (run events) }
+    ensures bits { (events : List Event) (pair : Pair) → sends pair ≡ true → Both (BitsAgree pair) (run events) }
+    ensures link { (events : List Event) (pair : Pair) → sends pair ≡ true → Both (OnOneLink pair) (run events) }
+    ensures allocation { (events : List Event) (pair : Pair) → sends pair ≡ true → Both (WithinAllocation pair) (run events) }
+    ensures parted { (events : List Event) (pair : Pair) → sends pair ≡ true → Both (Parted pair) (run events) }
+    ensures held { (events : List Event) (pair : Pair) → sends pair ≡ true → Both (TakenOrHeld pair) (run events) }
+    ensures beginning { (events : List Event) (pair : Pair) → sends pair ≡ true → Both (Begins pair) (run events) }
 {}
 
 /// From the output of a text on a link to its RFNM no pair whose texts go on that link from that host
@@ -63,14 +64,8 @@ pub fn hosts_lose_and_make_nothing()
 /// control message is heard in one step; in that step too no command of it makes such an opening, even
 /// one that a later command of the same message would end.
 pub fn none_opens_while_its_link_has_a_text()
-    ensures sender { (events : List Event) (e : Event) (pair : Pair) (on : ℕ) → StaysOut on (run events) (at e.side e.step (run events)) → SenderOpens on pair (run events) (at e.side e.step (run events)) → ⊥ }
-    ensures receiver { (events : List Event) (e : Event) (pair : Pair) (on : ℕ) → StaysOut on (run events) (at e.side e.step (run events)) → ReceiverOpens on pair (run events) (at e.side e.step (run events)) → ⊥ }
-    ensures sender_back { (events : List Event) (e : Event) (pair : Pair) (on : ℕ) → StaysOut on (swap (run events)) (swap (at e.side e.step (run events))) → SenderOpens on pair (swap (run events)) (swap (at e.side e.step (run events))) → ⊥ }
-    ensures receiver_back { (events : List Event) (e : Event) (pair : Pair) (on : ℕ) → StaysOut on (swap (run events)) (swap (at e.side e.step (run events))) → ReceiverOpens on pair (swap (run events)) (swap (at e.side e.step (run events))) → ⊥ }
-    ensures sender_each { (events : List Event) (done rest : List Command) (c : Command) (pair : Pair) (on : ℕ) → (run events).that.control.subnet ≡ Accepted (done ++ c ∷ rest) → is_empty ((run events).this.texts on).slot ≡ false → SenderOpensAt on pair (hears_all done (run events).this) (hears c (hears_all done (run events).this)) → ⊥ }
-    ensures receiver_each { (events : List Event) (done rest : List Command) (c : Command) (pair : Pair) (on : ℕ) → (run events).that.control.subnet ≡ Accepted (done ++ c ∷ rest) → is_empty ((run events).that.texts on).slot ≡ false → ReceiverOpensAt on pair (hears_all done (run events).this) (hears c (hears_all done (run events).this)) → ⊥ }
-    ensures sender_each_back { (events : List Event) (done rest : List Command) (c : Command) (pair : Pair) (on : ℕ) → (swap (run events)).that.control.subnet ≡ Accepted (done ++ c ∷ rest) → is_empty ((swap (run events)).this.texts on).slot ≡ false → SenderOpensAt on pair (hears_all done (swap (run events)).this) (hears c (hears_all done (swap (run events)).this)) → ⊥ }
-    ensures receiver_each_back { (events : List Event) (done rest : List Command) (c : Command) (pair : Pair) (on : ℕ) → (swap (run events)).that.control.subnet ≡ Accepted (done ++ c ∷ rest) → is_empty ((swap (run events)).that.texts on).slot ≡ false → ReceiverOpensAt on pair (hears_all done (swap (run events)).this) (hears c (hears_all done (swap (run events)).this)) → ⊥ }
+    ensures steps { (events : List Event) (e : Event) → let w = run events in let after = at e.side e.step w in NoPairOpens w after × NoPairOpens (swap w) (swap after) }
+    ensures commands { (events : List Event) → Both NoCommandOpens (run events) }
 {}
 
 /// That these laws speak of something: both ends are open while an ALL, a text and a RET are underway;
@@ -88,4 +83,14 @@ pub fn a_text_is_held_back_past_a_reset()
     ensures owed { let w = run held_past_reset in (w.this.host.phase ≡ record up_phase { owe = true }) × (w.that.host.phase ≡ record up_phase { wait = true }) × (w.this.texts 2 ≡ record { slot = Held (record { of_size = 8; bits = ones 16 }); subnet = Free }) }
     ensures dropped { let w = run up_after_held in (w.this.host.phase ≡ up_phase) × (w.that.host.phase ≡ up_phase) × ((past_of w.that.pasts inward).got ≡ []) }
     ensures anew { let w = run opened_after_held in (get w.this.ends outward ≡ Some (counting 1 0)) × (get w.that.ends inward ≡ Some (record (counting 1 0) { stored = noughts 16 })) × ((past_of w.that.pasts inward).got ≡ noughts 16) }
+{}
+
+/// The premises of the laws on openings are each met: a text stays out in a step; a step of the
+/// sender's host opens a pair with a link, and one of the receiver's does, each hearing one command.
+pub fn openings_and_texts_out_happen()
+    ensures stays_out { StaysOut 2 (run with_text_out) (at That Calls_reset (run with_text_out)) }
+    ensures sender { SenderOpens 2 outward (run meets) (at This Hears (run meets)) }
+    ensures receiver { ReceiverOpens 2 inward (run meets_there) (at That Hears (run meets_there)) }
+    ensures by_one_command { (run meets).that.control.subnet ≡ Accepted (Command.Rts 2 3 2 ∷ []) }
+    ensures by_one_there { (run meets_there).this.control.subnet ≡ Accepted (Command.Str 3 2 8 ∷ []) }
 {}

@@ -1,15 +1,17 @@
 //! Two hosts with their connections.
-ghost use Rattle.std.specs.Prelude.{◌≡◌, ℕ, List, [], true, false, None, Some};
+ghost use Rattle.std.specs.Prelude.{◌≡◌, ℕ, List, [], ◌∷◌, ◌++◌, ◌||◌, true, false, None, Some};
 ghost use Rattle.std.specs.FinMap.{get};
 ghost use Rattle.ncp_model.specs.Ends.{no_ends, hears_link, uses_link};
 ghost use Rattle.ncp_model.specs.Leading.{passes};
 ghost use Rattle.ncp_watch.specs.Sound.{SoundAt};
 ghost use Rattle.ncp_resets.specs.Resets.{is_up, Agrees, Silent};
 ghost use Rattle.ncp_resets.specs.Resets as resets;
-ghost use Rattle.ncp_hosts.specs.Hosts.{Event, run, base, past_of};
-ghost use Rattle.ncp_resets.specs.Delivery.{Travelling, Held, Free, Accepted, idle};
-ghost use Rattle.ncp_model.specs.Rows.{outward, inward, ones, noughts, asked_receive, opened_end, counting, sent_one, due, gone, shut};
-ghost use Rattle.ncp_hosts.specs.HostRuns.{with_text_out, got_and_taken, lost_twice, held_back, woken_again, both_reset, reset_under_text, reset_over, asks_again, closed_by_receiver, over_by_receiver, opened_again, closed_by_sender, over_by_sender, other_outward, other_inward, opens_another, reset_under_other_text};
+ghost use Rattle.ncp_hosts.specs.Hosts.{Node, hears, Event, run, base, past_of};
+ghost use Rattle.ncp_resets.specs.Delivery.{Ready, Travelling, Held, Free, Accepted, idle};
+ghost use Rattle.ncp_control.specs.declared.command.Command.{Command};
+ghost use Rattle.ncp_model.specs.Echo.{no_echoes, hear_err};
+ghost use Rattle.ncp_model.specs.Rows.{outward, inward, ones, noughts, size_heard, asked_receive, opened_end, counting, sent_one, due, gone, shut};
+ghost use Rattle.ncp_hosts.specs.HostRuns.{with_text_out, got_and_taken, lost_twice, held_back, woken_again, both_reset, reset_under_text, reset_over, asks_again, closed_by_receiver, over_by_receiver, opened_again, closed_by_sender, over_by_sender, other_outward, other_inward, opens_another, reset_under_other_text, request_lost, request_again, request_held, request_woken, echo_asks, echo_comes_back, open_with_echo, fallen, both_interrupt};
 ghost use Rattle.ncp_hosts.specs.Seen.{CallsAgree, EchoesAgree, ResetsAgree, FallsAgree, HearsAgree, TextsAgree, FreesAgree, SettlesAgree, MessagesAgree, CutsAgree, SendsAgree, StepsAgree, OthersStay};
 ghost use Rattle.ncp_hosts.specs.Watching.{WatchesAgree, OtherWatchesStay};
 ghost use Rattle.ncp_hosts.specs.Moving.{ControlMoves, TextsMove, ControlIsHeard, TextsAreHeard};
@@ -77,6 +79,35 @@ pub fn closing_waits_for_text()
 pub fn connections_open_beside_each_other()
     ensures beside { let w = run opens_another in (get w.this.ends outward ≡ Some opened_end) × (get w.that.ends inward ≡ Some opened_end) × (get w.this.ends other_outward ≡ Some (record opened_end { link = 3 })) × (get w.that.ends other_inward ≡ Some (record opened_end { link = 3 })) }
     ensures waits { let w = run reset_under_other_text in (w.this.host.phase ≡ record up_phase { owe = true }) × (w.this.texts 2 ≡ idle) × (w.this.texts 3 ≡ record { slot = Travelling (record { of_size = 8; bits = ones 16 }); subnet = Accepted (record { of_size = 8; bits = ones 16 }) }) }
+{}
+
+/// A control message that is lost comes once; one whose destination is dead is held, does not go out
+/// meanwhile, and comes once it was woken.
+pub fn control_messages_come_once()
+    ensures lost { (run request_lost).this.control ≡ record { slot = Ready (Command.Str 3 2 8 ∷ []); subnet = Free } }
+    ensures again { let w = run request_again in (w.this.control ≡ idle) × (get w.that.ends inward ≡ Some size_heard) × (w.that.host.came ≡ Command.Str 3 2 8 ∷ []) }
+    ensures held { let w = run request_held in (w.this.control ≡ record { slot = Held (Command.Str 3 2 8 ∷ []); subnet = Free }) × (get w.that.ends inward ≡ None) }
+    ensures woken { let w = run request_woken in (w.this.control ≡ idle) × (get w.that.ends inward ≡ Some size_heard) × (w.that.host.came ≡ Command.Str 3 2 8 ∷ []) }
+{}
+
+/// An ECO is answered by an ERP with its byte, which ends the echo; an ERR that comes to a host that is
+/// up is kept with the last ones, and nothing else is done about it.
+pub fn echoes_and_errors_are_kept()
+    ensures awaited { (run echo_asks).this.echoes ≡ record no_echoes { awaited = true } }
+    ensures echoed { let w = run echo_comes_back in (w.this.echoes ≡ record no_echoes { echoed = Some 65 }) × (w.that.echoes ≡ no_echoes) × (w.that.host.came ≡ Command.Eco 65 ∷ []) × (w.this.host.came ≡ Command.Erp 65 ∷ []) }
+    ensures error { (code : ℕ) (data_bytes : List ℕ) (n : Node) → is_up n.host ≡ true → hears (Command.Err code data_bytes) n ≡ record n { host = record n.host { came = n.host.came ++ Command.Err code data_bytes ∷ [] }; echoes = hear_err (record { code = code; bytes = data_bytes }) n.echoes; violated = n.violated || false } }
+{}
+
+/// A host that goes down with a connection open and an echo awaited keeps neither; its peer notices
+/// nothing yet.
+pub fn a_host_falls_with_ends_and_an_echo()
+    ensures open { let w = run open_with_echo in (get w.this.ends outward ≡ Some opened_end) × (w.this.echoes ≡ record no_echoes { awaited = true }) × (w.this.host.phase ≡ record up_phase { waiting = Command.Eco 65 ∷ [] }) }
+    ensures fallen { let w = run fallen in (get w.this.ends outward ≡ None) × (w.this.echoes ≡ no_echoes) × (w.this.host.phase ≡ record up_phase { down = true }) × (w.this.host.made ≡ []) × (get w.that.ends inward ≡ Some opened_end) }
+{}
+
+/// Interrupts of both users come: INS to the receiver, INR to the sender.
+pub fn interrupts_are_counted()
+    ensures { let w = run both_interrupt in (get w.this.ends outward ≡ Some (record opened_end { interrupts = 1 })) × (get w.that.ends inward ≡ Some (record opened_end { interrupts = 1 })) × (w.that.host.came ≡ Command.Str 3 2 8 ∷ Command.Ins 2 ∷ []) × (w.this.host.came ≡ Command.Rts 2 3 2 ∷ Command.Inr 2 ∷ []) }
 {}
 
 /// What a host keeps of its peer goes its way alone: each step of a host is a step of that, by what the

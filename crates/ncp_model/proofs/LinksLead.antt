@@ -15,7 +15,7 @@ use Rattle.ncp_model.specs.End.{End}
 use Rattle.ncp_model.specs.Ends.{Ends, count, any, is_by_peer, hears_link, uses_link, first_by, sender_on, receiver_on, end_of, pair_of, leads_to, hear, text_in, cut_in, cut_at, answered_in, answered_at}
 use Rattle.ncp_model.specs.Act.{made_by_hearing, made_if_any}
 use Rattle.ncp_model.specs.Commands.{hear_all, hear_gvb, hear_ret, hear_inr, hear_ins}
-use Rattle.ncp_model.specs.Texts.{hear_text, made_by_text, Answered}
+use Rattle.ncp_model.specs.Texts.{hear_text, made_by_text, Answer}
 use Rattle.ncp_model.specs.Happenings.{Happening, Happened, happens, happened, of_hearing, of_text, of_cut}
 use Rattle.ncp_model.specs.Happenings as all
 use Rattle.ncp_model.specs.Leading.{suits, passes, leads, link_in, comes}
@@ -144,7 +144,7 @@ cut-led m on pair e = go (sender_on on m) e (led (hears_link on) m pair e)
         at : q.0 ≡ pair → Some q.1 ≡ get m pair → happens pair all.Text_goes_out (Some q.1) ≡ happened (get m pair) (cut_at (Some q)) (λ _. []) of_cut
         at s t = subst (λ r. happens r all.Text_goes_out (Some q.1) ≡ happened (get m pair) (cut_at (Some q)) (λ _. []) of_cut) s (subst (λ b. happens q.0 all.Text_goes_out (Some q.1) ≡ happened b (cut_at (Some q)) (λ _. []) of_cut) t refl)
 
-pub answered-led : (m : Ends) (on : ℕ) (how : Answered) (pair : Pair) → pair_of (sender_on on m) ≡ Some pair → (leads pair (all.Is_answered how) (get m pair) ≡ true) × (happens pair (all.Is_answered how) (get m pair) ≡ happened (get m pair) (answered_in on how m) made_if_any (λ _. all.Accepted))
+pub answered-led : (m : Ends) (on : ℕ) (how : Answer) (pair : Pair) → pair_of (sender_on on m) ≡ Some pair → (leads pair (all.Is_answered how) (get m pair) ≡ true) × (happens pair (all.Is_answered how) (get m pair) ≡ happened (get m pair) (answered_in on how m) made_if_any (λ _. all.Accepted))
 answered-led m on how pair e = go (sender_on on m) e (led (hears_link on) m pair e)
   where
     go : (o : Option (Pair × End)) → pair_of o ≡ Some pair → (get m pair ≡ end_of o) × (passes (hears_link on) pair (get m pair) ≡ true) → (leads pair (all.Is_answered how) (get m pair) ≡ true) × (happens pair (all.Is_answered how) (get m pair) ≡ happened (get m pair) (answered_at how o) made_if_any (λ _. all.Accepted))

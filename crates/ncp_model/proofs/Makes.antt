@@ -4,7 +4,7 @@ use Rattle.std.specs.List.{filter}
 use Rattle.ncp_model.specs.declared.pair.Pair.{Pair}
 use Rattle.ncp_model.specs.Phase.{is_reset}
 use Rattle.ncp_model.specs.End.{End}
-use Rattle.ncp_model.specs.Texts.{Taken, Again, Kept}
+use Rattle.ncp_model.specs.Texts.{Rfnm, Incomplete, Dead}
 use Rattle.ncp_model.specs.Happenings.{Happening, happens}
 use Rattle.ncp_model.specs.Happenings as all
 
@@ -42,8 +42,8 @@ none-reset pair (all.Ins_comes on) (Some e) = grind arith
 none-reset pair (all.Text_comes head of_size text) None = refl
 none-reset pair (all.Text_comes head of_size text) (Some e) = grind arith
 none-reset pair all.Text_goes_out before = refl
-none-reset pair (all.Is_answered Taken) None = refl
-none-reset pair (all.Is_answered Taken) (Some e) = grind arith
-none-reset pair (all.Is_answered Again) before = refl
-none-reset pair (all.Is_answered Kept) before = refl
+none-reset pair (all.Is_answered Rfnm) None = refl
+none-reset pair (all.Is_answered Rfnm) (Some e) = grind arith
+none-reset pair (all.Is_answered Incomplete) before = refl
+none-reset pair (all.Is_answered Dead) before = refl
 none-reset pair all.Is_cleared before = refl

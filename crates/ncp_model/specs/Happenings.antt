@@ -12,7 +12,7 @@ use Rattle.ncp_model.specs.End.{End}
 use Rattle.ncp_model.specs.Act.{Act, answer, end_after, made_by_call, made_if_any, made_by_close, made_by_take, made_by_hearing}
 use Rattle.ncp_model.specs.Calls.{ask_send, ask_receive, close, give, take_held, allocate, call_back, interrupt}
 use Rattle.ncp_model.specs.Commands.{hear_rts, hear_str, hear_cls, hear_all, hear_gvb, hear_ret, hear_inr, hear_ins}
-use Rattle.ncp_model.specs.Texts.{hear_text, made_by_text, cut, Answered, answered, cleared}
+use Rattle.ncp_model.specs.Texts.{hear_text, made_by_text, cut, Answer, answered, cleared}
 
 -- What an act depends on beside the end stands in its arguments: own and by_peer are the numbers
 -- of ends with an own request and with the peer's alone; full: no place for a call's command;
@@ -37,7 +37,7 @@ pub data Happening : Type 0 where
   Ins_comes : (on : ℕ) → Happening
   Text_comes : (head : List Bool) → (of_size : ℕ) → (text : List Bool) → Happening
   Text_goes_out : Happening
-  Is_answered : (how : Answered) → Happening
+  Is_answered : (how : Answer) → Happening
   Is_cleared : Happening
 
 pub data Outcome : Type 0 where

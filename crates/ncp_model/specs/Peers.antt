@@ -14,7 +14,7 @@ use Rattle.ncp_model.specs.declared.outcomes.Heard.{Heard}
 use Rattle.ncp_model.specs.declared.outcomes.Heard.TheVariants as heard
 use Rattle.ncp_model.specs.End.{End}
 use Rattle.ncp_model.specs.Act.{answer, made_if_any, made_by_call, made_by_hearing}
-use Rattle.ncp_model.specs.Texts.{made_by_text, Taken}
+use Rattle.ncp_model.specs.Texts.{made_by_text, Rfnm}
 use Rattle.ncp_model.specs.Ends.{Ends, count, has_asked, free_link, sender_on, receiver_on, pair_of, leads_to, hear, text_in, cut_in, answered_in, map_after_at, no_ends, put}
 use Rattle.ncp_model.specs.Happenings.{Happening, Outcome, Refused, Took_out, Happened, happens}
 use Rattle.ncp_model.specs.Happenings as all
@@ -178,7 +178,7 @@ sends p = record p { phase = record p.phase { waiting = drop (length (next_comma
 -- stand only while the host is up.
 abbrev pub frees_up : ℕ → Peer → Peer
 frees_up on p =
-    let act = answered_in on Taken p.ends in
+    let act = answered_in on Rfnm p.ends in
     makes (made_if_any (answer act)) (record p { ends = map_after_at p.ends (pair_of (sender_on on p.ends)) act })
 
 abbrev pub frees : ℕ → Peer → Peer

@@ -2,6 +2,8 @@
 -- clearing.
 use Rattle.std.specs.Prelude.{ℕ, ◌-◌, ◌*◌, ◌/◌, min, ◌==◌, Bool, true, false, not, ◌&&◌, ◌||◌, nat_le, nat_lt, if◌then◌else◌, List, [], ◌∷◌, ◌++◌, length, take, drop, Option, None, Some}
 use Rattle.ncp_control.specs.declared.command.Command.{Command}
+pub use Rattle.ncp_slot.specs.declared.slot.Answer.{Answer}
+pub use Rattle.ncp_slot.specs.declared.slot.Answer.TheVariants.{Rfnm, Incomplete, Dead}
 use Rattle.ncp_model.specs.declared.pair.Pair.{Pair}
 use Rattle.ncp_model.specs.declared.outcomes.Took.{Took}
 use Rattle.ncp_model.specs.declared.outcomes.Took.TheVariants.{Admitted, Late, WrongSize, Over, NotOpen}
@@ -57,10 +59,6 @@ cut pair (Some e) = if may_send pair e then cut_bits (bytes_to_send e * e.size) 
 -- The answer to a text: it was taken (RFNM); it was not delivered and goes out again (Incomplete
 -- Transmission); it was not delivered and is kept until the user asks for it (Destination Dead)
 -- (BBN 1822, section 3).
-pub data Answered : Type 0 where
-  Taken : Answered
-  Again : Answered
-  Kept : Answered
 
 -- only a text that was taken frees its sender; a leaving sender then makes its CLS: this profile's
 -- rule
@@ -70,11 +68,11 @@ taken_at pair e =
     else if e.leaving then Becomes (leaves (record e { busy = false })) (Some (closing pair))
     else Becomes (record e { busy = false }) None
 
-abbrev pub answered : Pair → Answered → Option End → Act (Option Command)
-answered pair Taken None = Stays None
-answered pair Taken (Some e) = taken_at pair e
-answered pair Again before = Stays None
-answered pair Kept before = Stays None
+abbrev pub answered : Pair → Answer → Option End → Act (Option Command)
+answered pair Rfnm None = Stays None
+answered pair Rfnm (Some e) = taken_at pair e
+answered pair Incomplete before = Stays None
+answered pair Dead before = Stays None
 
 -- A clearing (an accepted reset, an RST that came, going down) leaves no end (NIC 8246, RST; that
 -- going down clears is this profile's rule).

@@ -4,7 +4,8 @@ ghost use Rattle.std.specs.FinMap.{get, from_sorted};
 ghost use Rattle.ncp_model.specs.End.{End, new_end};
 ghost use Rattle.ncp_model.specs.Act.{Act, Stays, Becomes, end_after, made_by_call, made_if_any, made_by_hearing};
 ghost use Rattle.ncp_model.specs.Ends.{Ends, count, any, has_asked, is_by_peer, hears_link, uses_link, first_by, free_link, sender_on, receiver_on, pair_of, leads_to, hear, ask_send_in, ask_receive_in, text_in, cut_in, answered_in, put, map_after, map_after_at, no_ends};
-ghost use Rattle.ncp_model.specs.Texts.{Answered, made_by_text};
+ghost use Rattle.ncp_model.specs.Texts.{made_by_text};
+ghost use Rattle.ncp_slot.specs.declared.slot.Answer.{Answer};
 ghost use Rattle.ncp_model.specs.Happenings.{Happening, happens, happened, of_call, of_hearing, of_text, of_cut};
 ghost use Rattle.ncp_model.specs.Happenings as all;
 ghost use Rattle.ncp_model.specs.Leading.{suits, leads, link_in, comes};
@@ -83,7 +84,7 @@ pub fn what_leads_somewhere_suits()
     ensures command { (m : Ends) (c : Command) (pair : Pair) (what : Happening) → leads_to c m ≡ Some pair → comes c m ≡ Some what → (leads pair what (get m pair) ≡ true) × (happens pair what (get m pair) ≡ happened (get m pair) (hear c m) made_by_hearing of_hearing) }
     ensures text { (m : Ends) (head : List Bool) (of_size : ℕ) (text : List Bool) (pair : Pair) → pair_of (receiver_on (link_in head) m) ≡ Some pair → (leads pair (all.Text_comes head of_size text) (get m pair) ≡ true) × (happens pair (all.Text_comes head of_size text) (get m pair) ≡ happened (get m pair) (text_in (link_in head) of_size text m) (made_by_text head text) of_text) }
     ensures cut { (m : Ends) (on : ℕ) (pair : Pair) → pair_of (sender_on on m) ≡ Some pair → (leads pair all.Text_goes_out (get m pair) ≡ true) × (happens pair all.Text_goes_out (get m pair) ≡ happened (get m pair) (cut_in on m) (λ _. []) of_cut) }
-    ensures answered { (m : Ends) (on : ℕ) (how : Answered) (pair : Pair) → pair_of (sender_on on m) ≡ Some pair → (leads pair (all.Is_answered how) (get m pair) ≡ true) × (happens pair (all.Is_answered how) (get m pair) ≡ happened (get m pair) (answered_in on how m) made_if_any (λ _. all.Accepted)) }
+    ensures answered { (m : Ends) (on : ℕ) (how : Answer) (pair : Pair) → pair_of (sender_on on m) ≡ Some pair → (leads pair (all.Is_answered how) (get m pair) ≡ true) × (happens pair (all.Is_answered how) (get m pair) ≡ happened (get m pair) (answered_in on how m) made_if_any (λ _. all.Accepted)) }
     ensures asks { (m : Ends) (pair : Pair) (of_size with_room : ℕ) (full : Bool) → happens pair (all.Asks_to_send of_size with_room (count has_asked m) full) (get m pair) ≡ happened (get m pair) (ask_send_in pair of_size with_room full m) made_by_call of_call }
     ensures asks_too { (m : Ends) (pair : Pair) (with_room : ℕ) (full : Bool) → happens pair (all.Asks_to_receive with_room (free_link m) (count has_asked m) full) (get m pair) ≡ happened (get m pair) (ask_receive_in pair with_room full m) made_by_call of_call }
     ensures suits { (pair : Pair) (what : Happening) (before : Option End) → leads pair what before ≡ true → suits pair what ≡ true }
@@ -98,8 +99,8 @@ pub fn texts_lead_to_ends()
     ensures comes_nowhere { text_in 4 8 (ones 8) both_ways ≡ Stays Took.NotOpen }
     ensures goes_out { cut_in 2 (from_sorted ((outward, record (counting 1 8) { stored = ones 8 }) ∷ [])) ≡ Becomes (sent_one (counting 0 0)) (Some (8, ones 8)) }
     ensures goes_nowhere { (cut_in 3 both_ways ≡ Stays None) × (cut_in 2 (from_sorted ((inward, record (counting 1 8) { stored = ones 8 }) ∷ [])) ≡ Stays None) }
-    ensures answered { answered_in 2 Answered.Taken (from_sorted ((outward, due (sent_one opened_end)) ∷ [])) ≡ Becomes (gone opened_end) (Some (Command.Cls 3 2)) }
-    ensures answered_nowhere { (answered_in 3 Answered.Taken both_ways ≡ Stays None) × (answered_in 2 Answered.Taken (from_sorted ((inward, due opened_end) ∷ [])) ≡ Stays None) }
+    ensures answered { answered_in 2 Answer.Rfnm (from_sorted ((outward, due (sent_one opened_end)) ∷ [])) ≡ Becomes (gone opened_end) (Some (Command.Cls 3 2)) }
+    ensures answered_nowhere { (answered_in 3 Answer.Rfnm both_ways ≡ Stays None) × (answered_in 2 Answer.Rfnm (from_sorted ((inward, due opened_end) ∷ [])) ≡ Stays None) }
     ensures asks { ask_receive_in (record { local = 8; remote = 9 }) 64 false both_ways ≡ Becomes (record asked_receive { link = 4 }) (Ok (Command.Rts 8 9 4)) }
     ensures asks_to_send { ask_send_in (record { local = 9; remote = 8 }) 8 64 false both_ways ≡ Becomes asked_send (Ok (Command.Str 9 8 8)) }
     ensures asks_in_vain { (m : Ends) → get m outward ≡ None → MAX_OWN ≤ count has_asked m → ask_send_in outward 8 64 false m ≡ Stays (Err CallFault.TableFull) }

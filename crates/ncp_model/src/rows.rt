@@ -6,7 +6,8 @@ ghost use Rattle.ncp_model.specs.End.{End, new_end, or_new, is_open, is_live, is
 ghost use Rattle.ncp_model.specs.Act.{Act, Stays, Becomes, end_after, met, text_error};
 ghost use Rattle.ncp_model.specs.Calls.{bits_to_take, ask_send, ask_receive, close, give, take_held, allocate, call_back, interrupt};
 ghost use Rattle.ncp_model.specs.Commands.{hear_rts, hear_str, hear_cls, hear_all, hear_gvb, hear_ret, hear_inr, hear_ins};
-ghost use Rattle.ncp_model.specs.Texts.{bytes_to_send, made_by_text, hear_text, cut, answered, Answered, cleared};
+ghost use Rattle.ncp_model.specs.Texts.{bytes_to_send, made_by_text, hear_text, cut, answered, cleared};
+ghost use Rattle.ncp_slot.specs.declared.slot.Answer.{Answer};
 ghost use Rattle.ncp_model.specs.Echo.{Error, Echoes, no_echoes, echo_answer, echo_asked, eco_reply, hear_erp, is_stray_erp, hear_err, purge_echo};
 ghost use Rattle.ncp_model.specs.Happenings.{happens};
 ghost use Rattle.ncp_model.specs.Happenings as all;
@@ -304,15 +305,15 @@ pub fn refusing_text()
 
 /// The answer to a text: only an RFNM frees its sender, and a leaving one then makes its CLS.
 pub fn answering()
-    ensures none { (answered outward Answered.Taken None ≡ Stays None) × (answered outward Answered.Again None ≡ Stays None) × (answered outward Answered.Kept None ≡ Stays None) }
-    ensures taken { answered outward Answered.Taken (Some (sent_one (storing (ones 8)))) ≡ Becomes (storing (ones 8)) None }
-    ensures only_leaving { answered outward Answered.Taken (Some (shut (sent_one (counting 2 16)))) ≡ Becomes (shut (counting 2 16)) None }
-    ensures again { answered outward Answered.Again (Some (due (sent_one opened_end))) ≡ Stays None }
-    ensures kept { answered outward Answered.Kept (Some (due (sent_one opened_end))) ≡ Stays None }
-    ensures leaving { let act = answered outward Answered.Taken (Some (due (sent_one opened_end))) in (act ≡ Becomes (gone opened_end) (Some (Command.Cls 3 2))) × (end_after None act ≡ Some (gone opened_end)) }
-    ensures ends { let act = answered outward Answered.Taken (Some (shut (due (sent_one opened_end)))) in (act ≡ Becomes (shut (gone opened_end)) (Some (Command.Cls 3 2))) × (end_after (Some opened_end) act ≡ None) }
-    ensures not_delivered { (answered outward Answered.Again (Some (sent_one opened_end)) ≡ Stays None) × (answered outward Answered.Kept (Some (sent_one opened_end)) ≡ Stays None) }
-    ensures receiver { answered inward Answered.Taken (Some (due (storing (ones 8)))) ≡ Stays None }
+    ensures none { (answered outward Answer.Rfnm None ≡ Stays None) × (answered outward Answer.Incomplete None ≡ Stays None) × (answered outward Answer.Dead None ≡ Stays None) }
+    ensures taken { answered outward Answer.Rfnm (Some (sent_one (storing (ones 8)))) ≡ Becomes (storing (ones 8)) None }
+    ensures only_leaving { answered outward Answer.Rfnm (Some (shut (sent_one (counting 2 16)))) ≡ Becomes (shut (counting 2 16)) None }
+    ensures again { answered outward Answer.Incomplete (Some (due (sent_one opened_end))) ≡ Stays None }
+    ensures kept { answered outward Answer.Dead (Some (due (sent_one opened_end))) ≡ Stays None }
+    ensures leaving { let act = answered outward Answer.Rfnm (Some (due (sent_one opened_end))) in (act ≡ Becomes (gone opened_end) (Some (Command.Cls 3 2))) × (end_after None act ≡ Some (gone opened_end)) }
+    ensures ends { let act = answered outward Answer.Rfnm (Some (shut (due (sent_one opened_end)))) in (act ≡ Becomes (shut (gone opened_end)) (Some (Command.Cls 3 2))) × (end_after (Some opened_end) act ≡ None) }
+    ensures not_delivered { (answered outward Answer.Incomplete (Some (sent_one opened_end)) ≡ Stays None) × (answered outward Answer.Dead (Some (sent_one opened_end)) ≡ Stays None) }
+    ensures receiver { answered inward Answer.Rfnm (Some (due (storing (ones 8)))) ≡ Stays None }
 {}
 
 /// What opened, open, live and over mean of an end.
@@ -388,7 +389,7 @@ pub fn telling_of_texts()
     ensures not_open { happens inward (all.Text_comes (ones 72) 8 []) None ≡ record { after = None; made = text_error (ones 72) [] ∷ []; outcome = all.NotOpen } }
     ensures goes_out { happens outward all.Text_goes_out (Some (record (counting 1 8) { stored = ones 8 })) ≡ record { after = Some (sent_one (counting 0 0)); made = []; outcome = all.Sent 8 (ones 8) } }
     ensures stays { happens outward all.Text_goes_out (Some opened_end) ≡ record { after = Some opened_end; made = []; outcome = all.Accepted } }
-    ensures taken { happens outward (all.Is_answered Answered.Taken) (Some (due (sent_one opened_end))) ≡ record { after = Some (gone opened_end); made = Command.Cls 3 2 ∷ []; outcome = all.Accepted } }
-    ensures again { happens outward (all.Is_answered Answered.Again) (Some (due (sent_one opened_end))) ≡ record { after = Some (due (sent_one opened_end)); made = []; outcome = all.Accepted } }
+    ensures taken { happens outward (all.Is_answered Answer.Rfnm) (Some (due (sent_one opened_end))) ≡ record { after = Some (gone opened_end); made = Command.Cls 3 2 ∷ []; outcome = all.Accepted } }
+    ensures again { happens outward (all.Is_answered Answer.Incomplete) (Some (due (sent_one opened_end))) ≡ record { after = Some (due (sent_one opened_end)); made = []; outcome = all.Accepted } }
     ensures cleared { happens outward all.Is_cleared (Some opened_end) ≡ record { after = None; made = []; outcome = all.Accepted } }
 {}

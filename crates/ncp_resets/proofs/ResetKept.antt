@@ -1,3 +1,5 @@
+-- Meant for other crates too: they cite what is public here.
+--
 -- What holds of two hosts and the two lines between them after each step.
 use Rattle.std.proofs.Common.{◌≡◌, ◌+◌, ◌<◌, Bool, true, false, ◌&&◌, if◌then◌else◌, List, [], ◌∷◌, ◌++◌, refl, arith}
 use Rattle.ncp_control.specs.declared.command.Command.{Command}

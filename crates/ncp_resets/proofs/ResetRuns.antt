@@ -1,3 +1,5 @@
+-- Meant for other crates too: they cite what is public here.
+--
 -- The invariant of two hosts, kept by each event, and the laws over every schedule.
 use Rattle.std.proofs.Common.{◌≡◌, ℕ, ◌+◌, Bool, true, false, if◌then◌else◌, List, [], ◌∷◌, ◌++◌, take, drop, refl, sym, ap, ◌∙◌, subst, arith}
 use Rattle.std.proofs.lemmas.List.{take-append-drop}

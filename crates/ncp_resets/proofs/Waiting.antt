@@ -1,3 +1,5 @@
+-- Meant for other crates too: they cite what is public here.
+--
 -- A host that waits for an RRP is not up, and goes on waiting.
 use Rattle.std.proofs.Common.{◌≡◌, ℕ, Bool, true, false, List, [], ◌∷◌, refl, ap, ◌∙◌, arith}
 use Rattle.std.specs.List.{list_any}

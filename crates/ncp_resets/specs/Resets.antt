@@ -63,7 +63,8 @@ host_hears_all [] rs h = h
 host_hears_all (c ∷ cs) [] h = host_hears_all cs [] (host_hears c no_reaction h)
 host_hears_all (c ∷ cs) (r ∷ rs) h = host_hears_all cs rs (host_hears c r h)
 
--- the commands of the message that went out and has not come
+-- the commands of the message that went out and has not come, if there is one
+
 abbrev pub or_none : Option (List Command) → List Command
 or_none None = []
 or_none (Some m) = m

@@ -1,3 +1,5 @@
+-- Meant for other crates too: they cite what is public here.
+--
 -- What names a link finds its end: along the commands underway no two sending ends ever hold one link.
 use Rattle.std.proofs.Common.{◌≡◌, ℕ, zero, suc, ◌==◌, Bool, true, false, not, ◌&&◌, cond, List, [], ◌∷◌, ◌++◌, take, refl, subst}
 use Rattle.std.specs.Bool.{⊤}

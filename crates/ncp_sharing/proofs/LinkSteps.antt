@@ -1,3 +1,5 @@
+-- Meant for other crates too: they cite what is public here.
+--
 -- No event makes two ends hold one link.
 use Rattle.std.proofs.Common.{◌≡◌, ℕ, Bool, true, false, not, ◌&&◌, nat_le, nat_lt, if◌then◌else◌, List, [], ◌∷◌, ◌++◌, Option, None, Some, Result, refl, sym, ◌∙◌, subst, ◌⊎◌, inl, inr}
 use Rattle.std.proofs.lemmas.Bool.{both_ways, and_from, and_left, or_parts, not-true, eq-eqb, not_from_false}
@@ -11,7 +13,7 @@ use Rattle.ncp_model.specs.End.{End, new_end, or_new, is_going, is_over}
 use Rattle.ncp_model.specs.Act.{Act, answer, end_after, made_by_call, is_room, is_data_link}
 use Rattle.ncp_model.specs.Calls.{ask_receive, asked_to_receive}
 use Rattle.ncp_model.specs.Ends.{hears_link}
-use Rattle.ncp_model.specs.Texts.{Taken, Again, Kept}
+use Rattle.ncp_model.specs.Texts.{Rfnm, Incomplete, Dead}
 use Rattle.ncp_model.specs.Happenings.{Happening, happens}
 use Rattle.ncp_model.specs.Happenings as all
 use Rattle.ncp_watch.specs.Histories.{Watched}
@@ -121,15 +123,15 @@ module _ (q : Pair) (sq : sends q ≡ true) (s r : Watched) where
   facts (Text_comes head) a true (Away li m bits) v n = receives_facts (all.Text_comes head m bits) (Here li) v refl
   facts (Text_comes head) a true (Here li) v n = nothing s r [] (Here li) v
   facts (Text_is_answered how) false b t v n = nothing s r [] (text_over how t) v
-  facts (Text_is_answered Taken) true b No_text v n = nothing s r [] No_text v
-  facts (Text_is_answered Taken) true b (Away li m bits) v n = nothing s r [] (Away li m bits) v
-  facts (Text_is_answered Taken) true b (Here li) v n = sends_facts (all.Is_answered Taken) No_text v refl
-  facts (Text_is_answered Again) true b No_text v n = nothing s r [] No_text v
-  facts (Text_is_answered Again) true b (Away li m bits) v n = sends_facts (all.Is_answered Again) (Away li m bits) v refl
-  facts (Text_is_answered Again) true b (Here li) v n = nothing s r [] (Here li) v
-  facts (Text_is_answered Kept) true b No_text v n = nothing s r [] No_text v
-  facts (Text_is_answered Kept) true b (Away li m bits) v n = sends_facts (all.Is_answered Kept) (Away li m bits) v refl
-  facts (Text_is_answered Kept) true b (Here li) v n = nothing s r [] (Here li) v
+  facts (Text_is_answered Rfnm) true b No_text v n = nothing s r [] No_text v
+  facts (Text_is_answered Rfnm) true b (Away li m bits) v n = nothing s r [] (Away li m bits) v
+  facts (Text_is_answered Rfnm) true b (Here li) v n = sends_facts (all.Is_answered Rfnm) No_text v refl
+  facts (Text_is_answered Incomplete) true b No_text v n = nothing s r [] No_text v
+  facts (Text_is_answered Incomplete) true b (Away li m bits) v n = sends_facts (all.Is_answered Incomplete) (Away li m bits) v refl
+  facts (Text_is_answered Incomplete) true b (Here li) v n = nothing s r [] (Here li) v
+  facts (Text_is_answered Dead) true b No_text v n = nothing s r [] No_text v
+  facts (Text_is_answered Dead) true b (Away li m bits) v n = sends_facts (all.Is_answered Dead) (Away li m bits) v refl
+  facts (Text_is_answered Dead) true b (Here li) v n = nothing s r [] (Here li) v
 
 -- what a calm sender held it held before
 calm_holds : (on : ℕ) (q : Pair) (before after : Option End) → SenderCalm before after → hears_link on (q, or_new after) ≡ true → hears_link on (q, or_new before) ≡ true

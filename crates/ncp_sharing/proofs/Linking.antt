@@ -1,3 +1,5 @@
+-- Meant for other crates too: they cite what is public here.
+--
 -- At each host that was not cleared, no two ends hold one link; and what is underway keeps it so.
 use Rattle.std.proofs.Common.{◌≡◌, ℕ, Bool, true, false, cond, if◌then◌else◌, List, [], ◌∷◌, ◌++◌, refl, ap, sym, ◌∙◌, subst, arith}
 use Rattle.std.proofs.lemmas.Bool.{both_ways, eqb-true}

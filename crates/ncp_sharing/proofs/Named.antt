@@ -1,3 +1,5 @@
+-- Meant for other crates too: they cite what is public here.
+--
 -- What names sockets names those of the connection for which it was made.
 use Rattle.std.proofs.Common.{◌≡◌, ℕ, ◌==◌, Bool, true, false, ◌&&◌, nat_lt, if◌then◌else◌, List, [], ◌∷◌, ◌++◌, take, Option, None, Some, refl, subst, arith, zero, suc}
 use Rattle.std.specs.Bool.{⊤}
@@ -9,7 +11,7 @@ use Rattle.ncp_model.specs.declared.limits.TheConstants.{MAX_BY_PEER}
 use Rattle.ncp_model.specs.Pairs.{sends, turned}
 use Rattle.ncp_model.specs.End.{End}
 use Rattle.ncp_model.specs.Ends.{Ends, leads_to, names_sockets}
-use Rattle.ncp_model.specs.Texts.{Taken, Again, Kept}
+use Rattle.ncp_model.specs.Texts.{Rfnm, Incomplete, Dead}
 use Rattle.ncp_model.specs.Happenings.{Happening, happens}
 use Rattle.ncp_model.specs.Happenings as all
 use Rattle.ncp_watch.specs.Histories.{Watched}
@@ -64,10 +66,10 @@ names_made pair (all.Ins_comes on) (Some e) = grind arith
 names_made pair (all.Text_comes head n text) None = refl
 names_made pair (all.Text_comes head n text) (Some e) = grind arith
 names_made pair all.Text_goes_out before = refl
-names_made pair (all.Is_answered Taken) None = refl
-names_made pair (all.Is_answered Taken) (Some e) = grind arith
-names_made pair (all.Is_answered Again) before = refl
-names_made pair (all.Is_answered Kept) before = refl
+names_made pair (all.Is_answered Rfnm) None = refl
+names_made pair (all.Is_answered Rfnm) (Some e) = grind arith
+names_made pair (all.Is_answered Incomplete) before = refl
+names_made pair (all.Is_answered Dead) before = refl
 names_made pair all.Is_cleared before = refl
 
 -- what a connection makes with nothing underway
@@ -107,15 +109,15 @@ module _ (q : Pair) (s r : Watched) where
   names (Text_comes head) a true (Away li m bits) v = receiver_names (all.Text_comes head m bits) (Here li) v
   names (Text_comes head) a true (Here li) v = idle (Here li) v
   names (Text_is_answered how) false b t v = idle (text_over how t) v
-  names (Text_is_answered Taken) true b No_text v = idle No_text v
-  names (Text_is_answered Taken) true b (Away li m bits) v = idle (Away li m bits) v
-  names (Text_is_answered Taken) true b (Here li) v = sender_names (all.Is_answered Taken) No_text v
-  names (Text_is_answered Again) true b No_text v = idle No_text v
-  names (Text_is_answered Again) true b (Away li m bits) v = sender_names (all.Is_answered Again) (Away li m bits) v
-  names (Text_is_answered Again) true b (Here li) v = idle (Here li) v
-  names (Text_is_answered Kept) true b No_text v = idle No_text v
-  names (Text_is_answered Kept) true b (Away li m bits) v = sender_names (all.Is_answered Kept) (Away li m bits) v
-  names (Text_is_answered Kept) true b (Here li) v = idle (Here li) v
+  names (Text_is_answered Rfnm) true b No_text v = idle No_text v
+  names (Text_is_answered Rfnm) true b (Away li m bits) v = idle (Away li m bits) v
+  names (Text_is_answered Rfnm) true b (Here li) v = sender_names (all.Is_answered Rfnm) No_text v
+  names (Text_is_answered Incomplete) true b No_text v = idle No_text v
+  names (Text_is_answered Incomplete) true b (Away li m bits) v = sender_names (all.Is_answered Incomplete) (Away li m bits) v
+  names (Text_is_answered Incomplete) true b (Here li) v = idle (Here li) v
+  names (Text_is_answered Dead) true b No_text v = idle No_text v
+  names (Text_is_answered Dead) true b (Away li m bits) v = sender_names (all.Is_answered Dead) (Away li m bits) v
+  names (Text_is_answered Dead) true b (Here li) v = idle (Here li) v
 
   by_happening : (o : Option Happening) (t : Text) (v : Bool) → Names q (sender_hears q o (record { sender = s; receiver = r; to_receiver = []; to_sender = []; text = t; violated = v }))
   by_happening None t v = idle t v

@@ -1,3 +1,5 @@
+-- Meant for other crates too: they cite what is public here.
+--
 -- Each of the connections that share what is underway is a connection of its own.
 use Rattle.std.proofs.Common.{◌≡◌, ℕ, ◌==◌, Bool, true, false, ◌||◌, nat_lt, cond, if◌then◌else◌, List, [], ◌∷◌, ◌++◌, take, drop, Option, None, Some, refl, ap, sym, ◌∙◌, subst}
 use Rattle.std.proofs.lemmas.Bool.{both_ways, and_parts, and_from, eqb-true, eq-eqb}
@@ -6,7 +8,7 @@ use Rattle.ncp_control.specs.declared.command.Command.{Command}
 use Rattle.ncp_model.specs.declared.pair.Pair.{Pair}
 use Rattle.ncp_model.specs.declared.limits.TheConstants.{MAX_BY_PEER}
 use Rattle.ncp_model.specs.Pairs.{sends, turned, same}
-use Rattle.ncp_model.specs.Texts.{Answered, Taken, Again, Kept}
+use Rattle.ncp_model.specs.Texts.{Answer, Rfnm, Incomplete, Dead}
 use Rattle.ncp_model.specs.Happenings.{Happening, happens}
 use Rattle.ncp_model.specs.Happenings as all
 use Rattle.ncp_connections.specs.Connections.{Text, No_text, Away, Here, Connection, sender_does, receiver_does, is_call, command_comes, Event, Sender_calls, Receiver_calls, Comes_to_sender, Comes_to_receiver, Text_goes_out, Text_comes, Text_is_answered, sender_hears, receiver_hears, comes_to_sender, comes_to_receiver, text_comes, text_is_answered, occurs}
@@ -108,16 +110,16 @@ module _ (pair : Pair) (sd : sends pair ≡ true) (p q : List Command) where
   framed (Text_is_answered how) false b w k = none false b (record w { text = text_over how w.text }) (answer_missed pair sd how b w.text (with p q w) k)
   framed (Text_is_answered how) true b w k = go how w.text k
     where
-      go : (how : Answered) (t : Text) → Fit pair true b (with p q (record w { text = t })) → Fit pair true b (onto p q (text_is_answered pair how t (with [] [] (record w { text = t }))))
-      go Taken No_text k = none true b (record w { text = No_text }) k
-      go Taken (Away li n bits) k = none true b (record w { text = Away li n bits }) k
-      go Taken (Here li) k = there true b (sender_does pair (all.Is_answered Taken) (record w { text = No_text })) (happens pair (all.Is_answered Taken) w.sender.end).made (fit_text_is_answered pair sd Taken b (Here li) (with p q w) k)
-      go Again No_text k = none true b (record w { text = No_text }) k
-      go Again (Away li n bits) k = there true b (sender_does pair (all.Is_answered Again) (record w { text = Away li n bits })) [] (fit_text_is_answered pair sd Again b (Away li n bits) (with p q w) k)
-      go Again (Here li) k = none true b (record w { text = Here li }) k
-      go Kept No_text k = none true b (record w { text = No_text }) k
-      go Kept (Away li n bits) k = there true b (sender_does pair (all.Is_answered Kept) (record w { text = Away li n bits })) [] (fit_text_is_answered pair sd Kept b (Away li n bits) (with p q w) k)
-      go Kept (Here li) k = none true b (record w { text = Here li }) k
+      go : (how : Answer) (t : Text) → Fit pair true b (with p q (record w { text = t })) → Fit pair true b (onto p q (text_is_answered pair how t (with [] [] (record w { text = t }))))
+      go Rfnm No_text k = none true b (record w { text = No_text }) k
+      go Rfnm (Away li n bits) k = none true b (record w { text = Away li n bits }) k
+      go Rfnm (Here li) k = there true b (sender_does pair (all.Is_answered Rfnm) (record w { text = No_text })) (happens pair (all.Is_answered Rfnm) w.sender.end).made (fit_text_is_answered pair sd Rfnm b (Here li) (with p q w) k)
+      go Incomplete No_text k = none true b (record w { text = No_text }) k
+      go Incomplete (Away li n bits) k = there true b (sender_does pair (all.Is_answered Incomplete) (record w { text = Away li n bits })) [] (fit_text_is_answered pair sd Incomplete b (Away li n bits) (with p q w) k)
+      go Incomplete (Here li) k = none true b (record w { text = Here li }) k
+      go Dead No_text k = none true b (record w { text = No_text }) k
+      go Dead (Away li n bits) k = there true b (sender_does pair (all.Is_answered Dead) (record w { text = Away li n bits })) [] (fit_text_is_answered pair sd Dead b (Away li n bits) (with p q w) k)
+      go Dead (Here li) k = none true b (record w { text = Here li }) k
 
   pub framed_to_sender : (n : ℕ) (c : Command) (a b : Bool) (w : Connection) → nat_lt n MAX_BY_PEER ≡ true → Fit pair a b (with p (c ∷ q) w) → Fit pair a b (onto p q (if a then (if nat_lt n MAX_BY_PEER then comes_to_sender pair n (c ∷ []) (with [] (c ∷ []) w) else with [] (c ∷ []) w) else with [] [] w))
   framed_to_sender n c false b w few k = none false b w (missed_by_sender pair sd b q (with p (c ∷ q) w) k)

@@ -1,7 +1,7 @@
 -- What names a link, or sockets, leads to the end for which it was made.
-use Rattle.std.specs.Prelude.{◌≡◌, ℕ, Bool, true, false, List, ◌∷◌, Option, None, Some}
+use Rattle.std.specs.Prelude.{◌≡◌, ℕ, Bool, true, List, ◌∷◌, Option, None, Some}
 use Rattle.ncp_control.specs.declared.command.Command.{Command}
-use Rattle.ncp_control.specs.declared.command.Command.TheVariants.{Rts, Str, Cls, All, Gvb, Ret, Inr, Ins}
+use Rattle.ncp_control.specs.declared.command.Command.TheVariants.{Rts}
 use Rattle.ncp_model.specs.declared.pair.Pair.{Pair}
 use Rattle.ncp_model.specs.Pairs.{sends, turned}
 use Rattle.ncp_model.specs.Ends.{Ends, leads_to, link_of, names_sockets}
@@ -63,3 +63,11 @@ ReceiverOpensOn on p s t = (opens (s.receiver p).end (t.receiver p).end ≡ true
 -- a text of this connection is out on this link at both moments
 abbrev pub StaysOut : ℕ → Pair → Shared → Shared → Type 0
 StaysOut on q s t = (sends q ≡ true) × (link_out (s.text q) ≡ Some on) × (link_out (t.text q) ≡ Some on)
+
+-- while a text stays out on a link no connection opens on it, at a host that is there at both moments
+
+abbrev pub NoSenderOpens : Shared → Shared → Type 0
+NoSenderOpens s t = (p q : Pair) (on : ℕ) → StaysOut on q s t → s.sends ≡ true → t.sends ≡ true → SenderOpensOn on p s t → ⊥
+
+abbrev pub NoReceiverOpens : Shared → Shared → Type 0
+NoReceiverOpens s t = (p q : Pair) (on : ℕ) → StaysOut on q s t → s.receives ≡ true → t.receives ≡ true → ReceiverOpensOn on p s t → ⊥

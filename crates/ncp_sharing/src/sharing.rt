@@ -1,9 +1,9 @@
 //! Many connections over the same two lists of commands.
-ghost use Rattle.std.specs.Prelude.{◌≡◌, ℕ, List, true, false};
+ghost use Rattle.std.specs.Prelude.{◌≡◌, List, true, false};
 ghost use Rattle.ncp_model.specs.Pairs.{sends};
 ghost use Rattle.ncp_connections.specs.Ledger.{BothOpen, MessagesAgree, BitsAgree, Parted, Held, Begins};
 ghost use Rattle.ncp_connections.specs.Clearings.{OutStaysOpened};
-ghost use Rattle.ncp_sharing.specs.Finding.{SocketsFindSender, SocketsFindReceiver, GrantFinds, ReturnFinds, RequestFits, SenderHoldsLink, ReceiverHoldsLink, SenderOpensOn, ReceiverOpensOn, StaysOut};
+ghost use Rattle.ncp_sharing.specs.Finding.{SocketsFindSender, SocketsFindReceiver, GrantFinds, ReturnFinds, RequestFits, SenderHoldsLink, ReceiverHoldsLink, NoSenderOpens, NoReceiverOpens};
 ghost use Rattle.ncp_sharing.specs.Sharing.{Shared_event, MayHappen, AllMayHappen, new_shared, shared, shared_occurs, at, hosted_at, hears_at, uses_at};
 ghost use Rattle.ncp_sharing.specs.Runs.{second, two_open};
 ghost use Rattle.ncp_model.specs.Rows.{outward};
@@ -44,8 +44,8 @@ pub fn links_lead_home()
 /// In no step from the output of a text to its RFNM does a connection open on its link, at either host
 /// that is there before and after the step.
 pub fn none_opens_on_a_busy_link()
-    ensures sender { (events : List Shared_event) (e : Shared_event) (p q : Pair) (on : ℕ) → AllMayHappen events new_shared → MayHappen e (shared events) → StaysOut on q (shared events) (shared_occurs e (shared events)) → (shared events).sends ≡ true → (shared_occurs e (shared events)).sends ≡ true → SenderOpensOn on p (shared events) (shared_occurs e (shared events)) → ⊥ }
-    ensures receiver { (events : List Shared_event) (e : Shared_event) (p q : Pair) (on : ℕ) → AllMayHappen events new_shared → MayHappen e (shared events) → StaysOut on q (shared events) (shared_occurs e (shared events)) → (shared events).receives ≡ true → (shared_occurs e (shared events)).receives ≡ true → ReceiverOpensOn on p (shared events) (shared_occurs e (shared events)) → ⊥ }
+    ensures sender { (events : List Shared_event) (e : Shared_event) → AllMayHappen events new_shared → MayHappen e (shared events) → NoSenderOpens (shared events) (shared_occurs e (shared events)) }
+    ensures receiver { (events : List Shared_event) (e : Shared_event) → AllMayHappen events new_shared → MayHappen e (shared events) → NoReceiverOpens (shared events) (shared_occurs e (shared events)) }
 {}
 
 /// Two connections share the lists, each with its link.

@@ -1,3 +1,5 @@
+-- Meant for other crates too: they cite what is public here.
+--
 -- What a receiving end counts is what its history says.
 use Rattle.std.proofs.Common.{◌≡◌, true, false, if◌then◌else◌, List, [], ◌∷◌, Option, None, Some, arith}
 use Rattle.std.proofs.lemmas.List.{append-nil, append_assoc, length-append, take-append-drop}

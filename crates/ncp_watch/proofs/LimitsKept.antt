@@ -1,10 +1,12 @@
+-- Meant for other crates too: they cite what is public here.
+--
 -- No number of an end goes beyond its limit.
 use Rattle.std.proofs.Common.{◌≡◌, ℕ, Bool, true, false, List, [], ◌∷◌, Option, None, Some, refl, arith}
 use Rattle.std.proofs.lemmas.List.{length-append, length-drop}
 use Rattle.ncp_model.specs.declared.pair.Pair.{Pair}
 use Rattle.ncp_model.specs.Pairs.{sends}
 use Rattle.ncp_model.specs.End.{End, is_going}
-use Rattle.ncp_model.specs.Texts.{Taken, Again, Kept}
+use Rattle.ncp_model.specs.Texts.{Rfnm, Incomplete, Dead}
 use Rattle.ncp_model.specs.Happenings.{Happening, happens, end_from}
 use Rattle.ncp_model.specs.Happenings as all
 use Rattle.ncp_model.specs.Leading.{suits}
@@ -201,10 +203,10 @@ limits-after pair (all.Text_comes head of_size text) None u s k = tt
 limits-after pair (all.Text_comes head of_size text) (Some e) u s k = grind (arith, on_numbers)
 limits-after pair all.Text_goes_out None u s k = tt
 limits-after pair all.Text_goes_out (Some e) u s k = grind (arith, on_numbers)
-limits-after pair (all.Is_answered Taken) None u s k = tt
-limits-after pair (all.Is_answered Taken) (Some e) u s k = grind (arith, on_numbers)
-limits-after pair (all.Is_answered Again) before u s k = k
-limits-after pair (all.Is_answered Kept) before u s k = k
+limits-after pair (all.Is_answered Rfnm) None u s k = tt
+limits-after pair (all.Is_answered Rfnm) (Some e) u s k = grind (arith, on_numbers)
+limits-after pair (all.Is_answered Incomplete) before u s k = k
+limits-after pair (all.Is_answered Dead) before u s k = k
 limits-after pair all.Is_cleared before u s k = tt
 
 limits-from : (pair : Pair) (whats : List Happening) (before : Option End) → Suit pair whats → SoundAt pair before → InLimitsAt pair before → InLimitsAt pair (end_from pair whats before)

@@ -1,3 +1,5 @@
+-- Meant for other crates too: they cite what is public here.
+--
 -- Which link an end is on: it stays while the end is there, and no other end there has it.
 use Rattle.std.proofs.Common.{◌≡◌, ℕ, ◌==◌, Bool, true, false, not, ◌&&◌, ◌||◌, nat_le, Option, None, Some, refl, arith}
 use Rattle.ncp_model.specs.declared.pair.Pair.{Pair}
@@ -5,7 +7,7 @@ use Rattle.ncp_model.specs.declared.limits.TheConstants.{MAX_OWN}
 use Rattle.ncp_model.specs.Act.{is_room}
 use Rattle.ncp_model.specs.End.{End}
 use Rattle.ncp_model.specs.Ends.{hears_link, uses_link}
-use Rattle.ncp_model.specs.Texts.{Taken, Again, Kept}
+use Rattle.ncp_model.specs.Texts.{Rfnm, Incomplete, Dead}
 use Rattle.ncp_model.specs.Happenings.{Happening, happens}
 use Rattle.ncp_model.specs.Happenings as all
 use Rattle.ncp_model.specs.Leading.{passes}
@@ -164,10 +166,10 @@ heard-by l pair (all.Text_comes head of_size text) None s k = absurd (cc k)
 heard-by l pair (all.Text_comes head of_size text) (Some e) s k = grind arith
 heard-by l pair all.Text_goes_out None s k = absurd (cc k)
 heard-by l pair all.Text_goes_out (Some e) s k = grind arith
-heard-by l pair (all.Is_answered Taken) None s k = absurd (cc k)
-heard-by l pair (all.Is_answered Taken) (Some e) s k = grind arith
-heard-by l pair (all.Is_answered Again) before s k = grind arith
-heard-by l pair (all.Is_answered Kept) before s k = grind arith
+heard-by l pair (all.Is_answered Rfnm) None s k = absurd (cc k)
+heard-by l pair (all.Is_answered Rfnm) (Some e) s k = grind arith
+heard-by l pair (all.Is_answered Incomplete) before s k = grind arith
+heard-by l pair (all.Is_answered Dead) before s k = grind arith
 heard-by l pair all.Is_cleared before s k = absurd (cc k)
 
 pub asked-by : (l : ℕ) (pair : Pair) (what : Happening) (before : Option End) → SoundAt pair before → passes (uses_link l) pair (happens pair what before).after ≡ true → (passes (uses_link l) pair before || takes_link l what) ≡ true
@@ -207,8 +209,8 @@ asked-by l pair (all.Text_comes head of_size text) None s k = absurd (cc k)
 asked-by l pair (all.Text_comes head of_size text) (Some e) s k = grind arith
 asked-by l pair all.Text_goes_out None s k = absurd (cc k)
 asked-by l pair all.Text_goes_out (Some e) s k = grind arith
-asked-by l pair (all.Is_answered Taken) None s k = absurd (cc k)
-asked-by l pair (all.Is_answered Taken) (Some e) s k = grind arith
-asked-by l pair (all.Is_answered Again) before s k = grind arith
-asked-by l pair (all.Is_answered Kept) before s k = grind arith
+asked-by l pair (all.Is_answered Rfnm) None s k = absurd (cc k)
+asked-by l pair (all.Is_answered Rfnm) (Some e) s k = grind arith
+asked-by l pair (all.Is_answered Incomplete) before s k = grind arith
+asked-by l pair (all.Is_answered Dead) before s k = grind arith
 asked-by l pair all.Is_cleared before s k = absurd (cc k)

@@ -1,9 +1,11 @@
+-- Meant for other crates too: they cite what is public here.
+--
 -- Every act leaves a sound end.
 use Rattle.std.proofs.Common.{◌≡◌, ℕ, Bool, true, false, List, [], ◌∷◌, Option, None, Some, refl, arith}
 use Rattle.ncp_model.specs.declared.pair.Pair.{Pair}
 use Rattle.ncp_model.specs.Pairs.{sends, receives}
 use Rattle.ncp_model.specs.End.{End}
-use Rattle.ncp_model.specs.Texts.{Taken, Again, Kept}
+use Rattle.ncp_model.specs.Texts.{Rfnm, Incomplete, Dead}
 use Rattle.ncp_model.specs.Happenings.{Happening, happens, end_from}
 use Rattle.ncp_model.specs.Happenings as all
 use Rattle.ncp_watch.specs.Sound.{SoundAt}
@@ -67,10 +69,10 @@ sound-after pair (all.Text_comes head of_size text) None s = s
 sound-after pair (all.Text_comes head of_size text) (Some e) s = grind arith
 sound-after pair all.Text_goes_out None s = s
 sound-after pair all.Text_goes_out (Some e) s = grind arith
-sound-after pair (all.Is_answered Taken) None s = s
-sound-after pair (all.Is_answered Taken) (Some e) s = grind arith
-sound-after pair (all.Is_answered Again) before s = s
-sound-after pair (all.Is_answered Kept) before s = s
+sound-after pair (all.Is_answered Rfnm) None s = s
+sound-after pair (all.Is_answered Rfnm) (Some e) s = grind arith
+sound-after pair (all.Is_answered Incomplete) before s = s
+sound-after pair (all.Is_answered Dead) before s = s
 sound-after pair all.Is_cleared before s = tt
 
 pub sound-from : (pair : Pair) (whats : List Happening) (before : Option End) → SoundAt pair before → SoundAt pair (end_from pair whats before)

@@ -3,7 +3,7 @@ ghost use Rattle.std.specs.Prelude.{◌≡◌, OnErr};
 ghost use Rattle.std.specs.FinMap.{get};
 ghost use Rattle.ncp_model.specs.Act.{answer};
 ghost use Rattle.ncp_model.specs.Calls.{give, take_held, allocate, call_back, interrupt};
-ghost use Rattle.ncp_model.specs.Texts.{Taken};
+ghost use Rattle.ncp_model.specs.Texts.{Rfnm};
 ghost use Rattle.ncp_model.specs.Ends.{sender_on, receiver_on, pair_of, text_in, cut_in, answered_in, map_after, map_after_at};
 
 use crate::table::Table;
@@ -140,8 +140,8 @@ impl<S: BitStore> Table<S> {
     /// The text that went out on a link was taken (RFNM). A leaving sender makes its CLS, which is
     /// to be queued.
     pub fn answered(&mut self, link: u8) -> Option<Command>
-        ensures answer { result ≡ answer (answered_in link Taken self.old) }
-        ensures table { self.new ≡ map_after_at self.old (pair_of (sender_on link self.old)) (answered_in link Taken self.old) }
+        ensures answer { result ≡ answer (answered_in link Rfnm self.old) }
+        ensures table { self.new ≡ map_after_at self.old (pair_of (sender_on link self.old)) (answered_in link Rfnm self.old) }
     {
         let Some(key) = self.entries.senders.key(link) else {
             return None;

@@ -4,30 +4,21 @@ use Rattle.ncp_hosts.proofs.HostsHeld.{ever, ever-swapped, happening, after_step
 use Rattle.ncp_hosts.proofs.HostsHeadline.{sender-opens-not, receiver-opens-not, sender-hears-not, receiver-hears-not}
 use Rattle.ncp_hosts.proofs.headline.none_opens_while_its_link_has_a_text.Goals as goal
 
-pub returns-clause-sender : goal.returns-clause-sender
-returns-clause-sender c = λ es e pair on out. (let w = run es in let t = ever es in let k = happening e.side e.step t.own t.own' w t.stand t.holds in
-    sender-opens-not w (at e.side e.step w) t (after_step e w t) k.there (λ n p. (none-live-at e.side e.step w p).0 n) (λ n p. (none-live-at e.side e.step w p).1 n) on out pair)
+pub returns-clause-steps : goal.returns-clause-steps
+returns-clause-steps c = λ es e. (let w = run es in let after = at e.side e.step w in let t = ever es in let u = after_step e w t in let k = happening e.side e.step t.own t.own' w t.stand t.holds in
+    let t' = ever-swapped w t in let u' = ever-swapped after u in (
+      λ pair on out. (
+        sender-opens-not w after t u k.there (λ n p. (none-live-at e.side e.step w p).0 n) (λ n p. (none-live-at e.side e.step w p).1 n) on out pair,
+        receiver-opens-not w after t u k.there (λ n p. (none-live-at e.side e.step w p).0 n) (λ n p. (none-live-at e.side e.step w p).1 n) on out pair,
+      ),
+      λ pair on out. (
+        sender-opens-not (swap w) (swap after) t' u' k.back (λ n p. (none-live-at e.side e.step w p).1 n) (λ n p. (none-live-at e.side e.step w p).0 n) on out pair,
+        receiver-opens-not (swap w) (swap after) t' u' k.back (λ n p. (none-live-at e.side e.step w p).1 n) (λ n p. (none-live-at e.side e.step w p).0 n) on out pair,
+      ),
+    ))
 
-pub returns-clause-receiver : goal.returns-clause-receiver
-returns-clause-receiver c = λ es e pair on out. (let w = run es in let t = ever es in let k = happening e.side e.step t.own t.own' w t.stand t.holds in
-    receiver-opens-not w (at e.side e.step w) t (after_step e w t) k.there (λ n p. (none-live-at e.side e.step w p).0 n) (λ n p. (none-live-at e.side e.step w p).1 n) on out pair)
-
-pub returns-clause-sender_back : goal.returns-clause-sender_back
-returns-clause-sender_back c = λ es e pair on out. (let w = run es in let t = ever es in let k = happening e.side e.step t.own t.own' w t.stand t.holds in
-    sender-opens-not (swap w) (swap (at e.side e.step w)) (ever-swapped w t) (ever-swapped (at e.side e.step w) (after_step e w t)) k.back (λ n p. (none-live-at e.side e.step w p).1 n) (λ n p. (none-live-at e.side e.step w p).0 n) on out pair)
-
-pub returns-clause-receiver_back : goal.returns-clause-receiver_back
-returns-clause-receiver_back c = λ es e pair on out. (let w = run es in let t = ever es in let k = happening e.side e.step t.own t.own' w t.stand t.holds in
-    receiver-opens-not (swap w) (swap (at e.side e.step w)) (ever-swapped w t) (ever-swapped (at e.side e.step w) (after_step e w t)) k.back (λ n p. (none-live-at e.side e.step w p).1 n) (λ n p. (none-live-at e.side e.step w p).0 n) on out pair)
-
-pub returns-clause-sender_each : goal.returns-clause-sender_each
-returns-clause-sender_each c = λ es done rest command pair on s out. sender-hears-not (run es) (ever es) done rest command s on out pair
-
-pub returns-clause-receiver_each : goal.returns-clause-receiver_each
-returns-clause-receiver_each c = λ es done rest command pair on s out. receiver-hears-not (run es) (ever es) done rest command s on out pair
-
-pub returns-clause-sender_each_back : goal.returns-clause-sender_each_back
-returns-clause-sender_each_back c = λ es done rest command pair on s out. sender-hears-not (swap (run es)) (ever-swapped (run es) (ever es)) done rest command s on out pair
-
-pub returns-clause-receiver_each_back : goal.returns-clause-receiver_each_back
-returns-clause-receiver_each_back c = λ es done rest command pair on s out. receiver-hears-not (swap (run es)) (ever-swapped (run es) (ever es)) done rest command s on out pair
+pub returns-clause-commands : goal.returns-clause-commands
+returns-clause-commands c = λ es. (let w = run es in let t = ever es in let t' = ever-swapped w t in (
+  λ done rest command s pair on. (λ out. sender-hears-not w t done rest command s on out pair, λ out. receiver-hears-not w t done rest command s on out pair),
+  λ done rest command s pair on. (λ out. sender-hears-not (swap w) t' done rest command s on out pair, λ out. receiver-hears-not (swap w) t' done rest command s on out pair),
+))

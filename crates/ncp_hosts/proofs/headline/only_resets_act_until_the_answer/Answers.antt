@@ -4,7 +4,7 @@ use Rattle.ncp_control.specs.declared.command.Command.{Command}
 use Rattle.ncp_control.specs.declared.command.Command.TheVariants.{Rst, Rrp}
 use Rattle.ncp_model.specs.declared.pair.Pair.{Pair}
 use Rattle.ncp_model.specs.Act.{answer, made_if_any}
-use Rattle.ncp_model.specs.Texts.{Taken}
+use Rattle.ncp_model.specs.Texts.{Rfnm}
 use Rattle.ncp_model.specs.Ends.{cut_in, answered_in}
 use Rattle.ncp_model.specs.Phase.{is_rst, is_rrp, is_other, is_resetting}
 use Rattle.ncp_resets.specs.Delivery.{Slot, Empty, Ready, Travelling, Held, Subnet, Free, Accepted, Delivered, Lost, Dead}
@@ -61,7 +61,7 @@ sent-waits on (Held t) n = refl
 
 answered-waits : (on : ℕ) (slot : Slot TextOut) (subnet : Subnet TextOut) (n : Node) → waits n ≡ true → waits (text_answered on slot subnet n) ≡ true
 answered-waits on (Travelling t) Delivered n w =
-    let same = silent_all (made_if_any (answer (answered_in on Taken n.ends))) n.host w in
+    let same = silent_all (made_if_any (answer (answered_in on Rfnm n.ends))) n.host w in
     settling (quiet (frees on n)) (frees on n).host.phase (ap (λ (h : Host). h.phase.wait) same ∙ w)
 answered-waits on slot subnet n w = w
 

@@ -5,7 +5,7 @@ use Rattle.ncp_sharing.proofs.Found.{sender_opens_not, receiver_opens_not}
 use Rattle.ncp_sharing.proofs.sharing.none_opens_on_a_busy_link.Goals as goal
 
 pub returns-clause-sender : goal.returns-clause-sender
-returns-clause-sender c = λ events e p q on m n out. (let f = fits_ever events m in sender_opens_not (shared events) (shared_occurs e (shared events)) f (fits_keep e (shared events) n f) (links_keep e (shared events) n f (links_ever events m)) on p q out)
+returns-clause-sender c = λ events e m n p q on out. (let f = fits_ever events m in sender_opens_not (shared events) (shared_occurs e (shared events)) f (fits_keep e (shared events) n f) (links_keep e (shared events) n f (links_ever events m)) on p q out)
 
 pub returns-clause-receiver : goal.returns-clause-receiver
-returns-clause-receiver c = λ events e p q on m n out. (let f = fits_ever events m in receiver_opens_not (shared events) (shared_occurs e (shared events)) f (fits_keep e (shared events) n f) (links_keep e (shared events) n f (links_ever events m)) on p q out)
+returns-clause-receiver c = λ events e m n p q on out. (let f = fits_ever events m in receiver_opens_not (shared events) (shared_occurs e (shared events)) f (fits_keep e (shared events) n f) (links_keep e (shared events) n f (links_ever events m)) on p q out)
