@@ -44,7 +44,7 @@ fn tally_file<S: Source>(source: &mut S) -> Result<Tally, FileFault>
 /// Reads a message file to its end, writes one line that counts its messages, and answers whether
 /// none of them is short or faulty. After a fault of the file, or a failed read, nothing is written.
 ///
-/// It allocates nothing, and reads in pieces of at least 4 KiB.
+/// It allocates nothing, reads in pieces of at least 4 KiB, and writes the line as one piece.
 pub fn check<S: Source, W: Sink>(source: &mut S, sink: &mut W) -> Result<bool, FileFault>
     requires source_clean { S.has_failed source.old ≡ false }
     requires sink_clean { W.has_failed sink.old ≡ false }
@@ -63,8 +63,7 @@ pub fn check<S: Source, W: Sink>(source: &mut S, sink: &mut W) -> Result<bool, F
     ensures reads { (bytes : List ℕ) → S.left source.old ≡ Some bytes
         → S.reads source.old ≤ S.reads source.new + reads_for S.gives_all (length bytes) + 1 }
 
-    // A sink that takes all that it can is written to once, and where it is full or a write fails
-    // once more.
+    // A sink that takes all that it can is written to once, and where it was full once more.
     ensures writes { W.takes_all ≡ true → W.writes sink.old ≤ W.writes sink.new + 2 }
 {
     let tally = tally_file(source)?;

@@ -90,9 +90,9 @@ fn show_file<S: Source, W: Sink>(
 /// Writes the lines of each record of a message file, up to its first fault, and answers that
 /// fault.
 ///
-/// It allocates nothing, and reads and writes in pieces of at least 4 KiB. After a failed read the
-/// lines of the records that were read whole are written; after a failed write a beginning of the
-/// lines is.
+/// It allocates nothing, and reads and writes in pieces of at least 4 KiB, the last one written
+/// apart. After a failed read the lines of the records that were read whole are written; after a
+/// failed write a beginning of the lines is.
 pub fn show<S: Source, W: Sink>(source: &mut S, sink: &mut W) -> Result<(), FileFault>
     requires source_clean { S.has_failed source.old ≡ false }
     requires sink_clean { W.has_failed sink.old ≡ false }
