@@ -14,14 +14,13 @@ use Rattle.ncp_player.specs.declared.tally.Verdict.TheVariants as is
 use Rattle.ncp_player.specs.declared.tally.Tally.{Tally}
 use Rattle.ncp_player.specs.Results.{MatchFault}
 use Rattle.ncp_player.specs.File.{direction_of, Holds, IsCut}
-use Rattle.ncp_player.specs.Lines.{field}
+use Rattle.ncp_player.specs.Lines.{field, is_on_control_link, is_control}
 
 -- ---- one message
 
--- a message on the control link whose size is not eight, or whose text has a fault
+-- a message on the control link that is none of control, since its size is not eight, or whose text has a fault
 abbrev pub is_bad_text : Message → Bool
-is_bad_text message =
-    (message.leader.link == 0) && (not (message.size == 8) || is_some (fault_in (bytes_of message.text)))
+is_bad_text message = is_on_control_link message && (not (is_control message) || is_some (fault_in (bytes_of message.text)))
 
 abbrev pub verdict_of_message : Result Message MessageFault → Verdict
 verdict_of_message (Err fault) = is.Faulty

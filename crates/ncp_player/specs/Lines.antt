@@ -116,9 +116,13 @@ text_word text = if length text == 0 then [] else codes " " ++ hex_of (bytes_of 
 abbrev pub text_line : List Bool → List ℕ
 text_line text = field (codes "  text bits=") (length text) ++ text_word text ++ codes "\n"
 
--- a message of the control link carries commands
+-- the control link is link 0
+abbrev pub is_on_control_link : Message → Bool
+is_on_control_link message = message.leader.link == 0
+
+-- a message of control, which carries commands: its bytes have eight bits
 abbrev pub is_control : Message → Bool
-is_control message = (message.leader.link == 0) && (message.size == 8)
+is_control message = is_on_control_link message && (message.size == 8)
 
 abbrev pub text_lines : Message → List ℕ
 text_lines message = if is_control message then control_lines (bytes_of message.text) else text_line message.text

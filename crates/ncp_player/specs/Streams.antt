@@ -1,7 +1,7 @@
 -- Bytes on their way: from a source through a window, and through a page into a sink.
 use Rattle.std.specs.Prelude.{◌≡◌, ℕ, ◌+◌, ◌*◌, List, ◌++◌, length, Option, Some, Result, Ok, Err}
 use Rattle.ncp_player.specs.declared.source.Failed.{Failed}
-use Rattle.ncp_player.specs.declared.incoming.TheConstants.{WINDOW}
+use Rattle.ncp_player.specs.declared.window.TheConstants.{WINDOW_SIZE}
 
 -- the bytes that are to come: those in the window, then those that the source has left
 abbrev pub Ahead : List ℕ → Option (List ℕ) → List ℕ → Type 0
@@ -31,4 +31,4 @@ SaysTextOrBeginning page written text (Err failed) page' written' = SaysBeginnin
 
 -- what is left to be done by one who reads on: reads, and bytes in the window
 abbrev pub effort : ℕ → List ℕ → ℕ
-effort reads window = reads * (WINDOW + 1) + length window
+effort reads window = reads * (WINDOW_SIZE + 1) + length window

@@ -7,15 +7,15 @@ ghost use Rattle.ncp_player.specs.Tallies.{no_messages, TalliesFrom, TalliesFile
 ghost use Rattle.ncp_player.specs.Checked.{Checked};
 
 use crate::file::{FileFault, read_header, read_record};
-use crate::incoming::Incoming;
-use crate::outgoing::Outgoing;
+use crate::page::Page;
 use crate::sink::Sink;
 use crate::source::Source;
 use crate::tally::{Tally, push_tally};
+use crate::window::Window;
 use ncp_bits::Bits;
 
 // Counts the messages behind the header.
-fn tally_records<S: Source>(window: &mut Incoming, source: &mut S) -> Result<Tally, FileFault>
+fn tally_records<S: Source>(window: &mut Window, source: &mut S) -> Result<Tally, FileFault>
     ensures told { (bytes : List ℕ) → Ahead window.old (S.left source.old) bytes → TalliesFrom bytes no_messages result (S.left source.new) }
     ensures mark { S.has_failed source.new ≡ (S.has_failed source.old || is_read_failed result) }
     ensures other { is_write_failed result ≡ false }
@@ -36,7 +36,7 @@ fn tally_file<S: Source>(source: &mut S) -> Result<Tally, FileFault>
     ensures other { is_write_failed result ≡ false }
     ensures reads { reads_beyond S.gives_all (S.reads source.old) (S.left source.old) ≤ reads_beyond S.gives_all (S.reads source.new) (S.left source.new) + 1 }
 {
-    let mut window = Incoming::new();
+    let mut window = Window::new();
     let _direction = read_header(&mut window, source)?;
     tally_records(&mut window, source)
 }
@@ -44,7 +44,7 @@ fn tally_file<S: Source>(source: &mut S) -> Result<Tally, FileFault>
 /// Reads a message file to its end, writes one line that counts its messages, and answers whether
 /// none of them is short or faulty. After a fault of the file, or a failed read, nothing is written.
 ///
-/// It allocates nothing, and reads in pieces of at least 4 KiB.
+/// It allocates nothing, reads in pieces of at least 4 KiB, and writes the line as one piece.
 pub fn check<S: Source, W: Sink>(source: &mut S, sink: &mut W) -> Result<bool, FileFault>
     requires source_clean { S.has_failed source.old ≡ false }
     requires sink_clean { W.has_failed sink.old ≡ false }
@@ -63,12 +63,11 @@ pub fn check<S: Source, W: Sink>(source: &mut S, sink: &mut W) -> Result<bool, F
     ensures reads { (bytes : List ℕ) → S.left source.old ≡ Some bytes
         → S.reads source.old ≤ S.reads source.new + reads_for S.gives_all (length bytes) + 1 }
 
-    // A sink that takes all that it can is written to once, and where it is full or a write fails
-    // once more.
+    // A sink that takes all that it can is written to once, and where it was full once more.
     ensures writes { W.takes_all ≡ true → W.writes sink.old ≤ W.writes sink.new + 2 }
 {
     let tally = tally_file(source)?;
-    let mut page = Outgoing::new();
+    let mut page = Page::new();
     push_tally(&mut page, &tally);
     match page.flush(sink) {
         Ok(()) => Ok(tally.is_sound()),

@@ -2,12 +2,13 @@
 ghost use Rattle.std.specs.Prelude.{◌≡◌, ◌+◌, ◌≤◌, ◌||◌, ◌++◌, ◌/◌, ◌%◌, length, codes, is_err};
 ghost use Rattle.ncp_bits.specs.Bits.{bytes_of};
 ghost use Rattle.ncp_leader.specs.Message.{message_in};
-ghost use Rattle.ncp_player.specs.Lines.{field, hex_of, command_words, bad_words, item_line, control_lines, text_word, text_line, is_control, size_line, fault_line, text_lines, message_lines};
+ghost use Rattle.ncp_player.specs.Lines.{field, hex_of, command_words, bad_words, item_line, control_lines, text_word, text_line, size_line, fault_line, text_lines, message_lines};
 ghost use Rattle.ncp_player.specs.Pieces.{bytes_and_writes, lost_pieces};
 ghost use Rattle.ncp_player.specs.Streams.{SaysTextOrBeginning};
 
+use crate::control::is_of_control;
 use crate::line::{LONGEST_LINE, push_field};
-use crate::outgoing::{Outgoing, PAGE};
+use crate::page::{PAGE_SIZE, Page};
 use crate::sink::Sink;
 use crate::source::Failed;
 use ncp_bits::{Bits, MAX_BITS, Part};
@@ -27,9 +28,9 @@ type Field<'a> = (&'a [u8], u32);
 const LONGEST_NAME: usize = 10;
 
 // Appends a command's name and field.
-fn push_one(page: &mut Outgoing, name: &[u8; 3], one: Field<'_>)
+fn push_one(page: &mut Page, name: &[u8; 3], one: Field<'_>)
     requires one { length one.0.now ≤ LONGEST_NAME }
-    requires room { length page.old + LONGEST_WORDS ≤ PAGE }
+    requires room { length page.old + LONGEST_WORDS ≤ PAGE_SIZE }
     ensures bytes { page.new ≡ page.old ++ (name.now ++ field one.entry.0.now one.entry.1) }
     ensures len { length page.new ≤ length page.old + LONGEST_WORDS }
 {
@@ -38,10 +39,10 @@ fn push_one(page: &mut Outgoing, name: &[u8; 3], one: Field<'_>)
 }
 
 // Appends a command's name and two fields.
-fn push_two(page: &mut Outgoing, name: &[u8; 3], one: Field<'_>, two: Field<'_>)
+fn push_two(page: &mut Page, name: &[u8; 3], one: Field<'_>, two: Field<'_>)
     requires one { length one.0.now ≤ LONGEST_NAME }
     requires two { length two.0.now ≤ LONGEST_NAME }
-    requires room { length page.old + LONGEST_WORDS ≤ PAGE }
+    requires room { length page.old + LONGEST_WORDS ≤ PAGE_SIZE }
     ensures bytes { page.new ≡ page.old ++ (name.now ++ field one.entry.0.now one.entry.1 ++ field two.entry.0.now two.entry.1) }
     ensures len { length page.new ≤ length page.old + LONGEST_WORDS }
 {
@@ -51,11 +52,11 @@ fn push_two(page: &mut Outgoing, name: &[u8; 3], one: Field<'_>, two: Field<'_>)
 }
 
 // Appends a command's name and three fields.
-fn push_three(page: &mut Outgoing, name: &[u8; 3], one: Field<'_>, two: Field<'_>, three: Field<'_>)
+fn push_three(page: &mut Page, name: &[u8; 3], one: Field<'_>, two: Field<'_>, three: Field<'_>)
     requires one { length one.0.now ≤ LONGEST_NAME }
     requires two { length two.0.now ≤ LONGEST_NAME }
     requires three { length three.0.now ≤ LONGEST_NAME }
-    requires room { length page.old + LONGEST_WORDS ≤ PAGE }
+    requires room { length page.old + LONGEST_WORDS ≤ PAGE_SIZE }
     ensures bytes { page.new ≡ page.old ++ (name.now ++ field one.entry.0.now one.entry.1 ++ field two.entry.0.now two.entry.1 ++ field three.entry.0.now three.entry.1) }
     ensures len { length page.new ≤ length page.old + LONGEST_WORDS }
 {
@@ -66,8 +67,8 @@ fn push_three(page: &mut Outgoing, name: &[u8; 3], one: Field<'_>, two: Field<'_
 }
 
 // Appends a name of three letters, a code and data.
-fn push_error(page: &mut Outgoing, name: &[u8; 3], code: u8, bytes: &[u8; ERROR_DATA])
-    requires { length page.old + LONGEST_WORDS ≤ PAGE }
+fn push_error(page: &mut Page, name: &[u8; 3], code: u8, bytes: &[u8; ERROR_DATA])
+    requires { length page.old + LONGEST_WORDS ≤ PAGE_SIZE }
     ensures bytes { page.new ≡ page.old ++ (name.now ++ field (codes " code=") code ++ codes " data=" ++ hex_of bytes.now) }
     ensures len { length page.new ≤ length page.old + LONGEST_WORDS }
 {
@@ -78,8 +79,8 @@ fn push_error(page: &mut Outgoing, name: &[u8; 3], code: u8, bytes: &[u8; ERROR_
 }
 
 // Appends a command's name and fields.
-fn push_command(page: &mut Outgoing, command: &Command)
-    requires { length page.old + LONGEST_WORDS ≤ PAGE }
+fn push_command(page: &mut Page, command: &Command)
+    requires { length page.old + LONGEST_WORDS ≤ PAGE_SIZE }
     ensures bytes { page.new ≡ page.old ++ command_words command.now }
     ensures len { length page.new ≤ length page.old + LONGEST_WORDS }
 {
@@ -148,8 +149,8 @@ fn push_command(page: &mut Outgoing, command: &Command)
 }
 
 // Appends the line of a command, or of the fault behind the last one.
-fn push_item(page: &mut Outgoing, item: &Result<Command, CommandFault>)
-    requires { length page.old + LONGEST_LINE ≤ PAGE }
+fn push_item(page: &mut Page, item: &Result<Command, CommandFault>)
+    requires { length page.old + LONGEST_LINE ≤ PAGE_SIZE }
     ensures { page.new ≡ page.old ++ item_line item.now }
 {
     page.push_text(b"  ");
@@ -161,7 +162,7 @@ fn push_item(page: &mut Outgoing, item: &Result<Command, CommandFault>)
 }
 
 // Says a line for each command of a control text, and one for its fault.
-fn say_commands<W: Sink>(page: &mut Outgoing, sink: &mut W, text: Part<'_>) -> Result<(), Failed>
+fn say_commands<W: Sink>(page: &mut Page, sink: &mut W, text: Part<'_>) -> Result<(), Failed>
     requires { length text % 8 ≡ 0 }
     ensures told { SaysTextOrBeginning page.old (W.written sink.old) (control_lines (bytes_of text.entry)) result page.new (W.written sink.new) }
     ensures writes { bytes_and_writes W.takes_all (W.writes sink.old) (W.written sink.old) ≤ bytes_and_writes W.takes_all (W.writes sink.new) (W.written sink.new) + lost_pieces (is_err result) }
@@ -175,8 +176,8 @@ fn say_commands<W: Sink>(page: &mut Outgoing, sink: &mut W, text: Part<'_>) -> R
 }
 
 // Appends a text in hexadecimal, if it has a bit.
-fn push_text_word(page: &mut Outgoing, text: &Part<'_>)
-    requires { length page.old + 1 + MAX_BITS / 4 ≤ PAGE }
+fn push_text_word(page: &mut Page, text: &Part<'_>)
+    requires { length page.old + 1 + MAX_BITS / 4 ≤ PAGE_SIZE }
     ensures bytes { page.new ≡ page.old ++ text_word text.now }
     ensures len { length page.new ≤ length page.old + 1 + MAX_BITS / 4 }
 {
@@ -191,8 +192,8 @@ fn push_text_word(page: &mut Outgoing, text: &Part<'_>)
 }
 
 // Appends the line of a text.
-fn push_text_line(page: &mut Outgoing, text: &Part<'_>)
-    requires { length page.old + LONGEST_TEXT_LINE ≤ PAGE }
+fn push_text_line(page: &mut Page, text: &Part<'_>)
+    requires { length page.old + LONGEST_TEXT_LINE ≤ PAGE_SIZE }
     ensures { page.new ≡ page.old ++ text_line text.now }
 {
     push_field(page, b"  text bits=", text.len() as u32);
@@ -201,8 +202,8 @@ fn push_text_line(page: &mut Outgoing, text: &Part<'_>)
 }
 
 // Appends the line of a message's size and count.
-fn push_size(page: &mut Outgoing, message: &Regular<'_>)
-    requires { length page.old + LONGEST_LINE ≤ PAGE }
+fn push_size(page: &mut Page, message: &Regular<'_>)
+    requires { length page.old + LONGEST_LINE ≤ PAGE_SIZE }
     ensures { page.new ≡ page.old ++ size_line message.now }
 {
     push_field(page, b"  size=", u32::from(message.size()));
@@ -211,8 +212,8 @@ fn push_size(page: &mut Outgoing, message: &Regular<'_>)
 }
 
 // Appends the line of a message's fault.
-fn push_fault(page: &mut Outgoing, fault: MessageFault)
-    requires { length page.old + LONGEST_LINE ≤ PAGE }
+fn push_fault(page: &mut Page, fault: MessageFault)
+    requires { length page.old + LONGEST_LINE ≤ PAGE_SIZE }
     ensures { page.new ≡ page.old ++ fault_line fault }
 {
     page.push_text(b"  fault ");
@@ -221,7 +222,7 @@ fn push_fault(page: &mut Outgoing, fault: MessageFault)
 }
 
 // Says the line of a text.
-fn say_text<W: Sink>(page: &mut Outgoing, sink: &mut W, text: &Part<'_>) -> Result<(), Failed>
+fn say_text<W: Sink>(page: &mut Page, sink: &mut W, text: &Part<'_>) -> Result<(), Failed>
     ensures told { SaysTextOrBeginning page.old (W.written sink.old) (text_line text.now) result page.new (W.written sink.new) }
     ensures writes { bytes_and_writes W.takes_all (W.writes sink.old) (W.written sink.old) ≤ bytes_and_writes W.takes_all (W.writes sink.new) (W.written sink.new) + lost_pieces (is_err result) }
     ensures mark { W.has_failed sink.new ≡ (W.has_failed sink.old || is_err result) }
@@ -232,7 +233,7 @@ fn say_text<W: Sink>(page: &mut Outgoing, sink: &mut W, text: &Part<'_>) -> Resu
 }
 
 // Says the line of a message's size and count.
-fn say_size<W: Sink>(page: &mut Outgoing, sink: &mut W, message: &Regular<'_>) -> Result<(), Failed>
+fn say_size<W: Sink>(page: &mut Page, sink: &mut W, message: &Regular<'_>) -> Result<(), Failed>
     ensures told { SaysTextOrBeginning page.old (W.written sink.old) (size_line message.now) result page.new (W.written sink.new) }
     ensures writes { bytes_and_writes W.takes_all (W.writes sink.old) (W.written sink.old) ≤ bytes_and_writes W.takes_all (W.writes sink.new) (W.written sink.new) + lost_pieces (is_err result) }
     ensures mark { W.has_failed sink.new ≡ (W.has_failed sink.old || is_err result) }
@@ -243,7 +244,7 @@ fn say_size<W: Sink>(page: &mut Outgoing, sink: &mut W, message: &Regular<'_>) -
 }
 
 // Says the line of a message's fault.
-fn say_fault<W: Sink>(page: &mut Outgoing, sink: &mut W, fault: MessageFault) -> Result<(), Failed>
+fn say_fault<W: Sink>(page: &mut Page, sink: &mut W, fault: MessageFault) -> Result<(), Failed>
     ensures told { SaysTextOrBeginning page.old (W.written sink.old) (fault_line fault) result page.new (W.written sink.new) }
     ensures writes { bytes_and_writes W.takes_all (W.writes sink.old) (W.written sink.old) ≤ bytes_and_writes W.takes_all (W.writes sink.new) (W.written sink.new) + lost_pieces (is_err result) }
     ensures mark { W.has_failed sink.new ≡ (W.has_failed sink.old || is_err result) }
@@ -253,19 +254,8 @@ fn say_fault<W: Sink>(page: &mut Outgoing, sink: &mut W, fault: MessageFault) ->
     Ok(())
 }
 
-// Whether a message carries commands.
-fn is_of_control(message: &Regular<'_>) -> bool
-    ensures { result ≡ is_control message.now }
-{
-    message.leader().link == 0 && message.size() == 8
-}
-
 // Says the lines of a message that has no fault.
-fn say_message<W: Sink>(
-    page: &mut Outgoing,
-    sink: &mut W,
-    message: &Regular<'_>,
-) -> Result<(), Failed>
+fn say_message<W: Sink>(page: &mut Page, sink: &mut W, message: &Regular<'_>) -> Result<(), Failed>
     ensures told { SaysTextOrBeginning page.old (W.written sink.old) (size_line message.now ++ text_lines message.now) result page.new (W.written sink.new) }
     ensures writes { bytes_and_writes W.takes_all (W.writes sink.old) (W.written sink.old) ≤ bytes_and_writes W.takes_all (W.writes sink.new) (W.written sink.new) + lost_pieces (is_err result) }
     ensures mark { W.has_failed sink.new ≡ (W.has_failed sink.old || is_err result) }
@@ -279,11 +269,7 @@ fn say_message<W: Sink>(
 }
 
 /// Says the detail lines of a regular message.
-pub(crate) fn say_details<W: Sink>(
-    page: &mut Outgoing,
-    sink: &mut W,
-    bits: &Bits,
-) -> Result<(), Failed>
+pub(crate) fn say_details<W: Sink>(page: &mut Page, sink: &mut W, bits: &Bits) -> Result<(), Failed>
     ensures told { SaysTextOrBeginning page.old (W.written sink.old) (message_lines (message_in bits.now)) result page.new (W.written sink.new) }
     ensures writes { bytes_and_writes W.takes_all (W.writes sink.old) (W.written sink.old) ≤ bytes_and_writes W.takes_all (W.writes sink.new) (W.written sink.new) + lost_pieces (is_err result) }
     ensures mark { W.has_failed sink.new ≡ (W.has_failed sink.old || is_err result) }

@@ -6,8 +6,8 @@ ghost use Rattle.ncp_player.specs.Results.{is_read_failed, is_write_failed};
 ghost use Rattle.ncp_player.specs.Steps.{ReadsHeader, ReadsRecord};
 ghost use Rattle.ncp_player.specs.Streams.{Ahead, effort};
 
-use crate::incoming::Incoming;
 use crate::source::{Failed, Source};
+use crate::window::Window;
 use byteorder::{BigEndian, ByteOrder};
 use ncp_bits::{Bits, BitsFault, MAX_BITS};
 use thiserror::Error;
@@ -87,7 +87,7 @@ fn direction_in(head: &[u8]) -> Option<Direction>
 
 /// Reads the header of a file.
 pub(crate) fn read_header<S: Source>(
-    window: &mut Incoming,
+    window: &mut Window,
     source: &mut S,
 ) -> Result<Direction, FileFault>
     ensures told { (bytes : List ℕ) → Ahead window.old (S.left source.old) bytes → ReadsHeader bytes result window.new (S.left source.new) }
@@ -119,7 +119,7 @@ fn fault_of(fault: BitsFault) -> FileFault
 
 /// Reads the next record into `message`, and answers whether there was one.
 pub(crate) fn read_record<S: Source>(
-    window: &mut Incoming,
+    window: &mut Window,
     source: &mut S,
     message: &mut Bits,
 ) -> Result<bool, FileFault>

@@ -3,14 +3,14 @@
 
 mod checking;
 mod command_line;
+mod control;
 mod detail;
 mod file;
-mod incoming;
 pub mod laws;
 mod line;
 mod memory;
 mod orders;
-mod outgoing;
+mod page;
 mod record;
 mod showing;
 mod sink;
@@ -20,6 +20,7 @@ mod stream_tests;
 mod tally;
 #[cfg(test)]
 mod tests;
+mod window;
 
 pub use checking::check;
 pub use command_line::{order, status};

@@ -3,7 +3,7 @@ ghost use Rattle.std.specs.Prelude.{◌≡◌, ◌+◌, ◌≤◌, ◌++◌, len
 ghost use Rattle.ncp_player.specs.Lines.{field, kind_name, extras, summary};
 
 use crate::file::Direction;
-use crate::outgoing::{LONGEST_NUMBER, Outgoing, PAGE};
+use crate::page::{LONGEST_NUMBER, PAGE_SIZE, Page};
 use ncp_leader::{Leader, Short};
 
 /// How many bytes a line has at most, but for a text in hexadecimal.
@@ -22,8 +22,8 @@ const LONGEST_KIND: usize = 15;
 const LONGEST_EXTRAS: usize = 32;
 
 /// Appends a number behind its name.
-pub(crate) fn push_field(page: &mut Outgoing, name: &[u8], number: u32)
-    requires { length page.old + length name.now + LONGEST_NUMBER ≤ PAGE }
+pub(crate) fn push_field(page: &mut Page, name: &[u8], number: u32)
+    requires { length page.old + length name.now + LONGEST_NUMBER ≤ PAGE_SIZE }
     ensures bytes { page.new ≡ page.old ++ field name.now number }
     ensures len { length page.new ≤ length page.old + length name.now + LONGEST_NUMBER }
 {
@@ -32,8 +32,8 @@ pub(crate) fn push_field(page: &mut Outgoing, name: &[u8], number: u32)
 }
 
 // Appends the name of a type.
-fn push_kind(page: &mut Outgoing, direction: Direction, kind: u8)
-    requires { length page.old + LONGEST_KIND ≤ PAGE }
+fn push_kind(page: &mut Page, direction: Direction, kind: u8)
+    requires { length page.old + LONGEST_KIND ≤ PAGE_SIZE }
     ensures bytes { page.new ≡ page.old ++ kind_name direction kind }
     ensures len { length page.new ≤ length page.old + LONGEST_KIND }
 {
@@ -49,8 +49,8 @@ fn push_kind(page: &mut Outgoing, direction: Direction, kind: u8)
 }
 
 // Appends flags and low field, where one of them is set.
-fn push_extras(page: &mut Outgoing, leader: &Leader)
-    requires { length page.old + LONGEST_EXTRAS ≤ PAGE }
+fn push_extras(page: &mut Page, leader: &Leader)
+    requires { length page.old + LONGEST_EXTRAS ≤ PAGE_SIZE }
     ensures bytes { page.new ≡ page.old ++ extras leader.now }
     ensures len { length page.new ≤ length page.old + LONGEST_EXTRAS }
 {
@@ -62,8 +62,8 @@ fn push_extras(page: &mut Outgoing, leader: &Leader)
 }
 
 // Appends what stands behind the number of a record.
-fn push_leader(page: &mut Outgoing, direction: Direction, leader: &Leader)
-    requires { length page.old + LONGEST_SUMMARY ≤ PAGE }
+fn push_leader(page: &mut Page, direction: Direction, leader: &Leader)
+    requires { length page.old + LONGEST_SUMMARY ≤ PAGE_SIZE }
     ensures { page.new ≡ page.old ++ summary direction (Ok leader.now) }
 {
     page.push(b' ');
@@ -76,12 +76,12 @@ fn push_leader(page: &mut Outgoing, direction: Direction, leader: &Leader)
 
 /// Appends the first line of a record.
 pub(crate) fn push_first_line(
-    page: &mut Outgoing,
+    page: &mut Page,
     direction: Direction,
     number: u32,
     leader: &Result<Leader, Short>,
 )
-    requires { length page.old + LONGEST_LINE ≤ PAGE }
+    requires { length page.old + LONGEST_LINE ≤ PAGE_SIZE }
     ensures { page.new ≡ page.old ++ (decimal number ++ summary direction leader.now) }
 {
     page.push_decimal(number);

@@ -7,7 +7,7 @@ ghost use Rattle.ncp_player.specs.Streams.{SaysTextOrBeginning};
 use crate::detail::say_details;
 use crate::file::Direction;
 use crate::line::{LONGEST_LINE, REGULAR, push_first_line};
-use crate::outgoing::Outgoing;
+use crate::page::Page;
 use crate::sink::Sink;
 use crate::source::Failed;
 use ncp_bits::Bits;
@@ -15,7 +15,7 @@ use ncp_leader::{Leader, Short, read_leader};
 
 // Says the first line of a record.
 fn say_first_line<W: Sink>(
-    page: &mut Outgoing,
+    page: &mut Page,
     sink: &mut W,
     direction: Direction,
     number: u32,
@@ -42,7 +42,7 @@ fn has_details(leader: &Result<Leader, Short>) -> bool
 
 /// Says the lines of the record with this number.
 pub(crate) fn say_record<W: Sink>(
-    page: &mut Outgoing,
+    page: &mut Page,
     sink: &mut W,
     direction: Direction,
     number: u32,

@@ -7,19 +7,19 @@ ghost use Rattle.ncp_player.specs.Steps.{ShowsNext, ShowsFrom, ShowsFile};
 ghost use Rattle.ncp_player.specs.Shown.{Shown};
 
 use crate::file::{Direction, FileFault, read_header, read_record};
-use crate::incoming::Incoming;
-use crate::outgoing::Outgoing;
+use crate::page::Page;
 use crate::record::say_record;
 use crate::sink::Sink;
 use crate::source::{LEAST_PIECE, Source};
+use crate::window::Window;
 use ncp_bits::Bits;
 
 // Reads the next record into `message` and shows it, and answers whether there was one.
 fn show_next<S: Source, W: Sink>(
-    window: &mut Incoming,
+    window: &mut Window,
     source: &mut S,
     message: &mut Bits,
-    page: &mut Outgoing,
+    page: &mut Page,
     sink: &mut W,
     direction: Direction,
     number: u32,
@@ -45,9 +45,9 @@ fn show_next<S: Source, W: Sink>(
 
 // Shows the records behind the header.
 fn show_records<S: Source, W: Sink>(
-    window: &mut Incoming,
+    window: &mut Window,
     source: &mut S,
-    page: &mut Outgoing,
+    page: &mut Page,
     sink: &mut W,
     direction: Direction,
 ) -> Result<(), FileFault>
@@ -70,7 +70,7 @@ fn show_records<S: Source, W: Sink>(
 // Shows a file, but for what stays on the page.
 fn show_file<S: Source, W: Sink>(
     source: &mut S,
-    page: &mut Outgoing,
+    page: &mut Page,
     sink: &mut W,
 ) -> Result<(), FileFault>
     requires { page.old ≡ [] }
@@ -82,7 +82,7 @@ fn show_file<S: Source, W: Sink>(
     ensures sink_mark { W.has_failed sink.new ≡ (W.has_failed sink.old || is_write_failed result) }
     ensures reads { reads_beyond S.gives_all (S.reads source.old) (S.left source.old) ≤ reads_beyond S.gives_all (S.reads source.new) (S.left source.new) + 1 }
 {
-    let mut window = Incoming::new();
+    let mut window = Window::new();
     let direction = read_header(&mut window, source)?;
     show_records(&mut window, source, page, sink, direction)
 }
@@ -90,9 +90,9 @@ fn show_file<S: Source, W: Sink>(
 /// Writes the lines of each record of a message file, up to its first fault, and answers that
 /// fault.
 ///
-/// It allocates nothing, and reads and writes in pieces of at least 4 KiB. After a failed read the
-/// lines of the records that were read whole are written; after a failed write a beginning of the
-/// lines is.
+/// It allocates nothing, and reads and writes in pieces of at least 4 KiB, the last one written
+/// apart. After a failed read the lines of the records that were read whole are written; after a
+/// failed write a beginning of the lines is.
 pub fn show<S: Source, W: Sink>(source: &mut S, sink: &mut W) -> Result<(), FileFault>
     requires source_clean { S.has_failed source.old ≡ false }
     requires sink_clean { W.has_failed sink.old ≡ false }
@@ -119,7 +119,7 @@ pub fn show<S: Source, W: Sink>(source: &mut S, sink: &mut W) -> Result<(), File
         → W.written sink.old ≡ Some was → W.written sink.new ≡ Some now
         → W.writes sink.old ≤ W.writes sink.new + (length now - length was) / LEAST_PIECE + 2 }
 {
-    let mut page = Outgoing::new();
+    let mut page = Page::new();
     let shown = show_file(source, &mut page, sink);
     if sink.failed() {
         return shown;

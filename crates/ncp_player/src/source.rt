@@ -5,7 +5,8 @@ ghost use Rattle.std.specs.Io.KnownBytes.{ReadConsumes};
 use std::io::Read;
 use thiserror::Error;
 
-/// How many bytes a piece has at least that a file is read into or written in, the last one apart.
+/// How many bytes a piece has at least that a file is read into, or that lines are written in, the
+/// last one written apart.
 pub const LEAST_PIECE: usize = 4096;
 
 /// A read or a write failed.
@@ -19,7 +20,7 @@ pub trait Source {
     ghost left: { Self → Option (List ℕ) };
 
     /// Whether each read gives all that it can: as many bytes as the piece has room for, or all
-    /// that are left. A source that gives fewer at times is none of these.
+    /// that are left.
     ghost gives_all: { Bool } = { false };
 
     /// How many reads are left. It bounds what reads to the end.

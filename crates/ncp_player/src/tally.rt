@@ -6,8 +6,9 @@ ghost use Rattle.ncp_control.specs.Reading.{fault_in};
 ghost use Rattle.ncp_player.specs.Checked.{is_bad_text, verdict_of_message, verdict_of, is_sound, tally_line};
 ghost use Rattle.ncp_player.specs.Tallies.{no_messages, tally_with, one_more};
 
+use crate::control::{is_of_control, is_on_control_link};
 use crate::line::{LONGEST_LINE, REGULAR, push_field};
-use crate::outgoing::{Outgoing, PAGE};
+use crate::page::{PAGE_SIZE, Page};
 use ncp_bits::{Bits, Part};
 use ncp_control::Commands;
 use ncp_leader::{Regular, read_leader, read_regular};
@@ -54,10 +55,10 @@ fn has_fault(text: Part<'_>) -> bool
 fn is_bad(message: &Regular<'_>) -> bool
     ensures { result ≡ is_bad_text message.now }
 {
-    if message.leader().link != 0 {
+    if !is_on_control_link(message) {
         return false;
     }
-    if message.size() != 8 {
+    if !is_of_control(message) {
         return true;
     }
     has_fault(message.text())
@@ -146,8 +147,8 @@ impl Tally {
 }
 
 /// Appends the line of the counts.
-pub(crate) fn push_tally(page: &mut Outgoing, tally: &Tally)
-    requires { length page.old + LONGEST_LINE ≤ PAGE }
+pub(crate) fn push_tally(page: &mut Page, tally: &Tally)
+    requires { length page.old + LONGEST_LINE ≤ PAGE_SIZE }
     ensures { page.new ≡ page.old ++ tally_line tally.now }
 {
     push_field(page, b"messages=", tally.messages);

@@ -1,6 +1,6 @@
 use Rattle.std.proofs.Common.{◌≡◌, ◌+◌, ◌*◌, ◌++◌, length, take}
 use Rattle.ncp_player.specs.Lines.{hex_of}
-use Rattle.ncp_player.proofs.outgoing.push_hex_digits.Given as goal
+use Rattle.ncp_player.proofs.page.push_hex_digits.Given as goal
 
 abbrev pub invariant-loop-byte : goal.invariant-loop-byte
 invariant-loop-byte l = record {

@@ -1,7 +1,7 @@
 use Rattle.std.proofs.Common.{◌≡◌, ℕ, List, ◌++◌, ◌≤◌, ◌-◌, length}
 use Rattle.ncp_player.specs.Pieces.{reads_beyond}
 use Rattle.ncp_player.specs.Streams.{Moves, effort}
-use Rattle.ncp_player.proofs.incoming.Incoming.need.Given as goal
+use Rattle.ncp_player.proofs.window.Window.need.Given as goal
 
 abbrev pub invariant-loop-self : goal.invariant-loop-self
 invariant-loop-self g l =

@@ -3,7 +3,7 @@ use Rattle.std.proofs.lemmas.List.{append-nil}
 use Rattle.std.specs.Io.KnownBytes.{Appends}
 use Rattle.ncp_player.proofs.Outcomes.{on_err_always}
 use Rattle.ncp_player.proofs.Saying.{says_flushed, says_flushed_front}
-use Rattle.ncp_player.proofs.outgoing.Outgoing.flush.Goals as goal
+use Rattle.ncp_player.proofs.page.Page.flush.Goals as goal
 
 pub returns-in_err-put_all-clause-err : goal.returns-in_err-put_all-clause-err
 returns-in_err-put_all-clause-err g c =

@@ -1,6 +1,6 @@
 use Rattle.std.proofs.Common.{◌≡◌, ◌<◌, ◌≤◌, ◌+◌, ◌-◌, ◌⊎◌, true, length, take}
 use Rattle.std.specs.Io.KnownBytes.{Appends}
-use Rattle.ncp_player.proofs.outgoing.put_all.Given as goal
+use Rattle.ncp_player.proofs.page.put_all.Given as goal
 
 abbrev pub invariant-loop-done : goal.invariant-loop-done
 invariant-loop-done g l =

@@ -2,7 +2,7 @@ use Rattle.std.proofs.Common.{◌+◌, ◌%◌, ◌∷◌, ◌++◌, [], ℕ, Li
 use Rattle.std.proofs.lemmas.List.{length-append}
 use Rattle.std.proofs.lemmas.Fmt.{decimal_digit}
 use Rattle.ncp_player.proofs.Decimal.{length-long, length-short, pushed_digit}
-use Rattle.ncp_player.proofs.outgoing.+push_digits.Goals as goal
+use Rattle.ncp_player.proofs.page.+push_digits.Goals as goal
 
 pub push_digits-requires : goal.push_digits-requires
 push_digits-requires t c = (omega (arith, c.decreases), omega (arith, length-long c.args.number (omega arith) (omega arith)))

@@ -1,6 +1,6 @@
 use Rattle.std.proofs.Common.{arith}
 use Rattle.ncp_player.proofs.Hexadecimal.{hex_more}
-use Rattle.ncp_player.proofs.outgoing.push_hex_digits.Goals as goal
+use Rattle.ncp_player.proofs.page.push_hex_digits.Goals as goal
 
 pub push-requires : goal.push-requires
 push-requires c = (omega arith, omega (arith, c.loop-byte.invariant.len))

@@ -1,4 +1,4 @@
-//! `Outgoing`: bytes for a sink, written in pieces.
+//! `Page`: bytes for a sink, written in pieces.
 ghost use Rattle.std.specs.Prelude.{◌≡◌, ℕ, ◌+◌, ◌*◌, ◌<◌, ◌≤◌, ◌||◌, true, [], ◌∷◌, ◌++◌, min, length, take, decimal, is_err, OnOk, OnErr};
 ghost use Rattle.std.specs.Io.KnownBytes.{Appends};
 ghost use Rattle.ncp_player.specs.Lines.{hex_digit, hex_of};
@@ -11,18 +11,18 @@ use arrayvec::ArrayVec;
 use std::marker::Model;
 
 /// How many bytes a page has room for.
-pub(crate) const PAGE: usize = 16384;
+pub(crate) const PAGE_SIZE: usize = 16384;
 
 /// How many digits the longest number has.
 pub(crate) const LONGEST_NUMBER: usize = 10;
 
 /// A page of bytes that are not yet written.
 #[derive(Drop)]
-pub(crate) struct Outgoing {
-    bytes: ArrayVec<u8, PAGE>,
+pub(crate) struct Page {
+    bytes: ArrayVec<u8, PAGE_SIZE>,
 }
 
-impl Model for Outgoing {
+impl Model for Page {
     ghost use Rattle.std.specs.Prelude.{ℕ, List};
 
     ghost Value = { List ℕ };
@@ -46,8 +46,8 @@ fn put_all<W: Sink>(sink: &mut W, piece: &[u8]) -> Result<(), Failed>
 }
 
 // Appends the digits of a number in decimal.
-fn push_digits(bytes: &mut ArrayVec<u8, PAGE>, number: u32)
-    requires { length bytes.old.items + length (decimal number) ≤ PAGE }
+fn push_digits(bytes: &mut ArrayVec<u8, PAGE_SIZE>, number: u32)
+    requires { length bytes.old.items + length (decimal number) ≤ PAGE_SIZE }
     ensures { bytes.new.items ≡ bytes.old.items ++ decimal number }
 {
     if number < 10 {
@@ -71,8 +71,8 @@ fn digit_of(number: u8) -> u8
 }
 
 // Appends bytes in hexadecimal.
-fn push_hex_digits(page: &mut ArrayVec<u8, PAGE>, bytes: &[u8])
-    requires { length page.old.items + 2 * length bytes.now ≤ PAGE }
+fn push_hex_digits(page: &mut ArrayVec<u8, PAGE_SIZE>, bytes: &[u8])
+    requires { length page.old.items + 2 * length bytes.now ≤ PAGE_SIZE }
     ensures bytes { page.new.items ≡ page.old.items ++ hex_of bytes.now }
     ensures len { length page.new.items ≡ length page.old.items + 2 * length bytes.now }
 {
@@ -82,12 +82,12 @@ fn push_hex_digits(page: &mut ArrayVec<u8, PAGE>, bytes: &[u8])
     }
 }
 
-impl Outgoing {
+impl Page {
     /// An empty page.
     pub(crate) fn new() -> Self
         ensures { result ≡ [] }
     {
-        Outgoing {
+        Page {
             bytes: ArrayVec::new(),
         }
     }
@@ -108,8 +108,8 @@ impl Outgoing {
 
     /// Makes room for `count` bytes: where they do not fit, the page is written.
     pub(crate) fn make_room<W: Sink>(&mut self, sink: &mut W, count: usize) -> Result<(), Failed>
-        requires { count + LEAST_PIECE ≤ PAGE }
-        ensures room { OnOk result (length self.new + count ≤ PAGE) }
+        requires { count + LEAST_PIECE ≤ PAGE_SIZE }
+        ensures room { OnOk result (length self.new + count ≤ PAGE_SIZE) }
         ensures ok { OnOk result (SaysText self.old (W.written sink.old) [] self.new (W.written sink.new)) }
         ensures err { OnErr result (SaysBeginning self.old (W.written sink.old) [] (W.written sink.new)) }
         ensures writes { bytes_and_writes W.takes_all (W.writes sink.old) (W.written sink.old) ≤ bytes_and_writes W.takes_all (W.writes sink.new) (W.written sink.new) + lost_pieces (is_err result) }
@@ -123,7 +123,7 @@ impl Outgoing {
 
     /// Appends a byte.
     pub(crate) fn push(&mut self, byte: u8)
-        requires { length self.old + 1 ≤ PAGE }
+        requires { length self.old + 1 ≤ PAGE_SIZE }
         ensures bytes { self.new ≡ self.old ++ byte ∷ [] }
         ensures len { length self.new ≡ length self.old + 1 }
     {
@@ -132,7 +132,7 @@ impl Outgoing {
 
     /// Appends the digits of a number in decimal.
     pub(crate) fn push_decimal(&mut self, number: u32)
-        requires { length self.old + LONGEST_NUMBER ≤ PAGE }
+        requires { length self.old + LONGEST_NUMBER ≤ PAGE_SIZE }
         ensures bytes { self.new ≡ self.old ++ decimal number }
         ensures len { length self.new ≤ length self.old + LONGEST_NUMBER }
     {
@@ -141,7 +141,7 @@ impl Outgoing {
 
     /// Appends bytes in hexadecimal.
     pub(crate) fn push_hex(&mut self, bytes: &[u8])
-        requires { length self.old + 2 * length bytes.now ≤ PAGE }
+        requires { length self.old + 2 * length bytes.now ≤ PAGE_SIZE }
         ensures bytes { self.new ≡ self.old ++ hex_of bytes.now }
         ensures len { length self.new ≡ length self.old + 2 * length bytes.now }
     {
@@ -150,7 +150,7 @@ impl Outgoing {
 
     /// Appends a text.
     pub(crate) fn push_text(&mut self, text: &[u8])
-        requires { length self.old + length text.now ≤ PAGE }
+        requires { length self.old + length text.now ≤ PAGE_SIZE }
         ensures bytes { self.new ≡ self.old ++ text.now }
         ensures len { length self.new ≡ length self.old + length text.now }
     {

@@ -1,4 +1,4 @@
-//! `Incoming`: the bytes of a source, read ahead in pieces.
+//! `Window`: the bytes of a source, read ahead in pieces.
 ghost use Rattle.std.specs.Prelude.{◌≡◌, ℕ, List, ◌++◌, ◌+◌, ◌-◌, ◌<◌, ◌≤◌, ◌||◌, true, false, [], length, take, drop, slice_range, is_err, IfOk, OnOk, OnErr};
 ghost use Rattle.std.specs.Io.KnownBytes.{IsAtEnd};
 ghost use Rattle.ncp_player.specs.Pieces.{reads_beyond};
@@ -8,25 +8,25 @@ use crate::source::{Failed, LEAST_PIECE, Source};
 use std::marker::Model;
 
 /// How many bytes a window has room for.
-pub(crate) const WINDOW: usize = 16384;
+pub(crate) const WINDOW_SIZE: usize = 16384;
 
 /// A window on the bytes of a source: those that were read and are not used up.
 #[derive(Drop)]
-pub(crate) struct Incoming {
-    bytes: [u8; WINDOW],
+pub(crate) struct Window {
+    bytes: [u8; WINDOW_SIZE],
     from: usize,
     to: usize,
 }
 
-impl Model for Incoming {
+impl Model for Window {
     ghost use Rattle.std.specs.Prelude.{ℕ, List, ◌≤◌, slice_range};
-    ghost use Rattle.ncp_player.specs.declared.incoming.TheConstants.{WINDOW};
+    ghost use Rattle.ncp_player.specs.declared.window.TheConstants.{WINDOW_SIZE};
 
     ghost Value = { List ℕ };
 
     ghost view = { λ window. slice_range window.bytes window.from window.to };
 
-    ghost invariant = { λ window. (window.from ≤ window.to) × (window.to ≤ WINDOW) };
+    ghost invariant = { λ window. (window.from ≤ window.to) × (window.to ≤ WINDOW_SIZE) };
 }
 
 // Moves the bytes from `from` to `to` to the front.
@@ -38,13 +38,13 @@ fn move_to_front(bytes: &mut [u8], from: usize, to: usize)
     bytes.copy_within(from..to, 0);
 }
 
-impl Incoming {
+impl Window {
     /// A window that no byte has come into.
     pub(crate) fn new() -> Self
         ensures { result ≡ [] }
     {
-        Incoming {
-            bytes: [0; WINDOW],
+        Window {
+            bytes: [0; WINDOW_SIZE],
             from: 0,
             to: 0,
         }
@@ -53,7 +53,7 @@ impl Incoming {
     /// The bytes that are not used up.
     pub(crate) fn unread(&self) -> &[u8]
         ensures bytes { result.now ≡ self.now }
-        ensures fits { length result.now ≤ WINDOW }
+        ensures fits { length result.now ≤ WINDOW_SIZE }
     {
         &self.bytes[self.from..self.to]
     }
@@ -68,7 +68,7 @@ impl Incoming {
 
     // Reads once behind what is there, and answers whether a byte came.
     fn refill<S: Source>(&mut self, source: &mut S) -> Result<bool, Failed>
-        requires { length self.old + LEAST_PIECE ≤ WINDOW }
+        requires { length self.old + LEAST_PIECE ≤ WINDOW_SIZE }
         ensures moved { Moves self.old (S.left source.old) self.new (S.left source.new) }
         ensures grows { (piece : List ℕ) × (self.new ≡ self.old ++ piece) }
         ensures more { IfOk result (λ more. more ≡ true → length self.old < length self.new) }
@@ -89,7 +89,7 @@ impl Incoming {
 
     /// Reads until the window has `count` bytes, and answers whether it has.
     pub(crate) fn need<S: Source>(&mut self, source: &mut S, count: usize) -> Result<bool, Failed>
-        requires { count + LEAST_PIECE ≤ WINDOW }
+        requires { count + LEAST_PIECE ≤ WINDOW_SIZE }
         ensures moved { Moves self.old (S.left source.old) self.new (S.left source.new) }
         ensures grows { (piece : List ℕ) × (self.new ≡ self.old ++ piece) }
         ensures there { IfOk result (λ there. there ≡ true → count ≤ length self.new) }

@@ -1,7 +1,7 @@
 use Rattle.std.proofs.Common.{◌≡◌, ◌++◌, ◌-◌, List, ℕ, take, subst, sym, ap, ◌∙◌, arith}
 use Rattle.ncp_player.specs.Streams.{Moves}
 use Rattle.ncp_player.proofs.Windows.{moves_read, refilled}
-use Rattle.ncp_player.proofs.incoming.Incoming.refill.Goals as goal
+use Rattle.ncp_player.proofs.window.Window.refill.Goals as goal
 
 pub returns-clause-moved : goal.returns-clause-moved
 returns-clause-moved g c =

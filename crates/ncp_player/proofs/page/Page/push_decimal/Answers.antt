@@ -1,7 +1,7 @@
 use Rattle.std.proofs.Common.{arith, ap, length}
 use Rattle.std.proofs.lemmas.List.{length-append}
 use Rattle.std.proofs.lemmas.Fmt.{length-decimal-le}
-use Rattle.ncp_player.proofs.outgoing.Outgoing.push_decimal.Goals as goal
+use Rattle.ncp_player.proofs.page.Page.push_decimal.Goals as goal
 
 pub push_digits-requires : goal.push_digits-requires
 push_digits-requires c = omega (arith, length-decimal-le 10 c.args.number (omega arith) (omega arith) (omega arith), ap length c.self.view_is)
