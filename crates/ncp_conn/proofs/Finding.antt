@@ -127,13 +127,13 @@ second_true : (a b : Bool) → (a && b) ≡ true → b ≡ true
 second_true true b h = h
 second_true false b h = absurd (cc)
 
-same_is : (a b : Pair) → same_pair a b ≡ true → a ≡ b
+pub same_is : (a b : Pair) → same_pair a b ≡ true → a ≡ b
 same_is a b h =
     let l : a.local ≡ b.local = eqb-true a.local b.local (first_true _ _ h) in
     let r : a.remote ≡ b.remote = eqb-true a.remote b.remote (second_true _ _ h) in
     λ i. record { local = l i; remote = r i }
 
-same_itself : (a : Pair) → same_pair a a ≡ true
+pub same_itself : (a : Pair) → same_pair a a ≡ true
 same_itself a = grind (arith, nat_tests)
 
 placed : (k : Pair) (slots : List (Option (Pair × End))) (n key : ℕ) → key_of (λ e. same_pair e.0 k) (entries_from n slots) ≡ Some key → (j : ℕ) × (key ≡ n + j) × ((e : End) × (get_or slots j None ≡ Some (k, e)))

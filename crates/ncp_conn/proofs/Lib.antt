@@ -3,5 +3,7 @@ pub mod Finding
 pub mod Counts
 pub mod Indexes
 pub mod Asking
+pub mod Cutting
 pub mod Tables
 pub mod Requests
+pub mod Same

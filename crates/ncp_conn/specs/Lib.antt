@@ -4,3 +4,5 @@ pub mod Changes
 pub mod Indexes
 pub mod Entries
 pub mod Asking
+pub mod Cutting
+pub mod Walking

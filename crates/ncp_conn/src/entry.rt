@@ -97,6 +97,13 @@ impl<S: BitStore> Entry<S> {
         }
     }
 
+    /// Its pair.
+    pub(crate) fn pair(&self) -> Pair
+        ensures { result ≡ self.now.0 }
+    {
+        self.pair
+    }
+
     /// Whether it is the entry of a pair.
     pub(crate) fn is_for(&self, pair: Pair) -> bool
         ensures { result ≡ same_pair self.now.0 pair }

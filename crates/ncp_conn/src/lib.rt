@@ -2,16 +2,47 @@
 //!
 //! A contract sees the connections as a map from pairs of sockets to ends. What happens to an end
 //! is an act of the model (`ncp_model`); the contracts cite the acts.
+//!
+//! A table makes and reads commands, and sends nothing: what a call answers is for its caller to
+//! queue. One connection, where `here` is the sender's table and `there` the receiver's:
+//!
+//! ```text
+//! let out = Pair { local: 3, remote: 2 };                // an odd socket sends
+//! let inward = Pair { local: 2, remote: 3 };             // an even one receives
+//!
+//! let str = here.ask_send(out, 8, 1024, false)?;         // bytes of 8 bits, room for 1,024 bits
+//! let rts = there.ask_receive(inward, 1024, false)?;     // on the lowest free link, 2
+//! there.hear(&str);                                      // Nothing: it is open there
+//! here.hear(&rts);                                       // Nothing: and here
+//!
+//! let all = there.allocate(inward, 1, 16, false)?;       // one message, sixteen bits
+//! here.hear(&all);                                       // Nothing: the counters rise
+//! here.give(out, &text)?;                                // two bytes wait
+//! let (size, bits) = here.cut(2)?;                       // they go out, and link 2 is busy
+//! there.text(2, size, bits.whole());                     // Admitted: they are held
+//! here.answered(2);                                      // None: the RFNM came, link 2 is not busy
+//! let (taken, none) = there.take(inward, 2)?;            // the text, and no command
+//!
+//! let cls = here.close(out, false)?;                     // Some(CLS): left here
+//! let reply = there.hear(&cls);                          // Reply(CLS): over there, and gone
+//! here.hear(&reply);                                     // Nothing: over here, and gone
+//! ```
 #![tactic(auto)]
 
 mod entries;
 mod entry;
+pub mod equality;
 mod link_index;
+mod pairs;
 mod record;
 mod table;
 #[cfg(test)]
 mod tests;
 
-pub use ncp_model::{CallFault, Heard, Pair, Took};
+pub use ncp_model::{
+    CallFault, FIRST_LINK, Heard, LAST_LINK, MAX_AMOUNT, MAX_BY_PEER, MAX_MESSAGES, MAX_OWN,
+    MAX_ROOM, MAX_TEXT, Pair, Took,
+};
+pub use pairs::Pairs;
 pub use record::{End, Record};
 pub use table::Table;

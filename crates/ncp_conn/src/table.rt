@@ -5,12 +5,14 @@ ghost use Rattle.ncp_model.specs.Act.{answer};
 ghost use Rattle.ncp_model.specs.Calls.{close};
 ghost use Rattle.ncp_model.specs.Ends.{count, has_asked, is_by_peer, hears_link, uses_link, map_after, no_ends};
 ghost use Rattle.ncp_conn.specs.Records.{record_in};
+ghost use Rattle.ncp_conn.specs.Walking.{AreItsPairs};
 
 mod asking;
 mod hearing;
 mod texts;
 
 use crate::entries::Entries;
+use crate::pairs::Pairs;
 use crate::record::Record;
 use ncp_bits::BitStore;
 use ncp_control::Command;
@@ -19,6 +21,10 @@ use std::alloc::{AllocError, Global};
 use std::marker::Model;
 
 /// The connections with one peer.
+///
+/// The argument `full` of a call says that the commands that wait leave no place for a call's: the
+/// call then answers `QueueFull`, where nothing else refuses it before. An end is over where its CLS
+/// was made and the peer's came: it is then out of the table, with what it stored.
 #[derive(Drop)]
 pub struct Table<S: BitStore> {
     alloc: Global,
@@ -73,6 +79,15 @@ impl<S: BitStore> Table<S> {
         let _entries = &self.entries;
     }
 
+    /// The pairs of all connections, each once. In which order they come is not told.
+    pub fn pairs(&self) -> Pairs<'_, S>
+        ensures { AreItsPairs result self.now }
+    {
+        Pairs {
+            entries: self.entries.slab.iter(),
+        }
+    }
+
     /// A copy of what is known of a connection.
     pub fn record(&self, pair: Pair) -> Option<Record>
         ensures { result ≡ record_in pair self.now }
@@ -83,11 +98,12 @@ impl<S: BitStore> Table<S> {
         Some(self.entries.slab[key].record())
     }
 
-    /// Closes this side of a connection. The command, if any, is to be queued: while a text is out
-    /// the CLS is only due. `full` says that the commands that wait leave no place for a call's.
+    /// Closes this side of a connection. What is stored is dropped. `Some` is the CLS, which is to
+    /// be queued: the end is then left, or out of the table where the peer's CLS had come. `None` is
+    /// answered at a sender whose text is out: its CLS is only due, and [`Table::answered`] makes it.
     ///
     /// Refused, in this order: `NoEntry`, `Closing` (left, or leaving at a sending end),
-    /// `QueueFull` (also where no command would be queued).
+    /// `QueueFull` (`full`, also where no command would be queued).
     pub fn close(&mut self, pair: Pair, full: bool) -> Result<Option<Command>, CallFault>
         ensures answer { result ≡ answer (close pair full (get self.old pair)) }
         ensures table { self.new ≡ map_after self.old pair (close pair full (get self.old pair)) }

@@ -1,12 +1,14 @@
 //! What no clause says: that the definitions mean what the worked examples mean, and that memory is
-//! asked for where it is needed.
+//! asked for where it is needed. Each test runs over either store (`stores`).
 mod allocation;
 mod closing;
+mod connection;
 mod requests;
+mod stores;
 mod texts;
 
 use crate::{CallFault, Heard, Pair, Record, Table};
-use ncp_bits::{Bits, PlainStore};
+use ncp_bits::{BitStore, Bits};
 use ncp_control::{Command, ERROR_DATA};
 use std::alloc::Global;
 use std::process::Abort;
@@ -30,7 +32,7 @@ fn pair(local: u32, remote: u32) -> Pair {
     Pair { local, remote }
 }
 
-fn new_table(alloc: Global) -> Result<Table<PlainStore>, Fail> {
+fn new_table<S: BitStore>(alloc: Global) -> Result<Table<S>, Fail> {
     Ok(Table::new(alloc)?)
 }
 
@@ -74,7 +76,7 @@ fn cls_of(pair: Pair) -> Command {
 }
 
 /// A table with one open sender, on link 2.
-fn sender(alloc: Global, size: u8, room: u32) -> Result<Table<PlainStore>, Fail> {
+fn sender<S: BitStore>(alloc: Global, size: u8, room: u32) -> Result<Table<S>, Fail> {
     let mut table = new_table(alloc)?;
     table.ask_send(OUTWARD, size, room, false)?;
     let _ = table.hear(&rts_for(OUTWARD, 2));
@@ -82,7 +84,7 @@ fn sender(alloc: Global, size: u8, room: u32) -> Result<Table<PlainStore>, Fail>
 }
 
 /// A table with one open receiver, on link 2.
-fn receiver(alloc: Global, size: u8, room: u32) -> Result<Table<PlainStore>, Fail> {
+fn receiver<S: BitStore>(alloc: Global, size: u8, room: u32) -> Result<Table<S>, Fail> {
     let mut table = new_table(alloc)?;
     table.ask_receive(INWARD, room, false)?;
     let _ = table.hear(&str_for(INWARD, size));
@@ -110,7 +112,7 @@ fn are_same(a: &Bits, b: &Bits) -> bool {
     true
 }
 
-fn known(rt: &impl Abort, table: &Table<PlainStore>, pair: Pair) -> Record {
+fn known<S: BitStore>(rt: &impl Abort, table: &Table<S>, pair: Pair) -> Record {
     table.record(pair).expect(rt, "a connection")
 }
 

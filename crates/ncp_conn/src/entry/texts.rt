@@ -117,8 +117,8 @@ impl<S: BitStore> Entry<S> {
         waiting.min(allowed.min(most))
     }
 
-    // Whether a text may go out now.
-    fn may_send(&self) -> bool
+    /// Whether a text may go out now.
+    pub(crate) fn may_send(&self) -> bool
         ensures { result ≡ may_send self.now.0 self.now.1 }
     {
         self.pair.sends()

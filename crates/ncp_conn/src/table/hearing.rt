@@ -214,9 +214,14 @@ impl<S: BitStore> Table<S> {
     /// A command came while the host is up with the peer. Commands that are not of connections
     /// (NOP, ECO, ERP, ERR, RST, RRP) do nothing here.
     ///
-    /// A wrong request, and a CLS, ALL or RET of wrong numbers, is answered by ERR 3, a CLS for no
-    /// connection by ERR 4, a command on a link that is not connected by ERR 5. `Full` says that
-    /// `MAX_BY_PEER` connections are there by the peer's request alone.
+    /// - `Nothing`: it was acted upon, and nothing is to be queued.
+    /// - `Reply`: a command that is to be queued. Where it is an ERR, nothing changed: ERR 3 for a
+    ///   wrong request and for a CLS, ALL or RET of wrong numbers, ERR 4 for a CLS of no connection,
+    ///   ERR 5 for a command on a link that is not connected. A GVB is answered by a RET, and a CLS
+    ///   at an end that was not closing by a CLS: the end is then over, and out of the table.
+    /// - `Late`: an ALL, GVB, RET, INR or INS at an end that is leaving or left; nothing changed.
+    /// - `Full`: a request that would make an end, while [`MAX_BY_PEER`] are there by the peer's
+    ///   request alone; nothing changed.
     pub fn hear(&mut self, command: &Command) -> Heard
         ensures answer { result ≡ answer (hear command.now self.old) }
         ensures table { self.new ≡ map_after_at self.old (leads_to command.now self.old) (hear command.now self.old) }

@@ -5,11 +5,12 @@ ghost use Rattle.ncp_model.specs.Act.{answer};
 ghost use Rattle.ncp_model.specs.Calls.{give, take_held, allocate, call_back, interrupt};
 ghost use Rattle.ncp_model.specs.Texts.{Rfnm};
 ghost use Rattle.ncp_model.specs.Ends.{sender_on, receiver_on, pair_of, text_in, cut_in, answered_in, map_after, map_after_at};
+ghost use Rattle.ncp_conn.specs.Cutting.{may_cut, next_cut};
 
 use crate::table::Table;
 use ncp_bits::{BitStore, Bits, Part};
 use ncp_control::Command;
-use ncp_model::{CallFault, Pair, Took};
+use ncp_model::{CallFault, LAST_LINK, Pair, Took};
 
 impl<S: BitStore> Table<S> {
     /// Gives text to send: it joins the bits that wait, at their end.
@@ -110,7 +111,13 @@ impl<S: BitStore> Table<S> {
         answer
     }
 
-    /// A text came on a data link, while the host is up with the peer.
+    /// A text came on a data link, in bytes of so many bits, while the host is up with the peer.
+    ///
+    /// `Late` where the receiver that asked with the link is leaving or left; `NotOpen` where none
+    /// did, or it never opened; `WrongSize` where the size is not the sender's; `Over` where no
+    /// message is outstanding, or fewer bits than came: in these cases, which are told in this order,
+    /// nothing changes and the text is dropped. `Admitted`: it is held behind what is held, and one
+    /// message and its bits are no longer outstanding.
     pub fn text(&mut self, link: u8, size: u8, text: Part<'_>) -> Took
         ensures answer { result ≡ answer (text_in link size text.entry self.old) }
         ensures table { self.new ≡ map_after_at self.old (pair_of (receiver_on link self.old)) (text_in link size text.entry self.old) }
@@ -123,8 +130,13 @@ impl<S: BitStore> Table<S> {
         answer
     }
 
-    /// The byte size and the text that goes out next on a link, if any: as many whole bytes as
-    /// wait, as the counter of bits admits, and as fit one message.
+    /// The byte size and the text that goes out next on a link: as many whole bytes as wait, as the
+    /// counter of bits admits, and as fit one message ([`MAX_TEXT`](ncp_model::MAX_TEXT) bits). They
+    /// are no longer stored, the counters fall by one message and these bits, and the end is busy:
+    /// nothing more goes out on its link until [`Table::answered`].
+    ///
+    /// `None`, and nothing changes, where no sender heard the link, or the one that did is not open
+    /// or busy, or not one whole byte waits that the counters admit.
     pub fn cut(&mut self, link: u8) -> Option<(u8, Bits)>
         ensures answer { result ≡ answer (cut_in link self.old) }
         ensures table { self.new ≡ map_after_at self.old (pair_of (sender_on link self.old)) (cut_in link self.old) }
@@ -137,8 +149,33 @@ impl<S: BitStore> Table<S> {
         answer
     }
 
-    /// The text that went out on a link was taken (RFNM). A leaving sender makes its CLS, which is
-    /// to be queued.
+    // Whether a text may be cut on a link.
+    fn may_cut(&self, link: u8) -> bool
+        ensures { result ≡ may_cut self.now link }
+    {
+        match self.entries.senders.key(link) {
+            Some(key) => self.entries.slab[key].may_send(),
+            None => false,
+        }
+    }
+
+    /// The lowest link from `from` on, up to the last, on which [`Table::cut`] would answer a text.
+    /// No entry is passed over: it looks at no more than the links.
+    pub fn next_cut(&self, from: u8) -> Option<u8>
+        ensures { result ≡ next_cut from self.now }
+    {
+        if from > LAST_LINK {
+            return None;
+        }
+        if self.may_cut(from) {
+            return Some(from);
+        }
+        self.next_cut(from + 1)
+    }
+
+    /// The text that went out on a link was taken (RFNM): the end is not busy any more. `Some` is
+    /// the CLS that a leaving sender makes then, which is to be queued; the end is left, or out of
+    /// the table where the peer's CLS had come.
     pub fn answered(&mut self, link: u8) -> Option<Command>
         ensures answer { result ≡ answer (answered_in link Rfnm self.old) }
         ensures table { self.new ≡ map_after_at self.old (pair_of (sender_on link self.old)) (answered_in link Rfnm self.old) }

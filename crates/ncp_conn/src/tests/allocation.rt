@@ -1,13 +1,15 @@
 //! Allocation.
 use super::{INWARD, OUTWARD, ROOM, err, known, new_table, receiver, refusal, sender, text};
 use crate::{CallFault, Heard, Took};
+use ncp_bits::BitStore;
 use ncp_control::Command;
 use ncp_model::{MAX_AMOUNT, MAX_MESSAGES};
+use std::alloc::Global;
+use std::process::Abort;
 use std::test::Fail;
 
-#[test]
-fn gives_parts_back(rt: HostRuntime) -> Result<(), Fail> {
-    let mut table = sender(rt.alloc(), 8, ROOM)?;
+pub(super) fn gives_parts_back<S: BitStore>(rt: &impl Abort, alloc: Global) -> Result<(), Fail> {
+    let mut table = sender::<S>(alloc, 8, ROOM)?;
     assert!(rt;
         table.hear(&Command::All {
             link: 2,
@@ -27,7 +29,7 @@ fn gives_parts_back(rt: HostRuntime) -> Result<(), Fail> {
             fb: 1
         }) == Heard::Reply(first)
     );
-    let left = known(&rt, &table, OUTWARD);
+    let left = known(rt, &table, OUTWARD);
     assert!(rt; left.messages == 2 && left.bits == 992);
     let second = Command::Ret {
         link: 2,
@@ -41,14 +43,16 @@ fn gives_parts_back(rt: HostRuntime) -> Result<(), Fail> {
             fb: 0
         }) == Heard::Reply(second)
     );
-    let left = known(&rt, &table, OUTWARD);
+    let left = known(rt, &table, OUTWARD);
     assert!(rt; left.messages == 0 && left.bits == 992);
     Ok(())
 }
 
 // How much of a counter of bits is given back, and how much of one of messages.
-#[test]
-fn rounds_up_what_is_given_back(rt: HostRuntime) -> Result<(), Fail> {
+pub(super) fn rounds_up_what_is_given_back<S: BitStore>(
+    rt: &impl Abort,
+    alloc: Global,
+) -> Result<(), Fail> {
     for (counter, fraction, back) in [
         (1000, 0, 0),
         (1000, 1, 8),
@@ -57,7 +61,7 @@ fn rounds_up_what_is_given_back(rt: HostRuntime) -> Result<(), Fail> {
         (MAX_AMOUNT, 1, 33_554_432),
         (MAX_AMOUNT, 255, MAX_AMOUNT),
     ] {
-        let mut table = sender(rt.alloc(), 8, ROOM)?;
+        let mut table = sender::<S>(alloc, 8, ROOM)?;
         assert!(rt;
             table.hear(&Command::All {
                 link: 2,
@@ -78,7 +82,7 @@ fn rounds_up_what_is_given_back(rt: HostRuntime) -> Result<(), Fail> {
         assert!(rt; table.hear(&gvb) == Heard::Reply(reply));
     }
     for (counter, fraction, back) in [(1000, 1, 8), (5, 255, 5), (MAX_MESSAGES, 64, 32_768)] {
-        let mut table = sender(rt.alloc(), 8, ROOM)?;
+        let mut table = sender::<S>(alloc, 8, ROOM)?;
         assert!(rt;
             table.hear(&Command::All {
                 link: 2,
@@ -102,9 +106,11 @@ fn rounds_up_what_is_given_back(rt: HostRuntime) -> Result<(), Fail> {
 }
 
 // Counters go up to their limits, and where one would pass it neither rises.
-#[test]
-fn keeps_counters_within_limits(rt: HostRuntime) -> Result<(), Fail> {
-    let mut table = sender(rt.alloc(), 8, ROOM)?;
+pub(super) fn keeps_counters_within_limits<S: BitStore>(
+    rt: &impl Abort,
+    alloc: Global,
+) -> Result<(), Fail> {
+    let mut table = sender::<S>(alloc, 8, ROOM)?;
     let most = Command::All {
         link: 2,
         messages: MAX_MESSAGES,
@@ -132,27 +138,31 @@ fn keeps_counters_within_limits(rt: HostRuntime) -> Result<(), Fail> {
             bits: 1
         }) == Heard::Nothing
     );
-    let full = known(&rt, &table, OUTWARD);
+    let full = known(rt, &table, OUTWARD);
     assert!(rt; full.messages == MAX_MESSAGES && full.bits == MAX_AMOUNT);
     Ok(())
 }
 
-#[test]
-fn allocates_at_open_receivers_only(rt: HostRuntime) -> Result<(), Fail> {
-    let mut table = new_table(rt.alloc())?;
+pub(super) fn allocates_at_open_receivers_only<S: BitStore>(
+    rt: &impl Abort,
+    alloc: Global,
+) -> Result<(), Fail> {
+    let mut table = new_table::<S>(alloc)?;
     assert!(rt; refusal(table.allocate(INWARD, 1, 1, true)) == Some(CallFault::NoEntry));
     table.ask_receive(INWARD, ROOM, false)?;
     assert!(rt; refusal(table.allocate(INWARD, 1, ROOM + 1, true)) == Some(CallFault::NotOpen));
     table.close(INWARD, false)?;
     assert!(rt; refusal(table.allocate(INWARD, 1, ROOM + 1, true)) == Some(CallFault::Closing));
-    let mut table = sender(rt.alloc(), 8, ROOM)?;
+    let mut table = sender::<S>(alloc, 8, ROOM)?;
     assert!(rt; refusal(table.allocate(OUTWARD, 1, ROOM + 1, true)) == Some(CallFault::WrongEnd));
     Ok(())
 }
 
-#[test]
-fn allocates_no_more_than_fits(rt: HostRuntime) -> Result<(), Fail> {
-    let mut table = receiver(rt.alloc(), 8, ROOM)?;
+pub(super) fn allocates_no_more_than_fits<S: BitStore>(
+    rt: &impl Abort,
+    alloc: Global,
+) -> Result<(), Fail> {
+    let mut table = receiver::<S>(alloc, 8, ROOM)?;
     assert!(rt; refusal(table.allocate(INWARD, 1, ROOM + 1, true)) == Some(CallFault::TooMuch));
     assert!(rt; refusal(table.allocate(INWARD, 1, ROOM, true)) == Some(CallFault::QueueFull));
     let all = table.allocate(INWARD, MAX_MESSAGES, ROOM, false)?;
@@ -168,36 +178,39 @@ fn allocates_no_more_than_fits(rt: HostRuntime) -> Result<(), Fail> {
 }
 
 // What is held takes room too.
-#[test]
-fn counts_held_bits(rt: HostRuntime) -> Result<(), Fail> {
-    let mut table = receiver(rt.alloc(), 8, 16)?;
+pub(super) fn counts_held_bits<S: BitStore>(rt: &impl Abort, alloc: Global) -> Result<(), Fail> {
+    let mut table = receiver::<S>(alloc, 8, 16)?;
     table.allocate(INWARD, 2, 16, false)?;
     assert!(rt; table.text(2, 8, text(8)?.whole()) == Took::Admitted);
     assert!(rt; refusal(table.allocate(INWARD, 1, 8, false)) == Some(CallFault::TooMuch));
     let (taken, _) = table.take(INWARD, 1)?;
     assert!(rt; taken.len() == 8);
     table.allocate(INWARD, 1, 8, false)?;
-    let outstanding = known(&rt, &table, INWARD);
+    let outstanding = known(rt, &table, INWARD);
     assert!(rt; outstanding.messages == 2 && outstanding.bits == 16);
     Ok(())
 }
 
-#[test]
-fn calls_back_at_open_receivers_only(rt: HostRuntime) -> Result<(), Fail> {
-    let mut table = new_table(rt.alloc())?;
+pub(super) fn calls_back_at_open_receivers_only<S: BitStore>(
+    rt: &impl Abort,
+    alloc: Global,
+) -> Result<(), Fail> {
+    let mut table = new_table::<S>(alloc)?;
     assert!(rt; refusal(table.call_back(INWARD, 1, 1, true)) == Some(CallFault::NoEntry));
     table.ask_receive(INWARD, ROOM, false)?;
     assert!(rt; refusal(table.call_back(INWARD, 1, 1, true)) == Some(CallFault::NotOpen));
     table.close(INWARD, false)?;
     assert!(rt; refusal(table.call_back(INWARD, 1, 1, true)) == Some(CallFault::Closing));
-    let mut table = sender(rt.alloc(), 8, ROOM)?;
+    let mut table = sender::<S>(alloc, 8, ROOM)?;
     assert!(rt; refusal(table.call_back(OUTWARD, 1, 1, true)) == Some(CallFault::WrongEnd));
     Ok(())
 }
 
-#[test]
-fn calls_back_once_at_a_time(rt: HostRuntime) -> Result<(), Fail> {
-    let mut table = receiver(rt.alloc(), 8, ROOM)?;
+pub(super) fn calls_back_once_at_a_time<S: BitStore>(
+    rt: &impl Abort,
+    alloc: Global,
+) -> Result<(), Fail> {
+    let mut table = receiver::<S>(alloc, 8, ROOM)?;
     assert!(rt; refusal(table.call_back(INWARD, 64, 1, true)) == Some(CallFault::QueueFull));
     let gvb = table.call_back(INWARD, 64, 1, false)?;
     assert!(rt;
@@ -220,9 +233,11 @@ fn calls_back_once_at_a_time(rt: HostRuntime) -> Result<(), Fail> {
 }
 
 // A RET of more than is outstanding answers nothing, and one that comes late neither.
-#[test]
-fn takes_back_what_is_outstanding(rt: HostRuntime) -> Result<(), Fail> {
-    let mut table = receiver(rt.alloc(), 8, ROOM)?;
+pub(super) fn takes_back_what_is_outstanding<S: BitStore>(
+    rt: &impl Abort,
+    alloc: Global,
+) -> Result<(), Fail> {
+    let mut table = receiver::<S>(alloc, 8, ROOM)?;
     table.allocate(INWARD, 5, 1000, false)?;
     table.call_back(INWARD, 64, 1, false)?;
     let too_much = Command::Ret {
@@ -231,7 +246,7 @@ fn takes_back_what_is_outstanding(rt: HostRuntime) -> Result<(), Fail> {
         bits: 0,
     };
     assert!(rt; table.hear(&too_much) == err(3, &[6, 2, 0, 6, 0, 0, 0, 0]));
-    assert!(rt; known(&rt, &table, INWARD).recall);
+    assert!(rt; known(rt, &table, INWARD).recall);
     assert!(rt;
         table.hear(&Command::Ret {
             link: 2,
@@ -239,7 +254,7 @@ fn takes_back_what_is_outstanding(rt: HostRuntime) -> Result<(), Fail> {
             bits: 8
         }) == Heard::Nothing
     );
-    let outstanding = known(&rt, &table, INWARD);
+    let outstanding = known(rt, &table, INWARD);
     assert!(rt; outstanding.messages == 2 && outstanding.bits == 992 && !outstanding.recall);
     table.close(INWARD, false)?;
     assert!(rt;
@@ -253,9 +268,11 @@ fn takes_back_what_is_outstanding(rt: HostRuntime) -> Result<(), Fail> {
 }
 
 // Where a link leads nowhere, or to a connection that is not open.
-#[test]
-fn answers_on_links_not_connected(rt: HostRuntime) -> Result<(), Fail> {
-    let mut table = new_table(rt.alloc())?;
+pub(super) fn answers_on_links_not_connected<S: BitStore>(
+    rt: &impl Abort,
+    alloc: Global,
+) -> Result<(), Fail> {
+    let mut table = new_table::<S>(alloc)?;
     table.ask_receive(INWARD, ROOM, false)?;
     let commands = [
         (

@@ -4,12 +4,14 @@ use super::{
     rts_for, sender, str_for, text,
 };
 use crate::{CallFault, Heard, Took};
+use ncp_bits::BitStore;
 use ncp_control::Command;
+use std::alloc::Global;
+use std::process::Abort;
 use std::test::Fail;
 
-#[test]
-fn refuses_to_close(rt: HostRuntime) -> Result<(), Fail> {
-    let mut table = sender(rt.alloc(), 8, ROOM)?;
+pub(super) fn refuses_to_close<S: BitStore>(rt: &impl Abort, alloc: Global) -> Result<(), Fail> {
+    let mut table = sender::<S>(alloc, 8, ROOM)?;
     assert!(rt; refusal(table.close(INWARD, true)) == Some(CallFault::NoEntry));
     assert!(rt; refusal(table.close(OUTWARD, true)) == Some(CallFault::QueueFull));
     assert!(rt; table.close(OUTWARD, false)? == Some(cls_of(OUTWARD)));
@@ -18,11 +20,13 @@ fn refuses_to_close(rt: HostRuntime) -> Result<(), Fail> {
 }
 
 // A CLS is matched by one from the other side: in either order the connection ends.
-#[test]
-fn ends_when_both_have_closed(rt: HostRuntime) -> Result<(), Fail> {
-    let mut table = receiver(rt.alloc(), 8, ROOM)?;
+pub(super) fn ends_when_both_have_closed<S: BitStore>(
+    rt: &impl Abort,
+    alloc: Global,
+) -> Result<(), Fail> {
+    let mut table = receiver::<S>(alloc, 8, ROOM)?;
     assert!(rt; table.close(INWARD, false)? == Some(cls_of(INWARD)));
-    let left = known(&rt, &table, INWARD);
+    let left = known(rt, &table, INWARD);
     assert!(rt; left.left && left.opened && !left.leaving && !left.cls);
     assert!(rt; table.hear(&cls_for(INWARD)) == Heard::Nothing);
     assert!(rt; table.record(INWARD).is_none());
@@ -30,29 +34,32 @@ fn ends_when_both_have_closed(rt: HostRuntime) -> Result<(), Fail> {
     Ok(())
 }
 
-#[test]
-fn answers_cls_by_cls(rt: HostRuntime) -> Result<(), Fail> {
-    let mut table = sender(rt.alloc(), 8, ROOM)?;
+pub(super) fn answers_cls_by_cls<S: BitStore>(rt: &impl Abort, alloc: Global) -> Result<(), Fail> {
+    let mut table = sender::<S>(alloc, 8, ROOM)?;
     assert!(rt; table.hear(&cls_for(OUTWARD)) == Heard::Reply(cls_of(OUTWARD)));
     assert!(rt; table.record(OUTWARD).is_none());
     Ok(())
 }
 
 // A request that comes on a connection that is left is noted, and opens nothing.
-#[test]
-fn opens_nothing_that_is_left(rt: HostRuntime) -> Result<(), Fail> {
-    let mut table = new_table(rt.alloc())?;
+pub(super) fn opens_nothing_that_is_left<S: BitStore>(
+    rt: &impl Abort,
+    alloc: Global,
+) -> Result<(), Fail> {
+    let mut table = new_table::<S>(alloc)?;
     table.ask_send(OUTWARD, 8, ROOM, false)?;
     assert!(rt; table.close(OUTWARD, false)? == Some(cls_of(OUTWARD)));
     assert!(rt; table.hear(&rts_for(OUTWARD, 2)) == Heard::Nothing);
-    let left = known(&rt, &table, OUTWARD);
+    let left = known(rt, &table, OUTWARD);
     assert!(rt; left.heard && left.link == 2 && left.left && !left.opened);
     Ok(())
 }
 
-#[test]
-fn keeps_a_heard_link_until_the_end(rt: HostRuntime) -> Result<(), Fail> {
-    let mut table = sender(rt.alloc(), 8, ROOM)?;
+pub(super) fn keeps_a_heard_link_until_the_end<S: BitStore>(
+    rt: &impl Abort,
+    alloc: Global,
+) -> Result<(), Fail> {
+    let mut table = sender::<S>(alloc, 8, ROOM)?;
     table.close(OUTWARD, false)?;
     // Commands on its link come late, and the link stays taken.
     assert!(rt;
@@ -70,9 +77,11 @@ fn keeps_a_heard_link_until_the_end(rt: HostRuntime) -> Result<(), Fail> {
 }
 
 // A receiver's link is free once the connection has ended, not before.
-#[test]
-fn keeps_a_link_until_the_end(rt: HostRuntime) -> Result<(), Fail> {
-    let mut table = receiver(rt.alloc(), 8, ROOM)?;
+pub(super) fn keeps_a_link_until_the_end<S: BitStore>(
+    rt: &impl Abort,
+    alloc: Global,
+) -> Result<(), Fail> {
+    let mut table = receiver::<S>(alloc, 8, ROOM)?;
     table.close(INWARD, false)?;
     let next = table.ask_receive(pair(4, 5), ROOM, false)?;
     assert!(rt;
@@ -95,9 +104,11 @@ fn keeps_a_link_until_the_end(rt: HostRuntime) -> Result<(), Fail> {
 }
 
 // While a text is out the sender's CLS is only due.
-#[test]
-fn closes_behind_a_text(rt: HostRuntime) -> Result<(), Fail> {
-    let mut table = sender(rt.alloc(), 8, ROOM)?;
+pub(super) fn closes_behind_a_text<S: BitStore>(
+    rt: &impl Abort,
+    alloc: Global,
+) -> Result<(), Fail> {
+    let mut table = sender::<S>(alloc, 8, ROOM)?;
     assert!(rt;
         table.hear(&Command::All {
             link: 2,
@@ -109,21 +120,23 @@ fn closes_behind_a_text(rt: HostRuntime) -> Result<(), Fail> {
     assert!(rt; table.cut(2).is_some());
     assert!(rt; refusal(table.close(OUTWARD, true)) == Some(CallFault::QueueFull));
     assert!(rt; table.close(OUTWARD, false)?.is_none());
-    let leaving = known(&rt, &table, OUTWARD);
+    let leaving = known(rt, &table, OUTWARD);
     assert!(rt; leaving.leaving && leaving.busy && !leaving.left && leaving.stored == 0);
     assert!(rt; refusal(table.close(OUTWARD, false)) == Some(CallFault::Closing));
     assert!(rt; table.cut(2).is_none());
     assert!(rt; table.answered(2) == Some(cls_of(OUTWARD)));
-    let left = known(&rt, &table, OUTWARD);
+    let left = known(rt, &table, OUTWARD);
     assert!(rt; left.left && !left.leaving && !left.busy);
     assert!(rt; table.answered(2).is_none());
     Ok(())
 }
 
 // The peer's CLS comes while a text is out: the own one follows the RFNM, and ends it.
-#[test]
-fn answers_cls_behind_a_text(rt: HostRuntime) -> Result<(), Fail> {
-    let mut table = sender(rt.alloc(), 8, ROOM)?;
+pub(super) fn answers_cls_behind_a_text<S: BitStore>(
+    rt: &impl Abort,
+    alloc: Global,
+) -> Result<(), Fail> {
+    let mut table = sender::<S>(alloc, 8, ROOM)?;
     assert!(rt;
         table.hear(&Command::All {
             link: 2,
@@ -134,7 +147,7 @@ fn answers_cls_behind_a_text(rt: HostRuntime) -> Result<(), Fail> {
     table.give(OUTWARD, &text(24)?)?;
     assert!(rt; table.cut(2).is_some());
     assert!(rt; table.hear(&cls_for(OUTWARD)) == Heard::Nothing);
-    let leaving = known(&rt, &table, OUTWARD);
+    let leaving = known(rt, &table, OUTWARD);
     assert!(rt; leaving.leaving && leaving.cls && leaving.stored == 0);
     assert!(rt; table.hear(&cls_for(OUTWARD)) == err(3, &[3, 0, 0, 0, 2, 0, 0, 0, 3]));
     assert!(rt; table.answered(2) == Some(cls_of(OUTWARD)));
@@ -143,13 +156,15 @@ fn answers_cls_behind_a_text(rt: HostRuntime) -> Result<(), Fail> {
 }
 
 // A receiver that holds bits takes them first: six bytes, by four at a time.
-#[test]
-fn closes_behind_held_bits(rt: HostRuntime) -> Result<(), Fail> {
-    let mut table = receiver(rt.alloc(), 8, ROOM)?;
+pub(super) fn closes_behind_held_bits<S: BitStore>(
+    rt: &impl Abort,
+    alloc: Global,
+) -> Result<(), Fail> {
+    let mut table = receiver::<S>(alloc, 8, ROOM)?;
     table.allocate(INWARD, 1, 48, false)?;
     assert!(rt; table.text(2, 8, text(48)?.whole()) == Took::Admitted);
     assert!(rt; table.hear(&cls_for(INWARD)) == Heard::Nothing);
-    assert!(rt; known(&rt, &table, INWARD).leaving);
+    assert!(rt; known(rt, &table, INWARD).leaving);
     let (first, command) = table.take(INWARD, 4)?;
     assert!(rt; first.len() == 32 && command.is_none());
     let (second, command) = table.take(INWARD, 4)?;
@@ -159,9 +174,8 @@ fn closes_behind_held_bits(rt: HostRuntime) -> Result<(), Fail> {
 }
 
 // A user who closes a leaving receiver drops what it holds.
-#[test]
-fn drops_held_bits(rt: HostRuntime) -> Result<(), Fail> {
-    let mut table = receiver(rt.alloc(), 8, ROOM)?;
+pub(super) fn drops_held_bits<S: BitStore>(rt: &impl Abort, alloc: Global) -> Result<(), Fail> {
+    let mut table = receiver::<S>(alloc, 8, ROOM)?;
     table.allocate(INWARD, 1, 48, false)?;
     assert!(rt; table.text(2, 8, text(48)?.whole()) == Took::Admitted);
     assert!(rt; table.hear(&cls_for(INWARD)) == Heard::Nothing);
@@ -170,9 +184,8 @@ fn drops_held_bits(rt: HostRuntime) -> Result<(), Fail> {
     Ok(())
 }
 
-#[test]
-fn purges_all(rt: HostRuntime) -> Result<(), Fail> {
-    let mut table = sender(rt.alloc(), 8, ROOM)?;
+pub(super) fn purges_all<S: BitStore>(rt: &impl Abort, alloc: Global) -> Result<(), Fail> {
+    let mut table = sender::<S>(alloc, 8, ROOM)?;
     table.ask_receive(INWARD, ROOM, false)?;
     assert!(rt; table.hear(&str_for(pair(4, 5), 8)) == Heard::Nothing);
     table.purge();

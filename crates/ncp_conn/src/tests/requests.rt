@@ -3,16 +3,19 @@ use super::{
     INWARD, OUTWARD, ROOM, cls_for, err, known, new_table, pair, refusal, rts_for, str_for,
 };
 use crate::{CallFault, End, Heard, Pair, Table};
-use ncp_bits::PlainStore;
+use ncp_bits::BitStore;
 use ncp_control::Command;
 use ncp_model::{FIRST_LINK, LAST_LINK, MAX_BY_PEER, MAX_OWN, MAX_ROOM};
+use std::alloc::Global;
 use std::process::Abort;
 use std::test::Fail;
 
 // The receiver takes the lowest links; requests meet; wrong ones are refused; a CLS frees a link.
-#[test]
-fn asks_meets_and_closes(rt: HostRuntime) -> Result<(), Fail> {
-    let mut table = new_table(rt.alloc())?;
+pub(super) fn asks_meets_and_closes<S: BitStore>(
+    rt: &impl Abort,
+    alloc: Global,
+) -> Result<(), Fail> {
+    let mut table = new_table::<S>(alloc)?;
     let first = table.ask_receive(INWARD, ROOM, false)?;
     assert!(rt;
         first
@@ -32,7 +35,7 @@ fn asks_meets_and_closes(rt: HostRuntime) -> Result<(), Fail> {
             }
     );
     assert!(rt; table.hear(&str_for(INWARD, 8)) == Heard::Nothing);
-    assert!(rt; known(&rt, &table, INWARD).opened);
+    assert!(rt; known(rt, &table, INWARD).opened);
     assert!(rt; table.hear(&str_for(INWARD, 8)) == err(3, &[2, 0, 0, 0, 3, 0, 0, 0, 2, 8]));
     let behind = Command::Rts {
         receive: 8,
@@ -60,29 +63,33 @@ fn asks_meets_and_closes(rt: HostRuntime) -> Result<(), Fail> {
     Ok(())
 }
 
-#[test]
-fn copies_what_is_known(rt: HostRuntime) -> Result<(), Fail> {
-    let mut table = new_table(rt.alloc())?;
+pub(super) fn copies_what_is_known<S: BitStore>(
+    rt: &impl Abort,
+    alloc: Global,
+) -> Result<(), Fail> {
+    let mut table = new_table::<S>(alloc)?;
     assert!(rt; table.record(OUTWARD).is_none());
     table.ask_send(OUTWARD, 36, ROOM, false)?;
-    let asked = known(&rt, &table, OUTWARD);
+    let asked = known(rt, &table, OUTWARD);
     assert!(rt; asked.end == End::Send && asked.asked && !asked.heard && !asked.opened);
     assert!(rt; asked.size == 36 && asked.link == 0);
     assert!(rt; table.hear(&rts_for(OUTWARD, LAST_LINK)) == Heard::Nothing);
-    let opened = known(&rt, &table, OUTWARD);
+    let opened = known(rt, &table, OUTWARD);
     assert!(rt; opened.heard && opened.opened && opened.link == LAST_LINK);
     assert!(rt; !opened.leaving && !opened.left && !opened.cls && !opened.busy && !opened.recall);
     assert!(rt; opened.messages == 0 && opened.bits == 0 && opened.stored == 0);
     assert!(rt; table.hear(&str_for(INWARD, 255)) == Heard::Nothing);
-    let heard = known(&rt, &table, INWARD);
+    let heard = known(rt, &table, INWARD);
     assert!(rt; heard.end == End::Receive && !heard.asked && heard.heard && heard.size == 255);
     Ok(())
 }
 
 // Each refusal of a request to send, and which of two comes first.
-#[test]
-fn refuses_to_ask_to_send(rt: HostRuntime) -> Result<(), Fail> {
-    let mut table = new_table(rt.alloc())?;
+pub(super) fn refuses_to_ask_to_send<S: BitStore>(
+    rt: &impl Abort,
+    alloc: Global,
+) -> Result<(), Fail> {
+    let mut table = new_table::<S>(alloc)?;
     let wrong = [
         (INWARD, 0, 0, CallFault::BadSex),
         (pair(2, 2), 8, ROOM, CallFault::BadSex),
@@ -104,9 +111,11 @@ fn refuses_to_ask_to_send(rt: HostRuntime) -> Result<(), Fail> {
     Ok(())
 }
 
-#[test]
-fn refuses_to_ask_to_receive(rt: HostRuntime) -> Result<(), Fail> {
-    let mut table = new_table(rt.alloc())?;
+pub(super) fn refuses_to_ask_to_receive<S: BitStore>(
+    rt: &impl Abort,
+    alloc: Global,
+) -> Result<(), Fail> {
+    let mut table = new_table::<S>(alloc)?;
     let wrong = [
         (OUTWARD, 0, CallFault::BadSex),
         (pair(2, 4), ROOM, CallFault::BadSex),
@@ -132,7 +141,7 @@ fn numbered(number: u8) -> Pair {
 }
 
 // The 64th own request is the last, and on it stands the 64th link.
-fn fill_with_requests(rt: &impl Abort, table: &mut Table<PlainStore>) -> Result<(), Fail> {
+fn fill_with_requests<S: BitStore>(rt: &impl Abort, table: &mut Table<S>) -> Result<(), Fail> {
     for number in 0..MAX_OWN as u8 {
         let command = table.ask_receive(numbered(number), 1, false)?;
         let Command::Rts { link, .. } = command else {
@@ -143,11 +152,10 @@ fn fill_with_requests(rt: &impl Abort, table: &mut Table<PlainStore>) -> Result<
     Ok(())
 }
 
-#[test]
-fn has_64_own_requests(rt: HostRuntime) -> Result<(), Fail> {
-    let mut table = new_table(rt.alloc())?;
+pub(super) fn has_64_own_requests<S: BitStore>(rt: &impl Abort, alloc: Global) -> Result<(), Fail> {
+    let mut table = new_table::<S>(alloc)?;
     assert!(rt; table.hear(&str_for(numbered(200), 8)) == Heard::Nothing);
-    fill_with_requests(&rt, &mut table)?;
+    fill_with_requests(rt, &mut table)?;
     // The 65th, also where the peer's request is there; but what is asked for stays asked for.
     assert!(rt; refusal(table.ask_receive(numbered(201), 1, true)) == Some(CallFault::TableFull));
     assert!(rt; refusal(table.ask_send(OUTWARD, 8, 1, true)) == Some(CallFault::TableFull));
@@ -165,13 +173,15 @@ fn has_64_own_requests(rt: HostRuntime) -> Result<(), Fail> {
                 link: FIRST_LINK + 7
             }
     );
-    assert!(rt; known(&rt, &table, numbered(200)).opened);
+    assert!(rt; known(rt, &table, numbered(200)).opened);
     Ok(())
 }
 
-#[test]
-fn has_64_requests_of_the_peer(rt: HostRuntime) -> Result<(), Fail> {
-    let mut table = new_table(rt.alloc())?;
+pub(super) fn has_64_requests_of_the_peer<S: BitStore>(
+    rt: &impl Abort,
+    alloc: Global,
+) -> Result<(), Fail> {
+    let mut table = new_table::<S>(alloc)?;
     table.ask_receive(numbered(200), 1, false)?;
     for number in 0..MAX_BY_PEER as u8 {
         assert!(rt; table.hear(&str_for(numbered(number), 8)) == Heard::Nothing);
@@ -188,9 +198,11 @@ fn has_64_requests_of_the_peer(rt: HostRuntime) -> Result<(), Fail> {
     Ok(())
 }
 
-#[test]
-fn refuses_wrong_requests(rt: HostRuntime) -> Result<(), Fail> {
-    let mut table = new_table(rt.alloc())?;
+pub(super) fn refuses_wrong_requests<S: BitStore>(
+    rt: &impl Abort,
+    alloc: Global,
+) -> Result<(), Fail> {
+    let mut table = new_table::<S>(alloc)?;
     assert!(rt; table.hear(&rts_for(OUTWARD, 2)) == Heard::Nothing);
     let wrong = [
         (rts_for(INWARD, 3), [1, 0, 0, 0, 3, 0, 0, 0, 2, 3]),
@@ -204,15 +216,17 @@ fn refuses_wrong_requests(rt: HostRuntime) -> Result<(), Fail> {
     for (command, data) in wrong {
         assert!(rt; table.hear(&command) == err(3, &data));
     }
-    assert!(rt; known(&rt, &table, OUTWARD).link == 2);
+    assert!(rt; known(rt, &table, OUTWARD).link == 2);
     assert!(rt; table.record(pair(5, 4)).is_none());
     Ok(())
 }
 
 // Other commands do nothing here.
-#[test]
-fn passes_other_commands_by(rt: HostRuntime) -> Result<(), Fail> {
-    let mut table = new_table(rt.alloc())?;
+pub(super) fn passes_other_commands_by<S: BitStore>(
+    rt: &impl Abort,
+    alloc: Global,
+) -> Result<(), Fail> {
+    let mut table = new_table::<S>(alloc)?;
     let others = [
         Command::Nop,
         Command::Eco { byte: 65 },
@@ -231,9 +245,11 @@ fn passes_other_commands_by(rt: HostRuntime) -> Result<(), Fail> {
 }
 
 // Where there is no memory, no connection is made and no link is used.
-#[test]
-fn asks_or_has_no_memory(rt: HostRuntime) -> Result<(), Fail> {
-    let Ok(mut table) = Table::<PlainStore>::new(rt.alloc()) else {
+pub(super) fn asks_or_has_no_memory<S: BitStore>(
+    rt: &impl Abort,
+    alloc: Global,
+) -> Result<(), Fail> {
+    let Ok(mut table) = Table::<S>::new(alloc) else {
         return Ok(());
     };
     let mut refused = false;
@@ -263,10 +279,52 @@ fn asks_or_has_no_memory(rt: HostRuntime) -> Result<(), Fail> {
     Ok(())
 }
 
-#[test]
-fn has_memory_for_requests(rt: HostRuntime) -> Result<(), Fail> {
-    let mut table = new_table(rt.alloc())?;
+pub(super) fn has_memory_for_requests<S: BitStore>(
+    rt: &impl Abort,
+    alloc: Global,
+) -> Result<(), Fail> {
+    let mut table = new_table::<S>(alloc)?;
     table.ask_send(OUTWARD, 8, MAX_ROOM, false)?;
     table.ask_receive(INWARD, MAX_ROOM, false)?;
+    Ok(())
+}
+
+// All own requests that there may be, each with the room of a test, of either kind in turn.
+pub(super) fn has_memory_for_all_requests<S: BitStore>(
+    rt: &impl Abort,
+    alloc: Global,
+) -> Result<(), Fail> {
+    let mut table = new_table::<S>(alloc)?;
+    for number in 0..MAX_OWN as u8 {
+        if number % 2 == 0 {
+            table.ask_receive(numbered(number), ROOM, false)?;
+        } else {
+            let at = numbered(number);
+            table.ask_send(pair(at.remote, at.local), 8, ROOM, false)?;
+        }
+    }
+    let beyond = numbered(MAX_OWN as u8);
+    assert!(rt; refusal(table.ask_receive(beyond, ROOM, false)) == Some(CallFault::TableFull));
+    Ok(())
+}
+
+// How many connections follow one another in a table: more than twice the keys and links of it.
+const IN_TURN: u32 = 1_500;
+
+// One connection after another at either end, each with its store.
+pub(super) fn asks_and_closes_in_turn<S: BitStore>(
+    rt: &impl Abort,
+    alloc: Global,
+) -> Result<(), Fail> {
+    let mut table = new_table::<S>(alloc)?;
+    for _ in 0..IN_TURN {
+        table.ask_send(OUTWARD, 8, ROOM, false)?;
+        table.ask_receive(INWARD, ROOM, false)?;
+        table.close(OUTWARD, false)?;
+        table.close(INWARD, false)?;
+        assert!(rt; table.hear(&cls_for(OUTWARD)) == Heard::Nothing);
+        assert!(rt; table.hear(&cls_for(INWARD)) == Heard::Nothing);
+    }
+    assert!(rt; table.record(OUTWARD).is_none() && table.record(INWARD).is_none());
     Ok(())
 }

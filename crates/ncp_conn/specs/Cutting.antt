@@ -1,0 +1,18 @@
+-- Which link may send next.
+use Rattle.std.specs.Prelude.{ℕ, zero, suc, ◌+◌, ◌-◌, Bool, if◌then◌else◌, Option, None, Some, is_some}
+use Rattle.ncp_model.specs.declared.limits.TheConstants.{LAST_LINK}
+use Rattle.ncp_model.specs.Act.{answer}
+use Rattle.ncp_model.specs.Ends.{Ends, cut_in}
+
+-- whether a text may be cut on a link
+abbrev pub may_cut : Ends → ℕ → Bool
+may_cut m on = is_some (answer (cut_in on m))
+
+-- the first of so many numbers that passes, if one does
+unfoldable pub first_of : (ℕ → Bool) → ℕ → ℕ → Option ℕ
+first_of test zero from = None
+first_of test (suc many) from = if test from then Some from else first_of test many (suc from)
+
+-- the lowest link from one on on which a text may be cut
+abbrev pub next_cut : ℕ → Ends → Option ℕ
+next_cut from m = first_of (may_cut m) (LAST_LINK + 1 - from) from

@@ -1,0 +1,18 @@
+//! That `==` is equality, for each public type that has it.
+ghost use Rattle.std.specs.Prelude.{◌≡◌, ◌↔◌, IsTrue};
+
+use crate::record::{End, Record};
+
+/// `==` of records is equality.
+pub fn equal_records(one: &Record, other: &Record) -> bool
+    ensures { IsTrue result ↔ (one.now ≡ other.now) }
+{
+    *one == *other
+}
+
+/// `==` of ends is equality.
+pub fn equal_ends(one: End, other: End) -> bool
+    ensures { IsTrue result ↔ (one ≡ other) }
+{
+    one == other
+}
