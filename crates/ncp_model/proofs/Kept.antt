@@ -2,7 +2,7 @@
 use Rattle.std.proofs.Common.{◌≡◌, true, false, Option, None, Some, arith}
 use Rattle.ncp_model.specs.declared.pair.Pair.{Pair}
 use Rattle.ncp_model.specs.End.{End, or_new}
-use Rattle.ncp_model.specs.Texts.{Taken, Again, Kept}
+use Rattle.ncp_model.specs.Texts.{Rfnm, Incomplete, Dead}
 use Rattle.ncp_model.specs.Happenings.{Happening, happens}
 use Rattle.ncp_model.specs.Happenings as all
 use Rattle.ncp_model.specs.Keeping.{calls_back, is_ret, is_interrupt, is_sending, frees_the_sender, counts}
@@ -40,10 +40,10 @@ keeps-asked pair (all.Text_comes head of_size text) None e h u = grind arith
 keeps-asked pair (all.Text_comes head of_size text) (Some x) e h u = grind arith
 keeps-asked pair all.Text_goes_out None e h u = grind arith
 keeps-asked pair all.Text_goes_out (Some x) e h u = grind arith
-keeps-asked pair (all.Is_answered Taken) None e h u = grind arith
-keeps-asked pair (all.Is_answered Taken) (Some x) e h u = grind arith
-keeps-asked pair (all.Is_answered Again) before e h u = grind arith
-keeps-asked pair (all.Is_answered Kept) before e h u = grind arith
+keeps-asked pair (all.Is_answered Rfnm) None e h u = grind arith
+keeps-asked pair (all.Is_answered Rfnm) (Some x) e h u = grind arith
+keeps-asked pair (all.Is_answered Incomplete) before e h u = grind arith
+keeps-asked pair (all.Is_answered Dead) before e h u = grind arith
 keeps-asked pair all.Is_cleared before e h u = grind arith
 
 pub keeps-heard : (pair : Pair) (what : Happening) (before : Option End) (e : End) → (happens pair what before).after ≡ Some e → (or_new before).heard ≡ true → e.heard ≡ true
@@ -79,10 +79,10 @@ keeps-heard pair (all.Text_comes head of_size text) None e h u = grind arith
 keeps-heard pair (all.Text_comes head of_size text) (Some x) e h u = grind arith
 keeps-heard pair all.Text_goes_out None e h u = grind arith
 keeps-heard pair all.Text_goes_out (Some x) e h u = grind arith
-keeps-heard pair (all.Is_answered Taken) None e h u = grind arith
-keeps-heard pair (all.Is_answered Taken) (Some x) e h u = grind arith
-keeps-heard pair (all.Is_answered Again) before e h u = grind arith
-keeps-heard pair (all.Is_answered Kept) before e h u = grind arith
+keeps-heard pair (all.Is_answered Rfnm) None e h u = grind arith
+keeps-heard pair (all.Is_answered Rfnm) (Some x) e h u = grind arith
+keeps-heard pair (all.Is_answered Incomplete) before e h u = grind arith
+keeps-heard pair (all.Is_answered Dead) before e h u = grind arith
 keeps-heard pair all.Is_cleared before e h u = grind arith
 
 pub keeps-opened : (pair : Pair) (what : Happening) (before : Option End) (e : End) → (happens pair what before).after ≡ Some e → (or_new before).opened ≡ true → e.opened ≡ true
@@ -118,10 +118,10 @@ keeps-opened pair (all.Text_comes head of_size text) None e h u = grind arith
 keeps-opened pair (all.Text_comes head of_size text) (Some x) e h u = grind arith
 keeps-opened pair all.Text_goes_out None e h u = grind arith
 keeps-opened pair all.Text_goes_out (Some x) e h u = grind arith
-keeps-opened pair (all.Is_answered Taken) None e h u = grind arith
-keeps-opened pair (all.Is_answered Taken) (Some x) e h u = grind arith
-keeps-opened pair (all.Is_answered Again) before e h u = grind arith
-keeps-opened pair (all.Is_answered Kept) before e h u = grind arith
+keeps-opened pair (all.Is_answered Rfnm) None e h u = grind arith
+keeps-opened pair (all.Is_answered Rfnm) (Some x) e h u = grind arith
+keeps-opened pair (all.Is_answered Incomplete) before e h u = grind arith
+keeps-opened pair (all.Is_answered Dead) before e h u = grind arith
 keeps-opened pair all.Is_cleared before e h u = grind arith
 
 pub keeps-left : (pair : Pair) (what : Happening) (before : Option End) (e : End) → (happens pair what before).after ≡ Some e → (or_new before).left ≡ true → e.left ≡ true
@@ -157,10 +157,10 @@ keeps-left pair (all.Text_comes head of_size text) None e h u = grind arith
 keeps-left pair (all.Text_comes head of_size text) (Some x) e h u = grind arith
 keeps-left pair all.Text_goes_out None e h u = grind arith
 keeps-left pair all.Text_goes_out (Some x) e h u = grind arith
-keeps-left pair (all.Is_answered Taken) None e h u = grind arith
-keeps-left pair (all.Is_answered Taken) (Some x) e h u = grind arith
-keeps-left pair (all.Is_answered Again) before e h u = grind arith
-keeps-left pair (all.Is_answered Kept) before e h u = grind arith
+keeps-left pair (all.Is_answered Rfnm) None e h u = grind arith
+keeps-left pair (all.Is_answered Rfnm) (Some x) e h u = grind arith
+keeps-left pair (all.Is_answered Incomplete) before e h u = grind arith
+keeps-left pair (all.Is_answered Dead) before e h u = grind arith
 keeps-left pair all.Is_cleared before e h u = grind arith
 
 pub keeps-cls : (pair : Pair) (what : Happening) (before : Option End) (e : End) → (happens pair what before).after ≡ Some e → (or_new before).cls ≡ true → e.cls ≡ true
@@ -196,10 +196,10 @@ keeps-cls pair (all.Text_comes head of_size text) None e h u = grind arith
 keeps-cls pair (all.Text_comes head of_size text) (Some x) e h u = grind arith
 keeps-cls pair all.Text_goes_out None e h u = grind arith
 keeps-cls pair all.Text_goes_out (Some x) e h u = grind arith
-keeps-cls pair (all.Is_answered Taken) None e h u = grind arith
-keeps-cls pair (all.Is_answered Taken) (Some x) e h u = grind arith
-keeps-cls pair (all.Is_answered Again) before e h u = grind arith
-keeps-cls pair (all.Is_answered Kept) before e h u = grind arith
+keeps-cls pair (all.Is_answered Rfnm) None e h u = grind arith
+keeps-cls pair (all.Is_answered Rfnm) (Some x) e h u = grind arith
+keeps-cls pair (all.Is_answered Incomplete) before e h u = grind arith
+keeps-cls pair (all.Is_answered Dead) before e h u = grind arith
 keeps-cls pair all.Is_cleared before e h u = grind arith
 
 pub keeps-recalled : (pair : Pair) (what : Happening) (before : Option End) (e : End) → (happens pair what before).after ≡ Some e → calls_back what ≡ false → (or_new before).recall ≡ false → e.recall ≡ false
@@ -235,10 +235,10 @@ keeps-recalled pair (all.Text_comes head of_size text) None e h c u = grind arit
 keeps-recalled pair (all.Text_comes head of_size text) (Some x) e h c u = grind arith
 keeps-recalled pair all.Text_goes_out None e h c u = grind arith
 keeps-recalled pair all.Text_goes_out (Some x) e h c u = grind arith
-keeps-recalled pair (all.Is_answered Taken) None e h c u = grind arith
-keeps-recalled pair (all.Is_answered Taken) (Some x) e h c u = grind arith
-keeps-recalled pair (all.Is_answered Again) before e h c u = grind arith
-keeps-recalled pair (all.Is_answered Kept) before e h c u = grind arith
+keeps-recalled pair (all.Is_answered Rfnm) None e h c u = grind arith
+keeps-recalled pair (all.Is_answered Rfnm) (Some x) e h c u = grind arith
+keeps-recalled pair (all.Is_answered Incomplete) before e h c u = grind arith
+keeps-recalled pair (all.Is_answered Dead) before e h c u = grind arith
 keeps-recalled pair all.Is_cleared before e h c u = grind arith
 
 pub keeps-returned : (pair : Pair) (what : Happening) (before : Option End) (e : End) → (happens pair what before).after ≡ Some e → is_ret what ≡ false → (or_new before).recall ≡ true → e.recall ≡ true
@@ -274,10 +274,10 @@ keeps-returned pair (all.Text_comes head of_size text) None e h c u = grind arit
 keeps-returned pair (all.Text_comes head of_size text) (Some x) e h c u = grind arith
 keeps-returned pair all.Text_goes_out None e h c u = grind arith
 keeps-returned pair all.Text_goes_out (Some x) e h c u = grind arith
-keeps-returned pair (all.Is_answered Taken) None e h c u = grind arith
-keeps-returned pair (all.Is_answered Taken) (Some x) e h c u = grind arith
-keeps-returned pair (all.Is_answered Again) before e h c u = grind arith
-keeps-returned pair (all.Is_answered Kept) before e h c u = grind arith
+keeps-returned pair (all.Is_answered Rfnm) None e h c u = grind arith
+keeps-returned pair (all.Is_answered Rfnm) (Some x) e h c u = grind arith
+keeps-returned pair (all.Is_answered Incomplete) before e h c u = grind arith
+keeps-returned pair (all.Is_answered Dead) before e h c u = grind arith
 keeps-returned pair all.Is_cleared before e h c u = grind arith
 
 pub keeps-interrupts : (pair : Pair) (what : Happening) (before : Option End) (e : End) → (happens pair what before).after ≡ Some e → is_interrupt what ≡ false → e.interrupts ≡ (or_new before).interrupts
@@ -313,10 +313,10 @@ keeps-interrupts pair (all.Text_comes head of_size text) None e h c = grind arit
 keeps-interrupts pair (all.Text_comes head of_size text) (Some x) e h c = grind arith
 keeps-interrupts pair all.Text_goes_out None e h c = grind arith
 keeps-interrupts pair all.Text_goes_out (Some x) e h c = grind arith
-keeps-interrupts pair (all.Is_answered Taken) None e h c = grind arith
-keeps-interrupts pair (all.Is_answered Taken) (Some x) e h c = grind arith
-keeps-interrupts pair (all.Is_answered Again) before e h c = grind arith
-keeps-interrupts pair (all.Is_answered Kept) before e h c = grind arith
+keeps-interrupts pair (all.Is_answered Rfnm) None e h c = grind arith
+keeps-interrupts pair (all.Is_answered Rfnm) (Some x) e h c = grind arith
+keeps-interrupts pair (all.Is_answered Incomplete) before e h c = grind arith
+keeps-interrupts pair (all.Is_answered Dead) before e h c = grind arith
 keeps-interrupts pair all.Is_cleared before e h c = grind arith
 
 pub keeps-sending : (pair : Pair) (what : Happening) (before : Option End) (e : End) → (happens pair what before).after ≡ Some e → is_sending what ≡ false → (or_new before).busy ≡ false → e.busy ≡ false
@@ -352,10 +352,10 @@ keeps-sending pair (all.Text_comes head of_size text) None e h c u = grind arith
 keeps-sending pair (all.Text_comes head of_size text) (Some x) e h c u = grind arith
 keeps-sending pair all.Text_goes_out None e h c u = grind arith
 keeps-sending pair all.Text_goes_out (Some x) e h c u = grind arith
-keeps-sending pair (all.Is_answered Taken) None e h c u = grind arith
-keeps-sending pair (all.Is_answered Taken) (Some x) e h c u = grind arith
-keeps-sending pair (all.Is_answered Again) before e h c u = grind arith
-keeps-sending pair (all.Is_answered Kept) before e h c u = grind arith
+keeps-sending pair (all.Is_answered Rfnm) None e h c u = grind arith
+keeps-sending pair (all.Is_answered Rfnm) (Some x) e h c u = grind arith
+keeps-sending pair (all.Is_answered Incomplete) before e h c u = grind arith
+keeps-sending pair (all.Is_answered Dead) before e h c u = grind arith
 keeps-sending pair all.Is_cleared before e h c u = grind arith
 
 pub keeps-freed : (pair : Pair) (what : Happening) (before : Option End) (e : End) → (happens pair what before).after ≡ Some e → frees_the_sender what ≡ false → (or_new before).busy ≡ true → e.busy ≡ true
@@ -391,10 +391,10 @@ keeps-freed pair (all.Text_comes head of_size text) None e h c u = grind arith
 keeps-freed pair (all.Text_comes head of_size text) (Some x) e h c u = grind arith
 keeps-freed pair all.Text_goes_out None e h c u = grind arith
 keeps-freed pair all.Text_goes_out (Some x) e h c u = grind arith
-keeps-freed pair (all.Is_answered Taken) None e h c u = grind arith
-keeps-freed pair (all.Is_answered Taken) (Some x) e h c u = grind arith
-keeps-freed pair (all.Is_answered Again) before e h c u = grind arith
-keeps-freed pair (all.Is_answered Kept) before e h c u = grind arith
+keeps-freed pair (all.Is_answered Rfnm) None e h c u = grind arith
+keeps-freed pair (all.Is_answered Rfnm) (Some x) e h c u = grind arith
+keeps-freed pair (all.Is_answered Incomplete) before e h c u = grind arith
+keeps-freed pair (all.Is_answered Dead) before e h c u = grind arith
 keeps-freed pair all.Is_cleared before e h c u = grind arith
 
 pub keeps-messages : (pair : Pair) (what : Happening) (before : Option End) (e : End) → (happens pair what before).after ≡ Some e → counts what ≡ false → e.messages ≡ (or_new before).messages
@@ -430,10 +430,10 @@ keeps-messages pair (all.Text_comes head of_size text) None e h c = grind arith
 keeps-messages pair (all.Text_comes head of_size text) (Some x) e h c = grind arith
 keeps-messages pair all.Text_goes_out None e h c = grind arith
 keeps-messages pair all.Text_goes_out (Some x) e h c = grind arith
-keeps-messages pair (all.Is_answered Taken) None e h c = grind arith
-keeps-messages pair (all.Is_answered Taken) (Some x) e h c = grind arith
-keeps-messages pair (all.Is_answered Again) before e h c = grind arith
-keeps-messages pair (all.Is_answered Kept) before e h c = grind arith
+keeps-messages pair (all.Is_answered Rfnm) None e h c = grind arith
+keeps-messages pair (all.Is_answered Rfnm) (Some x) e h c = grind arith
+keeps-messages pair (all.Is_answered Incomplete) before e h c = grind arith
+keeps-messages pair (all.Is_answered Dead) before e h c = grind arith
 keeps-messages pair all.Is_cleared before e h c = grind arith
 
 pub keeps-bits : (pair : Pair) (what : Happening) (before : Option End) (e : End) → (happens pair what before).after ≡ Some e → counts what ≡ false → e.bits ≡ (or_new before).bits
@@ -469,8 +469,8 @@ keeps-bits pair (all.Text_comes head of_size text) None e h c = grind arith
 keeps-bits pair (all.Text_comes head of_size text) (Some x) e h c = grind arith
 keeps-bits pair all.Text_goes_out None e h c = grind arith
 keeps-bits pair all.Text_goes_out (Some x) e h c = grind arith
-keeps-bits pair (all.Is_answered Taken) None e h c = grind arith
-keeps-bits pair (all.Is_answered Taken) (Some x) e h c = grind arith
-keeps-bits pair (all.Is_answered Again) before e h c = grind arith
-keeps-bits pair (all.Is_answered Kept) before e h c = grind arith
+keeps-bits pair (all.Is_answered Rfnm) None e h c = grind arith
+keeps-bits pair (all.Is_answered Rfnm) (Some x) e h c = grind arith
+keeps-bits pair (all.Is_answered Incomplete) before e h c = grind arith
+keeps-bits pair (all.Is_answered Dead) before e h c = grind arith
 keeps-bits pair all.Is_cleared before e h c = grind arith

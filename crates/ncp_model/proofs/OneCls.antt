@@ -5,7 +5,7 @@ use Rattle.ncp_control.specs.declared.command.Command.TheVariants.{Cls}
 use Rattle.ncp_model.specs.declared.pair.Pair.{Pair}
 use Rattle.ncp_model.specs.Pairs.{sends}
 use Rattle.ncp_model.specs.End.{End}
-use Rattle.ncp_model.specs.Texts.{Taken, Again, Kept}
+use Rattle.ncp_model.specs.Texts.{Rfnm, Incomplete, Dead}
 use Rattle.ncp_model.specs.Happenings.{Happening, happens}
 use Rattle.ncp_model.specs.Happenings as all
 use Rattle.ncp_model.specs.Keeping.{is_cls, is_clearing, frees_the_sender, was_left}
@@ -29,9 +29,9 @@ cls-made pair (all.Inr_comes on) e c l = grind arith
 cls-made pair (all.Ins_comes on) e c l = grind arith
 cls-made pair (all.Text_comes head of_size text) e c l = grind arith
 cls-made pair all.Text_goes_out e c l = grind arith
-cls-made pair (all.Is_answered Taken) e c l = grind arith
-cls-made pair (all.Is_answered Again) e c l = grind arith
-cls-made pair (all.Is_answered Kept) e c l = grind arith
+cls-made pair (all.Is_answered Rfnm) e c l = grind arith
+cls-made pair (all.Is_answered Incomplete) e c l = grind arith
+cls-made pair (all.Is_answered Dead) e c l = grind arith
 cls-made pair all.Is_cleared e c l = grind arith
 
 pub cls-once : (pair : Pair) (what : Happening) (e : End) → e.left ≡ true → e.leaving ≡ false → list_any is_cls (happens pair what (Some e)).made ≡ false
@@ -53,9 +53,9 @@ cls-once pair (all.Inr_comes on) e l k = grind arith
 cls-once pair (all.Ins_comes on) e l k = grind arith
 cls-once pair (all.Text_comes head of_size text) e l k = grind arith
 cls-once pair all.Text_goes_out e l k = grind arith
-cls-once pair (all.Is_answered Taken) e l k = grind arith
-cls-once pair (all.Is_answered Again) e l k = grind arith
-cls-once pair (all.Is_answered Kept) e l k = grind arith
+cls-once pair (all.Is_answered Rfnm) e l k = grind arith
+cls-once pair (all.Is_answered Incomplete) e l k = grind arith
+cls-once pair (all.Is_answered Dead) e l k = grind arith
 cls-once pair all.Is_cleared e l k = grind arith
 
 pub cls-none : (pair : Pair) (what : Happening) → list_any is_cls (happens pair what None).made ≡ false
@@ -77,9 +77,9 @@ cls-none pair (all.Inr_comes on) = grind arith
 cls-none pair (all.Ins_comes on) = grind arith
 cls-none pair (all.Text_comes head of_size text) = grind arith
 cls-none pair all.Text_goes_out = grind arith
-cls-none pair (all.Is_answered Taken) = grind arith
-cls-none pair (all.Is_answered Again) = grind arith
-cls-none pair (all.Is_answered Kept) = grind arith
+cls-none pair (all.Is_answered Rfnm) = grind arith
+cls-none pair (all.Is_answered Incomplete) = grind arith
+cls-none pair (all.Is_answered Dead) = grind arith
 cls-none pair all.Is_cleared = grind arith
 
 pub cls-sockets : (pair : Pair) (what : Happening) (before : Option End) → list_any is_cls (happens pair what before).made ≡ true → (happens pair what before).made ≡ Cls pair.local pair.remote ∷ []
@@ -115,10 +115,10 @@ cls-sockets pair (all.Text_comes head of_size text) None h = grind arith
 cls-sockets pair (all.Text_comes head of_size text) (Some e) h = grind arith
 cls-sockets pair all.Text_goes_out None h = grind arith
 cls-sockets pair all.Text_goes_out (Some e) h = grind arith
-cls-sockets pair (all.Is_answered Taken) None h = grind arith
-cls-sockets pair (all.Is_answered Taken) (Some e) h = grind arith
-cls-sockets pair (all.Is_answered Again) before h = grind arith
-cls-sockets pair (all.Is_answered Kept) before h = grind arith
+cls-sockets pair (all.Is_answered Rfnm) None h = grind arith
+cls-sockets pair (all.Is_answered Rfnm) (Some e) h = grind arith
+cls-sockets pair (all.Is_answered Incomplete) before h = grind arith
+cls-sockets pair (all.Is_answered Dead) before h = grind arith
 cls-sockets pair all.Is_cleared before h = grind arith
 
 pub cls-waits : (pair : Pair) (what : Happening) (e : End) → sends pair ≡ true → e.busy ≡ true → frees_the_sender what ≡ false → list_any is_cls (happens pair what (Some e)).made ≡ false
@@ -140,9 +140,9 @@ cls-waits pair (all.Inr_comes on) e s u r = grind arith
 cls-waits pair (all.Ins_comes on) e s u r = grind arith
 cls-waits pair (all.Text_comes head of_size text) e s u r = grind arith
 cls-waits pair all.Text_goes_out e s u r = grind arith
-cls-waits pair (all.Is_answered Taken) e s u r = grind arith
-cls-waits pair (all.Is_answered Again) e s u r = grind arith
-cls-waits pair (all.Is_answered Kept) e s u r = grind arith
+cls-waits pair (all.Is_answered Rfnm) e s u r = grind arith
+cls-waits pair (all.Is_answered Incomplete) e s u r = grind arith
+cls-waits pair (all.Is_answered Dead) e s u r = grind arith
 cls-waits pair all.Is_cleared e s u r = grind arith
 
 pub cls-dropped : (pair : Pair) (what : Happening) (x e : End) → (happens pair what (Some x)).after ≡ Some e → x.left ≡ false → e.left ≡ true → e.stored ≡ []
@@ -164,7 +164,7 @@ cls-dropped pair (all.Inr_comes on) x e h l k = grind arith
 cls-dropped pair (all.Ins_comes on) x e h l k = grind arith
 cls-dropped pair (all.Text_comes head of_size text) x e h l k = grind arith
 cls-dropped pair all.Text_goes_out x e h l k = grind arith
-cls-dropped pair (all.Is_answered Taken) x e h l k = grind arith
-cls-dropped pair (all.Is_answered Again) x e h l k = grind arith
-cls-dropped pair (all.Is_answered Kept) x e h l k = grind arith
+cls-dropped pair (all.Is_answered Rfnm) x e h l k = grind arith
+cls-dropped pair (all.Is_answered Incomplete) x e h l k = grind arith
+cls-dropped pair (all.Is_answered Dead) x e h l k = grind arith
 cls-dropped pair all.Is_cleared x e h l k = grind arith

@@ -3,7 +3,7 @@ use Rattle.std.proofs.Common.{◌≡◌, ◌≤◌, true, false, Option, None, S
 use Rattle.ncp_model.specs.declared.pair.Pair.{Pair}
 use Rattle.ncp_model.specs.declared.limits.TheConstants.{MAX_ROOM, MAX_MESSAGES, MAX_AMOUNT, MAX_COUNT}
 use Rattle.ncp_model.specs.End.{End, or_new, is_open}
-use Rattle.ncp_model.specs.Texts.{Taken, Again, Kept}
+use Rattle.ncp_model.specs.Texts.{Rfnm, Incomplete, Dead}
 use Rattle.ncp_model.specs.Happenings.{Happening, happens}
 use Rattle.ncp_model.specs.Happenings as all
 
@@ -40,10 +40,10 @@ limit-opens pair (all.Text_comes head of_size text) None e h o p = (grind arith,
 limit-opens pair (all.Text_comes head of_size text) (Some x) e h o p = (grind arith, grind arith, grind arith, grind arith)
 limit-opens pair all.Text_goes_out None e h o p = (grind arith, grind arith, grind arith, grind arith)
 limit-opens pair all.Text_goes_out (Some x) e h o p = (grind arith, grind arith, grind arith, grind arith)
-limit-opens pair (all.Is_answered Taken) None e h o p = (grind arith, grind arith, grind arith, grind arith)
-limit-opens pair (all.Is_answered Taken) (Some x) e h o p = (grind arith, grind arith, grind arith, grind arith)
-limit-opens pair (all.Is_answered Again) before e h o p = (grind arith, grind arith, grind arith, grind arith)
-limit-opens pair (all.Is_answered Kept) before e h o p = (grind arith, grind arith, grind arith, grind arith)
+limit-opens pair (all.Is_answered Rfnm) None e h o p = (grind arith, grind arith, grind arith, grind arith)
+limit-opens pair (all.Is_answered Rfnm) (Some x) e h o p = (grind arith, grind arith, grind arith, grind arith)
+limit-opens pair (all.Is_answered Incomplete) before e h o p = (grind arith, grind arith, grind arith, grind arith)
+limit-opens pair (all.Is_answered Dead) before e h o p = (grind arith, grind arith, grind arith, grind arith)
 limit-opens pair all.Is_cleared before e h o p = (grind arith, grind arith, grind arith, grind arith)
 
 pub limit-meets : (pair : Pair) (what : Happening) (before : Option End) (e : End) → (happens pair what before).after ≡ Some e → is_open (or_new before) ≡ false → (or_new before).leaving ≡ false → (or_new before).left ≡ false → is_open e ≡ true → e.opened ≡ true
@@ -79,10 +79,10 @@ limit-meets pair (all.Text_comes head of_size text) None e h o l k p = grind ari
 limit-meets pair (all.Text_comes head of_size text) (Some x) e h o l k p = grind arith
 limit-meets pair all.Text_goes_out None e h o l k p = grind arith
 limit-meets pair all.Text_goes_out (Some x) e h o l k p = grind arith
-limit-meets pair (all.Is_answered Taken) None e h o l k p = grind arith
-limit-meets pair (all.Is_answered Taken) (Some x) e h o l k p = grind arith
-limit-meets pair (all.Is_answered Again) before e h o l k p = grind arith
-limit-meets pair (all.Is_answered Kept) before e h o l k p = grind arith
+limit-meets pair (all.Is_answered Rfnm) None e h o l k p = grind arith
+limit-meets pair (all.Is_answered Rfnm) (Some x) e h o l k p = grind arith
+limit-meets pair (all.Is_answered Incomplete) before e h o l k p = grind arith
+limit-meets pair (all.Is_answered Dead) before e h o l k p = grind arith
 limit-meets pair all.Is_cleared before e h o l k p = grind arith
 
 pub limit-messages : (pair : Pair) (what : Happening) (before : Option End) (e : End) → (happens pair what before).after ≡ Some e → (or_new before).messages ≤ MAX_MESSAGES → e.messages ≤ MAX_MESSAGES
@@ -118,10 +118,10 @@ limit-messages pair (all.Text_comes head of_size text) None e h k = grind arith
 limit-messages pair (all.Text_comes head of_size text) (Some x) e h k = grind arith
 limit-messages pair all.Text_goes_out None e h k = grind arith
 limit-messages pair all.Text_goes_out (Some x) e h k = grind arith
-limit-messages pair (all.Is_answered Taken) None e h k = grind arith
-limit-messages pair (all.Is_answered Taken) (Some x) e h k = grind arith
-limit-messages pair (all.Is_answered Again) before e h k = grind arith
-limit-messages pair (all.Is_answered Kept) before e h k = grind arith
+limit-messages pair (all.Is_answered Rfnm) None e h k = grind arith
+limit-messages pair (all.Is_answered Rfnm) (Some x) e h k = grind arith
+limit-messages pair (all.Is_answered Incomplete) before e h k = grind arith
+limit-messages pair (all.Is_answered Dead) before e h k = grind arith
 limit-messages pair all.Is_cleared before e h k = grind arith
 
 pub limit-bits : (pair : Pair) (what : Happening) (before : Option End) (e : End) → (happens pair what before).after ≡ Some e → (or_new before).room ≤ MAX_ROOM → (or_new before).bits ≤ MAX_AMOUNT → e.bits ≤ MAX_AMOUNT
@@ -157,10 +157,10 @@ limit-bits pair (all.Text_comes head of_size text) None e h r k = grind arith
 limit-bits pair (all.Text_comes head of_size text) (Some x) e h r k = grind arith
 limit-bits pair all.Text_goes_out None e h r k = grind arith
 limit-bits pair all.Text_goes_out (Some x) e h r k = grind arith
-limit-bits pair (all.Is_answered Taken) None e h r k = grind arith
-limit-bits pair (all.Is_answered Taken) (Some x) e h r k = grind arith
-limit-bits pair (all.Is_answered Again) before e h r k = grind arith
-limit-bits pair (all.Is_answered Kept) before e h r k = grind arith
+limit-bits pair (all.Is_answered Rfnm) None e h r k = grind arith
+limit-bits pair (all.Is_answered Rfnm) (Some x) e h r k = grind arith
+limit-bits pair (all.Is_answered Incomplete) before e h r k = grind arith
+limit-bits pair (all.Is_answered Dead) before e h r k = grind arith
 limit-bits pair all.Is_cleared before e h r k = grind arith
 
 pub limit-interrupts : (pair : Pair) (what : Happening) (before : Option End) (e : End) → (happens pair what before).after ≡ Some e → (or_new before).interrupts ≤ MAX_COUNT → e.interrupts ≤ MAX_COUNT
@@ -196,10 +196,10 @@ limit-interrupts pair (all.Text_comes head of_size text) None e h k = grind arit
 limit-interrupts pair (all.Text_comes head of_size text) (Some x) e h k = grind arith
 limit-interrupts pair all.Text_goes_out None e h k = grind arith
 limit-interrupts pair all.Text_goes_out (Some x) e h k = grind arith
-limit-interrupts pair (all.Is_answered Taken) None e h k = grind arith
-limit-interrupts pair (all.Is_answered Taken) (Some x) e h k = grind arith
-limit-interrupts pair (all.Is_answered Again) before e h k = grind arith
-limit-interrupts pair (all.Is_answered Kept) before e h k = grind arith
+limit-interrupts pair (all.Is_answered Rfnm) None e h k = grind arith
+limit-interrupts pair (all.Is_answered Rfnm) (Some x) e h k = grind arith
+limit-interrupts pair (all.Is_answered Incomplete) before e h k = grind arith
+limit-interrupts pair (all.Is_answered Dead) before e h k = grind arith
 limit-interrupts pair all.Is_cleared before e h k = grind arith
 
 pub limit-room : (pair : Pair) (what : Happening) (before : Option End) (e : End) → (happens pair what before).after ≡ Some e → (or_new before).room ≤ MAX_ROOM → e.room ≤ MAX_ROOM
@@ -235,8 +235,8 @@ limit-room pair (all.Text_comes head of_size text) None e h k = grind arith
 limit-room pair (all.Text_comes head of_size text) (Some x) e h k = grind arith
 limit-room pair all.Text_goes_out None e h k = grind arith
 limit-room pair all.Text_goes_out (Some x) e h k = grind arith
-limit-room pair (all.Is_answered Taken) None e h k = grind arith
-limit-room pair (all.Is_answered Taken) (Some x) e h k = grind arith
-limit-room pair (all.Is_answered Again) before e h k = grind arith
-limit-room pair (all.Is_answered Kept) before e h k = grind arith
+limit-room pair (all.Is_answered Rfnm) None e h k = grind arith
+limit-room pair (all.Is_answered Rfnm) (Some x) e h k = grind arith
+limit-room pair (all.Is_answered Incomplete) before e h k = grind arith
+limit-room pair (all.Is_answered Dead) before e h k = grind arith
 limit-room pair all.Is_cleared before e h k = grind arith

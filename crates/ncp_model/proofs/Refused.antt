@@ -2,7 +2,7 @@
 use Rattle.std.proofs.Common.{◌≡◌, true, Option, None, Some, arith}
 use Rattle.ncp_model.specs.declared.pair.Pair.{Pair}
 use Rattle.ncp_model.specs.End.{End}
-use Rattle.ncp_model.specs.Texts.{Taken, Again, Kept}
+use Rattle.ncp_model.specs.Texts.{Rfnm, Incomplete, Dead}
 use Rattle.ncp_model.specs.Happenings.{Happening, happens}
 use Rattle.ncp_model.specs.Happenings as all
 use Rattle.ncp_model.specs.Refusals.{is_refusal, made_by_refusal}
@@ -40,10 +40,10 @@ refused-end pair (all.Text_comes head of_size text) None h = grind arith
 refused-end pair (all.Text_comes head of_size text) (Some e) h = grind arith
 refused-end pair all.Text_goes_out None h = grind arith
 refused-end pair all.Text_goes_out (Some e) h = grind arith
-refused-end pair (all.Is_answered Taken) None h = grind arith
-refused-end pair (all.Is_answered Taken) (Some e) h = grind arith
-refused-end pair (all.Is_answered Again) before h = grind arith
-refused-end pair (all.Is_answered Kept) before h = grind arith
+refused-end pair (all.Is_answered Rfnm) None h = grind arith
+refused-end pair (all.Is_answered Rfnm) (Some e) h = grind arith
+refused-end pair (all.Is_answered Incomplete) before h = grind arith
+refused-end pair (all.Is_answered Dead) before h = grind arith
 refused-end pair all.Is_cleared before h = grind arith
 
 pub refused-made : (pair : Pair) (what : Happening) (before : Option End) → is_refusal (happens pair what before).outcome ≡ true → (happens pair what before).made ≡ made_by_refusal what (happens pair what before).outcome
@@ -79,8 +79,8 @@ refused-made pair (all.Text_comes head of_size text) None h = grind arith
 refused-made pair (all.Text_comes head of_size text) (Some e) h = grind arith
 refused-made pair all.Text_goes_out None h = grind arith
 refused-made pair all.Text_goes_out (Some e) h = grind arith
-refused-made pair (all.Is_answered Taken) None h = grind arith
-refused-made pair (all.Is_answered Taken) (Some e) h = grind arith
-refused-made pair (all.Is_answered Again) before h = grind arith
-refused-made pair (all.Is_answered Kept) before h = grind arith
+refused-made pair (all.Is_answered Rfnm) None h = grind arith
+refused-made pair (all.Is_answered Rfnm) (Some e) h = grind arith
+refused-made pair (all.Is_answered Incomplete) before h = grind arith
+refused-made pair (all.Is_answered Dead) before h = grind arith
 refused-made pair all.Is_cleared before h = grind arith

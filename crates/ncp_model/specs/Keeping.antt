@@ -3,7 +3,7 @@ use Rattle.std.specs.Prelude.{Bool, true, false, Option, None, Some}
 use Rattle.ncp_control.specs.declared.command.Command.{Command}
 use Rattle.ncp_control.specs.declared.command.Command.TheVariants.{Cls}
 use Rattle.ncp_model.specs.End.{End}
-use Rattle.ncp_model.specs.Texts.{Taken}
+use Rattle.ncp_model.specs.Texts.{Rfnm}
 use Rattle.ncp_model.specs.Happenings.{Happening}
 use Rattle.ncp_model.specs.Happenings as all
 
@@ -28,7 +28,7 @@ is_sending all.Text_goes_out = true
 is_sending what = false
 
 abbrev pub frees_the_sender : Happening → Bool
-frees_the_sender (all.Is_answered Taken) = true
+frees_the_sender (all.Is_answered Rfnm) = true
 frees_the_sender what = false
 
 -- the numbers grow by ALL that is made or comes, fall by GVB and RET, and by texts (NIC 8246,

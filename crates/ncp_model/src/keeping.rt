@@ -1,7 +1,7 @@
 //! What each act leaves as it was: all of the end, but for the fields that are named.
 ghost use Rattle.std.specs.Prelude.{◌≡◌, ℕ, Bool, true, false, ◌≤◌, List, Option, None, Some};
 ghost use Rattle.ncp_model.specs.End.{End, or_new, is_open};
-ghost use Rattle.ncp_model.specs.Texts.{Answered};
+ghost use Rattle.ncp_slot.specs.declared.slot.Answer.{Answer};
 ghost use Rattle.ncp_model.specs.Happenings.{Happening, happens};
 ghost use Rattle.ncp_model.specs.Happenings as all;
 ghost use Rattle.ncp_model.specs.Keeping.{calls_back, is_ret, is_interrupt, is_sending, frees_the_sender, counts};
@@ -38,7 +38,7 @@ pub fn commands_change_no_more()
 pub fn texts_change_no_more()
     ensures comes { (pair : Pair) (head : List Bool) (of_size : ℕ) (text : List Bool) (before : Option End) (e : End) → (happens pair (all.Text_comes head of_size text) before).after ≡ Some e → e ≡ record (or_new before) { messages = e.messages; bits = e.bits; stored = e.stored } }
     ensures goes_out { (pair : Pair) (before : Option End) (e : End) → (happens pair all.Text_goes_out before).after ≡ Some e → e ≡ record (or_new before) { messages = e.messages; bits = e.bits; stored = e.stored; busy = e.busy } }
-    ensures answered { (pair : Pair) (how : Answered) (before : Option End) (e : End) → (happens pair (all.Is_answered how) before).after ≡ Some e → e ≡ record (or_new before) { leaving = e.leaving; left = e.left; stored = e.stored; busy = e.busy } }
+    ensures answered { (pair : Pair) (how : Answer) (before : Option End) (e : End) → (happens pair (all.Is_answered how) before).after ≡ Some e → e ≡ record (or_new before) { leaving = e.leaving; left = e.left; stored = e.stored; busy = e.busy } }
 {}
 
 /// Whatever happens: a request that was made or came stays, and so do that the end opened, that it is
