@@ -5,9 +5,3 @@ pub mod LinksLead
 pub mod Lookups
 pub mod Makes
 pub mod ResetLists
-pub mod Refused
-pub mod Kept
-pub mod Bytes
-pub mod OneCls
-pub mod Used
-pub mod Opens

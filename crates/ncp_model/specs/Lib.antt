@@ -10,8 +10,6 @@ pub mod Ends
 pub mod Phase
 pub mod Rows
 pub mod Happenings
-pub mod Refusals
-pub mod Keeping
 pub mod Leading
 pub mod Sending
 pub mod Admitting

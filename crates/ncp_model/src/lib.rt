@@ -7,20 +7,15 @@
 #![tactic(auto)]
 
 mod amounts;
-pub mod byte_sizes;
 mod call_fault;
-pub mod conserved;
 pub mod equality;
 pub mod giving_back;
-pub mod keeping;
 mod limits;
 pub mod links;
-pub mod one_cls;
 mod outcomes;
 mod pair;
 pub mod phases;
 pub mod profile;
-pub mod refusals;
 pub mod rows;
 #[cfg(test)]
 mod tests;

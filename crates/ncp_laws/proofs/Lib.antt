@@ -1,0 +1,6 @@
+mod Refused
+mod Kept
+mod Bytes
+mod OneCls
+mod Used
+mod Opens
