@@ -1,6 +1,6 @@
 //! A whole connection, from the requests of either side to the CLS of either side.
-use super::{INWARD, OUTWARD, ROOM, are_same, cls_of, new_table, text};
-use crate::{Heard, Table, Took};
+use super::{INWARD, OUTWARD, ROOM, are_same, cls_of, known, new_table, text};
+use crate::{End, FIRST_LINK, Heard, Table, Took, equality};
 use ncp_bits::BitStore;
 use std::alloc::Global;
 use std::process::Abort;
@@ -54,5 +54,26 @@ pub(super) fn opens_carries_and_closes<S: BitStore>(
     assert!(rt; receiver.hear(&cls) == Heard::Reply(cls_of(INWARD)));
     assert!(rt; sender.hear(&cls_of(INWARD)) == Heard::Nothing);
     assert!(rt; sender.record(OUTWARD).is_none() && receiver.record(INWARD).is_none());
+    Ok(())
+}
+
+// What a host asks a table between calls: which connections there are, and which link sends next.
+pub(super) fn tells_pairs_and_links<S: BitStore>(
+    rt: &impl Abort,
+    alloc: Global,
+) -> Result<(), Fail> {
+    let mut sender = new_table::<S>(alloc)?;
+    let mut receiver = new_table::<S>(alloc)?;
+    assert!(rt; sender.pairs().next().is_none());
+    opens(rt, &mut sender, &mut receiver)?;
+    assert!(rt; sender.pairs().next() == Some(OUTWARD));
+    let all = receiver.allocate(INWARD, 1, BITS, false)?;
+    assert!(rt; sender.hear(&all) == Heard::Nothing && sender.next_cut(FIRST_LINK).is_none());
+    sender.give(OUTWARD, &text(BITS as usize)?)?;
+    assert!(rt; sender.next_cut(FIRST_LINK) == Some(2) && sender.next_cut(3).is_none());
+    let here = known(rt, &sender, OUTWARD);
+    let there = known(rt, &receiver, INWARD);
+    assert!(rt; equality::equal_records(&here, &here) && !equality::equal_records(&here, &there));
+    assert!(rt; equality::equal_ends(here.end, End::Send));
     Ok(())
 }

@@ -290,3 +290,9 @@ fn opens_carries_and_closes(rt: HostRuntime) -> Result<(), Fail> {
     connection::opens_carries_and_closes::<PlainStore>(&rt, rt.alloc())?;
     connection::opens_carries_and_closes::<PackedStore>(&rt, rt.alloc())
 }
+
+#[test]
+fn tells_pairs_and_links(rt: HostRuntime) -> Result<(), Fail> {
+    connection::tells_pairs_and_links::<PlainStore>(&rt, rt.alloc())?;
+    connection::tells_pairs_and_links::<PackedStore>(&rt, rt.alloc())
+}
