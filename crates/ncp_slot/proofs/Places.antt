@@ -11,8 +11,9 @@ use Rattle.std.proofs.lemmas.Option.{unwrap_or-slice_get}
 use Rattle.std.proofs.lemmas.List.{get_or_default}
 use Rattle.std.proofs.Math.ListN.{get_or-eq_default}
 use Rattle.ncp_slot.specs.declared.slot.Slot.TheVariants.{Empty, Ready, Travelling, Held}
+use Rattle.ncp_slot.specs.declared.slots.TheConstants.{FIRST_DATA_LINK, DATA_LINKS, SLOTS}
 use Rattle.ncp_slot.specs.Slot.{is_empty, is_ready}
-use Rattle.ncp_slot.specs.Slots.{LinkSlot, LinkSlots, IsQuiet, is_quiet, slot_at, with_slot, OthersStay, link_at, with_links, slots_in}
+use Rattle.ncp_slot.specs.Slots.{LinkSlot, LinkSlots, IsQuiet, is_quiet, no_slots, slot_at, with_slot, OthersStay, link_at, with_links, slots_in}
 
 same : (a b : ℕ) → a ≡ b → eq_by_cmp nat_cmp a b ≡ true
 same a b e = unsigned_tied a b ∙ eq-eqb a b e
@@ -129,6 +130,10 @@ slot_at-replicate count link = elim (eqb_tells link 1) [
   | inr has ↦ slot_at-slots_in (replicate count Empty) link has.1 ∙ get_or-replicate-default count (link - 1) Empty
 ]
 
+pub slot_at-no_slots : (link : ℕ) → slot_at no_slots link ≡ Empty
+unfolding no_slots
+slot_at-no_slots link = slot_at-replicate SLOTS link
+
 -- what stands at a link's place is the slot of the link
 pub slot_at-place : (slots : List LinkSlot) (all : LinkSlots) (link place : ℕ) (slot : LinkSlot) → slots_in slots ≡ all → link ≢ 1 → place ≡ link - 1 → place < length slots → slot ≡ get_or slots place slot → slot_at all link ≡ slot
 slot_at-place slots all link place slot is has there inside read =
@@ -209,7 +214,7 @@ quiet-all_empty (control ∷ data_slots) all is empty link from to =
     ap (λ (s : LinkSlots). slot_at s link) (sym is) ∙ slot_at-slots_in (control ∷ data_slots) link (omega arith)
     ∙ ap (λ (k : ℕ). get_or (control ∷ data_slots) k Empty) (let k : link - 1 ≡ suc (link - 2) = omega arith in k) ∙ all_empty-at data_slots empty (link - 2)
 
-pub all_empty-quiet : (slots : List LinkSlot) (all : LinkSlots) → slots_in slots ≡ all → length slots ≡ 71 → IsQuiet all → list_all is_empty (drop 1 slots) ≡ true
+pub all_empty-quiet : (slots : List LinkSlot) (all : LinkSlots) → slots_in slots ≡ all → length slots ≡ SLOTS → IsQuiet all → list_all is_empty (drop 1 slots) ≡ true
 all_empty-quiet [] all is len quiet = refl
 all_empty-quiet (control ∷ data_slots) all is len quiet = all_empty-each data_slots (λ place inside.
     sym (slot_at-slots_in (control ∷ data_slots) (suc place + 1) (omega arith) ∙ ap (λ (k : ℕ). get_or (control ∷ data_slots) k Empty) (let k : suc place + 1 - 1 ≡ suc place = omega arith in k))
@@ -238,8 +243,8 @@ empty_told (Held message) h = cc
 pub is_quiet-tells : (all : LinkSlots) → (is_quiet all ≡ true) ↔ IsQuiet all
 unfolding is_quiet
 is_quiet-tells all = (
-  λ h link low high. empty_told (slot_at all link) (list_all_in (λ k. is_empty (slot_at all k)) 2 70 h link low (omega arith)),
-  λ quiet. all_in_list (λ k. is_empty (slot_at all k)) 2 70 (λ k low high. ap is_empty (quiet k low (omega arith))),
+  λ h link low high. empty_told (slot_at all link) (list_all_in (λ k. is_empty (slot_at all k)) FIRST_DATA_LINK DATA_LINKS h link low (omega arith)),
+  λ quiet. all_in_list (λ k. is_empty (slot_at all k)) FIRST_DATA_LINK DATA_LINKS (λ k low high. ap is_empty (quiet k low (omega arith))),
 )
 
 pub same_test : (a b : Bool) {P : Type 0} → ((a ≡ true) ↔ P) → ((b ≡ true) ↔ P) → a ≡ b

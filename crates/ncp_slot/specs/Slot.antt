@@ -51,24 +51,28 @@ kept_message (Ready message) = Some message
 kept_message (Travelling message) = Some message
 kept_message (Held message) = Some message
 
+-- there is no message (BBN 1822, section 3)
 abbrev pub is_empty : {M : Type 0} → Slot M → Bool
 is_empty Empty = true
 is_empty (Ready message) = false
 is_empty (Travelling message) = false
 is_empty (Held message) = false
 
+-- there is a message that is to go out (BBN 1822, section 3)
 abbrev pub is_ready : {M : Type 0} → Slot M → Bool
 is_ready Empty = false
 is_ready (Ready message) = true
 is_ready (Travelling message) = false
 is_ready (Held message) = false
 
+-- a message went out and is not answered yet (BBN 1822, section 3)
 abbrev pub is_travelling : {M : Type 0} → Slot M → Bool
 is_travelling Empty = false
 is_travelling (Ready message) = false
 is_travelling (Travelling message) = true
 is_travelling (Held message) = false
 
+-- a message is held, since its destination was dead (this profile)
 abbrev pub is_held : {M : Type 0} → Slot M → Bool
 is_held Empty = false
 is_held (Ready message) = false

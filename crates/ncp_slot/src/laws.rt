@@ -1,15 +1,18 @@
 //! Laws about slots: what happens on a link over any list of events, and that the slots of
 //! different links are apart.
-ghost use Rattle.std.specs.Prelude.{◌≡◌, ◌≢◌, ℕ, ◌↔◌, IsTrue, IfOk};
+ghost use Rattle.std.specs.Prelude.{◌≡◌, ◌≢◌, ℕ, ◌↔◌, true, false, Some, is_some, is_none, IsTrue, IfOk};
 ghost use Rattle.ncp_slot.specs.declared.slot.Slot.{Slot};
-ghost use Rattle.ncp_slot.specs.Slot.{woken};
-ghost use Rattle.ncp_slot.specs.Slots.{HasSlot, all_woken, LinkSlot, LinkSlots, slot_at, with_slot, OthersStay, OthersStayEmpty, IsQuiet, is_quiet};
+ghost use Rattle.ncp_slot.specs.declared.slot.Answer.{Answer};
+ghost use Rattle.ncp_slot.specs.declared.slot.Busy.{Busy};
+ghost use Rattle.ncp_slot.specs.declared.slot.Stray.{Stray};
+ghost use Rattle.ncp_slot.specs.Slot.{put_in, handed_out, answered, woken, ready_message, kept_message, is_empty, is_ready, is_travelling, is_held};
+ghost use Rattle.ncp_slot.specs.Slots.{HasSlot, all_woken, LinkSlot, LinkSlots, no_slots, slot_at, with_slot, OthersStay, OthersStayEmpty, IsQuiet, is_quiet};
 ghost use Rattle.ncp_slot.specs.Deeds.{history_of, deeds_of};
 ghost use Rattle.ncp_slot.specs.Laws.{AreNotesOf, OneAnswerBetween, SameAfterFailure, OthersInOrder, PutsTold, AnswersTold, HandsTold, slot_told};
 ghost use Rattle.ncp_slot.specs.declared.slots.TheConstants.{UNUSED_LINK, FIRST_DATA_LINK, LAST_LINK, DATA_LINKS, SLOTS};
 ghost use Rattle.ncp_slot.specs.Steps.{slot_after, note_at};
 
-use crate::slot::Answer;
+use crate::slot::{Answer, Busy, Slot, Stray};
 use crate::slots::Slots;
 use ncp_bits::Bits;
 use std::alloc::{AllocError, Global};
@@ -17,18 +20,26 @@ use std::alloc::{AllocError, Global};
 /// Something that is done with the slot of a link.
 #[derive(Drop)]
 pub enum LinkEvent {
+    /// A message is put in.
     Put(Bits),
+    /// The message that is to go out is asked for.
     Hand,
+    /// The subnet answers.
     Answer(Answer),
+    /// The user asks for what is held.
     Wake,
 }
 
-/// What came of an event: whether it was accepted, or the message that was handed out.
+/// What came of an event.
 #[derive(Drop)]
 pub enum LinkNote {
+    /// Whether the message was accepted.
     Put(bool),
+    /// The message that was handed out.
     Handed(Option<Bits>),
+    /// Whether the answer was accepted.
     Answered(bool),
+    /// The user asked for what is held.
     Woken,
 }
 
@@ -88,6 +99,7 @@ pub fn run_link(
 pub fn slots_are_apart()
     ensures same { (slots : LinkSlots) (link : ℕ) (slot : LinkSlot) → slot_at (with_slot slots link slot) link ≡ slot }
     ensures others { (slots : LinkSlots) (link : ℕ) (slot : LinkSlot) → OthersStay slots (with_slot slots link slot) link }
+    ensures none { (link : ℕ) → slot_at no_slots link ≡ Slot.Empty }
     ensures twice { (slots : LinkSlots) (link : ℕ) (first last : LinkSlot) → with_slot (with_slot slots link first) link last ≡ with_slot slots link last }
 {}
 
@@ -103,6 +115,44 @@ pub fn links_are_numbered()
     ensures last { LAST_LINK ≡ 71 }
     ensures data { DATA_LINKS ≡ 70 }
     ensures slots { SLOTS ≡ 71 }
+{}
+
+/// A slot keeps its message until it is taken: whatever is done, short of Ready For Next Message
+/// for a message that went out, leaves it as it was.
+pub fn a_message_is_kept<M>()
+    ensures empty { (slot : Slot M) → is_none (kept_message slot) ≡ is_empty slot }
+    ensures put { (message : M) → kept_message (put_in message Slot.Empty) ≡ Some message }
+    ensures busy { (message : M) (slot : Slot M) → is_empty slot ≡ false → put_in message slot ≡ slot }
+    ensures handed { (slot : Slot M) → kept_message (handed_out slot) ≡ kept_message slot }
+    ensures failed { (slot : Slot M) (answer : Answer) → answer ≢ Answer.Rfnm → kept_message (answered answer slot) ≡ kept_message slot }
+    ensures taken { (slot : Slot M) → is_travelling slot ≡ true → answered Answer.Rfnm slot ≡ Slot.Empty }
+    ensures stray { (slot : Slot M) (answer : Answer) → is_travelling slot ≡ false → answered answer slot ≡ slot }
+    ensures woken { (slot : Slot M) → kept_message (woken slot) ≡ kept_message slot }
+{}
+
+/// Only a message that is ready goes out. After Incomplete Transmission it is; after Destination
+/// Dead it is held, and does not go out until the user asks for it.
+pub fn what_is_held_stays<M>()
+    ensures ready { (slot : Slot M) → is_ready slot ≡ is_some (ready_message slot) }
+    ensures goes_out { (slot : Slot M) (message : M) → ready_message slot ≡ Some message → handed_out slot ≡ Slot.Travelling message }
+    ensures again { (message : M) → answered Answer.Incomplete (Slot.Travelling message) ≡ Slot.Ready message }
+    ensures held { (message : M) → answered Answer.Dead (Slot.Travelling message) ≡ Slot.Held message }
+    ensures stays { (slot : Slot M) → is_held slot ≡ true → handed_out slot ≡ slot }
+    ensures asked { (slot : Slot M) → is_held slot ≡ true → is_ready (woken slot) ≡ true }
+    ensures unasked { (slot : Slot M) → is_held slot ≡ false → woken slot ≡ slot }
+{}
+
+/// `==` of answers and of refusals is equality.
+pub fn answers_are_compared()
+    ensures answer { (a b : Answer) → ((⟦<Answer as PartialEq>⟧.eq a b ≡ true) ↔ (a ≡ b)) }
+    ensures busy { (a b : Busy) → ((⟦<Busy as PartialEq>⟧.eq a b ≡ true) ↔ (a ≡ b)) }
+    ensures stray { (a b : Stray) → ((⟦<Stray as PartialEq>⟧.eq a b ≡ true) ↔ (a ≡ b)) }
+{}
+
+/// `==` of slots is equality where that of their messages is.
+pub fn slots_are_compared<M: PartialEq>()
+    requires { (a b : M) → ((M.eq a b ≡ true) ↔ (a ≡ b)) }
+    ensures { (a b : Slot M) → ((⟦<Slot<M> as PartialEq>⟧.eq a b ≡ true) ↔ (a ≡ b)) }
 {}
 
 /// The test for quiet data links passes exactly where each of their slots is empty.

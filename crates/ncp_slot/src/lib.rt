@@ -1,8 +1,13 @@
 //! The slots of a host's links to one peer: each keeps the message that goes out on its link until
-//! the subnet has answered it.
+//! its destination has taken it.
 //!
-//! A contract sees the slots as a map from links to slots, and a slot as empty, ready or
-//! travelling.
+//! [`Slots::put`] makes a message ready, [`Slots::hand`] gives it out to travel, and
+//! [`Slots::answer`] takes what the subnet says of it: after Ready For Next Message the slot is
+//! empty; after Incomplete Transmission the same message is ready again; after Destination Dead it
+//! is held, until [`Slots::wake`] makes it ready.
+//!
+//! A contract sees the slots as a map from links to slots, and a slot as empty, ready, travelling
+//! or held, with its message as a list of bits.
 #![tactic(auto)]
 
 pub mod laws;

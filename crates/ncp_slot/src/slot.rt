@@ -20,7 +20,7 @@ pub enum Answer {
 
 /// The link has a message that is not taken yet.
 #[derive(Clone, Copy, Debug, Drop, PartialEq, Eq, Error)]
-#[error("a message of this link is not answered yet")]
+#[error("a message of this link is not taken yet")]
 pub struct Busy;
 
 /// An answer on a link on which no message waits for one.

@@ -1,6 +1,7 @@
 //! `Slots`.
-ghost use Rattle.std.specs.Prelude.{◌≡◌, ◌≢◌, ℕ, ◌-◌, ◌+◌, ◌<◌, ◌≤◌, ◌↔◌, true, false, map, length, slice_get, IsTrue, Some, IfOk, IfSome, IfNone, OnOk, OnErr, IsOk, IsErr};
+ghost use Rattle.std.specs.Prelude.{◌≡◌, ◌≢◌, ℕ, ◌-◌, ◌+◌, ◌<◌, ◌≤◌, ◌↔◌, true, false, map, length, slice_get, IsTrue, Some, IfOk, IfSome, IfNone, OnOk, OnErr, IsNone, IsOk, IsErr};
 ghost use Rattle.std.specs.List.{list_all};
+ghost use Rattle.std.specs.Option.{option_copied};
 ghost use Rattle.ncp_slot.specs.Slot.{put_in, handed_out, answered, woken, ready_message, kept_message, is_empty, is_ready, is_travelling};
 ghost use Rattle.ncp_slot.specs.Slots.{HasSlot, no_slots, slot_at, with_slot, all_woken, OthersStay, IsReady, IsHeld, IsFirstReady, IsQuiet, is_quiet, link_at};
 
@@ -64,8 +65,8 @@ fn all_empty(slots: &[Slot<Bits>]) -> bool
     slots.iter().all(|slot| slot.is_empty())
 }
 
-/// The slots of a host's links to one peer. Their room is made by [`Slots::new`]; no other call
-/// allocates.
+/// The slots of a host's links to one peer, link 0 and links [`FIRST_DATA_LINK`] to [`LAST_LINK`].
+/// Their room is made by [`Slots::new`]; no other call takes memory.
 #[derive(Drop)]
 pub struct Slots {
     slots: Vec<Slot<Bits>>,
@@ -86,7 +87,7 @@ impl Model for Slots {
 }
 
 impl Slots {
-    /// Empty slots.
+    /// Empty slots, one for each link that has one. It alone takes memory, once.
     pub fn new(alloc: Global) -> Result<Slots, AllocError>
         ensures each { IfOk result (λ slots. (link : ℕ) → slot_at slots link ≡ Slot.Empty) }
         ensures all { IfOk result (λ slots. slots ≡ no_slots) }
@@ -99,7 +100,7 @@ impl Slots {
     }
 
     /// Keeps a copy of a message, to go out on a link. Busy, and nothing changes, where the link
-    /// has a message that is not answered yet.
+    /// has a message that is not taken yet: one that is to go out, went out, or is held.
     pub fn put(&mut self, link: u8, bits: &Bits) -> Result<(), Busy>
         requires { HasSlot link }
         ensures variant { IsOk result ↔ (slot_at self.old link ≡ Slot.Empty) }
@@ -111,8 +112,9 @@ impl Slots {
         self.slots[place_of(link)].put(bits)
     }
 
-    /// Hands out the message that is to go out on a link, if there is one. It is kept until it is
-    /// answered.
+    /// Hands out a copy of the message that is to go out on a link. It is kept until it is taken.
+    /// None, and nothing changes, where there is none, where it went out and is not answered yet,
+    /// and where it is held.
     pub fn hand(&mut self, link: u8) -> Option<Bits>
         requires { HasSlot link }
         ensures handed { result ≡ ready_message (slot_at self.old link) }
@@ -124,10 +126,11 @@ impl Slots {
         self.slots[place_of(link)].hand()
     }
 
-    /// Takes the subnet's answer to the message that went out on a link. After an RFNM the
-    /// message is gone; after Incomplete Transmission it is to go out again.
+    /// Takes the subnet's answer to the message that went out on a link. After Ready For Next
+    /// Message it is gone; after Incomplete Transmission it is to go out again; after Destination
+    /// Dead it is held, until [`Slots::wake`].
     ///
-    /// Stray, and nothing changes, where no message on the link is unanswered, as on a link
+    /// Stray, and nothing changes, where no message of the link waits for an answer, as on a link
     /// without a slot.
     pub fn answer(&mut self, link: u8, answer: Answer) -> Result<(), Stray>
         ensures variant { IsOk result ↔ IsTrue (is_travelling (slot_at self.old link)) }
@@ -154,6 +157,19 @@ impl Slots {
         wake_each(&mut self.slots);
     }
 
+    /// The message of a link that is not taken yet: one that is to go out, went out, or is held.
+    /// None where there is none, as on a link without a slot.
+    pub fn kept(&self, link: u8) -> Option<&Bits>
+        ensures kept { option_copied result ≡ kept_message (slot_at self.now link) }
+        ensures elsewhere { ¬ HasSlot link → IsNone result }
+    {
+        let slots = &self.slots;
+        if !has_slot(link) {
+            return None;
+        }
+        slots[place_of(link)].kept()
+    }
+
     /// Whether a link has no message.
     pub fn is_empty(&self, link: u8) -> bool
         requires { HasSlot link }
@@ -176,7 +192,8 @@ impl Slots {
         None
     }
 
-    /// Whether no data link has a message. The control link is not looked at.
+    /// Whether no data link has a message, not even one that is held. The control link is not
+    /// looked at.
     pub fn quiet(&self) -> bool
         ensures quiet { IsTrue result ↔ IsQuiet self.now }
         ensures test { result ≡ is_quiet self.now }

@@ -1,6 +1,7 @@
 use Rattle.std.proofs.Common.{◌≡◌, ◌<◌, ◌∙◌, length, ◌≢◌, ◌≤◌, ◌-◌, inl, inr, Bool, List, true, slice_set, Result, Ok, Err, OnOk, sym, ap, arith}
 use Rattle.std.proofs.lemmas.Bool.{cases_lt}
 use Rattle.ncp_slot.specs.declared.slot.Slot.TheVariants.{Empty}
+use Rattle.ncp_slot.specs.declared.slots.TheConstants.{LAST_LINK}
 use Rattle.ncp_slot.specs.Slots.{HasSlot}
 use Rattle.ncp_slot.specs.Slot.{answered, is_travelling}
 use Rattle.ncp_slot.specs.Slots.{slot_at, with_slot, slots_in}
@@ -17,13 +18,13 @@ on_ok (Err e) p = tt
 
 pub returns-then-not-has_slot-clause-variant : goal.returns-then-not-has_slot-clause-variant
 returns-then-not-has_slot-clause-variant c =
-    let past : c.args.link ≢ 1 → length c.self.inside.slots.items ≤ c.args.link - 1 = λ has. elim (cases_lt 71 c.args.link) [ inl h ↦ omega arith | inr h ↦ absurd (no c (has, h)) ] in
+    let past : c.args.link ≢ 1 → length c.self.inside.slots.items ≤ c.args.link - 1 = λ has. elim (cases_lt LAST_LINK c.args.link) [ inl h ↦ omega arith | inr h ↦ absurd (no c (has, h)) ] in
     let none : slot_at c.args.self.now c.args.link ≡ Empty = slot_at-past c.self.inside.slots.items c.args.self.now c.args.link c.self.view_is past in
     (λ no_ok. cc, λ travelling. let t : is_travelling {M = List Bool} Empty ≡ true = rw none at travelling in t)
 
 pub returns-then-not-has_slot-clause-slot : goal.returns-then-not-has_slot-clause-slot
 returns-then-not-has_slot-clause-slot c =
-    let past : c.args.link ≢ 1 → length c.self.inside.slots.items ≤ c.args.link - 1 = λ has. elim (cases_lt 71 c.args.link) [ inl h ↦ omega arith | inr h ↦ absurd (no c (has, h)) ] in
+    let past : c.args.link ≢ 1 → length c.self.inside.slots.items ≤ c.args.link - 1 = λ has. elim (cases_lt LAST_LINK c.args.link) [ inl h ↦ omega arith | inr h ↦ absurd (no c (has, h)) ] in
     let none : slot_at c.args.self.now c.args.link ≡ Empty = slot_at-past c.self.inside.slots.items c.args.self.now c.args.link c.self.view_is past in
     ap (λ s. slot_at s c.args.link) c.self.view_is ∙ none ∙ ap (answered c.args.answer) (sym none)
 
