@@ -2,6 +2,8 @@
 -- host has no such peer is judged before all else (this profile's rule).
 use Rattle.std.specs.Prelude.{◌≡◌, ◌⊎◌, ℕ, Bool, List, slice_get, Option, None, Some, Result, Ok, Err}
 use Rattle.ncp_control.specs.declared.command.Command.{Command}
+use Rattle.ncp_slot.specs.Slot.{kept_message}
+use Rattle.ncp_slot.specs.Slots.{slot_at}
 use Rattle.ncp_model.specs.declared.pair.Pair.{Pair}
 use Rattle.ncp_model.specs.declared.call_fault.CallFault.{CallFault}
 use Rattle.ncp_model.specs.declared.call_fault.CallFault.TheVariants.{NoEntry, OutOfMemory}
@@ -83,3 +85,8 @@ counts_told number h = if_known (state_of h number) (λ s. Ok s.counts)
 abbrev pub waiting_at : Option PeerState → ℕ → Option Command
 waiting_at None place = None
 waiting_at (Some s) place = slice_get s.peer.phase.waiting place
+
+-- the message on a link that is not taken yet, if the host has the peer and there is one
+abbrev pub kept_for : Option PeerState → ℕ → Option (List Bool)
+kept_for None on = None
+kept_for (Some s) on = kept_message (slot_at s.slots on)

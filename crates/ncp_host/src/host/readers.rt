@@ -1,13 +1,14 @@
 //! What a user may read, in any phase. Each but the last two is refused with `UnknownPeer` first.
 ghost use Rattle.std.specs.Prelude.{◌≡◌};
+ghost use Rattle.std.specs.Option.{option_copied};
 ghost use Rattle.ncp_host.specs.Host.{state_of};
-ghost use Rattle.ncp_host.specs.Calls.{record_told, flags_told, echoed_told, errors_told, counts_told, waiting_at};
+ghost use Rattle.ncp_host.specs.Calls.{record_told, flags_told, echoed_told, errors_told, counts_told, waiting_at, kept_for};
 
 use crate::counts::{Counts, Ignored};
 use crate::echoes::Errors;
 use crate::flags::Flags;
 use crate::host::{Host, find};
-use ncp_bits::BitStore;
+use ncp_bits::{BitStore, Bits};
 use ncp_conn::Record;
 use ncp_control::Command;
 use ncp_model::{CallFault, Pair};
@@ -70,5 +71,17 @@ impl<S: BitStore> Host<S> {
             return None;
         };
         self.peers[at].waiting(place as usize)
+    }
+
+    /// The message to a peer on a link that is not taken yet: one that is to go out again, is out,
+    /// or is held since its destination was dead. None where there is none, as on a link without a
+    /// slot, or where the host has no such peer.
+    pub fn kept(&self, peer: u8, link: u8) -> Option<&Bits>
+        ensures { option_copied result ≡ kept_for (state_of self.now peer) link }
+    {
+        let Ok(place) = find(self.numbers.as_slice(), &self.peers, peer) else {
+            return None;
+        };
+        self.peers[place].kept(link)
     }
 }

@@ -1,5 +1,8 @@
 //! The calls of a user, and what a user may read.
 ghost use Rattle.std.specs.Prelude.{◌≡◌, slice_get, OnErr};
+ghost use Rattle.std.specs.Option.{option_copied};
+ghost use Rattle.ncp_slot.specs.Slot.{kept_message};
+ghost use Rattle.ncp_slot.specs.Slots.{slot_at};
 ghost use Rattle.ncp_conn.specs.Records.{record_in};
 ghost use Rattle.ncp_model.specs.Phase.{reset_answer};
 ghost use Rattle.ncp_model.specs.Peers.{comes_of, reply, reply_of_take, reply_of_echo, Close, Give, Take, Allocate, Call_back, Interrupt, Ask_to_send, Ask_to_receive};
@@ -138,6 +141,13 @@ impl<S: BitStore> Peer<S> {
         ensures { result ≡ self.now.peer.echoes.errors }
     {
         self.association.errors()
+    }
+
+    /// The message on a link that is not taken yet.
+    pub(crate) fn kept(&self, link: u8) -> Option<&Bits>
+        ensures { option_copied result ≡ kept_message (slot_at self.now.slots link) }
+    {
+        self.slots.kept(link)
     }
 
     /// What was counted.

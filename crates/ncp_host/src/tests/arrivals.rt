@@ -106,12 +106,14 @@ fn sends_again<S: BitStore>(rt: &impl Abort, alloc: Global) -> Result<(), Fail> 
     assert!(rt; is_same(&host.next_output().expect(rt, "the text"), &text));
     assert!(rt; answers(rt, &mut host, DEAD, LINK) == Received::Answered);
     assert!(rt; host.next_output().is_none() && host.state(PEER, OUTWARD)?.busy);
+    assert!(rt; is_same(host.kept(PEER, LINK).expect(rt, "the text"), &text));
     assert!(rt; answers(rt, &mut host, RFNM, LINK) == Received::Stray);
     assert!(rt; host.wake(PEER).is_ok());
     assert!(rt; is_same(&host.next_output().expect(rt, "the text"), &text));
     assert!(rt; answers(rt, &mut host, RFNM, LINK) == Received::Answered);
     let left = host.state(PEER, OUTWARD)?;
     assert!(rt; !left.busy && left.stored == 8 && left.messages == 1 && left.bits == 0);
+    assert!(rt; host.kept(PEER, LINK).is_none() && host.kept(OTHER, LINK).is_none());
     Ok(())
 }
 

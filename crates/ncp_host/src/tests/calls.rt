@@ -4,7 +4,7 @@ use super::{
     open_sender, refusal, says,
 };
 use crate::{CallFault, Host, Pair, Received, Took};
-use ncp_bits::{BitStore, PackedStore, PlainStore};
+use ncp_bits::{BitStore, Bits, PackedStore, PlainStore};
 use ncp_model::{MAX_CALLED, MAX_OWN, MAX_ROOM};
 use std::alloc::Global;
 use std::process::Abort;
@@ -116,7 +116,8 @@ fn makes_commands_as_sender<S: BitStore>(rt: &impl Abort, alloc: Global) -> Resu
     open_sender(rt, &mut host, PEER);
     assert!(rt; refusal(host.take(PEER, OUTWARD, 1)) == Some(CallFault::WrongEnd));
     assert!(rt; host.allocate(PEER, OUTWARD, 1, 1) == Err(CallFault::WrongEnd));
-    let odd = bits_of(rt, &[0x61]).slice(0, 4).to_bits();
+    let mut odd = Bits::new();
+    odd.push_number(6, 4).expect(rt, "room");
     assert!(rt; host.give(PEER, OUTWARD, &odd) == Err(CallFault::NotWhole));
     assert!(rt; host.interrupt(PEER, OUTWARD).is_ok());
     assert!(rt; host.give(PEER, pair(5, 4), &odd) == Err(CallFault::NoEntry));

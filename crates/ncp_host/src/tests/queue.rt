@@ -108,9 +108,9 @@ fn keeps_the_last_errors<S: BitStore>(rt: &impl Abort, alloc: Global) -> Result<
         let error = [11, code, 0, 0, 0, 0, 0, 0, 0, 0, 0, code];
         assert!(rt; hears(rt, &mut host, PEER, &error) == Received::Control(1));
     }
-    let mut count = 0;
+    let mut count = 0u8;
     for error in host.errors(PEER)? {
-        count += 1;
+        count = count.saturating_add(1);
         assert!(rt; error.code == count && error.bytes[9] == count);
     }
     assert!(rt; usize::from(count) == MAX_ERRORS && host.next_output().is_none());
