@@ -1,8 +1,7 @@
-use Rattle.std.proofs.Common.{◌≡◌, [], refl, sym, ap, ◌∙◌}
+use Rattle.std.proofs.Common.{refl, sym, ap, ◌∙◌}
 use Rattle.std.specs.FinMap.{get}
 use Rattle.ncp_model.specs.Act.{made_by_close}
 use Rattle.ncp_model.specs.Calls.{close}
-use Rattle.ncp_model.specs.Sending.{is_full}
 use Rattle.ncp_model.specs.Peers.{Peer, Close, makes}
 use Rattle.ncp_host.proofs.Calling.{made_none, called}
 use Rattle.ncp_host.proofs.association.Association.close.Goals as goal

@@ -1,4 +1,3 @@
-use Rattle.std.proofs.Common.{◌≡◌, sym, ap, ◌∙◌}
 use Rattle.ncp_model.specs.Ends.{sender_on}
 use Rattle.ncp_host.proofs.Cutting.{cut_whole}
 use Rattle.ncp_host.proofs.association.Association.cut.Goals as goal

@@ -1,4 +1,4 @@
-use Rattle.std.proofs.Common.{◌≡◌, [], refl, sym, ◌∙◌}
+use Rattle.std.proofs.Common.{[], refl, sym, ◌∙◌}
 use Rattle.std.specs.FinMap.{get}
 use Rattle.ncp_model.specs.Calls.{give}
 use Rattle.ncp_model.specs.Sending.{is_full}

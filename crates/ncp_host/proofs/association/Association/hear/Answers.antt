@@ -1,4 +1,4 @@
-use Rattle.std.proofs.Common.{◌≡◌, sym, ap, ◌∙◌}
+use Rattle.std.proofs.Common.{sym, ap, ◌∙◌}
 use Rattle.ncp_model.specs.Peers.{hears, hears_other}
 use Rattle.ncp_host.proofs.Hearing.{hears_is}
 use Rattle.ncp_host.proofs.association.Association.hear.Goals as goal

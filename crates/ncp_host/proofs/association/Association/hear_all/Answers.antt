@@ -1,4 +1,4 @@
-use Rattle.std.proofs.Common.{◌≡◌, ◌≤◌, ◌+◌, ◌*◌, List, [], ◌∷◌, ◌++◌, length, Ok, Err, Result, sym, ap, ◌∙◌, arith}
+use Rattle.std.proofs.Common.{◌≡◌, ◌+◌, List, [], ◌∷◌, ◌++◌, length, Ok, Err, Result, sym, ap, ◌∙◌, arith}
 use Rattle.std.proofs.lemmas.List.{append_assoc, append-nil}
 use Rattle.ncp_bits.specs.Bits.{bytes_of}
 use Rattle.ncp_control.specs.declared.command.Command.{Command}
@@ -7,7 +7,7 @@ use Rattle.ncp_control.specs.Texts.{items_of, commands_of}
 use Rattle.ncp_control.specs.Reading.{commands_in, fault_in}
 use Rattle.ncp_model.specs.Peers.{Peer}
 use Rattle.ncp_host.specs.declared.counts.Counts.{Counts}
-use Rattle.ncp_host.specs.Steps.{heard_item, heard_items}
+use Rattle.ncp_host.specs.Steps.{heard_items}
 use Rattle.ncp_host.proofs.Hearing.{item_heard, both, fewer, commands_ok, commands_err}
 use Rattle.ncp_host.proofs.association.Association.hear_all.Goals as goal
 

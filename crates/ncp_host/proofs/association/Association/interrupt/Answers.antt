@@ -1,8 +1,7 @@
-use Rattle.std.proofs.Common.{◌≡◌, [], refl, sym, ap, ◌∙◌}
+use Rattle.std.proofs.Common.{refl, sym, ap, ◌∙◌}
 use Rattle.std.specs.FinMap.{get}
 use Rattle.ncp_model.specs.Act.{made_by_call}
 use Rattle.ncp_model.specs.Calls.{interrupt}
-use Rattle.ncp_model.specs.Sending.{is_full}
 use Rattle.ncp_model.specs.Peers.{Peer, Interrupt, makes}
 use Rattle.ncp_host.proofs.Calling.{made_none, called}
 use Rattle.ncp_host.proofs.association.Association.interrupt.Goals as goal

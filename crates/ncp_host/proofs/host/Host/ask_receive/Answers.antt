@@ -1,4 +1,3 @@
-use Rattle.std.proofs.Common.{◌≡◌}
 use Rattle.ncp_model.specs.Peers.{Ask_to_receive}
 use Rattle.ncp_host.proofs.Calling.{host_called}
 use Rattle.ncp_host.proofs.host.Host.ask_receive.Goals as goal

@@ -1,8 +1,3 @@
-use Rattle.std.proofs.Common.{◌≡◌, Result, Ok, subst}
-use Rattle.ncp_leader.specs.declared.leader.Leader.{Leader}
-use Rattle.ncp_leader.specs.declared.leader.Short.{Short}
-use Rattle.ncp_host.specs.Host.{Host}
-use Rattle.ncp_host.specs.Arrivals.{OnlyNamedPeerChanges, OthersStay, OneIgnored}
 use Rattle.ncp_host.proofs.Touching.{only_named_by}
 use Rattle.ncp_host.proofs.host.Host.receive.Goals as goal
 
