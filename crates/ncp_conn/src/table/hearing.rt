@@ -1,12 +1,10 @@
 //! What comes: the commands of connections.
-ghost use Rattle.std.specs.Prelude.{◌≡◌, not, ◌||◌, ◌==◌, nat_le};
+ghost use Rattle.std.specs.Prelude.{◌≡◌, nat_le};
 ghost use Rattle.std.specs.FinMap.{get};
-ghost use Rattle.ncp_model.specs.Pairs.{sends, receives};
 ghost use Rattle.ncp_model.specs.End.{or_new};
 ghost use Rattle.ncp_model.specs.Act.{answer, is_data_link};
 ghost use Rattle.ncp_model.specs.Commands.{hear_cls, hear_all, hear_gvb, hear_ret, hear_inr, hear_ins};
-ghost use Rattle.ncp_model.specs.Ends.{any, count, is_by_peer, hears_link, sender_on, receiver_on, end_of, pair_of, hear, leads_to, map_after, map_after_at};
-ghost use Rattle.ncp_conn.specs.Asking.{hear_rts_in, hear_str_in};
+ghost use Rattle.ncp_model.specs.Ends.{any, count, is_by_peer, hears_link, sender_on, receiver_on, end_of, pair_of, hear, leads_to, map_after, map_after_at, hear_rts_in, hear_str_in, wrong_rts_in, wrong_str_in};
 
 use crate::entry::{Entry, refused};
 use crate::table::Table;
@@ -48,7 +46,7 @@ impl<S: BitStore> Table<S> {
 
     // Whether an RTS has parameters that it may not have.
     fn is_wrong_rts(&self, pair: Pair, link: u8) -> bool
-        ensures { result ≡ (not (sends pair) || not (is_data_link link) || (or_new (get self.now pair)).heard || any (hears_link link) self.now) }
+        ensures { result ≡ wrong_rts_in pair link self.now }
     {
         !pair.sends() || !is_data_link(link) || self.is_heard(pair) || self.is_taken(link)
     }
@@ -82,7 +80,7 @@ impl<S: BitStore> Table<S> {
 
     // Whether an STR has parameters that it may not have.
     fn is_wrong_str(&self, pair: Pair, size: u8) -> bool
-        ensures { result ≡ (not (receives pair) || size == 0 || (or_new (get self.now pair)).heard) }
+        ensures { result ≡ wrong_str_in pair size self.now }
     {
         !pair.receives() || size == 0 || self.is_heard(pair)
     }
