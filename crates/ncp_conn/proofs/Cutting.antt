@@ -4,11 +4,11 @@ use Rattle.std.specs.List.{count_by}
 use Rattle.std.specs.FinMap.{find}
 use Rattle.slab.specs.Slab.{entries_from}
 use Rattle.ncp_model.specs.declared.pair.Pair.{Pair}
-use Rattle.ncp_model.specs.Pairs.{pair_cmp}
+use Rattle.ncp_model.specs.Pairs.{pair_cmp, same}
 use Rattle.ncp_model.specs.End.{End}
 use Rattle.ncp_model.specs.Act.{Stays, answer}
 use Rattle.ncp_model.specs.Texts.{cut, cut_bits, bytes_to_send, may_send}
-use Rattle.ncp_conn.specs.Entries.{AreEntries, same_pair}
+use Rattle.ncp_conn.specs.Entries.{AreEntries}
 use Rattle.ncp_conn.specs.Cutting.{first_of}
 use Rattle.ncp_conn.proofs.Slabs.{vals}
 use Rattle.ncp_conn.proofs.Finding.{is_pair, pair_is, same_is, same_itself, pair_itself}
@@ -33,29 +33,29 @@ pub first_no : (test : ℕ → Bool) (n m from : ℕ) → n ≡ suc m → test f
 unfolding first_of
 first_no test n m from h t = rw h (ap (λ (b : Bool). cond b (Some from) (first_of test m (suc from))) t)
 
-pub pairs_counted : (n : ℕ) (slots : List (Option (Pair × End))) (k : Pair) → count_by (λ other. same_pair other k) (map (λ e. e.1.0) (entries_from n slots)) ≡ count_by (λ e. same_pair e.0 k) (vals slots)
+pub pairs_counted : (n : ℕ) (slots : List (Option (Pair × End))) (k : Pair) → count_by (λ other. same other k) (map (λ e. e.1.0) (entries_from n slots)) ≡ count_by (λ e. same e.0 k) (vals slots)
 pairs_counted n [] k = refl
 pairs_counted n (None ∷ slots) k = pairs_counted (n + 1) slots k
 pairs_counted n (Some x ∷ slots) k =
-    count_cons (λ other. same_pair other k) x.0 (map (λ e. e.1.0) (entries_from (n + 1) slots))
-    ∙ ap (λ c. one (same_pair x.0 k) + c) (pairs_counted (n + 1) slots k)
-    ∙ sym (count_cons (λ e. same_pair e.0 k) x (vals slots))
+    count_cons (λ other. same other k) x.0 (map (λ e. e.1.0) (entries_from (n + 1) slots))
+    ∙ ap (λ c. one (same x.0 k) + c) (pairs_counted (n + 1) slots k)
+    ∙ sym (count_cons (λ e. same e.0 k) x (vals slots))
 
-pub each_once : (es : List (Pair × End)) (k : Pair) → AreEntries es → count_by (λ e. same_pair e.0 k) es ≡ one (is_some (find pair_cmp k es))
+pub each_once : (es : List (Pair × End)) (k : Pair) → AreEntries es → count_by (λ e. same e.0 k) es ≡ one (is_some (find pair_cmp k es))
 each_once [] k are = refl
-each_once (x ∷ es) k are = count_cons (λ (e : Pair × End). same_pair e.0 k) x es ∙ go (same_pair x.0 k) refl (each_once es k are.2)
+each_once (x ∷ es) k are = count_cons (λ (e : Pair × End). same e.0 k) x es ∙ go (same x.0 k) refl (each_once es k are.2)
   where
-    go : (b : Bool) → same_pair x.0 k ≡ b → count_by (λ e. same_pair e.0 k) es ≡ one (is_some (find pair_cmp k es)) → one (same_pair x.0 k) + count_by (λ e. same_pair e.0 k) es ≡ one (is_some (cond (is_pair k x.0) (Some x.1) (find pair_cmp k es)))
+    go : (b : Bool) → same x.0 k ≡ b → count_by (λ e. same e.0 k) es ≡ one (is_some (find pair_cmp k es)) → one (same x.0 k) + count_by (λ e. same e.0 k) es ≡ one (is_some (cond (is_pair k x.0) (Some x.1) (find pair_cmp k es)))
     go true h rest =
-        let same : x.0 ≡ k = same_is x.0 k h in
-        let o : one (same_pair x.0 k) ≡ 1 = ap one h in
-        let none : find pair_cmp k es ≡ None = subst (λ (p : Pair). find pair_cmp p es ≡ None) same are.0 in
-        let z : count_by (λ (e : Pair × End). same_pair e.0 k) es ≡ 0 = rest ∙ ap (λ (y : Option End). one (is_some y)) none in
-        let here : is_pair k x.0 ≡ true = subst (λ (p : Pair). is_pair k p ≡ true) (sym same) (pair_itself k) in
+        let is_k : x.0 ≡ k = same_is x.0 k h in
+        let o : one (same x.0 k) ≡ 1 = ap one h in
+        let none : find pair_cmp k es ≡ None = subst (λ (p : Pair). find pair_cmp p es ≡ None) is_k are.0 in
+        let z : count_by (λ (e : Pair × End). same e.0 k) es ≡ 0 = rest ∙ ap (λ (y : Option End). one (is_some y)) none in
+        let here : is_pair k x.0 ≡ true = subst (λ (p : Pair). is_pair k p ≡ true) (sym is_k) (pair_itself k) in
         let n : one (is_some (cond (is_pair k x.0) (Some x.1) (find pair_cmp k es))) ≡ 1 = ap (λ (b : Bool). one (is_some (cond b (Some x.1) (find pair_cmp k es)))) here in
         omega (arith, o, z, n)
     go false h rest = other (is_pair k x.0) refl
       where
-        other : (b : Bool) → is_pair k x.0 ≡ b → one (same_pair x.0 k) + count_by (λ e. same_pair e.0 k) es ≡ one (is_some (cond b (Some x.1) (find pair_cmp k es)))
-        other true e = let t : true ≡ false = sym (same_itself k) ∙ ap (λ (p : Pair). same_pair p k) (pair_is k x.0 e) ∙ h in absurd (cc)
-        other false e = let o : one (same_pair x.0 k) ≡ 0 = ap one h in let r = rest in omega (arith, o, r)
+        other : (b : Bool) → is_pair k x.0 ≡ b → one (same x.0 k) + count_by (λ e. same e.0 k) es ≡ one (is_some (cond b (Some x.1) (find pair_cmp k es)))
+        other true e = let t : true ≡ false = sym (same_itself k) ∙ ap (λ (p : Pair). same p k) (pair_is k x.0 e) ∙ h in absurd (cc)
+        other false e = let o : one (same x.0 k) ≡ 0 = ap one h in let r = rest in omega (arith, o, r)

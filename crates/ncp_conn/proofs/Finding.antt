@@ -11,11 +11,11 @@ use Rattle.std.specs.FinMap.{find, get as map_get, from_entries, insert, get-fro
 use Rattle.std.proofs.lemmas.Bool.{eqb-true}
 use Rattle.std.proofs.lemmas.Bool.Decides.{nat_tests}
 use Rattle.ncp_model.specs.declared.pair.Pair.{Pair}
-use Rattle.ncp_model.specs.Pairs.{pair_cmp}
+use Rattle.ncp_model.specs.Pairs.{pair_cmp, same}
 use Rattle.ncp_model.specs.End.{End, is_over}
 use Rattle.ncp_model.proofs.PairOrder.{pairs_total, pairs_exact}
 use Rattle.slab.specs.Slab.{Slab, get, entries, entries_from, ContainsKey}
-use Rattle.ncp_conn.specs.Entries.{AreEntries, Found, key_of, same_pair}
+use Rattle.ncp_conn.specs.Entries.{AreEntries, Found, key_of}
 use Rattle.ncp_conn.proofs.Slabs.{vals}
 
 abbrev pub is_pair : Pair → Pair → Bool
@@ -127,34 +127,34 @@ second_true : (a b : Bool) → (a && b) ≡ true → b ≡ true
 second_true true b h = h
 second_true false b h = absurd (cc)
 
-pub same_is : (a b : Pair) → same_pair a b ≡ true → a ≡ b
+pub same_is : (a b : Pair) → same a b ≡ true → a ≡ b
 same_is a b h =
     let l : a.local ≡ b.local = eqb-true a.local b.local (first_true _ _ h) in
     let r : a.remote ≡ b.remote = eqb-true a.remote b.remote (second_true _ _ h) in
     λ i. record { local = l i; remote = r i }
 
-pub same_itself : (a : Pair) → same_pair a a ≡ true
+pub same_itself : (a : Pair) → same a a ≡ true
 same_itself a = grind (arith, nat_tests)
 
-placed : (k : Pair) (slots : List (Option (Pair × End))) (n key : ℕ) → key_of (λ e. same_pair e.0 k) (entries_from n slots) ≡ Some key → (j : ℕ) × (key ≡ n + j) × ((e : End) × (get_or slots j None ≡ Some (k, e)))
+placed : (k : Pair) (slots : List (Option (Pair × End))) (n key : ℕ) → key_of (λ e. same e.0 k) (entries_from n slots) ≡ Some key → (j : ℕ) × (key ≡ n + j) × ((e : End) × (get_or slots j None ≡ Some (k, e)))
 placed k [] n key h = absurd (cc)
 placed k (None ∷ slots) n key h = let p = placed k slots (n + 1) key h in (suc p.0, let e : key ≡ n + 1 + p.0 = p.1 in omega (arith, e), p.2)
-placed k (Some x ∷ slots) n key h = go (same_pair x.0 k) refl h (placed k slots (n + 1) key)
+placed k (Some x ∷ slots) n key h = go (same x.0 k) refl h (placed k slots (n + 1) key)
   where
-    go : (b : Bool) → same_pair x.0 k ≡ b → cond b (Some n) (key_of (λ e. same_pair e.0 k) (entries_from (n + 1) slots)) ≡ Some key → (key_of (λ e. same_pair e.0 k) (entries_from (n + 1) slots) ≡ Some key → (j : ℕ) × (key ≡ n + 1 + j) × ((e : End) × (get_or slots j None ≡ Some (k, e)))) → (j : ℕ) × (key ≡ n + j) × ((e : End) × (get_or (Some x ∷ slots) j None ≡ Some (k, e)))
+    go : (b : Bool) → same x.0 k ≡ b → cond b (Some n) (key_of (λ e. same e.0 k) (entries_from (n + 1) slots)) ≡ Some key → (key_of (λ e. same e.0 k) (entries_from (n + 1) slots) ≡ Some key → (j : ℕ) × (key ≡ n + 1 + j) × ((e : End) × (get_or slots j None ≡ Some (k, e)))) → (j : ℕ) × (key ≡ n + j) × ((e : End) × (get_or (Some x ∷ slots) j None ≡ Some (k, e)))
     go true s g rest = let is : n ≡ key = cc in (zero, omega (arith, is), (x.1, ap (λ (p : Pair). Some (p, x.1)) (same_is x.0 k s)))
     go false s g rest = let p = rest g in (suc p.0, let e : key ≡ n + 1 + p.0 = p.1 in omega (arith, e), p.2)
 
-not_placed : (k : Pair) (slots : List (Option (Pair × End))) (n : ℕ) → key_of (λ e. same_pair e.0 k) (entries_from n slots) ≡ None → find pair_cmp k (vals slots) ≡ None
+not_placed : (k : Pair) (slots : List (Option (Pair × End))) (n : ℕ) → key_of (λ e. same e.0 k) (entries_from n slots) ≡ None → find pair_cmp k (vals slots) ≡ None
 not_placed k [] n h = refl
 not_placed k (None ∷ slots) n h = not_placed k slots (n + 1) h
-not_placed k (Some x ∷ slots) n h = go (same_pair x.0 k) refl h (not_placed k slots (n + 1))
+not_placed k (Some x ∷ slots) n h = go (same x.0 k) refl h (not_placed k slots (n + 1))
   where
-    go : (b : Bool) → same_pair x.0 k ≡ b → cond b (Some n) (key_of (λ e. same_pair e.0 k) (entries_from (n + 1) slots)) ≡ None → (key_of (λ e. same_pair e.0 k) (entries_from (n + 1) slots) ≡ None → find pair_cmp k (vals slots) ≡ None) → find pair_cmp k (x ∷ vals slots) ≡ None
+    go : (b : Bool) → same x.0 k ≡ b → cond b (Some n) (key_of (λ e. same e.0 k) (entries_from (n + 1) slots)) ≡ None → (key_of (λ e. same e.0 k) (entries_from (n + 1) slots) ≡ None → find pair_cmp k (vals slots) ≡ None) → find pair_cmp k (x ∷ vals slots) ≡ None
     go true s g rest = absurd (cc)
-    go false s g rest = cond_not (is_pair k x.0) (Some x.1) _ (λ a. let t : true ≡ false = sym (same_itself k) ∙ ap (λ (p : Pair). same_pair p k) (pair_is k x.0 a) ∙ s in absurd (cc)) ∙ rest g
+    go false s g rest = cond_not (is_pair k x.0) (Some x.1) _ (λ a. let t : true ≡ false = sym (same_itself k) ∙ ap (λ (p : Pair). same p k) (pair_is k x.0 a) ∙ s in absurd (cc)) ∙ rest g
 
-pub is_found : (k : Pair) (s : Slab (Pair × End)) (r : Option ℕ) → key_of (λ e. same_pair e.0 k) (entries s) ≡ r → Found s k r
+pub is_found : (k : Pair) (s : Slab (Pair × End)) (r : Option ℕ) → key_of (λ e. same e.0 k) (entries s) ≡ r → Found s k r
 is_found k s None h = not_placed k s.slots 0 h
 is_found k s (Some key) h =
     let p = placed k s.slots 0 key h in

@@ -14,13 +14,13 @@ use Rattle.ncp_model.specs.declared.outcomes.Heard.TheVariants.{Nothing, Full}
 use Rattle.ncp_model.specs.Pairs.{sends, receives}
 use Rattle.ncp_model.specs.End.{End, new_end, or_new, is_going, is_over}
 use Rattle.ncp_model.specs.Act.{Act, Stays, Becomes, is_room, is_data_link, wrong_parameters}
-use Rattle.ncp_model.specs.Calls.{asked_to_send, asked_to_receive}
-use Rattle.ncp_model.specs.Commands.{errs}
-use Rattle.ncp_model.specs.Ends.{Ends, count, any, has_asked, is_by_peer, hears_link, uses_link, free_link, ask_send_in, ask_receive_in, map_after}
+use Rattle.ncp_model.specs.Calls.{asked_to_send, asked_to_receive, end_to_ask}
+use Rattle.ncp_model.specs.Commands.{errs, heard_link, heard_size}
+use Rattle.ncp_model.specs.Ends.{Ends, count, any, has_asked, is_by_peer, hears_link, uses_link, free_link, ask_send_in, ask_receive_in, map_after, hear_rts_in, hear_str_in, may_ask_in, wrong_rts_in, wrong_str_in}
 use Rattle.ncp_conn.specs.Entries.{IsKept, Led}
 use Rattle.ncp_conn.specs.declared.entries.Entries.{Entries}
-use Rattle.ncp_conn.specs.Changes.{with_end, heard_link, heard_size}
-use Rattle.ncp_conn.specs.Asking.{Enters, may_ask, end_to_ask, hear_rts_in, hear_str_in}
+use Rattle.ncp_conn.specs.Changes.{with_end}
+use Rattle.ncp_conn.specs.Asking.{Enters}
 use Rattle.ncp_conn.proofs.Counts.{one}
 use Rattle.ncp_conn.proofs.Tables.{acted, kept_asked, hears_sends, uses_receives, not_receives, not_sends}
 
@@ -163,51 +163,44 @@ pub really : (a : Bool) → not a ≡ false → a ≡ true
 really true h = refl
 really false h = absurd (cc)
 
--- whether an RTS is wrong, and an STR
-abbrev pub wrong_rts : Pair → ℕ → Ends → Bool
-wrong_rts k on m = not (sends k) || not (is_data_link on) || (or_new (map.get m k)).heard || any (hears_link on) m
-
-abbrev pub wrong_str : Pair → ℕ → Ends → Bool
-wrong_str k of_size m = not (receives k) || of_size == 0 || (or_new (map.get m k)).heard
-
-pub right_rts : (k : Pair) (on : ℕ) (m : Ends) → wrong_rts k on m ≡ false → (sends k ≡ true) × (any (hears_link on) m ≡ false) × (is_data_link on ≡ true) × ((or_new (map.get m k)).heard ≡ false)
+pub right_rts : (k : Pair) (on : ℕ) (m : Ends) → wrong_rts_in k on m ≡ false → (sends k ≡ true) × (any (hears_link on) m ≡ false) × (is_data_link on ≡ true) × ((or_new (map.get m k)).heard ≡ false)
 right_rts k on m h =
     let a = neither (not (sends k) || not (is_data_link on) || (or_new (map.get m k)).heard) (any (hears_link on) m) h in
     let b = neither (not (sends k) || not (is_data_link on)) (or_new (map.get m k)).heard a.0 in
     let d = neither (not (sends k)) (not (is_data_link on)) b.0 in
     (really (sends k) d.0, a.1, really (is_data_link on) d.1, b.1)
 
-pub right_str : (k : Pair) (of_size : ℕ) (m : Ends) → wrong_str k of_size m ≡ false → receives k ≡ true
+pub right_str : (k : Pair) (of_size : ℕ) (m : Ends) → wrong_str_in k of_size m ≡ false → receives k ≡ true
 right_str k of_size m h =
     let a = neither (not (receives k) || of_size == 0) (or_new (map.get m k)).heard h in
     let b = neither (not (receives k)) (of_size == 0) a.0 in
     really (receives k) b.0
 
-pub rts_wrong : (k : Pair) (on : ℕ) (m : Ends) → wrong_rts k on m ≡ true → hear_rts_in k on m ≡ errs wrong_parameters (Rts k.remote k.local on)
-rts_wrong k on m h = when (wrong_rts k on m) _ _ h
+pub rts_wrong : (k : Pair) (on : ℕ) (m : Ends) → wrong_rts_in k on m ≡ true → hear_rts_in k on m ≡ errs wrong_parameters (Rts k.remote k.local on)
+rts_wrong k on m h = when (wrong_rts_in k on m) _ _ h
 
-pub str_wrong : (k : Pair) (of_size : ℕ) (m : Ends) → wrong_str k of_size m ≡ true → hear_str_in k of_size m ≡ errs wrong_parameters (Str k.remote k.local of_size)
-str_wrong k of_size m h = when (wrong_str k of_size m) _ _ h
+pub str_wrong : (k : Pair) (of_size : ℕ) (m : Ends) → wrong_str_in k of_size m ≡ true → hear_str_in k of_size m ≡ errs wrong_parameters (Str k.remote k.local of_size)
+str_wrong k of_size m h = when (wrong_str_in k of_size m) _ _ h
 
-module _ (k : Pair) (on : ℕ) (m : Ends) (right : wrong_rts k on m ≡ false) where
+module _ (k : Pair) (on : ℕ) (m : Ends) (right : wrong_rts_in k on m ≡ false) where
   pub rts_full : map.get m k ≡ None → nat_le 64 (count is_by_peer m) ≡ true → hear_rts_in k on m ≡ Stays Full
-  rts_full none n = unless (wrong_rts k on m) _ _ right ∙ ap (λ (o : Option End). cond (is_none o && nat_le 64 (count is_by_peer m)) (Stays Full) (Becomes (heard_link on (or_new o)) Nothing)) none ∙ when (nat_le 64 (count is_by_peer m)) (Stays Full) _ n
+  rts_full none n = unless (wrong_rts_in k on m) _ _ right ∙ ap (λ (o : Option End). cond (is_none o && nat_le 64 (count is_by_peer m)) (Stays Full) (Becomes (heard_link on (or_new o)) Nothing)) none ∙ when (nat_le 64 (count is_by_peer m)) (Stays Full) _ n
 
   pub rts_new : map.get m k ≡ None → nat_le 64 (count is_by_peer m) ≡ false → hear_rts_in k on m ≡ Becomes (heard_link on new_end) Nothing
-  rts_new none n = unless (wrong_rts k on m) _ _ right ∙ ap (λ (o : Option End). cond (is_none o && nat_le 64 (count is_by_peer m)) (Stays Full) (Becomes (heard_link on (or_new o)) Nothing)) none ∙ unless (nat_le 64 (count is_by_peer m)) (Stays Full) _ n
+  rts_new none n = unless (wrong_rts_in k on m) _ _ right ∙ ap (λ (o : Option End). cond (is_none o && nat_le 64 (count is_by_peer m)) (Stays Full) (Becomes (heard_link on (or_new o)) Nothing)) none ∙ unless (nat_le 64 (count is_by_peer m)) (Stays Full) _ n
 
   pub rts_more : (e : End) → map.get m k ≡ Some e → hear_rts_in k on m ≡ Becomes (heard_link on e) Nothing
-  rts_more e there = unless (wrong_rts k on m) _ _ right ∙ ap (λ (o : Option End). cond (is_none o && nat_le 64 (count is_by_peer m)) (Stays Full) (Becomes (heard_link on (or_new o)) Nothing)) there
+  rts_more e there = unless (wrong_rts_in k on m) _ _ right ∙ ap (λ (o : Option End). cond (is_none o && nat_le 64 (count is_by_peer m)) (Stays Full) (Becomes (heard_link on (or_new o)) Nothing)) there
 
-module _ (k : Pair) (of_size : ℕ) (m : Ends) (right : wrong_str k of_size m ≡ false) where
+module _ (k : Pair) (of_size : ℕ) (m : Ends) (right : wrong_str_in k of_size m ≡ false) where
   pub str_full : map.get m k ≡ None → nat_le 64 (count is_by_peer m) ≡ true → hear_str_in k of_size m ≡ Stays Full
-  str_full none n = unless (wrong_str k of_size m) _ _ right ∙ ap (λ (o : Option End). cond (is_none o && nat_le 64 (count is_by_peer m)) (Stays Full) (Becomes (heard_size of_size (or_new o)) Nothing)) none ∙ when (nat_le 64 (count is_by_peer m)) (Stays Full) _ n
+  str_full none n = unless (wrong_str_in k of_size m) _ _ right ∙ ap (λ (o : Option End). cond (is_none o && nat_le 64 (count is_by_peer m)) (Stays Full) (Becomes (heard_size of_size (or_new o)) Nothing)) none ∙ when (nat_le 64 (count is_by_peer m)) (Stays Full) _ n
 
   pub str_new : map.get m k ≡ None → nat_le 64 (count is_by_peer m) ≡ false → hear_str_in k of_size m ≡ Becomes (heard_size of_size new_end) Nothing
-  str_new none n = unless (wrong_str k of_size m) _ _ right ∙ ap (λ (o : Option End). cond (is_none o && nat_le 64 (count is_by_peer m)) (Stays Full) (Becomes (heard_size of_size (or_new o)) Nothing)) none ∙ unless (nat_le 64 (count is_by_peer m)) (Stays Full) _ n
+  str_new none n = unless (wrong_str_in k of_size m) _ _ right ∙ ap (λ (o : Option End). cond (is_none o && nat_le 64 (count is_by_peer m)) (Stays Full) (Becomes (heard_size of_size (or_new o)) Nothing)) none ∙ unless (nat_le 64 (count is_by_peer m)) (Stays Full) _ n
 
   pub str_more : (e : End) → map.get m k ≡ Some e → hear_str_in k of_size m ≡ Becomes (heard_size of_size e) Nothing
-  str_more e there = unless (wrong_str k of_size m) _ _ right ∙ ap (λ (o : Option End). cond (is_none o && nat_le 64 (count is_by_peer m)) (Stays Full) (Becomes (heard_size of_size (or_new o)) Nothing)) there
+  str_more e there = unless (wrong_str_in k of_size m) _ _ right ∙ ap (λ (o : Option End). cond (is_none o && nat_le 64 (count is_by_peer m)) (Stays Full) (Becomes (heard_size of_size (or_new o)) Nothing)) there
 
 -- the own requests: what the tests of the pair give is what the act gives
 
@@ -235,20 +228,20 @@ module _ (k : Pair) (of_size room : ℕ) (full : Bool) (m : Ends) (ps : sends k 
   send_tested : ask_send_in k of_size room full m ≡ cond (again m k) (Stays (Err AlreadyAsked)) (cond (going m k) (Stays (Err Closing)) (cond (nat_le 64 (count has_asked m)) (Stays (Err TableFull)) (cond full (Stays (Err QueueFull)) (Becomes (asked_to_send of_size room (or_new (map.get m k))) (Ok (Str k.local k.remote of_size))))))
   send_tested = unless (not (sends k)) _ _ (ap not ps) ∙ unless (of_size == 0) _ _ pz ∙ unless (not (is_room room)) _ _ (ap not pr)
 
-  pub send_err : (f : CallFault) → may_ask k full m ≡ Err f → ask_send_in k of_size room full m ≡ Stays (Err f)
+  pub send_err : (f : CallFault) → may_ask_in k full m ≡ Err f → ask_send_in k of_size room full m ≡ Stays (Err f)
   send_err f h = send_tested ∙ chain_err (again m k) (going m k) (nat_le 64 (count has_asked m)) full f _ h
 
-  pub send_ok : may_ask k full m ≡ Ok tt → ask_send_in k of_size room full m ≡ Becomes (asked_to_send of_size room (or_new (map.get m k))) (Ok (Str k.local k.remote of_size))
+  pub send_ok : may_ask_in k full m ≡ Ok tt → ask_send_in k of_size room full m ≡ Becomes (asked_to_send of_size room (or_new (map.get m k))) (Ok (Str k.local k.remote of_size))
   send_ok h = send_tested ∙ chain_ok (again m k) (going m k) (nat_le 64 (count has_asked m)) full _ h
 
 module _ (k : Pair) (room : ℕ) (full : Bool) (m : Ends) (ps : receives k ≡ true) (pr : is_room room ≡ true) where
   receive_tested : ask_receive_in k room full m ≡ cond (again m k) (Stays (Err AlreadyAsked)) (cond (going m k) (Stays (Err Closing)) (cond (nat_le 64 (count has_asked m)) (Stays (Err TableFull)) (cond full (Stays (Err QueueFull)) (Becomes (asked_to_receive (free_link m) room (or_new (map.get m k))) (Ok (Rts k.local k.remote (free_link m)))))))
   receive_tested = unless (not (receives k)) _ _ (ap not ps) ∙ unless (not (is_room room)) _ _ (ap not pr)
 
-  pub receive_err : (f : CallFault) → may_ask k full m ≡ Err f → ask_receive_in k room full m ≡ Stays (Err f)
+  pub receive_err : (f : CallFault) → may_ask_in k full m ≡ Err f → ask_receive_in k room full m ≡ Stays (Err f)
   receive_err f h = receive_tested ∙ chain_err (again m k) (going m k) (nat_le 64 (count has_asked m)) full f _ h
 
-  pub receive_ok : may_ask k full m ≡ Ok tt → ask_receive_in k room full m ≡ Becomes (asked_to_receive (free_link m) room (or_new (map.get m k))) (Ok (Rts k.local k.remote (free_link m)))
+  pub receive_ok : may_ask_in k full m ≡ Ok tt → ask_receive_in k room full m ≡ Becomes (asked_to_receive (free_link m) room (or_new (map.get m k))) (Ok (Rts k.local k.remote (free_link m)))
   receive_ok h = receive_tested ∙ chain_ok (again m k) (going m k) (nat_le 64 (count has_asked m)) full _ h
 
 -- and whether a pair may ask, by its end, the table and the queue
@@ -263,10 +256,10 @@ ask_chain_ok true b c d h = absurd (cc)
 ask_chain_ok false true c d h = absurd (cc)
 ask_chain_ok false false c d h = refl
 
-pub may_err : (k : Pair) (full : Bool) (m : Ends) (f : CallFault) → end_to_ask (or_new (map.get m k)) ≡ Err f → may_ask k full m ≡ Err f
+pub may_err : (k : Pair) (full : Bool) (m : Ends) (f : CallFault) → end_to_ask (or_new (map.get m k)) ≡ Err f → may_ask_in k full m ≡ Err f
 may_err k full m f h = ask_chain_err (again m k) (going m k) (nat_le 64 (count has_asked m)) full f h
 
-pub may_room : (k : Pair) (full : Bool) (m : Ends) → end_to_ask (or_new (map.get m k)) ≡ Ok tt → may_ask k full m ≡ cond (nat_le 64 (count has_asked m)) (Err TableFull) (cond full (Err QueueFull) (Ok tt))
+pub may_room : (k : Pair) (full : Bool) (m : Ends) → end_to_ask (or_new (map.get m k)) ≡ Ok tt → may_ask_in k full m ≡ cond (nat_le 64 (count has_asked m)) (Err TableFull) (cond full (Err QueueFull) (Ok tt))
 may_room k full m h = ask_chain_ok (again m k) (going m k) (nat_le 64 (count has_asked m)) full h
 
 not_asked : (a b c : Bool) → cond (a && not (b || c)) (Err AlreadyAsked) (cond (b || c) (Err Closing) (Ok (tt {0}))) ≡ Ok (tt {0}) → a ≡ false

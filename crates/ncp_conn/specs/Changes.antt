@@ -1,12 +1,11 @@
 -- What acts make of an entry: a pair with its end.
-use Rattle.std.specs.Prelude.{ℕ, true, Bool, not, ◌+◌, nat_lt, if◌then◌else◌, List, ◌++◌, length, Result, Ok, Err}
-use Rattle.std.specs.FinMap.{insert, remove}
+use Rattle.std.specs.Prelude.{ℕ, Bool, if◌then◌else◌, List, ◌++◌, Result, Ok, Err}
 use Rattle.ncp_model.specs.declared.pair.Pair.{Pair}
 use Rattle.ncp_model.specs.declared.call_fault.CallFault.{CallFault}
 use Rattle.ncp_model.specs.declared.call_fault.CallFault.TheVariants.{NoRoom}
-use Rattle.ncp_model.specs.End.{End, is_over}
-use Rattle.ncp_model.specs.Act.{Act, Stays, Becomes, met}
-use Rattle.ncp_model.specs.Ends.{Ends}
+use Rattle.ncp_model.specs.End.{End}
+use Rattle.ncp_model.specs.Act.{Act, Stays, Becomes}
+use Rattle.ncp_model.specs.Calls.{fits}
 
 -- the entry with what an act makes of its end
 abbrev pub after : {A : Type 0} → Pair × End → Act A → Pair × End
@@ -17,27 +16,13 @@ after p (Becomes e a) = (p.0, e)
 abbrev pub with_end : Pair × End → End → Pair × End
 with_end p e = (p.0, e)
 
--- the ends with another end at a pair, or none where it is over
-abbrev pub map_with : Ends → Pair → End → Ends
-map_with m pair e = if is_over e then remove m pair else insert m pair e
-
--- the peer's request came: with the receiver's link, or with the sender's size
-abbrev pub heard_link : ℕ → End → End
-heard_link on e = met (record e { heard = true; link = on })
-
-abbrev pub heard_size : ℕ → End → End
-heard_size of_size e = met (record e { heard = true; size = of_size })
-
 -- what says on which link an entry is, and by whose request it is there
 abbrev pub marks : Pair × End → Bool × (Bool × ℕ)
 marks p = (p.1.asked, (p.1.heard, p.1.link))
 
 -- text behind what is stored, where there is room
-abbrev pub has_room : List Bool → End → Bool
-has_room text e = not (nat_lt e.room (length e.stored + length text))
-
 abbrev pub putting : List Bool → End → Result (Unit {0}) CallFault
-putting text e = if has_room text e then Ok tt else Err NoRoom
+putting text e = if fits text e then Ok tt else Err NoRoom
 
 abbrev pub with_text : List Bool → End → End
-with_text text e = record e { stored = if has_room text e then e.stored ++ text else e.stored }
+with_text text e = record e { stored = if fits text e then e.stored ++ text else e.stored }

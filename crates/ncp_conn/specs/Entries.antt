@@ -1,5 +1,5 @@
 -- How a table keeps its connections: pairs with their ends, under keys.
-use Rattle.std.specs.Prelude.{◌≡◌, ℕ, ◌+◌, ◌≤◌, Bool, true, false, ◌&&◌, ◌==◌, if◌then◌else◌, List, [], ◌∷◌, Option, None, Some}
+use Rattle.std.specs.Prelude.{◌≡◌, ℕ, ◌+◌, ◌≤◌, Bool, true, false, if◌then◌else◌, List, [], ◌∷◌, Option, None, Some}
 use Rattle.std.specs.List.{count_by}
 use Rattle.std.specs.FinMap.{find}
 use Rattle.slab.specs.Slab.{Slab, get, values, Updates}
@@ -10,9 +10,6 @@ use Rattle.ncp_model.specs.End.{End, is_over}
 use Rattle.ncp_model.specs.Ends.{has_asked, is_by_peer, hears_link, uses_link}
 use Rattle.ncp_conn.specs.Indexes.{IsIndex, LeadsTo}
 use Rattle.ncp_conn.specs.declared.entries.Entries.{Entries}
-
-abbrev pub same_pair : Pair → Pair → Bool
-same_pair a b = a.local == b.local && a.remote == b.remote
 
 -- no two entries have one pair, and no end is over
 abbrev pub AreEntries : List (Pair × End) → Type 0

@@ -2,9 +2,10 @@
 ghost use Rattle.std.specs.Prelude.{◌≡◌, ◌<◌, ◌≤◌, ◌+◌, ◌-◌, ℕ, true, false, IfOk, IfSome, Some, None, [], if◌then◌else◌, is_none};
 ghost use Rattle.std.specs.List.{count_by};
 ghost use Rattle.slab.specs.Slab.{get, values, entries, ContainsKey, HasRoomFor, Updates};
+ghost use Rattle.ncp_model.specs.Pairs.{same};
 ghost use Rattle.ncp_model.specs.End.{End, is_over};
 ghost use Rattle.ncp_model.specs.Ends.{has_asked, hears_link, uses_link, lowest};
-ghost use Rattle.ncp_conn.specs.Entries.{Found, Led, Puts, Settled, key_of, same_pair};
+ghost use Rattle.ncp_conn.specs.Entries.{Found, Led, Puts, Settled, key_of};
 ghost use Rattle.ncp_conn.specs.Indexes.{key_at, LeadsTo};
 
 use crate::entry::Entry;
@@ -52,7 +53,7 @@ impl<S: BitStore> Entries<S> {
 
     // The first key with a pair.
     fn key_of(&self, pair: Pair) -> Option<usize>
-        ensures { result ≡ key_of (λ e. same_pair e.0 pair) (entries self.now.slab) }
+        ensures { result ≡ key_of (λ e. same e.0 pair) (entries self.now.slab) }
     {
         for (key, entry) in self.slab.iter() {
             if entry.is_for(pair) {

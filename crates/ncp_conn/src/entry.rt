@@ -1,10 +1,10 @@
 //! What a table keeps of one connection.
 ghost use Rattle.std.specs.Prelude.{◌≡◌, ◌/◌, ◌≤◌, [], length, take, drop};
+ghost use Rattle.ncp_model.specs.Pairs.{same};
 ghost use Rattle.ncp_model.specs.End.{new_end, is_going, is_over, is_open};
 ghost use Rattle.ncp_model.specs.Act.{met};
 ghost use Rattle.ncp_model.specs.Ends.{hears_link, uses_link};
 ghost use Rattle.ncp_conn.specs.Changes.{with_end};
-ghost use Rattle.ncp_conn.specs.Entries.{same_pair};
 ghost use Rattle.ncp_conn.specs.Records.{record_of, end_here};
 
 mod allocation;
@@ -106,7 +106,7 @@ impl<S: BitStore> Entry<S> {
 
     /// Whether it is the entry of a pair.
     pub(crate) fn is_for(&self, pair: Pair) -> bool
-        ensures { result ≡ same_pair self.now.0 pair }
+        ensures { result ≡ same self.now.0 pair }
     {
         self.pair.local == pair.local && self.pair.remote == pair.remote
     }

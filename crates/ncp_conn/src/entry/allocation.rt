@@ -125,16 +125,16 @@ impl<S: BitStore> Entry<S> {
     }
 
     /// A GVB came to a sender.
-    pub(crate) fn hear_gvb(&mut self, link: u8, fm: u8, fb: u8) -> Heard
-        ensures answer { result ≡ answer (at_open (Command.Gvb link fm fb) (gvb_at link fm fb) (Some self.old.1)) }
-        ensures entry { self.new ≡ after self.old (at_open (Command.Gvb link fm fb) (gvb_at link fm fb) (Some self.old.1)) }
+    pub(crate) fn hear_gvb(&mut self, command: &Command, link: u8, fm: u8, fb: u8) -> Heard
+        ensures answer { result ≡ answer (at_open command.now (gvb_at link fm fb) (Some self.old.1)) }
+        ensures entry { self.new ≡ after self.old (at_open command.now (gvb_at link fm fb) (Some self.old.1)) }
         ensures marks { marks self.new ≡ marks self.old }
     {
         if self.is_going() {
             return Heard::Late;
         }
         if !self.opened {
-            return refused(SOCKET_NOT_CONNECTED, &Command::Gvb { link, fm, fb });
+            return refused(SOCKET_NOT_CONNECTED, command);
         }
         let messages_back = part_back(u32::from(self.messages), fm) as u16;
         let bits_back = part_back(self.bits, fb);

@@ -1,8 +1,8 @@
 //! The requests of either side.
 ghost use Rattle.std.specs.Prelude.{◌≡◌, ◌≤◌, false, []};
-ghost use Rattle.ncp_model.specs.Calls.{asked_to_send, asked_to_receive};
-ghost use Rattle.ncp_conn.specs.Changes.{with_end, heard_link, heard_size};
-ghost use Rattle.ncp_conn.specs.Asking.{end_to_ask};
+ghost use Rattle.ncp_model.specs.Calls.{asked_to_send, asked_to_receive, end_to_ask};
+ghost use Rattle.ncp_model.specs.Commands.{heard_link, heard_size};
+ghost use Rattle.ncp_conn.specs.Changes.{with_end};
 
 use crate::entry::Entry;
 use ncp_bits::BitStore;

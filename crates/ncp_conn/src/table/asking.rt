@@ -4,10 +4,9 @@ ghost use Rattle.std.specs.FinMap.{get, insert};
 ghost use Rattle.ncp_model.specs.Pairs.{sends, receives};
 ghost use Rattle.ncp_model.specs.End.{or_new};
 ghost use Rattle.ncp_model.specs.Act.{is_room};
-ghost use Rattle.ncp_model.specs.Calls.{asked_to_send, asked_to_receive};
-ghost use Rattle.ncp_model.specs.Ends.{any, uses_link, free_link, ask_send_in, ask_receive_in};
-ghost use Rattle.ncp_conn.specs.Changes.{map_with};
-ghost use Rattle.ncp_conn.specs.Asking.{end_to_ask, may_ask, MayAsk, Enters, DoneOrNoMemory};
+ghost use Rattle.ncp_model.specs.Calls.{asked_to_send, asked_to_receive, end_to_ask};
+ghost use Rattle.ncp_model.specs.Ends.{any, uses_link, free_link, ask_send_in, ask_receive_in, map_with, may_ask_in};
+ghost use Rattle.ncp_conn.specs.Asking.{MayAsk, Enters, DoneOrNoMemory};
 
 use crate::entries::free_from;
 use crate::entry::Entry;
@@ -46,7 +45,7 @@ impl<S: BitStore> Table<S> {
 
     // Whether a pair may ask.
     fn may_ask(&self, pair: Pair, full: bool) -> Result<(), CallFault>
-        ensures told { result ≡ may_ask pair full self.now }
+        ensures told { result ≡ may_ask_in pair full self.now }
         ensures ok { OnOk result (MayAsk pair self.now) }
     {
         self.end_may_ask(pair)?;

@@ -1,12 +1,10 @@
 //! What comes: the commands of connections.
-ghost use Rattle.std.specs.Prelude.{◌≡◌, not, ◌||◌, ◌==◌, nat_le};
+ghost use Rattle.std.specs.Prelude.{◌≡◌, nat_le};
 ghost use Rattle.std.specs.FinMap.{get};
-ghost use Rattle.ncp_model.specs.Pairs.{sends, receives};
 ghost use Rattle.ncp_model.specs.End.{or_new};
 ghost use Rattle.ncp_model.specs.Act.{answer, is_data_link};
-ghost use Rattle.ncp_model.specs.Commands.{hear_cls, hear_all, hear_gvb, hear_ret, hear_inr, hear_ins};
-ghost use Rattle.ncp_model.specs.Ends.{any, count, is_by_peer, hears_link, sender_on, receiver_on, end_of, pair_of, hear, leads_to, map_after, map_after_at};
-ghost use Rattle.ncp_conn.specs.Asking.{hear_rts_in, hear_str_in};
+ghost use Rattle.ncp_model.specs.Commands.{at_open, gvb_at, interrupted, hear_cls, hear_all, hear_ret};
+ghost use Rattle.ncp_model.specs.Ends.{any, count, is_by_peer, hears_link, sender_on, receiver_on, end_of, pair_of, hear, leads_to, map_after, map_after_at, hear_rts_in, hear_str_in, wrong_rts_in, wrong_str_in};
 
 use crate::entry::{Entry, refused};
 use crate::table::Table;
@@ -48,7 +46,7 @@ impl<S: BitStore> Table<S> {
 
     // Whether an RTS has parameters that it may not have.
     fn is_wrong_rts(&self, pair: Pair, link: u8) -> bool
-        ensures { result ≡ (not (sends pair) || not (is_data_link link) || (or_new (get self.now pair)).heard || any (hears_link link) self.now) }
+        ensures { result ≡ wrong_rts_in pair link self.now }
     {
         !pair.sends() || !is_data_link(link) || self.is_heard(pair) || self.is_taken(link)
     }
@@ -82,7 +80,7 @@ impl<S: BitStore> Table<S> {
 
     // Whether an STR has parameters that it may not have.
     fn is_wrong_str(&self, pair: Pair, size: u8) -> bool
-        ensures { result ≡ (not (receives pair) || size == 0 || (or_new (get self.now pair)).heard) }
+        ensures { result ≡ wrong_str_in pair size self.now }
     {
         !pair.receives() || size == 0 || self.is_heard(pair)
     }
@@ -153,14 +151,14 @@ impl<S: BitStore> Table<S> {
     }
 
     // A GVB came.
-    fn hear_gvb(&mut self, link: u8, fm: u8, fb: u8) -> Heard
-        ensures answer { result ≡ answer (hear_gvb link fm fb (end_of (sender_on link self.old))) }
-        ensures table { self.new ≡ map_after_at self.old (pair_of (sender_on link self.old)) (hear_gvb link fm fb (end_of (sender_on link self.old))) }
+    fn hear_gvb(&mut self, command: &Command, link: u8, fm: u8, fb: u8) -> Heard
+        ensures answer { result ≡ answer (at_open command.now (gvb_at link fm fb) (end_of (sender_on link self.old))) }
+        ensures table { self.new ≡ map_after_at self.old (pair_of (sender_on link self.old)) (at_open command.now (gvb_at link fm fb) (end_of (sender_on link self.old))) }
     {
         let Some(key) = self.entries.senders.key(link) else {
-            return refused(SOCKET_NOT_CONNECTED, &Command::Gvb { link, fm, fb });
+            return refused(SOCKET_NOT_CONNECTED, command);
         };
-        let answer = self.entries.slab[key].hear_gvb(link, fm, fb);
+        let answer = self.entries.slab[key].hear_gvb(command, link, fm, fb);
         self.entries.settle(key);
         answer
     }
@@ -184,29 +182,27 @@ impl<S: BitStore> Table<S> {
     }
 
     // An INR came.
-    fn hear_inr(&mut self, link: u8) -> Heard
-        ensures answer { result ≡ answer (hear_inr link (end_of (sender_on link self.old))) }
-        ensures table { self.new ≡ map_after_at self.old (pair_of (sender_on link self.old)) (hear_inr link (end_of (sender_on link self.old))) }
+    fn hear_inr(&mut self, command: &Command, link: u8) -> Heard
+        ensures answer { result ≡ answer (at_open command.now interrupted (end_of (sender_on link self.old))) }
+        ensures table { self.new ≡ map_after_at self.old (pair_of (sender_on link self.old)) (at_open command.now interrupted (end_of (sender_on link self.old))) }
     {
-        let command = Command::Inr { link };
         let Some(key) = self.entries.senders.key(link) else {
-            return refused(SOCKET_NOT_CONNECTED, &command);
+            return refused(SOCKET_NOT_CONNECTED, command);
         };
-        let answer = self.entries.slab[key].hear_interrupt(&command);
+        let answer = self.entries.slab[key].hear_interrupt(command);
         self.entries.settle(key);
         answer
     }
 
     // An INS came.
-    fn hear_ins(&mut self, link: u8) -> Heard
-        ensures answer { result ≡ answer (hear_ins link (end_of (receiver_on link self.old))) }
-        ensures table { self.new ≡ map_after_at self.old (pair_of (receiver_on link self.old)) (hear_ins link (end_of (receiver_on link self.old))) }
+    fn hear_ins(&mut self, command: &Command, link: u8) -> Heard
+        ensures answer { result ≡ answer (at_open command.now interrupted (end_of (receiver_on link self.old))) }
+        ensures table { self.new ≡ map_after_at self.old (pair_of (receiver_on link self.old)) (at_open command.now interrupted (end_of (receiver_on link self.old))) }
     {
-        let command = Command::Ins { link };
         let Some(key) = self.entries.receivers.key(link) else {
-            return refused(SOCKET_NOT_CONNECTED, &command);
+            return refused(SOCKET_NOT_CONNECTED, command);
         };
-        let answer = self.entries.slab[key].hear_interrupt(&command);
+        let answer = self.entries.slab[key].hear_interrupt(command);
         self.entries.settle(key);
         answer
     }
@@ -258,14 +254,14 @@ impl<S: BitStore> Table<S> {
                 messages,
                 bits,
             } => self.hear_all(link, messages, bits),
-            Command::Gvb { link, fm, fb } => self.hear_gvb(link, fm, fb),
+            Command::Gvb { link, fm, fb } => self.hear_gvb(command, link, fm, fb),
             Command::Ret {
                 link,
                 messages,
                 bits,
             } => self.hear_ret(link, messages, bits),
-            Command::Inr { link } => self.hear_inr(link),
-            Command::Ins { link } => self.hear_ins(link),
+            Command::Inr { link } => self.hear_inr(command, link),
+            Command::Ins { link } => self.hear_ins(command, link),
             _ => Heard::Nothing,
         }
     }

@@ -1,6 +1,6 @@
 use Rattle.std.proofs.Common.{sym, ap, ◌∙◌, Option}
 use Rattle.ncp_model.specs.End.{End, or_new}
-use Rattle.ncp_conn.specs.Asking.{end_to_ask}
+use Rattle.ncp_model.specs.Calls.{end_to_ask}
 use Rattle.ncp_conn.proofs.Tables.{its_pair, got, got_none}
 use Rattle.ncp_conn.proofs.table.Table.end_may_ask.Goals as goal
 

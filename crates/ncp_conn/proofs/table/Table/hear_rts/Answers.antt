@@ -5,40 +5,40 @@ use Rattle.ncp_model.specs.declared.outcomes.Heard.TheVariants.{Nothing}
 use Rattle.ncp_model.specs.Pairs.{sends}
 use Rattle.ncp_model.specs.End.{End, or_new, is_over}
 use Rattle.ncp_model.specs.Act.{Becomes, answer}
-use Rattle.ncp_model.specs.Ends.{count, is_by_peer, hears_link, map_after}
+use Rattle.ncp_model.specs.Commands.{heard_link}
+use Rattle.ncp_model.specs.Ends.{count, is_by_peer, hears_link, map_after, wrong_rts_in}
 use Rattle.ncp_conn.specs.Asking.{Enters}
-use Rattle.ncp_conn.specs.Changes.{heard_link}
 use Rattle.ncp_conn.proofs.Tables.{its_pair, got, got_none, sum_is, zero_from, ends_asked, pair_table}
-use Rattle.ncp_conn.proofs.Requests.{new_heard_link, new_entry, entered, kept_hears_link, wrong_rts, right_rts, rts_wrong, rts_full, rts_new, rts_more}
+use Rattle.ncp_conn.proofs.Requests.{new_heard_link, new_entry, entered, kept_hears_link, right_rts, rts_wrong, rts_full, rts_new, rts_more}
 use Rattle.ncp_conn.proofs.table.Table.hear_rts.Goals as goal
 
 pub returns-then-is_wrong_rts-clause-answer : goal.returns-then-is_wrong_rts-clause-answer
 returns-then-is_wrong_rts-clause-answer g c =
-    let wrong : wrong_rts c.args.pair c.args.link c.args.self.now ≡ true = sym c.is_wrong_rts.ensures ∙ c.if-is_wrong_rts.true in
+    let wrong : wrong_rts_in c.args.pair c.args.link c.args.self.now ≡ true = sym c.is_wrong_rts.ensures ∙ c.if-is_wrong_rts.true in
     c.refused.ensures ∙ ap answer (sym (rts_wrong c.args.pair c.args.link c.args.self.now wrong))
 
 pub returns-then-is_wrong_rts-clause-table : goal.returns-then-is_wrong_rts-clause-table
 returns-then-is_wrong_rts-clause-table g c =
-    let wrong : wrong_rts c.args.pair c.args.link c.args.self.now ≡ true = sym c.is_wrong_rts.ensures ∙ c.if-is_wrong_rts.true in
+    let wrong : wrong_rts_in c.args.pair c.args.link c.args.self.now ≡ true = sym c.is_wrong_rts.ensures ∙ c.if-is_wrong_rts.true in
     ap (map_after c.args.self.now c.args.pair) (sym (rts_wrong c.args.pair c.args.link c.args.self.now wrong))
 
 pub returns-then-is_full-clause-answer : goal.returns-then-is_full-clause-answer
 returns-then-is_full-clause-answer g c =
-    let right : wrong_rts c.args.pair c.args.link c.args.self.now ≡ false = sym c.is_wrong_rts.ensures ∙ c.if-is_wrong_rts.false in
+    let right : wrong_rts_in c.args.pair c.args.link c.args.self.now ≡ false = sym c.is_wrong_rts.ensures ∙ c.if-is_wrong_rts.false in
     let none = got_none c.self.inside.entries c.args.self.now c.self.view_is c.self.invariant c.args.pair c.in_default.ensures.found in
     let b : nat_le 64 (count is_by_peer c.args.self.now) ≡ true = sym c.is_full.ensures ∙ c.if-is_full.true in
     ap answer (sym (rts_full c.args.pair c.args.link c.args.self.now right none b))
 
 pub returns-then-is_full-clause-table : goal.returns-then-is_full-clause-table
 returns-then-is_full-clause-table g c =
-    let right : wrong_rts c.args.pair c.args.link c.args.self.now ≡ false = sym c.is_wrong_rts.ensures ∙ c.if-is_wrong_rts.false in
+    let right : wrong_rts_in c.args.pair c.args.link c.args.self.now ≡ false = sym c.is_wrong_rts.ensures ∙ c.if-is_wrong_rts.false in
     let none = got_none c.self.inside.entries c.args.self.now c.self.view_is c.self.invariant c.args.pair c.in_default.ensures.found in
     let b : nat_le 64 (count is_by_peer c.args.self.now) ≡ true = sym c.is_full.ensures ∙ c.if-is_full.true in
     ap (map_after c.args.self.now c.args.pair) (sym (rts_full c.args.pair c.args.link c.args.self.now right none b))
 
 pub enter-requires : goal.enter-requires
 enter-requires g c =
-    let right : wrong_rts c.args.pair c.args.link c.args.self.now ≡ false = sym c.is_wrong_rts.ensures ∙ c.if-is_wrong_rts.false in
+    let right : wrong_rts_in c.args.pair c.args.link c.args.self.now ≡ false = sym c.is_wrong_rts.ensures ∙ c.if-is_wrong_rts.false in
     let none = got_none c.self.inside.entries c.args.self.now c.self.view_is c.self.invariant c.args.pair c.in_default.ensures.found in
     let b : nat_le 64 (count is_by_peer c.args.self.now) ≡ false = sym c.is_full.ensures ∙ c.if-is_full.false in
     let e = new_entry c.hear_link.new.self c.new-entry.result c.args.pair (heard_link c.args.link) c.hear_link.ensures c.new-entry.ensures in
@@ -46,14 +46,14 @@ enter-requires g c =
 
 pub returns-in_default-clause-answer : goal.returns-in_default-clause-answer
 returns-in_default-clause-answer g c =
-    let right : wrong_rts c.args.pair c.args.link c.args.self.now ≡ false = sym c.is_wrong_rts.ensures ∙ c.if-is_wrong_rts.false in
+    let right : wrong_rts_in c.args.pair c.args.link c.args.self.now ≡ false = sym c.is_wrong_rts.ensures ∙ c.if-is_wrong_rts.false in
     let none = got_none c.self.inside.entries c.args.self.now c.self.view_is c.self.invariant c.args.pair c.in_default.ensures.found in
     let b : nat_le 64 (count is_by_peer c.args.self.now) ≡ false = sym c.is_full.ensures ∙ c.if-is_full.false in
     ap answer (sym (rts_new c.args.pair c.args.link c.args.self.now right none b))
 
 pub returns-in_default-clause-table : goal.returns-in_default-clause-table
 returns-in_default-clause-table g c =
-    let right : wrong_rts c.args.pair c.args.link c.args.self.now ≡ false = sym c.is_wrong_rts.ensures ∙ c.if-is_wrong_rts.false in
+    let right : wrong_rts_in c.args.pair c.args.link c.args.self.now ≡ false = sym c.is_wrong_rts.ensures ∙ c.if-is_wrong_rts.false in
     let none = got_none c.self.inside.entries c.args.self.now c.self.view_is c.self.invariant c.args.pair c.in_default.ensures.found in
     let b : nat_le 64 (count is_by_peer c.args.self.now) ≡ false = sym c.is_full.ensures ∙ c.if-is_full.false in
     let e = new_entry c.hear_link.new.self c.new-entry.result c.args.pair (heard_link c.args.link) c.hear_link.ensures c.new-entry.ensures in
@@ -63,20 +63,20 @@ returns-in_default-clause-table g c =
 
 pub invariant_of-self : goal.invariant_of-self
 invariant_of-self g c =
-    let right : wrong_rts c.args.pair c.args.link c.args.self.now ≡ false = sym c.is_wrong_rts.ensures ∙ c.if-is_wrong_rts.false in
+    let right : wrong_rts_in c.args.pair c.args.link c.args.self.now ≡ false = sym c.is_wrong_rts.ensures ∙ c.if-is_wrong_rts.false in
     let p = its_pair c.self.inside.entries.slab c.in-Some.key c.args.pair c.index_mut.result.now c.in-Some.ensures.found c.index_mut.ensures.value in
     let sex : sends c.index_mut.result.now.0 ≡ true = ap (λ (k : Pair). sends k) p ∙ (right_rts c.args.pair c.args.link c.args.self.now right).0 in
     kept_hears_link c.self.inside.entries c.lead.new.self c.in-Some.key c.index_mut.result.now c.hear_link-2.new.self c.index_mut.ensures.value c.lead.ensures c.self.invariant c.args.link c.hear_link-2.ensures sex (sym (ap (λ (o : Option End). (or_new o).heard) (got c.self.inside.entries c.args.self.now c.self.view_is c.self.invariant c.in-Some.key c.args.pair c.index_mut.result.now c.index_mut.ensures.value p)) ∙ (right_rts c.args.pair c.args.link c.args.self.now right).3) (sym (sum_is c.self.inside.entries c.args.self.now c.self.view_is c.self.invariant (hears_link c.args.link)) ∙ zero_from (count (hears_link c.args.link) c.args.self.now) (right_rts c.args.pair c.args.link c.args.self.now right).1)
 
 pub returns-clause-answer : goal.returns-clause-answer
 returns-clause-answer g c =
-    let right : wrong_rts c.args.pair c.args.link c.args.self.now ≡ false = sym c.is_wrong_rts.ensures ∙ c.if-is_wrong_rts.false in
+    let right : wrong_rts_in c.args.pair c.args.link c.args.self.now ≡ false = sym c.is_wrong_rts.ensures ∙ c.if-is_wrong_rts.false in
     let p = its_pair c.self.inside.entries.slab c.in-Some.key c.args.pair c.index_mut.result.now c.in-Some.ensures.found c.index_mut.ensures.value in
     ap answer (sym (rts_more c.args.pair c.args.link c.args.self.now right c.index_mut.result.now.1 (got c.self.inside.entries c.args.self.now c.self.view_is c.self.invariant c.in-Some.key c.args.pair c.index_mut.result.now c.index_mut.ensures.value p)))
 
 pub returns-clause-table : goal.returns-clause-table
 returns-clause-table g c =
-    let right : wrong_rts c.args.pair c.args.link c.args.self.now ≡ false = sym c.is_wrong_rts.ensures ∙ c.if-is_wrong_rts.false in
+    let right : wrong_rts_in c.args.pair c.args.link c.args.self.now ≡ false = sym c.is_wrong_rts.ensures ∙ c.if-is_wrong_rts.false in
     let p = its_pair c.self.inside.entries.slab c.in-Some.key c.args.pair c.index_mut.result.now c.in-Some.ensures.found c.index_mut.ensures.value in
     pair_table {A = Heard} (λ (k : Pair) (o : Option End). Becomes (heard_link c.args.link (or_new o)) Nothing) c.index_mut.result.now c.args.pair c.args.self.now _ p
     (got c.self.inside.entries c.args.self.now c.self.view_is c.self.invariant c.in-Some.key c.args.pair c.index_mut.result.now c.index_mut.ensures.value p)
