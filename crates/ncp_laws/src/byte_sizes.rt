@@ -8,10 +8,7 @@ ghost use Rattle.ncp_model.specs.Happenings.{happens};
 ghost use Rattle.ncp_model.specs.Happenings as all;
 ghost use Rattle.ncp_model.specs.Rows.{outward, inward, ones, noughts, sized, counted, with_stored, sent_one};
 
-use ncp_model::CallFault;
-use ncp_model::MAX_TEXT;
-use ncp_model::Took;
-use ncp_model::Pair;
+use ncp_model::{CallFault, MAX_TEXT, Pair, Took};
 
 /// A text that is accepted is a whole number of bytes, joins the end of what waits, and fits the store.
 pub fn what_is_given_is_whole()

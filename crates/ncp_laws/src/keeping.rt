@@ -6,8 +6,7 @@ ghost use Rattle.ncp_model.specs.Happenings.{Happening, happens};
 ghost use Rattle.ncp_model.specs.Happenings as all;
 ghost use Rattle.ncp_laws.specs.Keeping.{calls_back, is_ret, is_interrupt, is_sending, frees_the_sender, counts};
 
-use ncp_model::{MAX_AMOUNT, MAX_COUNT, MAX_MESSAGES, MAX_ROOM};
-use ncp_model::Pair;
+use ncp_model::{MAX_AMOUNT, MAX_COUNT, MAX_MESSAGES, MAX_ROOM, Pair};
 
 /// What a user's call changes at the end, if that is there afterwards. An end that was not there
 /// counts as a new one.

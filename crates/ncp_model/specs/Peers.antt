@@ -1,8 +1,8 @@
 -- One host and one peer: what the host keeps of the peer, and all that may happen to it. Nothing here
 -- only watches: what was made, what came and what was given is no part of it. Whether the data
 -- links are quiet is data here, since the links stand elsewhere.
-use Rattle.std.specs.Prelude.{ℕ, Bool, true, false, ◌||◌, if◌then◌else◌, List, [], ◌∷◌, ◌++◌, length, drop, Option, None, Some, Result, Ok, Err}
-use Rattle.std.specs.FinMap.{get, insert, remove}
+use Rattle.std.specs.Prelude.{ℕ, Bool, true, false, if◌then◌else◌, List, [], ◌∷◌, ◌++◌, length, drop, Result, Ok, Err}
+use Rattle.std.specs.FinMap.{get}
 use Rattle.ncp_control.specs.declared.command.Command.{Command}
 use Rattle.ncp_control.specs.declared.command.Command.TheVariants.{Eco, Erp, Rst, Rrp}
 use Rattle.ncp_control.specs.declared.command.Command.TheVariants as commands
@@ -12,7 +12,6 @@ use Rattle.ncp_model.specs.declared.call_fault.CallFault.{CallFault}
 use Rattle.ncp_model.specs.declared.call_fault.CallFault.TheVariants.{NotUp}
 use Rattle.ncp_model.specs.declared.outcomes.Heard.{Heard}
 use Rattle.ncp_model.specs.declared.outcomes.Heard.TheVariants as heard
-use Rattle.ncp_model.specs.End.{End}
 use Rattle.ncp_model.specs.Act.{answer, made_if_any, made_by_call, made_by_hearing}
 use Rattle.ncp_model.specs.Texts.{made_by_text, Rfnm}
 use Rattle.ncp_model.specs.Ends.{Ends, count, has_asked, free_link, sender_on, receiver_on, pair_of, leads_to, hear, text_in, cut_in, answered_in, map_after_at, no_ends, put}
