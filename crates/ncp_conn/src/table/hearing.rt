@@ -52,17 +52,13 @@ impl<S: BitStore> Table<S> {
     }
 
     // The request of a receiver came.
-    fn hear_rts(&mut self, pair: Pair, link: u8) -> Heard
+    fn hear_rts(&mut self, command: &Command, pair: Pair, link: u8) -> Heard
+        requires { command.now ≡ Command.Rts pair.remote pair.local link }
         ensures answer { result ≡ answer (hear_rts_in pair link self.old) }
         ensures table { self.new ≡ map_after self.old pair (hear_rts_in pair link self.old) }
     {
         if self.is_wrong_rts(pair, link) {
-            let command = Command::Rts {
-                receive: pair.remote,
-                send: pair.local,
-                link,
-            };
-            return refused(ERRONEOUS_PARAMETERS, &command);
+            return refused(ERRONEOUS_PARAMETERS, command);
         }
         let Some(key) = self.entries.find(pair) else {
             if self.is_full() {
@@ -86,17 +82,13 @@ impl<S: BitStore> Table<S> {
     }
 
     // The request of a sender came.
-    fn hear_str(&mut self, pair: Pair, size: u8) -> Heard
+    fn hear_str(&mut self, command: &Command, pair: Pair, size: u8) -> Heard
+        requires { command.now ≡ Command.Str pair.remote pair.local size }
         ensures answer { result ≡ answer (hear_str_in pair size self.old) }
         ensures table { self.new ≡ map_after self.old pair (hear_str_in pair size self.old) }
     {
         if self.is_wrong_str(pair, size) {
-            let command = Command::Str {
-                send: pair.remote,
-                receive: pair.local,
-                size,
-            };
-            return refused(ERRONEOUS_PARAMETERS, &command);
+            return refused(ERRONEOUS_PARAMETERS, command);
         }
         let Some(key) = self.entries.find(pair) else {
             if self.is_full() {
@@ -220,6 +212,7 @@ impl<S: BitStore> Table<S> {
                 send,
                 link,
             } => self.hear_rts(
+                command,
                 Pair {
                     local: send,
                     remote: receive,
@@ -231,6 +224,7 @@ impl<S: BitStore> Table<S> {
                 receive,
                 size,
             } => self.hear_str(
+                command,
                 Pair {
                     local: receive,
                     remote: send,
