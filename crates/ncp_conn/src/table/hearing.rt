@@ -105,21 +105,18 @@ impl<S: BitStore> Table<S> {
     }
 
     // The peer's CLS came.
-    fn hear_cls(&mut self, pair: Pair) -> Heard
+    fn hear_cls(&mut self, command: &Command, pair: Pair) -> Heard
+        requires { command.now ≡ Command.Cls pair.remote pair.local }
         ensures answer { result ≡ answer (hear_cls pair (get self.old pair)) }
         ensures table { self.new ≡ map_after self.old pair (hear_cls pair (get self.old pair)) }
     {
-        let command = Command::Cls {
-            my: pair.remote,
-            your: pair.local,
-        };
         if !pair.is_proper() {
-            return refused(ERRONEOUS_PARAMETERS, &command);
+            return refused(ERRONEOUS_PARAMETERS, command);
         }
         let Some(key) = self.entries.find(pair) else {
-            return refused(NONEXISTENT_SOCKET, &command);
+            return refused(NONEXISTENT_SOCKET, command);
         };
-        let answer = self.entries.slab[key].hear_cls();
+        let answer = self.entries.slab[key].hear_cls(command);
         self.entries.settle(key);
         answer
     }
@@ -231,10 +228,13 @@ impl<S: BitStore> Table<S> {
                 },
                 size,
             ),
-            Command::Cls { my, your } => self.hear_cls(Pair {
-                local: your,
-                remote: my,
-            }),
+            Command::Cls { my, your } => self.hear_cls(
+                command,
+                Pair {
+                    local: your,
+                    remote: my,
+                },
+            ),
             Command::All {
                 link,
                 messages,
