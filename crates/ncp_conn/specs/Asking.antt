@@ -9,7 +9,7 @@ use Rattle.ncp_model.specs.End.{End, or_new, is_over}
 use Rattle.ncp_model.specs.Act.{Act, answer}
 use Rattle.ncp_model.specs.Ends.{Ends, count, any, has_asked, is_by_peer, hears_link, uses_link, map_after}
 
--- where it may
+-- where an own request may be made
 pub record MayAsk (pair : Pair) (m : Ends) : Type 0 where
   pub first : (or_new (get m pair)).asked ≡ false
   pub own : count has_asked m < MAX_OWN

@@ -97,27 +97,29 @@ impl<S: BitStore> Entry<S> {
     }
 
     /// An ALL came to a sender.
-    pub(crate) fn hear_all(&mut self, link: u8, messages: u16, bits: u32) -> Heard
-        requires { sends self.old.0 ≡ true }
-        ensures answer { result ≡ answer (at_open (Command.All link messages bits) (all_at link messages bits) (Some self.old.1)) }
-        ensures entry { self.new ≡ after self.old (at_open (Command.All link messages bits) (all_at link messages bits) (Some self.old.1)) }
+    pub(crate) fn hear_all(
+        &mut self,
+        command: &Command,
+        link: u8,
+        messages: u16,
+        bits: u32,
+    ) -> Heard
+        requires sends { sends self.old.0 ≡ true }
+        requires command { command.now ≡ Command.All link messages bits }
+        ensures answer { result ≡ answer (at_open command.now (all_at link messages bits) (Some self.old.1)) }
+        ensures entry { self.new ≡ after self.old (at_open command.now (all_at link messages bits) (Some self.old.1)) }
         ensures marks { marks self.new ≡ marks self.old }
     {
-        let command = Command::All {
-            link,
-            messages,
-            bits,
-        };
         if self.is_going() {
             return Heard::Late;
         }
         if !self.opened {
-            return refused(SOCKET_NOT_CONNECTED, &command);
+            return refused(SOCKET_NOT_CONNECTED, command);
         }
         if u32::from(self.messages) + u32::from(messages) > u32::from(MAX_MESSAGES)
             || u64::from(self.bits) + u64::from(bits) > u64::from(MAX_AMOUNT)
         {
-            return refused(ERRONEOUS_PARAMETERS, &command);
+            return refused(ERRONEOUS_PARAMETERS, command);
         }
         self.messages += messages;
         self.bits += bits;
@@ -148,24 +150,26 @@ impl<S: BitStore> Entry<S> {
     }
 
     /// A RET came to a receiver.
-    pub(crate) fn hear_ret(&mut self, link: u8, messages: u16, bits: u32) -> Heard
-        ensures answer { result ≡ answer (at_open (Command.Ret link messages bits) (ret_at link messages bits) (Some self.old.1)) }
-        ensures entry { self.new ≡ after self.old (at_open (Command.Ret link messages bits) (ret_at link messages bits) (Some self.old.1)) }
+    pub(crate) fn hear_ret(
+        &mut self,
+        command: &Command,
+        link: u8,
+        messages: u16,
+        bits: u32,
+    ) -> Heard
+        requires { command.now ≡ Command.Ret link messages bits }
+        ensures answer { result ≡ answer (at_open command.now (ret_at link messages bits) (Some self.old.1)) }
+        ensures entry { self.new ≡ after self.old (at_open command.now (ret_at link messages bits) (Some self.old.1)) }
         ensures marks { marks self.new ≡ marks self.old }
     {
-        let command = Command::Ret {
-            link,
-            messages,
-            bits,
-        };
         if self.is_going() {
             return Heard::Late;
         }
         if !self.opened {
-            return refused(SOCKET_NOT_CONNECTED, &command);
+            return refused(SOCKET_NOT_CONNECTED, command);
         }
         if messages > self.messages || bits > self.bits {
-            return refused(ERRONEOUS_PARAMETERS, &command);
+            return refused(ERRONEOUS_PARAMETERS, command);
         }
         self.messages -= messages;
         self.bits -= bits;

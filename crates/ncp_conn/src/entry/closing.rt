@@ -47,17 +47,14 @@ impl<S: BitStore> Entry<S> {
     }
 
     /// The peer's CLS came.
-    pub(crate) fn hear_cls(&mut self) -> Heard
+    pub(crate) fn hear_cls(&mut self, command: &Command) -> Heard
+        requires { command.now ≡ Command.Cls self.old.0.remote self.old.0.local }
         ensures answer { result ≡ answer (hear_cls_end self.old.0 self.old.1) }
         ensures entry { self.new ≡ after self.old (hear_cls_end self.old.0 self.old.1) }
         ensures marks { marks self.new ≡ marks self.old }
     {
         if self.cls {
-            let command = Command::Cls {
-                my: self.pair.remote,
-                your: self.pair.local,
-            };
-            return refused(ERRONEOUS_PARAMETERS, &command);
+            return refused(ERRONEOUS_PARAMETERS, command);
         }
         self.cls = true;
         if self.left || self.leaving {

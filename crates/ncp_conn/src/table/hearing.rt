@@ -3,7 +3,7 @@ ghost use Rattle.std.specs.Prelude.{◌≡◌, nat_le};
 ghost use Rattle.std.specs.FinMap.{get};
 ghost use Rattle.ncp_model.specs.End.{or_new};
 ghost use Rattle.ncp_model.specs.Act.{answer, is_data_link};
-ghost use Rattle.ncp_model.specs.Commands.{at_open, gvb_at, interrupted, hear_cls, hear_all, hear_ret};
+ghost use Rattle.ncp_model.specs.Commands.{at_open, all_at, gvb_at, ret_at, interrupted, hear_cls};
 ghost use Rattle.ncp_model.specs.Ends.{any, count, is_by_peer, hears_link, sender_on, receiver_on, end_of, pair_of, hear, leads_to, map_after, map_after_at, hear_rts_in, hear_str_in, wrong_rts_in, wrong_str_in};
 
 use crate::entry::{Entry, refused};
@@ -52,17 +52,13 @@ impl<S: BitStore> Table<S> {
     }
 
     // The request of a receiver came.
-    fn hear_rts(&mut self, pair: Pair, link: u8) -> Heard
+    fn hear_rts(&mut self, command: &Command, pair: Pair, link: u8) -> Heard
+        requires { command.now ≡ Command.Rts pair.remote pair.local link }
         ensures answer { result ≡ answer (hear_rts_in pair link self.old) }
         ensures table { self.new ≡ map_after self.old pair (hear_rts_in pair link self.old) }
     {
         if self.is_wrong_rts(pair, link) {
-            let command = Command::Rts {
-                receive: pair.remote,
-                send: pair.local,
-                link,
-            };
-            return refused(ERRONEOUS_PARAMETERS, &command);
+            return refused(ERRONEOUS_PARAMETERS, command);
         }
         let Some(key) = self.entries.find(pair) else {
             if self.is_full() {
@@ -86,17 +82,13 @@ impl<S: BitStore> Table<S> {
     }
 
     // The request of a sender came.
-    fn hear_str(&mut self, pair: Pair, size: u8) -> Heard
+    fn hear_str(&mut self, command: &Command, pair: Pair, size: u8) -> Heard
+        requires { command.now ≡ Command.Str pair.remote pair.local size }
         ensures answer { result ≡ answer (hear_str_in pair size self.old) }
         ensures table { self.new ≡ map_after self.old pair (hear_str_in pair size self.old) }
     {
         if self.is_wrong_str(pair, size) {
-            let command = Command::Str {
-                send: pair.remote,
-                receive: pair.local,
-                size,
-            };
-            return refused(ERRONEOUS_PARAMETERS, &command);
+            return refused(ERRONEOUS_PARAMETERS, command);
         }
         let Some(key) = self.entries.find(pair) else {
             if self.is_full() {
@@ -113,39 +105,32 @@ impl<S: BitStore> Table<S> {
     }
 
     // The peer's CLS came.
-    fn hear_cls(&mut self, pair: Pair) -> Heard
+    fn hear_cls(&mut self, command: &Command, pair: Pair) -> Heard
+        requires { command.now ≡ Command.Cls pair.remote pair.local }
         ensures answer { result ≡ answer (hear_cls pair (get self.old pair)) }
         ensures table { self.new ≡ map_after self.old pair (hear_cls pair (get self.old pair)) }
     {
-        let command = Command::Cls {
-            my: pair.remote,
-            your: pair.local,
-        };
         if !pair.is_proper() {
-            return refused(ERRONEOUS_PARAMETERS, &command);
+            return refused(ERRONEOUS_PARAMETERS, command);
         }
         let Some(key) = self.entries.find(pair) else {
-            return refused(NONEXISTENT_SOCKET, &command);
+            return refused(NONEXISTENT_SOCKET, command);
         };
-        let answer = self.entries.slab[key].hear_cls();
+        let answer = self.entries.slab[key].hear_cls(command);
         self.entries.settle(key);
         answer
     }
 
     // An ALL came.
-    fn hear_all(&mut self, link: u8, messages: u16, bits: u32) -> Heard
-        ensures answer { result ≡ answer (hear_all link messages bits (end_of (sender_on link self.old))) }
-        ensures table { self.new ≡ map_after_at self.old (pair_of (sender_on link self.old)) (hear_all link messages bits (end_of (sender_on link self.old))) }
+    fn hear_all(&mut self, command: &Command, link: u8, messages: u16, bits: u32) -> Heard
+        requires { command.now ≡ Command.All link messages bits }
+        ensures answer { result ≡ answer (at_open command.now (all_at link messages bits) (end_of (sender_on link self.old))) }
+        ensures table { self.new ≡ map_after_at self.old (pair_of (sender_on link self.old)) (at_open command.now (all_at link messages bits) (end_of (sender_on link self.old))) }
     {
         let Some(key) = self.entries.senders.key(link) else {
-            let command = Command::All {
-                link,
-                messages,
-                bits,
-            };
-            return refused(SOCKET_NOT_CONNECTED, &command);
+            return refused(SOCKET_NOT_CONNECTED, command);
         };
-        let answer = self.entries.slab[key].hear_all(link, messages, bits);
+        let answer = self.entries.slab[key].hear_all(command, link, messages, bits);
         self.entries.settle(key);
         answer
     }
@@ -164,19 +149,15 @@ impl<S: BitStore> Table<S> {
     }
 
     // A RET came.
-    fn hear_ret(&mut self, link: u8, messages: u16, bits: u32) -> Heard
-        ensures answer { result ≡ answer (hear_ret link messages bits (end_of (receiver_on link self.old))) }
-        ensures table { self.new ≡ map_after_at self.old (pair_of (receiver_on link self.old)) (hear_ret link messages bits (end_of (receiver_on link self.old))) }
+    fn hear_ret(&mut self, command: &Command, link: u8, messages: u16, bits: u32) -> Heard
+        requires { command.now ≡ Command.Ret link messages bits }
+        ensures answer { result ≡ answer (at_open command.now (ret_at link messages bits) (end_of (receiver_on link self.old))) }
+        ensures table { self.new ≡ map_after_at self.old (pair_of (receiver_on link self.old)) (at_open command.now (ret_at link messages bits) (end_of (receiver_on link self.old))) }
     {
         let Some(key) = self.entries.receivers.key(link) else {
-            let command = Command::Ret {
-                link,
-                messages,
-                bits,
-            };
-            return refused(SOCKET_NOT_CONNECTED, &command);
+            return refused(SOCKET_NOT_CONNECTED, command);
         };
-        let answer = self.entries.slab[key].hear_ret(link, messages, bits);
+        let answer = self.entries.slab[key].hear_ret(command, link, messages, bits);
         self.entries.settle(key);
         answer
     }
@@ -228,6 +209,7 @@ impl<S: BitStore> Table<S> {
                 send,
                 link,
             } => self.hear_rts(
+                command,
                 Pair {
                     local: send,
                     remote: receive,
@@ -239,27 +221,31 @@ impl<S: BitStore> Table<S> {
                 receive,
                 size,
             } => self.hear_str(
+                command,
                 Pair {
                     local: receive,
                     remote: send,
                 },
                 size,
             ),
-            Command::Cls { my, your } => self.hear_cls(Pair {
-                local: your,
-                remote: my,
-            }),
+            Command::Cls { my, your } => self.hear_cls(
+                command,
+                Pair {
+                    local: your,
+                    remote: my,
+                },
+            ),
             Command::All {
                 link,
                 messages,
                 bits,
-            } => self.hear_all(link, messages, bits),
+            } => self.hear_all(command, link, messages, bits),
             Command::Gvb { link, fm, fb } => self.hear_gvb(command, link, fm, fb),
             Command::Ret {
                 link,
                 messages,
                 bits,
-            } => self.hear_ret(link, messages, bits),
+            } => self.hear_ret(command, link, messages, bits),
             Command::Inr { link } => self.hear_inr(command, link),
             Command::Ins { link } => self.hear_ins(command, link),
             _ => Heard::Nothing,

@@ -1,7 +1,7 @@
 use Rattle.std.proofs.Common.{refl, sym, ◌∙◌, Option, None, Some}
 use Rattle.ncp_model.specs.declared.pair.Pair.{Pair}
 use Rattle.ncp_model.specs.End.{End}
-use Rattle.ncp_model.specs.Commands.{hear_all}
+use Rattle.ncp_model.specs.Commands.{at_open, all_at}
 use Rattle.ncp_model.specs.Ends.{hears_link, sender_on, end_of}
 use Rattle.ncp_conn.proofs.Indexes.{led_test}
 use Rattle.ncp_conn.proofs.Tables.{no_sender, sender_is, kept_acted, ends_acted, link_answer, link_table, hears_sends}
@@ -9,14 +9,14 @@ use Rattle.ncp_conn.proofs.table.Table.hear_all.Goals as goal
 
 pub returns-in_default-clause-answer : goal.returns-in_default-clause-answer
 returns-in_default-clause-answer g c =
-    link_answer (λ (o : Option (Pair × End)). hear_all c.args.link c.args.messages c.args.bits (end_of o)) (sender_on c.args.link c.args.self.now) None _ (no_sender c.self.inside.entries c.args.self.now c.self.view_is c.self.invariant c.args.link (sym c.key.ensures ∙ c.in_default.is)) c.refused.ensures
+    link_answer (λ (o : Option (Pair × End)). at_open c.args.command.now (all_at c.args.link c.args.messages c.args.bits) (end_of o)) (sender_on c.args.link c.args.self.now) None _ (no_sender c.self.inside.entries c.args.self.now c.self.view_is c.self.invariant c.args.link (sym c.key.ensures ∙ c.in_default.is)) c.refused.ensures
 
 pub returns-in_default-clause-table : goal.returns-in_default-clause-table
 returns-in_default-clause-table g c =
-    link_table (λ (o : Option (Pair × End)). hear_all c.args.link c.args.messages c.args.bits (end_of o)) (sender_on c.args.link c.args.self.now) None c.args.self.now _ (no_sender c.self.inside.entries c.args.self.now c.self.view_is c.self.invariant c.args.link (sym c.key.ensures ∙ c.in_default.is)) refl
+    link_table (λ (o : Option (Pair × End)). at_open c.args.command.now (all_at c.args.link c.args.messages c.args.bits) (end_of o)) (sender_on c.args.link c.args.self.now) None c.args.self.now _ (no_sender c.self.inside.entries c.args.self.now c.self.view_is c.self.invariant c.args.link (sym c.key.ensures ∙ c.in_default.is)) refl
 
-pub hear_all-answer-requires : goal.hear_all-answer-requires
-hear_all-answer-requires g c =
+pub hear_all-answer-requires-clause-sends : goal.hear_all-answer-requires-clause-sends
+hear_all-answer-requires-clause-sends g c =
     hears_sends c.args.link c.index_mut.result.now (led_test hears_link c.self.inside.entries.senders c.self.inside.entries.slab c.self.invariant.senders c.args.link c.in-Some.key c.index_mut.result.now (sym c.key.ensures ∙ c.in-Some.is) c.index_mut.ensures.value)
 
 pub invariant_of-self : goal.invariant_of-self
@@ -24,9 +24,9 @@ invariant_of-self g c = kept_acted c.self.inside.entries c.settle.new.self c.in-
 
 pub returns-clause-answer : goal.returns-clause-answer
 returns-clause-answer g c =
-    link_answer (λ (o : Option (Pair × End)). hear_all c.args.link c.args.messages c.args.bits (end_of o)) (sender_on c.args.link c.args.self.now) (Some c.index_mut.result.now) _ (sender_is c.self.inside.entries c.args.self.now c.self.view_is c.self.invariant c.args.link c.in-Some.key c.index_mut.result.now (sym c.key.ensures ∙ c.in-Some.is) c.index_mut.ensures.value) c.hear_all-answer.ensures.answer
+    link_answer (λ (o : Option (Pair × End)). at_open c.args.command.now (all_at c.args.link c.args.messages c.args.bits) (end_of o)) (sender_on c.args.link c.args.self.now) (Some c.index_mut.result.now) _ (sender_is c.self.inside.entries c.args.self.now c.self.view_is c.self.invariant c.args.link c.in-Some.key c.index_mut.result.now (sym c.key.ensures ∙ c.in-Some.is) c.index_mut.ensures.value) c.hear_all-answer.ensures.answer
 
 pub returns-clause-table : goal.returns-clause-table
 returns-clause-table g c =
-    link_table (λ (o : Option (Pair × End)). hear_all c.args.link c.args.messages c.args.bits (end_of o)) (sender_on c.args.link c.args.self.now) (Some c.index_mut.result.now) c.args.self.now _ (sender_is c.self.inside.entries c.args.self.now c.self.view_is c.self.invariant c.args.link c.in-Some.key c.index_mut.result.now (sym c.key.ensures ∙ c.in-Some.is) c.index_mut.ensures.value)
+    link_table (λ (o : Option (Pair × End)). at_open c.args.command.now (all_at c.args.link c.args.messages c.args.bits) (end_of o)) (sender_on c.args.link c.args.self.now) (Some c.index_mut.result.now) c.args.self.now _ (sender_is c.self.inside.entries c.args.self.now c.self.view_is c.self.invariant c.args.link c.in-Some.key c.index_mut.result.now (sym c.key.ensures ∙ c.in-Some.is) c.index_mut.ensures.value)
     (ends_acted c.self.inside.entries c.settle.new.self c.in-Some.key c.index_mut.result.now c.hear_all-answer.new.self c.index_mut.ensures.value c.settle.ensures _ c.args.self.now c.self.view_is c.self.invariant c.hear_all-answer.ensures.entry)

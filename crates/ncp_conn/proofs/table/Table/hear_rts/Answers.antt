@@ -1,10 +1,11 @@
 use Rattle.std.proofs.Common.{◌≡◌, true, false, nat_le, refl, sym, ap, subst, ◌∙◌, Option}
+use Rattle.ncp_control.specs.declared.command.Command.{Command}
 use Rattle.ncp_model.specs.declared.pair.Pair.{Pair}
 use Rattle.ncp_model.specs.declared.outcomes.Heard.{Heard}
-use Rattle.ncp_model.specs.declared.outcomes.Heard.TheVariants.{Nothing}
+use Rattle.ncp_model.specs.declared.outcomes.Heard.TheVariants.{Nothing, Reply}
 use Rattle.ncp_model.specs.Pairs.{sends}
 use Rattle.ncp_model.specs.End.{End, or_new, is_over}
-use Rattle.ncp_model.specs.Act.{Becomes, answer}
+use Rattle.ncp_model.specs.Act.{Becomes, answer, error_of, wrong_parameters}
 use Rattle.ncp_model.specs.Commands.{heard_link}
 use Rattle.ncp_model.specs.Ends.{count, is_by_peer, hears_link, map_after, wrong_rts_in}
 use Rattle.ncp_conn.specs.Asking.{Enters}
@@ -15,7 +16,7 @@ use Rattle.ncp_conn.proofs.table.Table.hear_rts.Goals as goal
 pub returns-then-is_wrong_rts-clause-answer : goal.returns-then-is_wrong_rts-clause-answer
 returns-then-is_wrong_rts-clause-answer g c =
     let wrong : wrong_rts_in c.args.pair c.args.link c.args.self.now ≡ true = sym c.is_wrong_rts.ensures ∙ c.if-is_wrong_rts.true in
-    c.refused.ensures ∙ ap answer (sym (rts_wrong c.args.pair c.args.link c.args.self.now wrong))
+    c.refused.ensures ∙ ap (λ (x : Command). Reply (error_of wrong_parameters x)) c.requires ∙ ap answer (sym (rts_wrong c.args.pair c.args.link c.args.self.now wrong))
 
 pub returns-then-is_wrong_rts-clause-table : goal.returns-then-is_wrong_rts-clause-table
 returns-then-is_wrong_rts-clause-table g c =
