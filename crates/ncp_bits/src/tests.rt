@@ -345,6 +345,8 @@ fn shows_bits(rt: HostRuntime) -> Result<(), Fail> {
     );
     let bits = bits_in(&rt, "101");
     assert_eq!(rt; format!(in rt.alloc(); "{bits:?}")?.as_str(), "bits=3 a0");
+    let low = bits_in(&rt, "0000010100001");
+    assert_eq!(rt; format!(in rt.alloc(); "{low:?}")?.as_str(), "bits=13 0508");
     let none = Bits::new();
     assert_eq!(rt; format!(in rt.alloc(); "{none:?}")?.as_str(), "bits=0 ");
     Ok(())

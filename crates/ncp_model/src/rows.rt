@@ -58,6 +58,7 @@ pub fn asking_to_receive()
 
 /// Closing: with a text out the sender's CLS is only due.
 pub fn closing()
+    ensures keeps_the_rest { close outward false (Some (record (counting 3 24) { busy = true; interrupts = 2; stored = ones 8 })) ≡ Becomes (due (record (counting 3 24) { busy = true; interrupts = 2 })) (Ok None) }
     ensures entry { close outward true None ≡ Stays (Err CallFault.NoEntry) }
     ensures left { (close outward true (Some (gone opened_end)) ≡ Stays (Err CallFault.Closing)) × (close inward true (Some (gone opened_end)) ≡ Stays (Err CallFault.Closing)) }
     ensures leaving { close outward true (Some (due (sent_one opened_end))) ≡ Stays (Err CallFault.Closing) }
@@ -75,12 +76,14 @@ pub fn closing()
 
 /// Giving text: whole bytes, up to the room of the store, at the end of what waits.
 pub fn giving()
+    ensures keeps_the_rest { give outward (ones 8) (Some (record (counting 3 24) { busy = true; interrupts = 2 })) ≡ Becomes (record (counting 3 24) { busy = true; interrupts = 2; stored = ones 8 }) (Ok tt) }
     ensures entry { give inward (ones 9) None ≡ Stays (Err CallFault.NoEntry) }
     ensures closing { (give inward (ones 9) (Some (gone asked_receive)) ≡ Stays (Err CallFault.Closing)) × (give inward (ones 9) (Some (due opened_end)) ≡ Stays (Err CallFault.Closing)) }
     ensures open { (give inward (ones 9) (Some asked_receive) ≡ Stays (Err CallFault.NotOpen)) × (give inward (ones 9) (Some size_heard) ≡ Stays (Err CallFault.NotOpen)) }
     ensures end { give inward (ones 12) (Some opened_end) ≡ Stays (Err CallFault.WrongEnd) }
     ensures whole { (give outward (ones 12) (Some opened_end) ≡ Stays (Err CallFault.NotWhole)) × (give outward (ones 68) (Some opened_end) ≡ Stays (Err CallFault.NotWhole)) }
     ensures room { give outward (ones 16) (Some (storing (noughts 56))) ≡ Stays (Err CallFault.NoRoom) }
+    ensures bytes_of_36 { (give outward (ones 36) (Some (record opened_end { size = 36 })) ≡ Becomes (record opened_end { size = 36; stored = ones 36 }) (Ok tt)) × (give outward (ones 8) (Some (record opened_end { size = 36 })) ≡ Stays (Err CallFault.NotWhole)) }
     ensures fits { give outward (ones 8) (Some (storing (noughts 56))) ≡ Becomes (storing (noughts 56 ++ ones 8)) (Ok tt) }
     ensures nothing { give outward [] (Some (storing (ones 64))) ≡ Becomes (storing (ones 64)) (Ok tt) }
     ensures busy { give outward (ones 8) (Some (sent_one opened_end)) ≡ Becomes (sent_one (storing (ones 8))) (Ok tt) }
@@ -103,6 +106,7 @@ pub fn taking()
     ensures receiver_early { (take_held inward 1 (Some asked_receive) ≡ Stays (Err CallFault.NotOpen)) × (take_held inward 1 (Some (gone asked_receive)) ≡ Stays (Err CallFault.Closing)) }
     ensures keeps { take_held inward 1 (Some (record (counting 3 24) { recall = true; interrupts = 2; stored = ones 16 })) ≡ Becomes (record (counting 3 24) { recall = true; interrupts = 2; stored = ones 8 }) (Ok (ones 8, None)) }
     ensures none { take_held inward 0 (Some (storing (ones 16))) ≡ Becomes (storing (ones 16)) (Ok ([], None)) }
+    ensures one_bit_left { take_held inward 1 (Some (shut (due (storing (ones 9))))) ≡ Becomes (shut (due (storing (ones 1)))) (Ok (ones 8, None)) }
     ensures four { take_held inward 4 (Some (shut (due (storing (ones 48))))) ≡ Becomes (shut (due (storing (ones 16)))) (Ok (ones 32, None)) }
     ensures two { let act = take_held inward 4 (Some (shut (due (storing (ones 16))))) in (act ≡ Becomes (shut (gone opened_end)) (Ok (ones 16, Some (Command.Cls 2 3)))) × (end_after (Some opened_end) act ≡ None) }
 {}
@@ -127,6 +131,7 @@ pub fn allocating()
 
 /// Calling back, one at a time.
 pub fn calling_back()
+    ensures keeps_the_rest { call_back inward 64 1 false (Some (record (counting 3 24) { interrupts = 2; stored = ones 8 })) ≡ Becomes (record (counting 3 24) { recall = true; interrupts = 2; stored = ones 8 }) (Ok (Command.Gvb 2 64 1)) }
     ensures entry { call_back outward 64 1 true None ≡ Stays (Err CallFault.NoEntry) }
     ensures closing { (call_back outward 64 1 true (Some (gone asked_send)) ≡ Stays (Err CallFault.Closing)) × (call_back outward 64 1 true (Some (due opened_end)) ≡ Stays (Err CallFault.Closing)) }
     ensures open { (call_back outward 64 1 true (Some asked_send) ≡ Stays (Err CallFault.NotOpen)) × (call_back outward 64 1 true (Some link_heard) ≡ Stays (Err CallFault.NotOpen)) }
@@ -148,6 +153,7 @@ pub fn interrupting()
     ensures keeps { interrupt inward false (Some (record (counting 3 24) { recall = true; interrupts = 2 })) ≡ Becomes (record (counting 3 24) { recall = true; interrupts = 2 }) (Ok (Command.Inr 2)) }
     ensures sender { interrupt outward false (Some opened_end) ≡ Becomes opened_end (Ok (Command.Ins 2)) }
     ensures receiver { interrupt inward false (Some opened_end) ≡ Becomes opened_end (Ok (Command.Inr 2)) }
+    ensures on_its_link { (interrupt outward false (Some (record opened_end { link = 71 })) ≡ Becomes (record opened_end { link = 71 }) (Ok (Command.Ins 71))) × (interrupt inward false (Some (record opened_end { link = 71 })) ≡ Becomes (record opened_end { link = 71 }) (Ok (Command.Inr 71))) }
 {}
 
 /// An RTS that comes: links 2 to 71, once an end, and no link of another; at most 64 ends by the
@@ -173,6 +179,7 @@ pub fn hearing_str()
     ensures again { hear_str inward 8 64 (Some size_heard) ≡ Stays (Heard.Reply (err 3 (2 ∷ 0 ∷ 0 ∷ 0 ∷ 3 ∷ 0 ∷ 0 ∷ 0 ∷ 2 ∷ 8 ∷ []))) }
     ensures full { hear_str inward 8 64 None ≡ Stays Heard.Full }
     ensures first { hear_str inward 8 63 None ≡ Becomes size_heard Heard.Nothing }
+    ensures least { hear_str inward 1 0 None ≡ Becomes (record new_end { heard = true; size = 1 }) Heard.Nothing }
     ensures last { hear_str inward 255 0 None ≡ Becomes (record new_end { heard = true; size = 255 }) Heard.Nothing }
     ensures opens { hear_str inward 8 64 (Some asked_receive) ≡ Becomes opened_end Heard.Nothing }
     ensures left { hear_str inward 8 64 (Some (gone asked_receive)) ≡ Becomes (record (gone asked_receive) { heard = true; size = 8 }) Heard.Nothing }
@@ -183,6 +190,7 @@ pub fn hearing_str()
 /// A CLS that comes is matched by one: at once, or when the text out was taken, or when what is
 /// held was taken.
 pub fn hearing_cls()
+    ensures keeps_the_rest { hear_cls outward (Some (record (counting 3 24) { busy = true; interrupts = 2; stored = ones 8 })) ≡ Becomes (shut (due (record (counting 3 24) { busy = true; interrupts = 2 }))) Heard.Nothing }
     ensures sex { hear_cls (record { local = 5; remote = 7 }) None ≡ Stays (Heard.Reply (err 3 (3 ∷ 0 ∷ 0 ∷ 0 ∷ 7 ∷ 0 ∷ 0 ∷ 0 ∷ 5 ∷ 0 ∷ []))) }
     ensures entry { hear_cls (record { local = 6; remote = 7 }) None ≡ Stays (Heard.Reply (err 4 (3 ∷ 0 ∷ 0 ∷ 0 ∷ 7 ∷ 0 ∷ 0 ∷ 0 ∷ 6 ∷ 0 ∷ []))) }
     ensures again { hear_cls outward (Some (shut (due (sent_one opened_end)))) ≡ Stays (Heard.Reply (err 3 (3 ∷ 0 ∷ 0 ∷ 0 ∷ 2 ∷ 0 ∷ 0 ∷ 0 ∷ 3 ∷ 0 ∷ []))) }
@@ -192,6 +200,7 @@ pub fn hearing_cls()
     ensures keeps { hear_cls inward (Some (record (counting 3 24) { recall = true; interrupts = 2; stored = ones 8 })) ≡ Becomes (shut (due (record (counting 3 24) { recall = true; interrupts = 2; stored = ones 8 }))) Heard.Nothing }
     ensures leaving_too { hear_cls inward (Some (due opened_end)) ≡ Becomes (shut (due opened_end)) Heard.Nothing }
     ensures busy { let act = hear_cls outward (Some (sent_one (storing (ones 8)))) in (act ≡ Becomes (shut (due (sent_one opened_end))) Heard.Nothing) × (end_after None act ≡ Some (shut (due (sent_one opened_end)))) }
+    ensures holding_one_bit { hear_cls inward (Some (storing (ones 1))) ≡ Becomes (shut (due (storing (ones 1)))) Heard.Nothing }
     ensures holding { hear_cls inward (Some (storing (ones 8))) ≡ Becomes (shut (due (storing (ones 8)))) Heard.Nothing }
     ensures sender { let act = hear_cls outward (Some (storing (ones 8))) in (act ≡ Becomes (shut (gone opened_end)) (Heard.Reply (Command.Cls 3 2))) × (end_after (Some opened_end) act ≡ None) }
     ensures receiver { let act = hear_cls inward (Some opened_end) in (act ≡ Becomes (shut (gone opened_end)) (Heard.Reply (Command.Cls 2 3))) × (end_after (Some opened_end) act ≡ None) }
@@ -202,6 +211,7 @@ pub fn hearing_cls()
 
 /// An ALL that comes raises both counters, or neither where one would pass its limit.
 pub fn hearing_all()
+    ensures keeps_the_rest { hear_all 2 1 8 (Some (record (counting 2 16) { busy = true; interrupts = 2; stored = ones 8 })) ≡ Becomes (record (counting 3 24) { busy = true; interrupts = 2; stored = ones 8 }) Heard.Nothing }
     ensures none { hear_all 2 1 0 None ≡ Stays (Heard.Reply (err 5 (4 ∷ 2 ∷ 0 ∷ 1 ∷ 0 ∷ 0 ∷ 0 ∷ 0 ∷ 0 ∷ 0 ∷ []))) }
     ensures unopened { hear_all 2 1 0 (Some link_heard) ≡ Stays (Heard.Reply (err 5 (4 ∷ 2 ∷ 0 ∷ 1 ∷ 0 ∷ 0 ∷ 0 ∷ 0 ∷ 0 ∷ 0 ∷ []))) }
     ensures late { (hear_all 2 1 0 (Some (gone link_heard)) ≡ Stays Heard.Late) × (hear_all 2 1 0 (Some (due (sent_one (counting 65535 0)))) ≡ Stays Heard.Late) }
@@ -219,12 +229,14 @@ pub fn hearing_gvb()
     ensures late { (hear_gvb 2 64 1 (Some (gone link_heard)) ≡ Stays Heard.Late) × (hear_gvb 2 64 1 (Some (due (sent_one (counting 5 1000)))) ≡ Stays Heard.Late) }
     ensures first { hear_gvb 2 64 1 (Some (counting 5 1000)) ≡ Becomes (counting 2 992) (Heard.Reply (Command.Ret 2 3 8)) }
     ensures second { hear_gvb 2 200 0 (Some (counting 2 992)) ≡ Becomes (counting 0 992) (Heard.Reply (Command.Ret 2 2 0)) }
+    ensures keeps { hear_gvb 2 64 1 (Some (record (counting 5 1000) { recall = true; interrupts = 2; stored = ones 8; busy = true })) ≡ Becomes (record (counting 2 992) { recall = true; interrupts = 2; stored = ones 8; busy = true }) (Heard.Reply (Command.Ret 2 3 8)) }
     ensures nothing_back { hear_gvb 2 0 0 (Some (counting 5 1000)) ≡ Becomes (counting 5 1000) (Heard.Reply (Command.Ret 2 0 0)) }
 {}
 
 /// A RET that comes lowers what is outstanding, or neither number where one is over it, and
 /// answers the GVB.
 pub fn hearing_ret()
+    ensures keeps_the_rest { hear_ret 2 1 8 (Some (record (counting 3 24) { recall = true; interrupts = 2; stored = ones 8 })) ≡ Becomes (record (counting 2 16) { interrupts = 2; stored = ones 8 }) Heard.Nothing }
     ensures none { hear_ret 9 0 0 None ≡ Stays (Heard.Reply (err 5 (6 ∷ 9 ∷ 0 ∷ 0 ∷ 0 ∷ 0 ∷ 0 ∷ 0 ∷ 0 ∷ 0 ∷ []))) }
     ensures unopened { hear_ret 2 0 0 (Some asked_receive) ≡ Stays (Heard.Reply (err 5 (6 ∷ 2 ∷ 0 ∷ 0 ∷ 0 ∷ 0 ∷ 0 ∷ 0 ∷ 0 ∷ 0 ∷ []))) }
     ensures late { (hear_ret 2 0 0 (Some (gone asked_receive)) ≡ Stays Heard.Late) × (hear_ret 2 9 9 (Some (due (counting 5 20))) ≡ Stays Heard.Late) }
@@ -264,6 +276,7 @@ pub fn hearing_text()
 /// A text that goes out: three bytes wait, two are allocated. None goes out where one is out,
 /// where a counter or what waits has not a byte, or where the end is not an open sender's.
 pub fn cutting()
+    ensures keeps_the_rest { cut outward (Some (record (counting 2 16) { stored = ones 8; interrupts = 2 })) ≡ Becomes (record (counting 1 8) { busy = true; interrupts = 2 }) (Some (8, ones 8)) }
     ensures none { cut outward None ≡ Stays None }
     ensures two { cut outward (Some (record (counting 2 16) { stored = ones 16 ++ noughts 8 })) ≡ Becomes (sent_one (record (counting 1 0) { stored = noughts 8 })) (Some (8, ones 16)) }
     ensures whole { cut outward (Some (record (counting 1 23) { stored = ones 24 })) ≡ Becomes (sent_one (record (counting 0 7) { stored = ones 8 })) (Some (8, ones 16)) }
@@ -305,6 +318,7 @@ pub fn refusing_text()
 
 /// The answer to a text: only an RFNM frees its sender, and a leaving one then makes its CLS.
 pub fn answering()
+    ensures keeps_the_rest { answered outward Answer.Rfnm (Some (record (sent_one (storing (ones 8))) { interrupts = 2 })) ≡ Becomes (record (storing (ones 8)) { interrupts = 2 }) None }
     ensures none { (answered outward Answer.Rfnm None ≡ Stays None) × (answered outward Answer.Incomplete None ≡ Stays None) × (answered outward Answer.Dead None ≡ Stays None) }
     ensures taken { answered outward Answer.Rfnm (Some (sent_one (storing (ones 8)))) ≡ Becomes (storing (ones 8)) None }
     ensures only_leaving { answered outward Answer.Rfnm (Some (shut (sent_one (counting 2 16)))) ≡ Becomes (shut (counting 2 16)) None }
