@@ -1,7 +1,10 @@
--- The names of a call's refusals, and their numbers; and the names of what became of a text.
+-- The names of a call's refusals, and their numbers; and the names of what a command gave and of what
+-- became of a text.
 use Rattle.std.specs.Prelude.{ℕ, List, codes}
 use Rattle.ncp_model.specs.declared.call_fault.CallFault.{CallFault}
 use Rattle.ncp_model.specs.declared.call_fault.CallFault.TheVariants.{UnknownPeer, NotUp, BadSex, BadSize, BadRoom, NoEntry, AlreadyAsked, Closing, NotOpen, WrongEnd, NotWhole, Busy, NoRoom, TooMuch, TableFull, QueueFull, OutOfMemory}
+use Rattle.ncp_model.specs.declared.outcomes.Heard.{Heard}
+use Rattle.ncp_model.specs.declared.outcomes.Heard.TheVariants as heard
 use Rattle.ncp_model.specs.declared.outcomes.Took.{Took}
 use Rattle.ncp_model.specs.declared.outcomes.Took.TheVariants.{Admitted, Late, WrongSize, Over}
 use Rattle.ncp_model.specs.declared.outcomes.Took.TheVariants as took
@@ -45,6 +48,13 @@ fault_number TooMuch = 14
 fault_number TableFull = 15
 fault_number QueueFull = 16
 fault_number OutOfMemory = 17
+
+-- what a command that came gave, as a program prints it
+abbrev pub name_of_heard : Heard → List ℕ
+name_of_heard heard.Nothing = codes "nothing"
+name_of_heard (heard.Reply command) = codes "reply"
+name_of_heard heard.Late = codes "late"
+name_of_heard heard.Full = codes "full"
 
 -- what became of a text, as a program prints it
 abbrev pub name_of_took : Took → List ℕ

@@ -12,6 +12,6 @@ pub mod Rows
 pub mod Happenings
 pub mod Leading
 pub mod Sending
-pub mod Admitting
 pub mod Echo
 pub mod Peers
+pub mod PeerRows

@@ -14,6 +14,7 @@ mod limits;
 pub mod links;
 mod outcomes;
 mod pair;
+pub mod peers;
 pub mod phases;
 pub mod profile;
 pub mod rows;

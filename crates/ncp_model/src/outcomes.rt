@@ -1,6 +1,6 @@
 //! What came of a command or a text.
 ghost use Rattle.std.specs.Prelude.{◌≡◌};
-ghost use Rattle.ncp_model.specs.Faults.{name_of_took};
+ghost use Rattle.ncp_model.specs.Faults.{name_of_heard, name_of_took};
 
 use ncp_control::{Command, ERROR_DATA};
 
@@ -15,6 +15,20 @@ pub enum Heard {
     Late,
     /// There is no place for another request of the peer.
     Full,
+}
+
+impl Heard {
+    /// The name, as a program prints it. A reply is named, and not told.
+    pub fn name(self) -> &'static str
+        ensures { result.now ≡ name_of_heard self }
+    {
+        match self {
+            Heard::Nothing => "nothing",
+            Heard::Reply(_) => "reply",
+            Heard::Late => "late",
+            Heard::Full => "full",
+        }
+    }
 }
 
 /// What became of a text that came.

@@ -12,6 +12,14 @@ pub struct Pair {
 }
 
 impl Pair {
+    /// The connection of a socket here with one there.
+    pub const fn new(local: u32, remote: u32) -> Self
+        ensures here { result.local ≡ local }
+        ensures there { result.remote ≡ remote }
+    {
+        Pair { local, remote }
+    }
+
     /// Whether the end here sends.
     pub fn sends(&self) -> bool
         ensures { result ≡ sends self.now }

@@ -4,12 +4,6 @@ ghost use Rattle.std.specs.List.{filter, list_any};
 ghost use Rattle.ncp_control.specs.declared.command.Command.{Command};
 ghost use Rattle.ncp_model.specs.Phase.{Phase, Reaction, new_phase, up_phase, up, is_rst, is_rrp, is_reset, is_other, purge, settles, is_resetting, reset_answer, wants_reset, resets, owes_answer, hears_rst, hears_rrp, is_stray_rrp, goes_down, makes, makes_all, is_dropped, hears};
 ghost use Rattle.ncp_control.specs.Spelling.{IsCommand, spelling, spellings};
-ghost use Rattle.ncp_model.specs.Act.{Act, Stays};
-ghost use Rattle.ncp_model.specs.Calls.{ask_send, interrupt};
-ghost use Rattle.ncp_model.specs.Texts.{hear_text};
-ghost use Rattle.ncp_model.specs.Echo.{no_echoes, echo_answer, eco_reply};
-ghost use Rattle.ncp_model.specs.Admitting.{while_up, answer_while_up, text_while_up, hears_fault};
-ghost use Rattle.ncp_model.specs.Rows.{outward, inward, ones, opened_end, counting, err};
 ghost use Rattle.ncp_model.specs.Sending.{is_full, next_commands};
 ghost use Rattle.ncp_model.specs.declared.pair.Pair.{Pair};
 ghost use Rattle.ncp_model.specs.Happenings.{Happening, happens};
@@ -96,36 +90,6 @@ pub fn control_messages_are_filled()
     ensures none { next_commands [] ≡ [] }
     ensures full { (p : Phase) → 256 ≤ length p.waiting → is_full p ≡ true }
     ensures not_full { (p : Phase) → length p.waiting ≤ 255 → is_full p ≡ false }
-{}
-
-/// While a host is not up with a peer, a call is refused for that before all that its end judges, a
-/// text is not taken whatever its link and size, and the fault of a control text makes no ERR. While
-/// it is up the phase stands in no way.
-pub fn calls_and_texts_wait_until_up<A>()
-    ensures call_refused { (p : Phase) (act : Act (Result A CallFault)) → up p ≡ false → while_up p act ≡ Stays (Err CallFault.NotUp) }
-    ensures call_judged { (p : Phase) (act : Act (Result A CallFault)) → up p ≡ true → while_up p act ≡ act }
-    ensures answer_refused { (p : Phase) (answer : Result A CallFault) → up p ≡ false → answer_while_up p answer ≡ Err CallFault.NotUp }
-    ensures answer_judged { (p : Phase) (answer : Result A CallFault) → up p ≡ true → answer_while_up p answer ≡ answer }
-    ensures text_dropped { (p : Phase) (act : Act A) → up p ≡ false → text_while_up p act ≡ None }
-    ensures text_judged { (p : Phase) (act : Act A) → up p ≡ true → text_while_up p act ≡ Some act }
-    ensures fault_dropped { (code : ℕ) (data_bytes : List ℕ) (p : Phase) → up p ≡ false → hears_fault code data_bytes p ≡ p }
-    ensures fault_answered { (code : ℕ) (data_bytes : List ℕ) (p : Phase) → up p ≡ true → length p.waiting < MAX_WAITING → hears_fault code data_bytes p ≡ record p { waiting = p.waiting ++ err code data_bytes ∷ [] } }
-    ensures fault_too_many { (code : ℕ) (data_bytes : List ℕ) (p : Phase) → up p ≡ true → MAX_WAITING ≤ length p.waiting → hears_fault code data_bytes p ≡ goes_down p }
-{}
-
-/// The rows on what is not up: a call that would be refused for all else too, an echo before and
-/// after, a text that comes after an RST did, and an opcode that is not there.
-pub fn what_is_not_up_lets_nothing_through()
-    ensures call { while_up new_phase (ask_send inward 0 0 64 true (Some opened_end)) ≡ Stays (Err CallFault.NotUp) }
-    ensures interrupt { (while_up (record up_phase { want = true }) (interrupt outward true None) ≡ Stays (Err CallFault.NotUp)) × (while_up up_phase (interrupt outward true None) ≡ Stays (Err CallFault.NoEntry)) }
-    ensures echo { (answer_while_up new_phase (echo_answer 65 false no_echoes) ≡ Err CallFault.NotUp) × (answer_while_up up_phase (echo_answer 65 false no_echoes) ≡ Ok (Command.Eco 65)) × (answer_while_up up_phase (echo_answer 65 false (record no_echoes { awaited = true })) ≡ Err CallFault.Busy) }
-    ensures text { text_while_up (hears_rst true up_phase) (hear_text 8 (ones 16) (Some (counting 2 16))) ≡ Some (hear_text 8 (ones 16) (Some (counting 2 16))) }
-    ensures text_dropped { text_while_up (hears_rst false up_phase) (hear_text 8 (ones 16) (Some (counting 2 16))) ≡ None }
-    ensures text_awaiting { text_while_up (resets true up_phase) (hear_text 8 (ones 16) (Some (counting 2 16))) ≡ None }
-    ensures fault { hears_fault 1 (14 ∷ 0 ∷ replicate 8 0) up_phase ≡ record up_phase { waiting = err 1 (14 ∷ 0 ∷ replicate 8 0) ∷ [] } }
-    ensures fault_dropped { hears_fault 2 (4 ∷ 2 ∷ 0 ∷ replicate 7 0) new_phase ≡ new_phase }
-    ensures fault_early { hears_fault 2 (4 ∷ 2 ∷ 0 ∷ replicate 7 0) up_phase ≡ record up_phase { waiting = err 2 (4 ∷ 2 ∷ 0 ∷ replicate 7 0) ∷ [] } }
-    ensures fault_behind { hears_fault 1 (14 ∷ replicate 9 0) (makes_all (eco_reply 65 ∷ []) up_phase) ≡ record up_phase { waiting = Command.Erp 65 ∷ err 1 (14 ∷ replicate 9 0) ∷ [] } }
 {}
 
 /// No act on an end makes an RST or an RRP: these two are the phase's alone.

@@ -1,9 +1,10 @@
 //! What no clause says: that the definitions mean what the worked rows mean.
 use crate::{
-    CallFault, FIRST_LINK, GIVE_BACK_PARTS, LAST_LINK, MAX_AMOUNT, MAX_BY_PEER, MAX_CALLED,
+    CallFault, FIRST_LINK, GIVE_BACK_PARTS, Heard, LAST_LINK, MAX_AMOUNT, MAX_BY_PEER, MAX_CALLED,
     MAX_CONTROL, MAX_COUNT, MAX_ERRORS, MAX_MESSAGES, MAX_OWN, MAX_ROOM, MAX_TEXT, MAX_WAITING,
     Pair, Took, give_back,
 };
+use ncp_control::Command;
 use std::test::Fail;
 
 #[test]
@@ -105,7 +106,8 @@ fn tells_which_end_a_pair_is(rt: HostRuntime) {
         (2, 4, false, false),
     ];
     for (local, remote, sends, receives) in rows {
-        let pair = Pair { local, remote };
+        let pair = Pair::new(local, remote);
+        assert_eq!(rt; (pair.local, pair.remote), (local, remote));
         assert_eq!(rt; pair.sends(), sends, "{local} {remote}");
         assert_eq!(rt; pair.receives(), receives, "{local} {remote}");
         assert_eq!(rt; pair.is_proper(), sends || receives, "{local} {remote}");
@@ -121,6 +123,19 @@ fn has_the_limits_of_the_profile(rt: HostRuntime) {
     assert_eq!(rt; (MAX_ROOM, MAX_ERRORS), (65_536, 16));
     assert_eq!(rt; (MAX_MESSAGES, MAX_AMOUNT), (65_535, 4_294_967_295));
     assert_eq!(rt; (MAX_COUNT, GIVE_BACK_PARTS), (4_294_967_295, 128));
+}
+
+#[test]
+fn names_what_a_command_gave(rt: HostRuntime) {
+    let rows = [
+        (Heard::Nothing, "nothing"),
+        (Heard::Reply(Command::Erp { byte: 65 }), "reply"),
+        (Heard::Late, "late"),
+        (Heard::Full, "full"),
+    ];
+    for (heard, name) in rows {
+        assert_eq!(rt; heard.name(), name);
+    }
 }
 
 #[test]
