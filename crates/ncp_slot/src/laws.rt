@@ -18,7 +18,7 @@ use ncp_bits::Bits;
 use std::alloc::{AllocError, Global};
 
 /// Something that is done with the slot of a link.
-#[derive(Drop)]
+#[derive(Debug, Drop, PartialEq, Eq)]
 pub enum LinkEvent {
     /// A message is put in.
     Put(Bits),
@@ -31,7 +31,7 @@ pub enum LinkEvent {
 }
 
 /// What came of an event.
-#[derive(Drop)]
+#[derive(Debug, Drop, PartialEq, Eq)]
 pub enum LinkNote {
     /// Whether the message was accepted.
     Put(bool),

@@ -67,7 +67,7 @@ fn all_empty(slots: &[Slot<Bits>]) -> bool
 
 /// The slots of a host's links to one peer, link 0 and links [`FIRST_DATA_LINK`] to [`LAST_LINK`].
 /// Their room is made by [`Slots::new`]; no other call takes memory.
-#[derive(Drop)]
+#[derive(Debug, Drop)]
 pub struct Slots {
     slots: Vec<Slot<Bits>>,
 }
