@@ -1,4 +1,5 @@
-//! What a user may read, in any phase. Each but the last two is refused with `UnknownPeer` first.
+//! What a user may read, in any phase. Of a host that is no peer, `waiting` and `kept` answer none, and
+//! `ignored` asks for no peer; each other reader is refused with `UnknownPeer` first.
 ghost use Rattle.std.specs.Prelude.{◌≡◌};
 ghost use Rattle.std.specs.Option.{option_copied};
 ghost use Rattle.ncp_host.specs.Host.{state_of};

@@ -1,0 +1,270 @@
+-- What goes out next is the message on the first link that is ready, to the first peer that has one.
+use Rattle.std.proofs.Common.{◌≡◌, ◌⊎◌, ℕ, zero, suc, ◌+◌, ◌*◌, ◌==◌, ◌≤◌, ◌<◌, Bool, true, false, nat_lt, if◌then◌else◌, List, [], ◌∷◌, length, map, Option, None, Some, Result, Ok, Err, inl, inr, refl, sym, ap, ◌∙◌, subst, arith}
+use Rattle.std.specs.List.{range_with_len}
+use Rattle.std.specs.FinMap.{get}
+use Rattle.ncp_leader.specs.declared.leader.Leader.{Leader}
+use Rattle.ncp_leader.specs.declared.leader.Short.{Short}
+use Rattle.ncp_leader.specs.Leader.{leader_in}
+use Rattle.ncp_control.specs.declared.command.Command.{Command}
+use Rattle.ncp_slot.specs.declared.slot.Slot.TheVariants.{Empty, Ready, Travelling, Held}
+use Rattle.ncp_slot.specs.Slot.{is_empty}
+use Rattle.ncp_slot.specs.Slots.{LinkSlot, HasSlot, slot_at, data_links}
+use Rattle.ncp_model.specs.declared.pair.Pair.{Pair}
+use Rattle.ncp_model.specs.End.{End}
+use Rattle.ncp_model.specs.Act.{answer, Stays}
+use Rattle.ncp_model.specs.Texts.{bytes_to_send, may_send, cut_bits}
+use Rattle.ncp_model.specs.Ends.{Ends, any, hears_link, sender_on, pair_of, end_of, cut_at, cut_in}
+use Rattle.ncp_model.specs.Sending.{next_commands}
+use Rattle.ncp_model.specs.Leading.{passes}
+use Rattle.ncp_model.proofs.Lookups.{any-none, none-any, leads-there}
+use Rattle.ncp_model.proofs.LinksLead.{led}
+use Rattle.ncp_host.specs.PeerState.{PeerState, new_state, control_link, calls, calls_echo, calls_reset, calls_wake}
+use Rattle.ncp_host.specs.Hearing.{is_kind, after_bits}
+use Rattle.ncp_host.specs.Output.{control_message, text_message, output_by, output_on, after_output, links, first_or, first_output, next_of}
+use Rattle.ncp_host.specs.Host.{Host, state_of, at_peer, new_host}
+use Rattle.ncp_host.specs.Arrivals.{after_with, after_from, after_hearing, after_received, one_other}
+use Rattle.ncp_host.specs.Turns.{message_in_turn, after_turn, first_message, first_goes, next_output}
+use Rattle.ncp_host.specs.Readiness.{has_text, has_new, is_ready_by, is_ready, NoLinkReady, IsFirstLink, IsMessageTo, IsNext}
+use Rattle.ncp_host.specs.Running.{Step, Calls, Resets, Echoes, Wakes, Receives, Sends, after_step, after_steps, HasLived}
+use Rattle.ncp_host.proofs.Steady.{is_busy}
+use Rattle.ncp_host.proofs.Agreeing.{Agree, IsOut, hears}
+use Rattle.ncp_host.proofs.Sound.{Sound, IsSound, sound-calls, sound-echo, sound-reset, sound-wakes, sound-bits, sound-output, sound-new}
+use Rattle.ncp_host.proofs.Outputs.{first_none, first_more}
+use Rattle.ncp_host.proofs.Turns.{message_cons, message_nil, after_cons, after_nil}
+
+abbrev goes : {A : Type 0} → Option A → Bool
+goes None = false
+goes (Some a) = true
+
+-- On a data link whose slot is empty a text is cut where a connection has text: the end that heard the link
+-- is the only one, and no text of it is out.
+
+by_link : (on by : ℕ) (p : Pair) (e : End) → hears_link on (p, e) ≡ true → hears_link by (p, e) ≡ true → by ≡ on
+by_link on by p e h k = grind arith
+
+not_busy : (on : ℕ) (m : Ends) (s : PeerState) (p : Pair) (e : End) → Agree m s.slots → is_empty (slot_at s.slots on) ≡ true → get m p ≡ Some e → hears_link on (p, e) ≡ true → e.busy ≡ false
+not_busy on m s p e a empty g h = go e.busy refl
+  where
+    go : (b : Bool) → e.busy ≡ b → e.busy ≡ false
+    go false k = k
+    go true k =
+        let o : IsOut m s.slots p = a.out p (ap is_busy g ∙ k) in
+        let same : o.0 ≡ on = by_link on o.0 p e h (sym (ap (passes (hears_link o.0) p) g) ∙ o.2) in
+        let full : is_empty (slot_at s.slots on) ≡ false = subst (λ (y : ℕ). is_empty (slot_at s.slots y) ≡ false) same o.3 in
+        absurd (cc (empty, full))
+
+sends_text : (on : ℕ) (p : Pair) (e : End) → hears_link on (p, e) ≡ true → e.busy ≡ false → may_send p e ≡ has_text on (p, e)
+sends_text on p e h b = grind arith
+
+needs_link : (on : ℕ) (p : Pair) (e : End) → has_text on (p, e) ≡ true → hears_link on (p, e) ≡ true
+needs_link on p e h = grind arith
+
+cut_goes : (number on : ℕ) (s : PeerState) → Agree s.peer.ends s.slots → is_empty (slot_at s.slots on) ≡ true → goes (text_message number on (answer (cut_in on s.peer.ends))) ≡ any (has_text on) s.peer.ends
+cut_goes number on s a empty = go (sender_on on m) refl
+  where
+    m : Ends
+    m = s.peer.ends
+
+    hears_too : (p : Pair) (o : Option End) → passes (has_text on) p o ≡ true → passes (hears_link on) p o ≡ true
+    hears_too p None h = absurd (cc h)
+    hears_too p (Some e) h = needs_link on p e h
+
+    leads : (p : Pair) → hears on p m ≡ true → pair_of (sender_on on m) ≡ Some p
+    leads p h = leads-there (hears_link on) m p h (λ q k. a.one on q p k h)
+
+    none : (p : Pair) (b : Bool) → passes (has_text on) p (get m p) ≡ b → (b ≡ true → ⊥) → passes (has_text on) p (get m p) ≡ false
+    none p true e d = absurd (d refl)
+    none p false e d = e
+
+    some : (b : Bool) → any (has_text on) m ≡ b → (p : Pair) → passes (has_text on) p (get m p) ≡ true → any (has_text on) m ≡ true
+    some true e p h = e
+    some false e p h = let z = any-none (has_text on) m e p in absurd (cc (h, z))
+
+    go : (o : Option (Pair × End)) → sender_on on m ≡ o → goes (text_message number on (answer (cut_at o))) ≡ any (has_text on) m
+    go None e = sym (none-any (has_text on) m (λ p. none p (passes (has_text on) p (get m p)) refl (λ t. nobody p t)))
+      where
+        nobody : (p : Pair) → passes (has_text on) p (get m p) ≡ true → ⊥
+        nobody p t = let l = leads p (hears_too p (get m p) t) in absurd (cc (e, l))
+    go (Some q) e = by_test (has_text on q) refl
+      where
+        found : (get m q.0 ≡ end_of (sender_on on m)) × (hears on q.0 m ≡ true)
+        found = led (hears_link on) m q.0 (ap pair_of e)
+
+        there : get m q.0 ≡ Some q.1
+        there = found.0 ∙ ap end_of e
+
+        link : hears_link on q ≡ true
+        link = sym (ap (passes (hears_link on) q.0) there) ∙ found.1
+
+        may : may_send q.0 q.1 ≡ has_text on q
+        may = sends_text on q.0 q.1 link (not_busy on m s q.0 q.1 a empty there link)
+
+        by_test : (b : Bool) → has_text on q ≡ b → goes (text_message number on (answer (if may_send q.0 q.1 then cut_bits (bytes_to_send q.1 * q.1.size) q.1 else Stays None))) ≡ any (has_text on) m
+        by_test true t =
+            ap (λ b. goes (text_message number on (answer (if b then cut_bits (bytes_to_send q.1 * q.1.size) q.1 else Stays None)))) (may ∙ t)
+            ∙ sym (some (any (has_text on) m) refl q.0 (ap (passes (has_text on) q.0) there ∙ t))
+        by_test false t =
+            ap (λ b. goes (text_message number on (answer (if b then cut_bits (bytes_to_send q.1 * q.1.size) q.1 else Stays None)))) (may ∙ t)
+            ∙ sym (none-any (has_text on) m (λ p. none p (passes (has_text on) p (get m p)) refl (λ h. nobody p h)))
+          where
+            nobody : (p : Pair) → passes (has_text on) p (get m p) ≡ true → ⊥
+            nobody p h =
+                let same : p ≡ q.0 = a.one on p q.0 (hears_too p (get m p) h) found.1 in
+                let has : passes (has_text on) q.0 (get m q.0) ≡ true = subst (λ (y : Pair). passes (has_text on) y (get m y) ≡ true) same h in
+                let has_not : passes (has_text on) q.0 (get m q.0) ≡ false = ap (passes (has_text on) q.0) there ∙ t in
+                absurd (cc (has, has_not))
+
+says : (number : ℕ) (cs : List Command) → goes (control_message number cs) ≡ nat_lt 0 (length cs)
+says number [] = refl
+says number (c ∷ cs) = grind arith
+
+-- a message goes out on a link where the link is ready
+pub goes_where_ready : (number on : ℕ) (s : PeerState) → IsSound s → goes (output_on number on s) ≡ is_ready on s
+goes_where_ready number on s h = go (slot_at s.slots on) refl
+  where
+    new : (b : Bool) → is_empty (slot_at s.slots on) ≡ true → goes (if b then control_message number (next_commands s.peer.phase.waiting) else text_message number on (answer (cut_in on s.peer.ends))) ≡ (if b then nat_lt 0 (length (next_commands s.peer.phase.waiting)) else any (has_text on) s.peer.ends)
+    new true e = says number (next_commands s.peer.phase.waiting)
+    new false e = cut_goes number on s h.ends e
+
+    go : (slot : LinkSlot) → slot_at s.slots on ≡ slot → goes (output_by slot number on s.peer) ≡ is_ready_by slot on s.peer
+    go Empty e = new (on == control_link) (ap is_empty e)
+    go (Ready m) e = refl
+    go (Travelling m) e = refl
+    go (Held m) e = refl
+
+-- The links in their order.
+
+module _ (number : ℕ) (s : PeerState) (h : IsSound s) where
+  silent : (on : ℕ) → output_on number on s ≡ None → is_ready on s ≡ false
+  silent on e = sym (goes_where_ready number on s h) ∙ ap goes e
+
+  speaks : (on : ℕ) (message : List Bool) → output_on number on s ≡ Some message → is_ready on s ≡ true
+  speaks on message e = sym (goes_where_ready number on s h) ∙ ap goes e
+
+  -- from a link on, so many of them
+  abbrev Silent : ℕ → ℕ → Type 0
+  Silent from many = (on : ℕ) → from ≤ on → on < from + many → is_ready on s ≡ false
+
+  record FirstOf (from many on : ℕ) (message : List Bool) : Type 0 where
+    least : from ≤ on
+    below : on < from + many
+    said : output_on number on s ≡ Some message
+    before : (lower : ℕ) → from ≤ lower → lower < on → is_ready lower s ≡ false
+
+  abbrev FirstIn : ℕ → ℕ → Option (ℕ × List Bool) → Type 0
+  FirstIn from many None = Silent from many
+  FirstIn from many (Some out) = FirstOf from many out.0 out.1
+
+  here_or_above : (from on : ℕ) → from ≤ on → (from ≡ on) ⊎ (from + 1 ≤ on)
+  here_or_above from on l = go (from == on) refl
+    where
+      go : (b : Bool) → (from == on) ≡ b → (from ≡ on) ⊎ (from + 1 ≤ on)
+      go true e = inl (grind arith)
+      go false e = inr (grind arith)
+
+  in_range : (many from : ℕ) → FirstIn from many (first_output number (range_with_len from many) s)
+  in_range zero from = subst (FirstIn from zero) (sym (first_none number s)) (λ on l b. absurd (omega arith))
+  in_range (suc many) from = subst (FirstIn from (suc many)) (sym (first_more number s from (range_with_len (from + 1) many))) (go (output_on number from s) refl (first_output number (range_with_len (from + 1) many) s) (in_range many (from + 1)))
+    where
+      go : (o : Option (List Bool)) → output_on number from s ≡ o → (rest : Option (ℕ × List Bool)) → FirstIn (from + 1) many rest → FirstIn from (suc many) (first_or from o rest)
+      go (Some message) e rest r = record { least = omega arith; below = omega arith; said = e; before = λ lower l b. absurd (omega arith) }
+      go None e None r = (λ on l b. elim (here_or_above from on l) [ inl same ↦ subst (λ (y : ℕ). is_ready y s ≡ false) same (silent from e) | inr above ↦ r on above (omega arith) ])
+      go None e (Some out) r =
+          let least = r.least in
+          let below = r.below in
+          record {
+            least = omega arith;
+            below = omega arith;
+            said = r.said;
+            before = λ lower l b. elim (here_or_above from lower l) [ inl same ↦ subst (λ (y : ℕ). is_ready y s ≡ false) same (silent from e) | inr above ↦ r.before lower above b ];
+          }
+
+  abbrev NextTo : Option (ℕ × List Bool) → Type 0
+  NextTo None = NoLinkReady s
+  NextTo (Some out) = IsFirstLink out.0 s × (output_on number out.0 s ≡ Some out.1)
+
+  control_or_data : (on : ℕ) → HasSlot on → (0 ≡ on) ⊎ ((2 ≤ on) × (on < 72))
+  control_or_data on has = go (0 == on) refl (1 == on) refl
+    where
+      go : (b : Bool) → (0 == on) ≡ b → (c : Bool) → (1 == on) ≡ c → (0 ≡ on) ⊎ ((2 ≤ on) × (on < 72))
+      go true e c f = inl (grind arith)
+      go false e true f = absurd (has.0 (grind arith))
+      go false e false f = let l = has.1 in inr (grind arith, grind arith)
+
+  next_to : NextTo (next_of number s)
+  next_to = subst NextTo (sym (first_more number s 0 data_links)) (go (output_on number 0 s) refl (first_output number data_links s) (in_range 70 2))
+    where
+      go : (o : Option (List Bool)) → output_on number 0 s ≡ o → (rest : Option (ℕ × List Bool)) → FirstIn 2 70 rest → NextTo (first_or 0 o rest)
+      go (Some message) e rest r = (record { link = (λ z. absurd (cc z), omega arith); ready = speaks 0 message e; first = λ lower b has. absurd (omega arith) }, e)
+      go None e None r = (λ on has. elim (control_or_data on has) [ inl same ↦ subst (λ (y : ℕ). is_ready y s ≡ false) same (silent 0 e) | inr l ↦ r on l.0 l.1 ])
+      go None e (Some out) r =
+          let least = r.least in
+          let below = r.below in (
+            record {
+              link = (λ z. absurd (omega arith), omega arith);
+              ready = speaks out.0 out.1 r.said;
+              first = λ lower b has. elim (control_or_data lower has) [ inl same ↦ subst (λ (y : ℕ). is_ready y s ≡ false) same (silent 0 e) | inr l ↦ r.before lower l.0 b ];
+            },
+            r.said,
+          )
+
+-- The peers in their order.
+
+abbrev pub AreSound : List (ℕ × PeerState) → Type 0
+AreSound [] = Unit {0}
+AreSound (p ∷ ps) = IsSound p.1 × AreSound ps
+
+pub is_next : (ps : List (ℕ × PeerState)) → AreSound ps → IsNext (message_in_turn ps) ps
+is_next [] h = subst (λ (o : Option (List Bool)). IsNext o []) (sym message_nil) tt
+is_next (p ∷ ps) h = subst (λ (o : Option (List Bool)). IsNext o (p ∷ ps)) (sym (message_cons p ps)) (go (next_of p.0 p.1) (next_to p.0 p.1 h.0) (message_in_turn ps) (is_next ps h.1))
+  where
+    go : (o : Option (ℕ × List Bool)) → NextTo p.0 p.1 h.0 o → (rest : Option (List Bool)) → IsNext rest ps → IsNext (first_message o rest) (p ∷ ps)
+    go None n None r = (n, r)
+    go None n (Some message) r = inr (n, r)
+    go (Some out) n rest r = inl (out.0, n.0, n.1)
+
+-- Whatever a host lives through.
+
+changed-sound : (ps : List (ℕ × PeerState)) (number : ℕ) (f : PeerState → PeerState) → ((s : PeerState) → IsSound s → IsSound (f s)) → AreSound ps → AreSound (at_peer number f ps)
+changed-sound [] number f k h = tt
+changed-sound (p ∷ ps) number f k h = go (p.0 == number) (changed-sound ps number f k h.1)
+  where
+    go : (b : Bool) → AreSound (at_peer number f ps) → AreSound (if b then (p.0, f p.1) ∷ ps else p ∷ at_peer number f ps)
+    go true r = (k p.1 h.0, h.1)
+    go false r = (h.0, r)
+
+turn-sound : (ps : List (ℕ × PeerState)) → AreSound ps → AreSound (after_turn ps)
+turn-sound [] h = subst AreSound (sym after_nil) tt
+turn-sound (p ∷ ps) h = subst AreSound (sym (after_cons p ps)) (go (next_of p.0 p.1) (turn-sound ps h.1))
+  where
+    go : (o : Option (ℕ × List Bool)) → AreSound (after_turn ps) → AreSound (first_goes o p ps (after_turn ps))
+    go None r = (h.0, r)
+    go (Some out) r = (sound-output out.0 out.1 p.1 h.0, h.1)
+
+received-sound : (leader : Result Leader Short) (bits : List Bool) (h : Host) → AreSound h.peers → AreSound (after_with leader bits h).peers
+received-sound (Err short) bits h s = s
+received-sound (Ok leader) bits h s = go (is_kind leader.kind) (state_of h leader.host)
+  where
+    go : (b : Bool) (o : Option PeerState) → AreSound (if b then after_from o leader bits h else one_other h).peers
+    go true None = s
+    go true (Some x) = changed-sound h.peers leader.host (after_bits leader bits) (λ x k. sound-bits leader bits x k) s
+    go false o = s
+
+step-sound : (step : Step) (h : Host) → AreSound h.peers → AreSound (after_step step h).peers
+step-sound (Calls number pair call) h s = changed-sound h.peers number (calls pair call) (λ x k. sound-calls pair call x.peer x.slots k) s
+step-sound (Resets number) h s = changed-sound h.peers number calls_reset (λ x k. sound-reset _ x.peer x.slots k) s
+step-sound (Echoes number byte) h s = changed-sound h.peers number (calls_echo byte) (λ x k. sound-echo byte x.peer x.slots k) s
+step-sound (Wakes number) h s = changed-sound h.peers number calls_wake (λ x k. sound-wakes x k) s
+step-sound (Receives bits) h s = received-sound (leader_in bits) bits h s
+step-sound Sends h s = turn-sound h.peers s
+
+steps-sound : (steps : List Step) (h : Host) → AreSound h.peers → AreSound (after_steps steps h).peers
+steps-sound [] h s = s
+steps-sound (step ∷ steps) h s = steps-sound steps (after_step step h) (step-sound step h s)
+
+new-sound : (ns : List ℕ) → AreSound (map (λ n. (n, new_state)) ns)
+new-sound [] = tt
+new-sound (n ∷ ns) = (sound-new, new-sound ns)
+
+pub lived-next : (h : Host) → HasLived h → IsNext (next_output h) h.peers
+lived-next h l = is_next h.peers (subst (λ (x : Host). AreSound x.peers) (sym l.3) (steps-sound l.2 (new_host l.0 l.1) (new-sound l.1)))
