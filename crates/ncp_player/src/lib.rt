@@ -15,11 +15,7 @@ mod record;
 mod showing;
 mod sink;
 mod source;
-#[cfg(test)]
-mod stream_tests;
 mod tally;
-#[cfg(test)]
-mod tests;
 mod window;
 
 pub use checking::check;

@@ -1,0 +1,109 @@
+//! The command line: its orders, its faults, and its help.
+
+use ncp_player::{Order, order};
+use std::alloc::Global;
+use std::process::Abort;
+use std::test::Fail;
+
+// What `--help` writes.
+const HELP: &str =
+    "Reads the messages of an ARPANET host\n\nUsage: ncp [COMMAND]\n\nCommands:\n  show   Shows each message of a message file, read from standard input\n  check  Counts the messages of a message file, and says whether all are sound\n  help   Print this message or the help of the given subcommand(s)\n\nOptions:\n  -h, --help  Print help\n";
+
+// How the text of a fault ends.
+const USAGE: &str = "Usage: ncp [COMMAND]\n\nFor more information, try '--help'.\n";
+
+// Compares what is told in place of an order: its status, and how its text begins.
+fn expect_told(
+    rt: &impl Abort,
+    alloc: Global,
+    words: &[&str],
+    code: i32,
+    text: &str,
+) -> Result<String, Fail> {
+    let Err(error) = order(alloc, words) else {
+        return Err("it is an order".into());
+    };
+    assert_eq!(rt; error.exit_code(), code);
+    let told = format!(in alloc; "{error}")?;
+    assert!(rt; told.as_str().starts_with(text));
+    Ok(told)
+}
+
+#[test]
+fn reads_orders(rt: HostRuntime) {
+    let alloc = rt.alloc();
+    assert!(rt; matches!(order(alloc, &["ncp"]), Ok(Order::Show)));
+    assert!(rt; matches!(order(alloc, &["ncp", "show"]), Ok(Order::Show)));
+    assert!(rt; matches!(order(alloc, &["ncp", "check"]), Ok(Order::Check)));
+}
+
+#[test]
+fn reads_the_command_line(rt: HostRuntime) -> Result<(), Fail> {
+    let alloc = rt.alloc();
+    let help = expect_told(&rt, alloc, &["ncp", "--help"], 0, HELP)?;
+    assert_eq!(rt; help.len(), HELP.len());
+    let told = expect_told(
+        &rt,
+        alloc,
+        &["ncp", "play"],
+        2,
+        "error: unrecognized subcommand 'play'",
+    )?;
+    assert!(rt; told.as_str().ends_with(USAGE));
+    let told = expect_told(
+        &rt,
+        alloc,
+        &["ncp", "--loud"],
+        2,
+        "error: unexpected argument '--loud' found",
+    )?;
+    assert!(rt; told.as_str().ends_with(USAGE));
+    Ok(())
+}
+
+// ---- memory
+
+#[test]
+fn has_memory_for_orders(rt: HostRuntime) {
+    for _ in 0..300 {
+        assert!(rt; matches!(order(rt.alloc(), &["ncp", "check"]), Ok(Order::Check)));
+    }
+}
+
+#[test]
+fn has_memory_for_many_words(rt: HostRuntime) -> Result<(), Fail> {
+    let words = ["ncp"; 1000];
+    for count in [3, 4, 5, 8, 100, 1000] {
+        expect_told(
+            &rt,
+            rt.alloc(),
+            &words[..count],
+            2,
+            "error: unrecognized subcommand 'ncp'",
+        )?;
+    }
+    expect_told(
+        &rt,
+        rt.alloc(),
+        &["ncp", "check", "a", "b", "c"],
+        2,
+        "error: unexpected argument 'a' found",
+    )?;
+    Ok(())
+}
+
+#[test]
+fn has_memory_for_long_words(rt: HostRuntime) -> Result<(), Fail> {
+    let mut long = String::new(rt.alloc());
+    for _ in 0..100_000 {
+        long.push('a')?;
+    }
+    expect_told(
+        &rt,
+        rt.alloc(),
+        &["ncp", long.as_str()],
+        2,
+        "error: unrecognized subcommand 'aaaa",
+    )?;
+    Ok(())
+}

@@ -1,0 +1,182 @@
+//! Reads and writes that fail, each in turn, and sources and sinks that move a byte at a time.
+
+ghost use Rattle.std.specs.Prelude.{◌≡◌, ◌<◌, false, IfOk};
+
+use ncp_player::{Failed, FileFault, MemorySink, MemorySource, Sink, Source, check, show};
+use std::alloc::Global;
+use std::process::Abort;
+use std::test::Fail;
+
+// Room for the lines of the file.
+const ROOM: usize = 65536;
+
+// A message with flags and low field, and a message of no bits, behind the header of a file to a
+// host.
+const FILE: &[u8] = b"NCPI\x00\x20\x13\x02\x0a\x05\x00\x00";
+
+const LINES: &[u8] = b"1 type-3 host=2 link=10 flags=1 low=5\n2 short\n";
+
+const COUNTS: &[u8] = b"messages=2 short=1 regular=0 faults=0 bad=0\n";
+
+// Reads a byte at a time.
+#[derive(Drop)]
+struct Bytewise<'a> {
+    source: MemorySource<'a>,
+}
+
+impl Source for Bytewise<'_> {
+    ghost use Rattle.std.specs.Prelude.{Some};
+
+    ghost left = { λ slow. Some slow.source.left };
+
+    ghost reads = { λ slow. slow.source.reads };
+
+    ghost has_failed = { λ slow. slow.source.failed };
+
+    fn read(&mut self, piece: &mut [u8]) -> Result<usize, Failed> {
+        let end = piece.len().min(1);
+        self.source.read(&mut piece[..end])
+    }
+
+    fn failed(&self) -> bool {
+        self.source.failed()
+    }
+}
+
+// Writes a byte at a time.
+#[derive(Drop)]
+struct Piecemeal {
+    sink: MemorySink,
+}
+
+impl Sink for Piecemeal {
+    ghost use Rattle.std.specs.Prelude.{Some};
+
+    ghost written = { λ slow. Some slow.sink.written };
+
+    ghost has_failed = { λ slow. slow.sink.failed };
+
+    fn write(&mut self, piece: &[u8]) -> Result<usize, Failed> {
+        self.sink.write(&piece[..piece.len().min(1)])
+    }
+
+    fn failed(&self) -> bool {
+        self.sink.failed()
+    }
+}
+
+fn read_bytewise(fails_at: Option<u32>) -> Bytewise<'static>
+    ensures { result.source.failed ≡ false }
+{
+    Bytewise {
+        source: MemorySource::new(FILE, fails_at),
+    }
+}
+
+fn write_piecemeal(alloc: Global, fails_at: Option<u32>) -> Result<Piecemeal, Fail>
+    ensures { IfOk result (λ slow. slow.sink.failed ≡ false) }
+{
+    Ok(Piecemeal {
+        sink: MemorySink::new(alloc, ROOM, fails_at)?,
+    })
+}
+
+// Whether these bytes are the first `count` of a text.
+fn is_front(bytes: &[u8], count: usize, text: &[u8]) -> bool {
+    bytes.len() == count && text.starts_with(bytes)
+}
+
+// How many bytes the lines have of the records that are whole in the first bytes of the file.
+fn lines_of_front(len: usize) -> usize {
+    match len {
+        0..10 => 0,
+        10 | 11 => 38,
+        _ => 46,
+    }
+}
+
+#[test]
+fn reads_and_writes_bytewise(rt: HostRuntime) -> Result<(), Fail> {
+    let mut sink = write_piecemeal(rt.alloc(), None)?;
+    assert!(rt; show(&mut read_bytewise(None), &mut sink).is_ok());
+    assert!(rt; sink.sink.bytes() == LINES);
+    Ok(())
+}
+
+#[test]
+fn show_tells_each_failed_read(rt: HostRuntime) -> Result<(), Fail> {
+    for count in 1..14u32 {
+        let mut source = read_bytewise(Some(count));
+        let mut sink = MemorySink::new(rt.alloc(), ROOM, None)?;
+        assert!(rt; show(&mut source, &mut sink) == Err(FileFault::ReadFailed));
+        assert!(rt; source.failed() && !sink.failed());
+        assert!(rt; is_front(sink.bytes(), lines_of_front(count as usize - 1), LINES));
+    }
+    Ok(())
+}
+
+#[test]
+fn check_tells_each_failed_read(rt: HostRuntime) -> Result<(), Fail> {
+    for count in 1..14u32 {
+        let mut source = read_bytewise(Some(count));
+        let mut sink = MemorySink::new(rt.alloc(), ROOM, None)?;
+        assert!(rt; check(&mut source, &mut sink) == Err(FileFault::ReadFailed));
+        assert!(rt; source.failed() && !sink.failed());
+        assert!(rt; sink.bytes().is_empty());
+    }
+    Ok(())
+}
+
+// Shows the file into a sink whose n-th write fails, and compares what was written.
+fn expect_shown_until(rt: &impl Abort, alloc: Global, count: u32) -> Result<(), Fail>
+    requires { 0 < count }
+{
+    let mut sink = write_piecemeal(alloc, Some(count))?;
+    let mut source = read_bytewise(None);
+    assert!(rt; show(&mut source, &mut sink) == Err(FileFault::WriteFailed));
+    assert!(rt; sink.failed() && !source.failed());
+    assert!(rt; is_front(sink.sink.bytes(), count as usize - 1, LINES));
+    Ok(())
+}
+
+// Checks the file so.
+fn expect_checked_until(rt: &impl Abort, alloc: Global, count: u32) -> Result<(), Fail>
+    requires { 0 < count }
+{
+    let mut sink = write_piecemeal(alloc, Some(count))?;
+    let mut source = read_bytewise(None);
+    assert!(rt; check(&mut source, &mut sink) == Err(FileFault::WriteFailed));
+    assert!(rt; sink.failed() && !source.failed());
+    assert!(rt; is_front(sink.sink.bytes(), count as usize - 1, COUNTS));
+    Ok(())
+}
+
+#[test]
+fn tells_each_failed_write(rt: HostRuntime) -> Result<(), Fail> {
+    for count in 1..47u32 {
+        expect_shown_until(&rt, rt.alloc(), count)?;
+    }
+    for count in 1..45u32 {
+        expect_checked_until(&rt, rt.alloc(), count)?;
+    }
+    Ok(())
+}
+
+#[test]
+fn tells_a_sink_that_is_full(rt: HostRuntime) -> Result<(), Fail> {
+    let mut sink = MemorySink::new(rt.alloc(), 10, None)?;
+    assert!(rt; show(&mut read_bytewise(None), &mut sink) == Err(FileFault::WriteFailed));
+    assert!(rt; is_front(sink.bytes(), 10, LINES));
+    Ok(())
+}
+
+#[test]
+fn has_memory_for_rooms(rt: HostRuntime) -> Result<(), Fail> {
+    for room in 0..300usize {
+        MemorySink::new(rt.alloc(), room, None)?;
+    }
+    for room in [4096, 65_536, 1 << 20, 1 << 24] {
+        MemorySink::new(rt.alloc(), room, None)?;
+    }
+    Ok(())
+}

@@ -1,0 +1,221 @@
+//! That the adapters to readers and writers pass on each failure once, and move all that they can.
+
+use ncp_player::{
+    Failed, FileFault, FromRead, LEAST_PIECE, MemorySink, MemorySource, Sink, Source, ToWrite,
+    check, show,
+};
+use std::alloc::{AllocError, Global};
+use std::io::{self, ErrorKind, Read, Write};
+use std::process::Abort;
+use std::test::Fail;
+
+// An answer, behind the header of a file to a host.
+const ANSWER: &[u8] = b"NCPI\x00\x20\x05\x02\x00\x00";
+
+// Fails at its first call, and then reads and writes one byte a call.
+#[derive(Drop)]
+struct FailsOnce {
+    kind: ErrorKind,
+    calls: u32,
+}
+
+impl FailsOnce {
+    fn new(kind: ErrorKind) -> Self {
+        FailsOnce { kind, calls: 0 }
+    }
+
+    fn call(&mut self) -> io::Result<()> {
+        self.calls = self.calls.saturating_add(1);
+        if self.calls == 1 {
+            return Err(self.kind.into());
+        }
+        Ok(())
+    }
+}
+
+impl Read for FailsOnce {
+    fn read(&mut self, piece: &mut [u8]) -> io::Result<usize> {
+        self.call()?;
+        if piece.is_empty() {
+            return Ok(0);
+        }
+        piece[0] = b'N';
+        Ok(1)
+    }
+}
+
+impl Write for FailsOnce {
+    fn write(&mut self, piece: &[u8]) -> io::Result<usize> {
+        self.call()?;
+        Ok(piece.len().min(1))
+    }
+
+    fn flush(&mut self) -> io::Result<()> {
+        Ok(())
+    }
+}
+
+// Failures that a caller might be tempted to try again after, and one more.
+const KINDS: [ErrorKind; 3] = [
+    ErrorKind::Interrupted,
+    ErrorKind::WouldBlock,
+    ErrorKind::Other,
+];
+
+fn expect_one_failed_read(rt: &impl Abort, kind: ErrorKind) {
+    let mut reader = FailsOnce::new(kind);
+    let mut source = FromRead::new(&mut reader);
+    let mut piece = [0u8; 8];
+    assert!(rt; !source.failed());
+    assert!(rt; source.read(&mut piece) == Err(Failed));
+    assert!(rt; source.failed());
+    assert!(rt; source.read(&mut piece) == Ok(1));
+    assert!(rt; source.failed());
+    assert_eq!(rt; reader.calls, 2);
+}
+
+fn expect_one_failed_write(rt: &impl Abort, kind: ErrorKind) {
+    let mut writer = FailsOnce::new(kind);
+    let mut sink = ToWrite::new(&mut writer);
+    assert!(rt; !sink.failed());
+    assert!(rt; sink.write(b"ab") == Err(Failed));
+    assert!(rt; sink.failed());
+    assert!(rt; sink.write(b"ab") == Ok(1));
+    assert!(rt; sink.failed());
+    assert_eq!(rt; writer.calls, 2);
+}
+
+#[test]
+fn a_failure_is_failed_once(rt: HostRuntime) {
+    for kind in KINDS {
+        expect_one_failed_read(&rt, kind);
+        expect_one_failed_write(&rt, kind);
+    }
+}
+
+fn expect_no_read_behind(rt: &impl Abort, alloc: Global, kind: ErrorKind) -> Result<(), Fail> {
+    let mut sink = MemorySink::new(alloc, LEAST_PIECE, None)?;
+    let mut reader = FailsOnce::new(kind);
+    let shown = show(&mut FromRead::new(&mut reader), &mut sink);
+    assert!(rt; shown == Err(FileFault::ReadFailed));
+    assert_eq!(rt; reader.calls, 1);
+    let mut reader = FailsOnce::new(kind);
+    let checked = check(&mut FromRead::new(&mut reader), &mut sink);
+    assert!(rt; checked == Err(FileFault::ReadFailed));
+    assert_eq!(rt; reader.calls, 1);
+    Ok(())
+}
+
+fn expect_no_write_behind(rt: &impl Abort, kind: ErrorKind) {
+    let mut source = MemorySource::new(ANSWER, None);
+    let mut writer = FailsOnce::new(kind);
+    let shown = show(&mut source, &mut ToWrite::new(&mut writer));
+    assert!(rt; shown == Err(FileFault::WriteFailed));
+    assert_eq!(rt; writer.calls, 1);
+    let mut source = MemorySource::new(ANSWER, None);
+    let mut writer = FailsOnce::new(kind);
+    let checked = check(&mut source, &mut ToWrite::new(&mut writer));
+    assert!(rt; checked == Err(FileFault::WriteFailed));
+    assert_eq!(rt; writer.calls, 1);
+}
+
+#[test]
+fn nothing_happens_behind_a_failure(rt: HostRuntime) -> Result<(), Fail> {
+    for kind in KINDS {
+        expect_no_read_behind(&rt, rt.alloc(), kind)?;
+        expect_no_write_behind(&rt, kind);
+    }
+    Ok(())
+}
+
+// Gives all that it can, and counts.
+#[derive(Drop)]
+struct Counted<'a> {
+    bytes: &'a [u8],
+    calls: usize,
+}
+
+impl Read for Counted<'_> {
+    fn read(&mut self, piece: &mut [u8]) -> io::Result<usize> {
+        self.calls = self.calls.saturating_add(1);
+        let count = piece.len().min(self.bytes.len());
+        let (front, rest) = self.bytes.split_at(count);
+        piece[..count].copy_from_slice(front);
+        self.bytes = rest;
+        Ok(count)
+    }
+}
+
+// Takes all that it is given, and counts.
+#[derive(Drop)]
+struct Counting {
+    bytes: usize,
+    calls: usize,
+}
+
+impl Write for Counting {
+    fn write(&mut self, piece: &[u8]) -> io::Result<usize> {
+        self.calls = self.calls.saturating_add(1);
+        self.bytes = self.bytes.saturating_add(piece.len());
+        Ok(piece.len())
+    }
+
+    fn flush(&mut self) -> io::Result<()> {
+        Ok(())
+    }
+}
+
+// How many bytes the file has of which the reads and writes are counted, and how many records.
+const MEBIBYTE: usize = 1 << 20;
+
+const RECORDS: usize = (MEBIBYTE - 4) / 6;
+
+// How many reads the file takes at most.
+const READS: usize = MEBIBYTE / LEAST_PIECE + 1;
+
+fn a_mebibyte(alloc: Global) -> Result<Vec<u8>, AllocError> {
+    let mut file = Vec::with_capacity(alloc, MEBIBYTE)?;
+    file.extend_from_slice(b"NCPI")?;
+    for _ in 0..RECORDS {
+        file.extend_from_slice(b"\x00\x20\x04\x02\x00\x00")?;
+    }
+    Ok(file)
+}
+
+#[test]
+fn show_moves_whole_pieces(rt: HostRuntime) -> Result<(), Fail> {
+    let file = a_mebibyte(rt.alloc())?;
+    assert_eq!(rt; file.len(), MEBIBYTE);
+    let mut reader = Counted {
+        bytes: file.as_slice(),
+        calls: 0,
+    };
+    let mut writer = Counting { bytes: 0, calls: 0 };
+    let shown = show(
+        &mut FromRead::new(&mut reader),
+        &mut ToWrite::new(&mut writer),
+    );
+    assert!(rt; shown.is_ok());
+    assert!(rt; reader.calls <= READS);
+    assert!(rt; writer.bytes > MEBIBYTE);
+    assert!(rt; writer.calls.saturating_sub(2) <= writer.bytes / LEAST_PIECE);
+    Ok(())
+}
+
+#[test]
+fn check_moves_whole_pieces(rt: HostRuntime) -> Result<(), Fail> {
+    let file = a_mebibyte(rt.alloc())?;
+    let mut reader = Counted {
+        bytes: file.as_slice(),
+        calls: 0,
+    };
+    let mut writer = Counting { bytes: 0, calls: 0 };
+    let checked = check(
+        &mut FromRead::new(&mut reader),
+        &mut ToWrite::new(&mut writer),
+    );
+    assert!(rt; checked == Ok(true));
+    assert!(rt; reader.calls <= READS);
+    assert_eq!(rt; writer.calls, 1);
+    Ok(())
+}
