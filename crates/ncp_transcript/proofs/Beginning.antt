@@ -1,0 +1,95 @@
+-- A host keeps its number and its peers, whatever is done.
+use Rattle.std.proofs.Common.{◌≡◌, ℕ, ◌==◌, Bool, true, false, if◌then◌else◌, List, [], ◌∷◌, map, Option, None, Some, Result, Ok, Err, refl, ap}
+use Rattle.ncp_leader.specs.declared.leader.Leader.{Leader}
+use Rattle.ncp_leader.specs.declared.leader.Short.{Short}
+use Rattle.ncp_leader.specs.Leader.{leader_in}
+use Rattle.ncp_model.specs.Peers.{Ask_to_send, Ask_to_receive, Close, Give, Take, Allocate, Call_back, Interrupt}
+use Rattle.ncp_host.specs.PeerState.{PeerState, new_state, calls as calls_pair, calls_echo, calls_reset, calls_wake, answer_comes}
+use Rattle.ncp_host.specs.Output.{next_of}
+use Rattle.ncp_host.specs.Host.{Host, numbers_of, at_peer, changed, new_host, state_of}
+use Rattle.ncp_host.specs.Hearing.{is_kind, after_bits}
+use Rattle.ncp_host.specs.Arrivals.{after_from, after_with, after_received, one_other}
+use Rattle.ncp_host.specs.Turns.{after_turn, first_goes}
+use Rattle.ncp_transcript.specs.declared.call.Call.{Call}
+use Rattle.ncp_transcript.specs.declared.call.Call.TheVariants as calls
+use Rattle.ncp_transcript.specs.declared.note.HostNote.{HostNote}
+use Rattle.ncp_transcript.specs.declared.note.HostNote.TheVariants as notes
+use Rattle.ncp_transcript.specs.After.{after_call, after_note}
+use Rattle.ncp_transcript.specs.Runs.{began}
+
+numbers_new : (ns : List ℕ) → numbers_of (map (λ n. (n, new_state)) ns) ≡ ns
+numbers_new [] = refl
+numbers_new (n ∷ ns) = ap (λ (ms : List ℕ). n ∷ ms) (numbers_new ns)
+
+pub began_new : (me : ℕ) (ns : List ℕ) → began (new_host me ns) ≡ new_host me ns
+began_new me ns = ap (new_host me) (numbers_new ns)
+
+numbers_at : (ps : List (ℕ × PeerState)) (n : ℕ) (f : PeerState → PeerState) → numbers_of (at_peer n f ps) ≡ numbers_of ps
+numbers_at [] n f = refl
+numbers_at (p ∷ ps) n f = go (p.0 == n) (numbers_at ps n f)
+  where
+    go : (b : Bool) → numbers_of (at_peer n f ps) ≡ numbers_of ps → numbers_of (if b then (p.0, f p.1) ∷ ps else p ∷ at_peer n f ps) ≡ p.0 ∷ numbers_of ps
+    go true rest = refl
+    go false rest = ap (λ (ns : List ℕ). p.0 ∷ ns) rest
+
+numbers_turn : (ps : List (ℕ × PeerState)) → numbers_of (after_turn ps) ≡ numbers_of ps
+unfolding after_turn
+numbers_turn [] = refl
+numbers_turn (p ∷ ps) = go (next_of p.0 p.1) (numbers_turn ps)
+  where
+    go : (o : Option (ℕ × List Bool)) → numbers_of (after_turn ps) ≡ numbers_of ps → numbers_of (first_goes o p ps (after_turn ps)) ≡ p.0 ∷ numbers_of ps
+    go None rest = ap (λ (ns : List ℕ). p.0 ∷ ns) rest
+    go (Some out) rest = refl
+
+began_changed : (n : ℕ) (f : PeerState → PeerState) (h : Host) → began (changed n f h) ≡ began h
+began_changed n f h = ap (new_host h.me) (numbers_at h.peers n f)
+
+began_heard : (bits : List Bool) (h : Host) → began (after_received bits h) ≡ began h
+began_heard bits h = go (leader_in bits)
+  where
+    from : (leader : Leader) (b : Bool) (o : Option PeerState) → began (if b then after_from o leader bits h else one_other h) ≡ began h
+    from leader true (Some s) = began_changed leader.host (after_bits leader bits) h
+    from leader true None = refl
+    from leader false o = refl
+
+    go : (r : Result Leader Short) → began (after_with r bits h) ≡ began h
+    go (Err short) = refl
+    go (Ok leader) = from leader (is_kind leader.kind) (state_of h leader.host)
+
+began_called : (call : Call) (h : Host) → began (after_call call h) ≡ began h
+began_called (calls.Reset peer) h = began_changed peer calls_reset h
+began_called (calls.AskSend peer pair size room) h = began_changed peer (calls_pair pair (Ask_to_send size room)) h
+began_called (calls.AskReceive peer pair room) h = began_changed peer (calls_pair pair (Ask_to_receive room)) h
+began_called (calls.Give peer pair text) h = began_changed peer (calls_pair pair (Give text)) h
+began_called (calls.Take peer pair bytes) h = began_changed peer (calls_pair pair (Take bytes)) h
+began_called (calls.Allocate peer pair messages bits) h = began_changed peer (calls_pair pair (Allocate messages bits)) h
+began_called (calls.CallBack peer pair fm fb) h = began_changed peer (calls_pair pair (Call_back fm fb)) h
+began_called (calls.Interrupt peer pair) h = began_changed peer (calls_pair pair Interrupt) h
+began_called (calls.Echo peer byte) h = began_changed peer (calls_echo byte) h
+began_called (calls.Close peer pair) h = began_changed peer (calls_pair pair Close) h
+began_called (calls.Wake peer) h = began_changed peer calls_wake h
+began_called (calls.State peer pair) h = refl
+began_called (calls.Phase peer) h = refl
+began_called (calls.Echoed peer) h = refl
+began_called (calls.Errors peer) h = refl
+began_called (calls.Counts peer) h = refl
+began_called (calls.Waiting peer place) h = refl
+began_called (calls.Kept peer link) h = refl
+began_called calls.Ignored h = refl
+
+pub began_noted : (note : HostNote) (h : Host) → began (after_note note h) ≡ began h
+began_noted (notes.Done call) h = began_called call h
+began_noted (notes.Took peer pair bytes text) h = began_changed peer (calls_pair pair (Take bytes)) h
+began_noted (notes.Out message) h = ap (new_host h.me) (numbers_turn h.peers)
+began_noted (notes.In message received) h = began_heard message h
+began_noted (notes.Answered peer link answer received) h = began_changed peer (answer_comes link answer) h
+began_noted (notes.Refused call fault) h = refl
+began_noted (notes.State peer pair r) h = refl
+began_noted (notes.Phase peer flags) h = refl
+began_noted (notes.Echoed peer byte) h = refl
+began_noted (notes.Errors peer errors) h = refl
+began_noted (notes.Counts peer counts) h = refl
+began_noted (notes.Waiting peer place command) h = refl
+began_noted (notes.Kept peer link message) h = refl
+began_noted (notes.Ignored ignored) h = refl
+began_noted notes.Nothing h = refl

@@ -1,0 +1,62 @@
+-- A transcript grows at its end.
+use Rattle.std.proofs.Common.{◌≡◌, ℕ, suc, List, [], ◌∷◌, ◌++◌, length, refl, sym, ap, ◌∙◌, subst}
+use Rattle.std.proofs.lemmas.List.{append_assoc, append-nil}
+use Rattle.ncp_host.specs.Host.{Host, new_host}
+use Rattle.ncp_transcript.specs.declared.input.Input.{Input}
+use Rattle.ncp_transcript.specs.declared.note.HostNote.{HostNote}
+use Rattle.ncp_transcript.specs.After.{after_note, after_notes}
+use Rattle.ncp_transcript.specs.Runs.{IsSaid, IsRun, AreNotes, began, IsTranscript}
+use Rattle.ncp_transcript.specs.Alone.{Alone, AreSteps}
+use Rattle.ncp_transcript.proofs.Beginning.{began_new, began_noted}
+use Rattle.ncp_transcript.proofs.Saying.{noted_said}
+
+pub after_append : (some more : List HostNote) (h : Host) → after_notes (some ++ more) h ≡ after_notes more (after_notes some h)
+after_append [] more h = refl
+after_append (n ∷ ns) more h = after_append ns more (after_note n h)
+
+run_append : (some more : List HostNote) (h : Host) → IsRun some h → IsRun more (after_notes some h) → IsRun (some ++ more) h
+run_append [] more h r rest = rest
+run_append (n ∷ ns) more h r rest = (r.0, run_append ns more (after_note n h) r.1 rest)
+
+-- a new host has an empty transcript
+pub transcript_new : (me : ℕ) (ns : List ℕ) (h : Host) → h ≡ new_host me ns → IsTranscript [] h
+transcript_new me ns h e = record { run = tt; state = e ∙ sym (began_new me ns) ∙ ap began (sym e) }
+
+pub transcript_grows : (some now : List HostNote) (note : HostNote) (h after : Host) → IsTranscript some h → IsSaid note h → now ≡ some ++ note ∷ [] → after ≡ after_note note h → IsTranscript now after
+transcript_grows some now note h after t said e is =
+    let same : began after ≡ began h = ap began is ∙ began_noted note h in
+    record {
+      run = subst (λ (ns : List HostNote). IsRun ns (began after)) (sym e) (subst (IsRun (some ++ note ∷ [])) (sym same) (run_append some (note ∷ []) (began h) t.run (subst (IsSaid note) t.state said, tt)));
+      state = is ∙ ap (after_note note) t.state ∙ sym (after_append some (note ∷ []) (began h)) ∙ ap (after_notes (some ++ note ∷ [])) (sym same) ∙ ap (λ (ns : List HostNote). after_notes ns (began after)) (sym e);
+    }
+
+-- The notes of inputs are a run, one for each.
+
+pub notes_run : (inputs : List Input) (ns : List HostNote) (h : Host) → AreNotes inputs ns h → IsRun ns h
+notes_run [] [] h a = tt
+notes_run (input ∷ inputs) (note ∷ rest) h a = (noted_said input note h a.0, notes_run inputs rest (after_note note h) a.1)
+notes_run [] (note ∷ rest) h a = absurd a
+notes_run (input ∷ inputs) [] h a = absurd a
+
+pub notes_many : (inputs : List Input) (ns : List HostNote) (h : Host) → AreNotes inputs ns h → length ns ≡ length inputs
+notes_many [] [] h a = refl
+notes_many (input ∷ inputs) (note ∷ rest) h a = ap (λ (n : ℕ). suc n) (notes_many inputs rest (after_note note h) a.1)
+notes_many [] (note ∷ rest) h a = absurd a
+notes_many (input ∷ inputs) [] h a = absurd a
+
+abbrev Lengthened : List Input → Alone → Alone → Type 0
+Lengthened inputs before now =
+    (ns : List HostNote) × AreNotes inputs ns before.host × (now.notes ≡ before.notes ++ ns) × (now.host ≡ after_notes ns before.host)
+
+pub steps_noted : (inputs : List Input) (before now : Alone) → AreSteps inputs before now → Lengthened inputs before now
+steps_noted [] before now e = ([], tt, ap (λ (a : Alone). a.notes) e ∙ sym (append-nil before.notes), ap (λ (a : Alone). a.host) e)
+steps_noted (input ∷ inputs) before now (next, step, rest) = go (steps_noted inputs next now rest)
+  where
+    go : Lengthened inputs next now → Lengthened (input ∷ inputs) before now
+    go (ns, are, longer, after) =
+        let note : HostNote = step.0 in (
+          note ∷ ns,
+          (step.1, subst (AreNotes inputs ns) step.3 are),
+          longer ∙ ap (λ (some : List HostNote). some ++ ns) step.2 ∙ append_assoc before.notes (note ∷ []) ns,
+          after ∙ ap (after_notes ns) step.3,
+        )

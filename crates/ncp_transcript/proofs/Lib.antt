@@ -1,0 +1,6 @@
+pub mod Packing
+pub mod Arriving
+pub mod Quiet
+pub mod Beginning
+pub mod Saying
+pub mod Growing

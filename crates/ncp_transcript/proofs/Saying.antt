@@ -1,0 +1,67 @@
+-- The note of an input says what the rules say.
+use Rattle.std.proofs.Common.{◌≡◌, inl, inr, Bool, List, Option, None, Some, Result, Ok, Err, refl, sym, subst}
+use Rattle.ncp_leader.specs.declared.leader.Leader.{Leader}
+use Rattle.ncp_model.specs.declared.call_fault.CallFault.{CallFault}
+use Rattle.ncp_model.specs.Peers.{Ask_to_send, Ask_to_receive, Close, Give, Allocate, Call_back, Interrupt}
+use Rattle.ncp_host.specs.Host.{Host}
+use Rattle.ncp_host.specs.Calls.{call_reply, take_reply, reset_reply, echo_reply, wake_reply, record_told, flags_told, echoed_told, errors_told, counts_told}
+use Rattle.ncp_host.specs.Arrivals.{received_in}
+use Rattle.ncp_host.specs.Turns.{next_output}
+use Rattle.ncp_transcript.specs.declared.call.Call.{Call}
+use Rattle.ncp_transcript.specs.declared.call.Call.TheVariants as calls
+use Rattle.ncp_transcript.specs.declared.input.Input.{Input}
+use Rattle.ncp_transcript.specs.declared.input.Input.TheVariants as inputs
+use Rattle.ncp_transcript.specs.declared.note.HostNote.{HostNote}
+use Rattle.ncp_transcript.specs.declared.note.HostNote.TheVariants as notes
+use Rattle.ncp_transcript.specs.Notes.{done_or_refused, told_or_refused}
+use Rattle.ncp_transcript.specs.Answers.{answer_to}
+use Rattle.ncp_transcript.specs.Noting.{IsWant, answer_in, note_as, note_of_message, Noted}
+use Rattle.ncp_transcript.specs.Runs.{IsSaid}
+use Rattle.ncp_transcript.proofs.Arriving.{told_answer}
+
+done_said : (call : Call) (reply : Result (Unit {0}) CallFault) (h : Host) → answer_to call h ≡ done_or_refused call reply → IsSaid (done_or_refused call reply) h
+done_said call (Ok done) h e = e
+done_said call (Err fault) h e = inl e
+
+told_said : {A : Type 0} (call : Call) (told : A → HostNote) (reply : Result A CallFault) (h : Host)
+    → ((a : A) → answer_to call h ≡ told a → IsSaid (told a) h) → answer_to call h ≡ told_or_refused call told reply → IsSaid (told_or_refused call told reply) h
+told_said call told (Ok a) h says e = says a e
+told_said call told (Err fault) h says e = inl e
+
+answer_said : (call : Call) (h : Host) → IsSaid (answer_to call h) h
+answer_said (calls.Reset peer) h = done_said (calls.Reset peer) (reset_reply peer h) h refl
+answer_said (calls.AskSend peer pair size room) h = done_said (calls.AskSend peer pair size room) (call_reply peer pair (Ask_to_send size room) h) h refl
+answer_said (calls.AskReceive peer pair room) h = done_said (calls.AskReceive peer pair room) (call_reply peer pair (Ask_to_receive room) h) h refl
+answer_said (calls.Give peer pair text) h = done_said (calls.Give peer pair text) (call_reply peer pair (Give text) h) h refl
+answer_said (calls.Take peer pair bytes) h = told_said (calls.Take peer pair bytes) (notes.Took peer pair bytes) (take_reply peer pair bytes h) h (λ a e. e) refl
+answer_said (calls.Allocate peer pair messages bits) h = done_said (calls.Allocate peer pair messages bits) (call_reply peer pair (Allocate messages bits) h) h refl
+answer_said (calls.CallBack peer pair fm fb) h = done_said (calls.CallBack peer pair fm fb) (call_reply peer pair (Call_back fm fb) h) h refl
+answer_said (calls.Interrupt peer pair) h = done_said (calls.Interrupt peer pair) (call_reply peer pair Interrupt h) h refl
+answer_said (calls.Echo peer byte) h = done_said (calls.Echo peer byte) (echo_reply peer byte h) h refl
+answer_said (calls.Close peer pair) h = done_said (calls.Close peer pair) (call_reply peer pair Close h) h refl
+answer_said (calls.Wake peer) h = done_said (calls.Wake peer) (wake_reply peer h) h refl
+answer_said (calls.State peer pair) h = told_said (calls.State peer pair) (notes.State peer pair) (record_told peer pair h) h (λ a e. e) refl
+answer_said (calls.Phase peer) h = told_said (calls.Phase peer) (notes.Phase peer) (flags_told peer h) h (λ a e. e) refl
+answer_said (calls.Echoed peer) h = told_said (calls.Echoed peer) (notes.Echoed peer) (echoed_told peer h) h (λ a e. e) refl
+answer_said (calls.Errors peer) h = told_said (calls.Errors peer) (notes.Errors peer) (errors_told peer h) h (λ a e. e) refl
+answer_said (calls.Counts peer) h = told_said (calls.Counts peer) (notes.Counts peer) (counts_told peer h) h (λ a e. e) refl
+answer_said (calls.Waiting peer place) h = refl
+answer_said (calls.Kept peer link) h = refl
+answer_said calls.Ignored h = refl
+
+want_said : (call : Call) (note : HostNote) (h : Host) → IsWant call note h → IsSaid note h
+want_said call note h w = subst (λ (n : HostNote). IsSaid n h) (sym w.said) (inr (record { takes = w.takes; good = w.good; said = refl }))
+
+bits_said : (bits : List Bool) (h : Host) (o : Option Leader) → answer_in bits h ≡ o → IsSaid (note_as o bits (received_in bits h)) h
+bits_said bits h None e = (e, refl)
+bits_said bits h (Some leader) e = told_answer bits h leader e
+
+output_said : (h : Host) (o : Option (List Bool)) → next_output h ≡ o → IsSaid (note_of_message o) h
+output_said h None e = e
+output_said h (Some message) e = e
+
+pub noted_said : (input : Input) (note : HostNote) (h : Host) → Noted input note h → IsSaid note h
+noted_said (inputs.Call call) note h (inl e) = subst (λ (n : HostNote). IsSaid n h) (sym e) (answer_said call h)
+noted_said (inputs.Call call) note h (inr w) = want_said call note h w
+noted_said (inputs.In bits) note h e = subst (λ (n : HostNote). IsSaid n h) (sym e) (bits_said bits h (answer_in bits h) refl)
+noted_said inputs.Out note h e = subst (λ (n : HostNote). IsSaid n h) (sym e) (output_said h (next_output h) refl)

@@ -1,0 +1,57 @@
+-- A run of one host: each note says what the rules say at the state that the notes before it leave.
+use Rattle.std.specs.Prelude.{◌≡◌, ◌⊎◌, ℕ, List, [], ◌∷◌, Option, None, Some}
+use Rattle.ncp_host.specs.declared.received.Received.{Received}
+use Rattle.ncp_host.specs.PeerState.{PeerState}
+use Rattle.ncp_host.specs.Host.{Host, state_of, numbers_of, new_host}
+use Rattle.ncp_host.specs.Hearing.{answer_received}
+use Rattle.ncp_host.specs.Arrivals.{received_in}
+use Rattle.ncp_host.specs.Turns.{next_output}
+use Rattle.ncp_transcript.specs.declared.call.Call.TheVariants as calls
+use Rattle.ncp_transcript.specs.declared.input.Input.{Input}
+use Rattle.ncp_transcript.specs.declared.note.HostNote.{HostNote}
+use Rattle.ncp_transcript.specs.declared.note.HostNote.TheVariants as notes
+use Rattle.ncp_transcript.specs.Answers.{answer_to}
+use Rattle.ncp_transcript.specs.After.{after_note, after_notes}
+use Rattle.ncp_transcript.specs.Noting.{IsWant, answer_in, Noted}
+
+-- what is received where an answer comes from a peer, if the host has that peer
+abbrev pub answer_told : Option PeerState → ℕ → Option Received
+answer_told None link = None
+answer_told (Some s) link = Some (answer_received link s)
+
+-- what one note says of the state before it
+abbrev pub IsSaid : HostNote → Host → Type 0
+IsSaid (notes.Refused call fault) h = (answer_to call h ≡ notes.Refused call fault) ⊎ IsWant call (notes.Refused call fault) h
+IsSaid (notes.Done call) h = answer_to call h ≡ notes.Done call
+IsSaid (notes.Took peer pair bytes text) h = answer_to (calls.Take peer pair bytes) h ≡ notes.Took peer pair bytes text
+IsSaid (notes.State peer pair r) h = answer_to (calls.State peer pair) h ≡ notes.State peer pair r
+IsSaid (notes.Phase peer flags) h = answer_to (calls.Phase peer) h ≡ notes.Phase peer flags
+IsSaid (notes.Echoed peer byte) h = answer_to (calls.Echoed peer) h ≡ notes.Echoed peer byte
+IsSaid (notes.Errors peer errors) h = answer_to (calls.Errors peer) h ≡ notes.Errors peer errors
+IsSaid (notes.Counts peer counts) h = answer_to (calls.Counts peer) h ≡ notes.Counts peer counts
+IsSaid (notes.Waiting peer place command) h = answer_to (calls.Waiting peer place) h ≡ notes.Waiting peer place command
+IsSaid (notes.Kept peer link message) h = answer_to (calls.Kept peer link) h ≡ notes.Kept peer link message
+IsSaid (notes.Ignored ignored) h = answer_to calls.Ignored h ≡ notes.Ignored ignored
+IsSaid (notes.Out message) h = next_output h ≡ Some message
+IsSaid notes.Nothing h = next_output h ≡ None
+IsSaid (notes.In message received) h = (answer_in message h ≡ None) × (received_in message h ≡ received)
+IsSaid (notes.Answered peer link answer received) h = answer_told (state_of h peer) link ≡ Some received
+
+abbrev pub IsRun : List HostNote → Host → Type 0
+IsRun [] h = Unit {0}
+IsRun (note ∷ rest) h = IsSaid note h × IsRun rest (after_note note h)
+
+-- the notes of inputs, one for each, in order
+abbrev pub AreNotes : List Input → List HostNote → Host → Type 0
+AreNotes [] [] h = Unit {0}
+AreNotes (input ∷ inputs) (note ∷ rest) h = Noted input note h × AreNotes inputs rest (after_note note h)
+AreNotes inputs rest h = ⊥
+
+-- the host as it was when it began: of its number, with its peers
+abbrev pub began : Host → Host
+began h = new_host h.me (numbers_of h.peers)
+
+-- a transcript: it is a run from there, and has led to the host as it is now
+pub record IsTranscript (notes : List HostNote) (now : Host) : Type 0 where
+  pub run : IsRun notes (began now)
+  pub state : now ≡ after_notes notes (began now)

@@ -1,0 +1,110 @@
+//! `Alone`.
+ghost use Rattle.std.specs.Prelude.{◌≡◌, true, false, [], IfOk, IfErr, OnOk, OnErr, Err};
+ghost use Rattle.ncp_host.specs.Host.{new_host, are_peers};
+ghost use Rattle.ncp_transcript.specs.After.{after_note};
+ghost use Rattle.ncp_transcript.specs.Noting.{Noted};
+ghost use Rattle.ncp_transcript.specs.Runs.{IsTranscript};
+ghost use Rattle.ncp_transcript.specs.Alone.{IsStep};
+
+use crate::arrivals::hear;
+use crate::calls::perform;
+use crate::input::Input;
+use crate::note::HostNote;
+use crate::output::send;
+use ncp_bits::BitStore;
+use ncp_host::{Host, HostFault};
+use std::alloc::{AllocError, Global};
+use std::marker::Model;
+
+/// A host with its transcript: one note for each input, in order.
+///
+/// A note takes at most [`crate::NOTE_BYTES`] bytes, and one with a message those of the message
+/// beside.
+#[derive(Drop)]
+pub struct Alone<S: BitStore> {
+    alloc: Global,
+    host: Host<S>,
+    notes: Vec<HostNote>,
+}
+
+impl<S: BitStore> Model for Alone<S> {
+    ghost use Rattle.std.specs.Coded.{codes};
+    ghost use Rattle.ncp_slot.specs.Slots.{coded_slots};
+    ghost use Rattle.ncp_host.specs.Codes.{coded_ends};
+    ghost use Rattle.ncp_transcript.specs.Runs.{IsTranscript};
+    ghost use Rattle.ncp_transcript.specs.Alone.{Alone as Seen};
+
+    ghost Value = { Seen };
+
+    ghost coded = { Prim.hlevel (codes, coded_ends, coded_slots) };
+
+    ghost view = { λ a. record { host = a.host; notes = a.notes.items } };
+
+    ghost invariant = { λ a. IsTranscript a.notes.items a.host };
+}
+
+// An input is done to a host.
+fn note_of<S: BitStore>(
+    alloc: Global,
+    host: &mut Host<S>,
+    input: &Input,
+) -> Result<HostNote, AllocError>
+    ensures note { IfOk result (λ note. Noted input.now note host.old) }
+    ensures host { IfOk result (λ note. host.new ≡ after_note note host.old) }
+    ensures err { OnErr result (host.new ≡ host.old) }
+{
+    match input {
+        Input::Call(call) => perform(alloc, host, call),
+        Input::In(bits) => hear(alloc, host, bits),
+        Input::Out => send(alloc, host),
+    }
+}
+
+impl<S: BitStore> Alone<S> {
+    /// A new host of the number `me` with these peers, and no notes.
+    ///
+    /// Refused, in this order: `BadPeers`, as [`Host::new`] has it, and `OutOfMemory`.
+    pub fn new(alloc: Global, me: u8, peers: &[u8]) -> Result<Alone<S>, HostFault>
+        ensures host { IfOk result (λ alone. alone.host ≡ new_host me peers.now) }
+        ensures notes { IfOk result (λ alone. alone.notes ≡ []) }
+        ensures ok { IfOk result (λ alone. are_peers me peers.now ≡ true) }
+        ensures bad { are_peers me peers.now ≡ false → result ≡ Err HostFault.BadPeers }
+        ensures full { are_peers me peers.now ≡ true → IfErr result (λ fault. fault ≡ HostFault.OutOfMemory) }
+    {
+        let host = Host::new(alloc, me, peers)?;
+        Ok(Alone {
+            alloc,
+            host,
+            notes: Vec::new(alloc),
+        })
+    }
+
+    /// Does an input to the host, and notes it with what came of it.
+    ///
+    /// The transcript grows first: after an `AllocError` nothing has happened, and the same input may
+    /// be given again. It takes amortised constant time beside what the host does.
+    pub fn step(&mut self, input: &Input) -> Result<(), AllocError>
+        ensures step { OnOk result (IsStep input.now self.old self.new) }
+        ensures err { OnErr result (self.new ≡ self.old) }
+    {
+        self.notes.reserve(1)?;
+        let note = note_of(self.alloc, &mut self.host, input)?;
+        self.notes.push_reserved(note);
+        Ok(())
+    }
+
+    /// The notes of all inputs, the first input's first.
+    pub fn transcript(&self) -> &[HostNote]
+        ensures notes { result.now ≡ self.now.notes }
+        ensures run { IsTranscript self.now.notes self.now.host }
+    {
+        self.notes.as_slice()
+    }
+
+    /// The host.
+    pub fn host(&self) -> &Host<S>
+        ensures { result.now ≡ self.now.host }
+    {
+        &self.host
+    }
+}

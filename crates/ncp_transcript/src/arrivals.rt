@@ -1,0 +1,77 @@
+//! Bits that come to a host, and their note.
+ghost use Rattle.std.specs.Prelude.{◌≡◌, IfOk, OnErr};
+ghost use Rattle.ncp_host.specs.Hearing.{answer_of};
+ghost use Rattle.ncp_transcript.specs.After.{after_note};
+ghost use Rattle.ncp_transcript.specs.Noting.{is_answer, answer_in, note_of_bits};
+
+use crate::message::Message;
+use crate::note::HostNote;
+use ncp_bits::{BitStore, Bits};
+use ncp_host::Host;
+use ncp_leader::{Leader, read_leader};
+use ncp_slot::Answer;
+use std::alloc::{AllocError, Global};
+
+/// The types of the answers (BBN 1822, section 3).
+const RFNM: u8 = 5;
+
+const DESTINATION_DEAD: u8 = 7;
+
+const INCOMPLETE: u8 = 9;
+
+// Whether a type is one of an answer.
+fn is_answer(kind: u8) -> bool
+    ensures { result ≡ is_answer kind }
+{
+    kind == RFNM || kind == DESTINATION_DEAD || kind == INCOMPLETE
+}
+
+// The answer of such a type.
+fn answer_of(kind: u8) -> Answer
+    ensures { result ≡ answer_of kind }
+{
+    match kind {
+        RFNM => Answer::Rfnm,
+        DESTINATION_DEAD => Answer::Dead,
+        _ => Answer::Incomplete,
+    }
+}
+
+// The leader of bits that are the answer of a peer.
+fn answer_in<S: BitStore>(host: &Host<S>, bits: &Bits) -> Option<Leader>
+    ensures { result ≡ answer_in bits.now host.now }
+{
+    let Ok(leader) = read_leader(bits) else {
+        return None;
+    };
+    if is_answer(leader.kind) && host.phase(leader.host).is_ok() {
+        Some(leader)
+    } else {
+        None
+    }
+}
+
+/// Hands bits to a host, and gives their note. All memory that the note takes is taken first: an
+/// `AllocError` leaves the host as it was.
+pub fn hear<S: BitStore>(
+    alloc: Global,
+    host: &mut Host<S>,
+    bits: &Bits,
+) -> Result<HostNote, AllocError>
+    ensures note { IfOk result (λ note. note ≡ note_of_bits bits.now host.old) }
+    ensures host { IfOk result (λ note. host.new ≡ after_note note host.old) }
+    ensures err { OnErr result (host.new ≡ host.old) }
+{
+    if let Some(leader) = answer_in(host, bits) {
+        let received = host.receive(bits);
+        return Ok(HostNote::Answered {
+            peer: leader.host,
+            link: leader.link,
+            answer: answer_of(leader.kind),
+            received,
+        });
+    }
+    let message = Message::from_bits(alloc, bits)?;
+    let received = host.receive(bits);
+    Ok(HostNote::In { message, received })
+}

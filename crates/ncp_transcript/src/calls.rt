@@ -1,0 +1,107 @@
+//! A call on a host, and its note.
+ghost use Rattle.std.specs.Prelude.{◌≡◌, IfOk, OnErr};
+ghost use Rattle.ncp_transcript.specs.Answers.{answer_to};
+ghost use Rattle.ncp_transcript.specs.After.{after_note};
+ghost use Rattle.ncp_transcript.specs.Noting.{CallNoted};
+
+use crate::acts::{
+    allocate, ask_receive, ask_send, call_back, close, done, echo, interrupt, reset, wake,
+};
+use crate::call::Call;
+use crate::message::{Message, pack_in_room, room_for_any};
+use crate::note::HostNote;
+use crate::readings::{counts, echoed, errors, kept, phase, state, waiting};
+use ncp_bits::BitStore;
+use ncp_host::{Host, Pair};
+use std::alloc::{AllocError, Global};
+
+// A text is given: the note's copy of it is made first.
+fn give<S: BitStore>(
+    alloc: Global,
+    host: &mut Host<S>,
+    peer: u8,
+    pair: Pair,
+    text: &Message,
+) -> Result<HostNote, AllocError>
+    ensures note { IfOk result (λ note. note ≡ answer_to (Call.Give peer pair text.now) host.old) }
+    ensures host { IfOk result (λ note. host.new ≡ after_note note host.old) }
+    ensures err { OnErr result (host.new ≡ host.old) }
+{
+    let bits = text.to_bits();
+    let text = Message::from_bits(alloc, &bits)?;
+    let reply = host.give(peer, pair, &bits);
+    Ok(done(Call::Give { peer, pair, text }, reply))
+}
+
+// Text is taken: room for as much as any message has is made first.
+fn take<S: BitStore>(
+    alloc: Global,
+    host: &mut Host<S>,
+    peer: u8,
+    pair: Pair,
+    bytes: u32,
+) -> Result<HostNote, AllocError>
+    ensures note { IfOk result (λ note. note ≡ answer_to (Call.Take peer pair bytes) host.old) }
+    ensures host { IfOk result (λ note. host.new ≡ after_note note host.old) }
+    ensures err { OnErr result (host.new ≡ host.old) }
+{
+    let room = room_for_any(alloc)?;
+    match host.take(peer, pair, bytes) {
+        Ok(text) => Ok(HostNote::Took {
+            peer,
+            pair,
+            bytes,
+            text: pack_in_room(room, &text),
+        }),
+        Err(fault) => Ok(HostNote::Refused {
+            call: Call::Take { peer, pair, bytes },
+            fault,
+        }),
+    }
+}
+
+/// Performs a call on a host, and gives its note. All memory that the note takes is taken first: an
+/// `AllocError` leaves the host as it was. Want of memory in the call itself stands in the note.
+pub fn perform<S: BitStore>(
+    alloc: Global,
+    host: &mut Host<S>,
+    call: &Call,
+) -> Result<HostNote, AllocError>
+    ensures note { IfOk result (λ note. CallNoted call.now note host.old) }
+    ensures host { IfOk result (λ note. host.new ≡ after_note note host.old) }
+    ensures err { OnErr result (host.new ≡ host.old) }
+{
+    match call {
+        Call::Give { peer, pair, text } => give(alloc, host, *peer, *pair, text),
+        Call::Take { peer, pair, bytes } => take(alloc, host, *peer, *pair, *bytes),
+        Call::State { peer, pair } => Ok(state(host, *peer, *pair)),
+        Call::Phase { peer } => Ok(phase(host, *peer)),
+        Call::Echoed { peer } => Ok(echoed(host, *peer)),
+        Call::Errors { peer } => errors(alloc, host, *peer),
+        Call::Counts { peer } => Ok(counts(host, *peer)),
+        Call::Waiting { peer, place } => Ok(waiting(host, *peer, *place)),
+        Call::Kept { peer, link } => kept(alloc, host, *peer, *link),
+        Call::Ignored => Ok(HostNote::Ignored {
+            ignored: host.ignored(),
+        }),
+        Call::Reset { peer } => Ok(reset(host, *peer)),
+        Call::AskSend {
+            peer,
+            pair,
+            size,
+            room,
+        } => Ok(ask_send(host, *peer, *pair, *size, *room)),
+        Call::AskReceive { peer, pair, room } => Ok(ask_receive(host, *peer, *pair, *room)),
+        Call::Allocate {
+            peer,
+            pair,
+            messages,
+            bits,
+        } => Ok(allocate(host, *peer, *pair, *messages, *bits)),
+        Call::CallBack { peer, pair, fm, fb } => Ok(call_back(host, *peer, *pair, *fm, *fb)),
+        Call::Interrupt { peer, pair } => Ok(interrupt(host, *peer, *pair)),
+        Call::Echo { peer, byte } => Ok(echo(host, *peer, *byte)),
+        Call::Close { peer, pair } => Ok(close(host, *peer, *pair)),
+        Call::Wake { peer } => Ok(wake(host, *peer)),
+    }
+}

@@ -1,0 +1,17 @@
+//! What holds of every list of inputs.
+ghost use Rattle.std.specs.Prelude.{◌≡◌, ◌++◌, List, length};
+ghost use Rattle.ncp_host.specs.Host.{Host};
+ghost use Rattle.ncp_transcript.specs.declared.input.Input.{Input};
+ghost use Rattle.ncp_transcript.specs.declared.note.HostNote.{HostNote};
+ghost use Rattle.ncp_transcript.specs.After.{after_notes};
+ghost use Rattle.ncp_transcript.specs.Runs.{AreNotes, IsRun};
+ghost use Rattle.ncp_transcript.specs.Alone.{Alone, AreSteps};
+
+/// Inputs one after the other, however many and whatever they are, add their notes to the
+/// transcript, one for each and in order, and leave the host as the notes say. These notes are a run:
+/// each says what the rules say at the state before it.
+pub fn every_list_of_inputs_is_a_run()
+    ensures steps { (inputs : List Input) (before now : Alone) → AreSteps inputs before now → (notes : List HostNote) × AreNotes inputs notes before.host × (now.notes ≡ before.notes ++ notes) × (now.host ≡ after_notes notes before.host) }
+    ensures many { (inputs : List Input) (notes : List HostNote) (h : Host) → AreNotes inputs notes h → length notes ≡ length inputs }
+    ensures run { (inputs : List Input) (notes : List HostNote) (h : Host) → AreNotes inputs notes h → IsRun notes h }
+{}

@@ -1,0 +1,26 @@
+//! The next message of a host, and its note.
+ghost use Rattle.std.specs.Prelude.{◌≡◌, IfOk, OnErr};
+ghost use Rattle.ncp_transcript.specs.After.{after_note};
+ghost use Rattle.ncp_transcript.specs.Noting.{note_of_output};
+
+use crate::message::{pack_in_room, room_for_any};
+use crate::note::HostNote;
+use ncp_bits::BitStore;
+use ncp_host::Host;
+use std::alloc::{AllocError, Global};
+
+/// Asks a host for its next message, and gives the note of it. All memory that the note takes is
+/// taken first: an `AllocError` leaves the host as it was.
+pub fn send<S: BitStore>(alloc: Global, host: &mut Host<S>) -> Result<HostNote, AllocError>
+    ensures note { IfOk result (λ note. note ≡ note_of_output host.old) }
+    ensures host { IfOk result (λ note. host.new ≡ after_note note host.old) }
+    ensures err { OnErr result (host.new ≡ host.old) }
+{
+    let room = room_for_any(alloc)?;
+    match host.next_output() {
+        Some(bits) => Ok(HostNote::Out {
+            message: pack_in_room(room, &bits),
+        }),
+        None => Ok(HostNote::Nothing),
+    }
+}
