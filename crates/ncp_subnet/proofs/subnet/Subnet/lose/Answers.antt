@@ -1,0 +1,31 @@
+use Rattle.std.proofs.Common.{◌≡◌, ◌∙◌, sym, ap, slice_set}
+use Rattle.ncp_subnet.specs.declared.transit.Transit.TheVariants.{Lost}
+use Rattle.ncp_subnet.specs.Transit.{is_accepted, lost}
+use Rattle.ncp_subnet.specs.Ways.{OneWay, on_link}
+use Rattle.ncp_subnet.specs.Subnet.{transit_at, with_transit, subnet_in}
+use Rattle.ncp_subnet.proofs.Rows.{Found, found-by, none-by, transit-found, changed-found, transit-none, unchanged, when_not_accepted, when_accepted}
+use Rattle.ncp_subnet.proofs.subnet.Subnet.lose.Goals as goal
+
+-- the way that was found, as it was
+found : (c : goal.After-self-1) → Found c.self.inside.ways.items c.args.from c.args.to c.args.link c.in-Some.place c.index_mut.result.now
+found c = found-by c.deref.result.now c.self.inside.ways.items c.args.from c.args.to c.args.link c.in-Some.place c.index_mut.result.now c.way_between.result c.deref.ensures.value c.way_between.ensures c.in-Some.is c.index_mut.ensures.value c.lose.ensures.inside
+
+read : (c : goal.After-self-1) → transit_at c.args.self.now c.args.from c.args.to c.args.link ≡ on_link c.index_mut.result.now c.args.link
+read c = transit-found c.self.inside.ways.items c.args.self.now c.args.from c.args.to c.args.link c.in-Some.place c.index_mut.result.now c.self.view_is (found c)
+
+pub returns-in-Some-clause-told : goal.returns-in-Some-clause-told
+returns-in-Some-clause-told c = c.lose.ensures.told ∙ ap is_accepted (sym (read c))
+
+pub returns-in-Some-clause-lost : goal.returns-in-Some-clause-lost
+returns-in-Some-clause-lost c = when_accepted c.lose.result Lost (on_link c.index_mut.result.now c.args.link) c.lose.ensures.told (λ is.
+    ap (λ (way : OneWay). subnet_in (slice_set c.self.inside.ways.items c.in-Some.place way)) c.lose.ensures.way
+    ∙ changed-found c.self.inside.ways.items c.args.self.now c.args.from c.args.to c.args.link c.in-Some.place c.index_mut.result.now (lost (on_link c.index_mut.result.now c.args.link)) c.self.view_is (found c)
+    ∙ ap (with_transit c.args.self.now c.args.from c.args.to c.args.link) is)
+
+pub returns-in-None-clause-told : goal.returns-in-None-clause-told
+returns-in-None-clause-told c = sym (ap is_accepted (transit-none c.self.inside.ways.items c.args.self.now c.args.from c.args.to c.args.link c.self.view_is
+    (none-by c.deref.result.now c.self.inside.ways.items c.args.from c.args.to c.way_between.result c.deref.ensures.value c.way_between.ensures c.in-None.is)))
+
+pub returns-in-Some-clause-none : goal.returns-in-Some-clause-none
+returns-in-Some-clause-none c = when_not_accepted c.lose.result Lost (on_link c.index_mut.result.now c.args.link) c.lose.ensures.told (λ is.
+    unchanged c.self.inside.ways.items c.args.self.now c.args.link c.in-Some.place c.index_mut.result.now c.lose.new.self (lost (on_link c.index_mut.result.now c.args.link)) c.self.view_is c.index_mut.ensures.value c.lose.ensures.way is)

@@ -1,0 +1,4 @@
+pub mod Transit
+pub mod Messages
+pub mod Ways
+pub mod Subnet

@@ -1,0 +1,127 @@
+-- The subnet between hosts: a finite map that has, for each sender, destination and link, what is in
+-- transit there (BBN 1822, section 3). Which hosts there are, and the order of the refusals, are this
+-- profile's.
+use Rattle.std.specs.Prelude.{◌≡◌, ◌≢◌, ℕ, suc, ◌==◌, Bool, false, not, ◌&&◌, List, [], ◌∷◌, map, unwrap_or, refl, nat_eq, if◌then◌else◌}
+use Rattle.std.specs.List.{list_any}
+use Rattle.std.specs.declared.cmp.Ordering.{Ordering}
+use Rattle.std.specs.Ordering.{nat_cmp, ordering_then}
+use Rattle.std.specs.Coded.{Coded, code_by, coded×, coded_ℕ, coded_bool, coded_list}
+use Rattle.std.specs.FinMap.{FinMap, code, empty, get, insert}
+use Rattle.ncp_subnet.specs.declared.fault.SubnetFault.{SubnetFault}
+use Rattle.ncp_subnet.specs.declared.fault.SubnetFault.TheVariants.{NotRegular, NoHost, Occupied}
+use Rattle.ncp_subnet.specs.declared.transit.Transit.TheVariants.{Free, Accepted, Delivered, Lost, Dead}
+use Rattle.ncp_subnet.specs.Messages.{IsRegular, host_in, link_in}
+use Rattle.ncp_subnet.specs.Ways.{OnLink, OneWay, free_ways}
+
+-- where a message is in transit
+pub record Place : Type 0 where
+  pub from : ℕ
+  pub to : ℕ
+  pub link : ℕ
+
+abbrev pub place : ℕ → ℕ → ℕ → Place
+place from to link = record { from = from; to = to; link = link }
+
+-- by the sender, then by the destination, then by the link
+abbrev pub place_cmp : Place → Place → Ordering
+place_cmp a b = ordering_then (nat_cmp a.from b.from) (ordering_then (nat_cmp a.to b.to) (nat_cmp a.link b.link))
+
+abbrev pub InTransit : Type 0
+InTransit = FinMap place_cmp OnLink
+
+-- the ways on which messages go, each from one host to another, and what is in transit
+pub record Subnet : Type 0 where
+  pub ways : List (ℕ × ℕ)
+  pub in_transit : InTransit
+
+-- messages go from one host to another
+abbrev pub has_way : Subnet → ℕ → ℕ → Bool
+has_way subnet from to = list_any (λ way. way.0 == from && way.1 == to) subnet.ways
+
+-- they are two of these hosts
+abbrev pub is_one_of : ℕ → List ℕ → Bool
+is_one_of host hosts = list_any (λ other. other == host) hosts
+
+abbrev pub are_two_of : List ℕ → ℕ → ℕ → Bool
+are_two_of hosts from to = is_one_of from hosts && is_one_of to hosts && not (from == to)
+
+-- what is in transit on a link: nothing where the map has nothing
+unfoldable pub on : InTransit → ℕ → ℕ → ℕ → OnLink
+on in_transit from to link = unwrap_or (get in_transit (place from to link)) Free
+
+unfoldable pub put : InTransit → ℕ → ℕ → ℕ → OnLink → InTransit
+put in_transit from to link transit = insert in_transit (place from to link) transit
+
+abbrev pub transit_at : Subnet → ℕ → ℕ → ℕ → OnLink
+transit_at subnet from to link = on subnet.in_transit from to link
+
+-- the subnet with this in transit there
+abbrev pub with_transit : Subnet → ℕ → ℕ → ℕ → OnLink → Subnet
+with_transit subnet from to link transit = record subnet { in_transit = put subnet.in_transit from to link transit }
+
+-- what is in transit elsewhere stays
+abbrev pub OthersStay : Subnet → Subnet → ℕ → ℕ → ℕ → Type 0
+OthersStay old new from to link =
+    (sender destination other : ℕ) → ¬ ((sender ≡ from) × (destination ≡ to) × (other ≡ link))
+    → transit_at new sender destination other ≡ transit_at old sender destination other
+
+-- Why a message is not accepted that a host sends.
+abbrev pub Refuses : Subnet → ℕ → List Bool → SubnetFault → Type 0
+Refuses subnet from message NotRegular = ¬ IsRegular message
+Refuses subnet from message NoHost = has_way subnet from (host_in message) ≡ false
+Refuses subnet from message Occupied = transit_at subnet from (host_in message) (link_in message) ≢ Free
+
+-- the order in which it is judged
+abbrev pub refusals : List SubnetFault
+refusals = NotRegular ∷ NoHost ∷ Occupied ∷ []
+
+-- ways in a row, as the map that they are
+abbrev pub links_in : ℕ → ℕ → ℕ → List OnLink → InTransit → InTransit
+links_in from to link [] others = others
+links_in from to link (transit ∷ links) others = put (links_in from to (suc link) links others) from to link transit
+
+abbrev pub ways_in : List OneWay → InTransit
+ways_in [] = empty
+ways_in (way ∷ ways) = links_in way.from way.to 0 way.links (ways_in ways)
+
+abbrev pub hosts_of : OneWay → ℕ × ℕ
+hosts_of way = (way.from, way.to)
+
+unfoldable pub subnet_in : List OneWay → Subnet
+subnet_in ways = record { ways = map hosts_of ways; in_transit = ways_in ways }
+
+-- a new subnet: nothing is in transit
+unfoldable pub new_subnet : List ℕ → Subnet
+new_subnet hosts = subnet_in (free_ways hosts)
+
+-- how these are stored
+abbrev pub coded_place : Coded Place
+coded_place = code_by (ℕ × (ℕ × ℕ)) (coded× coded_ℕ (coded× coded_ℕ coded_ℕ)) (λ p. (p.from, (p.to, p.link))) (λ n. record { from = n.0; to = n.1.0; link = n.1.1 }) (λ _. refl)
+
+abbrev pub transit_parts : OnLink → ℕ × List Bool
+transit_parts Free = (0, [])
+transit_parts (Accepted message) = (1, message)
+transit_parts Delivered = (2, [])
+transit_parts Lost = (3, [])
+transit_parts Dead = (4, [])
+
+abbrev pub transit_of_parts : ℕ × List Bool → OnLink
+transit_of_parts parts =
+    if nat_eq parts.0 0 then Free
+    else if nat_eq parts.0 1 then Accepted parts.1
+    else if nat_eq parts.0 2 then Delivered
+    else if nat_eq parts.0 3 then Lost
+    else Dead
+
+abbrev pub transit_of_parts-transit_parts : (transit : OnLink) → transit_of_parts (transit_parts transit) ≡ transit
+transit_of_parts-transit_parts Free = refl
+transit_of_parts-transit_parts (Accepted message) = refl
+transit_of_parts-transit_parts Delivered = refl
+transit_of_parts-transit_parts Lost = refl
+transit_of_parts-transit_parts Dead = refl
+
+abbrev pub coded_transit : Coded OnLink
+coded_transit = code_by (ℕ × List Bool) (coded× coded_ℕ (coded_list coded_bool)) transit_parts transit_of_parts transit_of_parts-transit_parts
+
+abbrev pub coded_in_transit : Coded InTransit
+coded_in_transit = code coded_place coded_transit

@@ -1,0 +1,78 @@
+-- What the subnet has for one link from one host to another: at most one message that is not answered
+-- yet (BBN 1822, section 3: a host has one message unanswered on a link).
+use Rattle.std.specs.Prelude.{ℕ, Bool, true, false, Option, Some, None}
+use Rattle.ncp_subnet.specs.declared.transit.Transit.{Transit}
+use Rattle.ncp_subnet.specs.declared.transit.Transit.TheVariants.{Free, Accepted, Delivered, Lost, Dead}
+use Rattle.ncp_subnet.specs.declared.addressed.TheConstants.{RFNM, DESTINATION_DEAD, INCOMPLETE}
+
+-- a message is accepted: only where none is in transit
+abbrev pub accepted : {M : Type 0} → M → Transit M → Transit M
+accepted message Free = Accepted message
+accepted message (Accepted other) = Accepted other
+accepted message Delivered = Delivered
+accepted message Lost = Lost
+accepted message Dead = Dead
+
+-- a message that has not come: it comes, it is lost, or it finds its destination dead (this profile: the
+-- caller says which)
+abbrev pub undelivered : {M : Type 0} → Transit M → Transit M → Transit M
+undelivered becomes Free = Free
+undelivered becomes (Accepted message) = becomes
+undelivered becomes Delivered = Delivered
+undelivered becomes Lost = Lost
+undelivered becomes Dead = Dead
+
+abbrev pub delivered : {M : Type 0} → Transit M → Transit M
+delivered transit = undelivered Delivered transit
+
+abbrev pub lost : {M : Type 0} → Transit M → Transit M
+lost transit = undelivered Lost transit
+
+abbrev pub dead : {M : Type 0} → Transit M → Transit M
+dead transit = undelivered Dead transit
+
+-- a message that came or will not come is answered, and the next may be accepted
+abbrev pub answered : {M : Type 0} → Transit M → Transit M
+answered Free = Free
+answered (Accepted message) = Accepted message
+answered Delivered = Free
+answered Lost = Free
+answered Dead = Free
+
+-- the type of the answer: Ready For Next Message where the message came, Incomplete Transmission where it
+-- was lost, Destination Dead where it found its destination dead; none while it may still come
+abbrev pub answer_kind : {M : Type 0} → Transit M → Option ℕ
+answer_kind Free = None
+answer_kind (Accepted message) = None
+answer_kind Delivered = Some RFNM
+answer_kind Lost = Some INCOMPLETE
+answer_kind Dead = Some DESTINATION_DEAD
+
+-- the message that has not come
+abbrev pub accepted_message : {M : Type 0} → Transit M → Option M
+accepted_message Free = None
+accepted_message (Accepted message) = Some message
+accepted_message Delivered = None
+accepted_message Lost = None
+accepted_message Dead = None
+
+abbrev pub is_free : {M : Type 0} → Transit M → Bool
+is_free Free = true
+is_free (Accepted message) = false
+is_free Delivered = false
+is_free Lost = false
+is_free Dead = false
+
+abbrev pub is_accepted : {M : Type 0} → Transit M → Bool
+is_accepted Free = false
+is_accepted (Accepted message) = true
+is_accepted Delivered = false
+is_accepted Lost = false
+is_accepted Dead = false
+
+abbrev pub is_delivered : {M : Type 0} → Transit M → Bool
+is_delivered Free = false
+is_delivered (Accepted message) = false
+is_delivered Delivered = true
+is_delivered Lost = false
+is_delivered Dead = false

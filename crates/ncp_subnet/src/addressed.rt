@@ -1,0 +1,97 @@
+//! `Addressed`: messages with a leader, and the leaders of answers.
+ghost use Rattle.std.specs.Prelude.{◌≡◌, ◌≤◌, ◌<◌, length, IfOk, IfErr, Err};
+ghost use Rattle.ncp_leader.specs.declared.leader.TheConstants.{LEADER_BITS, MAX_KIND};
+ghost use Rattle.ncp_leader.specs.Leader.{leader_at};
+ghost use Rattle.ncp_subnet.specs.Messages.{IsRegular, from_host, answer_bits};
+
+use crate::fault::SubnetFault;
+use ncp_bits::Bits;
+use ncp_leader::{Leader, put_leader, read_leader};
+use std::marker::Model;
+
+/// The type of a regular message.
+pub const REGULAR: u8 = 0;
+
+/// The type of Ready For Next Message: the message was delivered.
+pub const RFNM: u8 = 5;
+
+/// The type of Destination Dead: the message was not delivered.
+pub const DESTINATION_DEAD: u8 = 7;
+
+/// The type of Incomplete Transmission: the message was not delivered.
+pub const INCOMPLETE: u8 = 9;
+
+// Where the host stands in a leader: bits 9 to 16, counted from 0.
+const HOST_AT: usize = 8;
+
+const HOST_END: usize = 16;
+
+/// A message with a leader.
+#[derive(Drop)]
+pub(crate) struct Addressed {
+    bits: Bits,
+}
+
+impl Model for Addressed {
+    ghost use Rattle.std.specs.Prelude.{List, Bool, ◌≤◌, length};
+    ghost use Rattle.ncp_leader.specs.declared.leader.TheConstants.{LEADER_BITS};
+
+    ghost Value = { List Bool };
+
+    ghost view = { λ message. message.bits };
+
+    ghost invariant = { λ message. LEADER_BITS ≤ length message.bits };
+}
+
+impl Addressed {
+    /// A copy of a message that has a leader.
+    pub(crate) fn of(message: &Bits) -> Addressed
+        requires { LEADER_BITS ≤ length message.now }
+        ensures { result ≡ message.now }
+    {
+        Addressed {
+            bits: message.whole().to_bits(),
+        }
+    }
+
+    /// The message as it comes from a host: bits 9 to 16 are its number.
+    #[tactic(auto, unfolding(crate::specs::Messages::from_host))]
+    pub(crate) fn from_host(&self, from: u8) -> Bits
+        ensures { result ≡ from_host from self.now }
+    {
+        let message = &self.bits;
+        let rest = message.len() - HOST_END;
+        let mut bits = message.slice(0, HOST_AT).to_bits();
+        bits.push_number(u64::from(from), HOST_END - HOST_AT)
+            .unwrap();
+        bits.append(message.slice(HOST_END, rest)).unwrap();
+        bits
+    }
+}
+
+/// The leader of a regular message.
+pub(crate) fn regular_leader(message: &Bits) -> Result<Leader, SubnetFault>
+    ensures leader { IfOk result (λ leader. leader ≡ leader_at message.now) }
+    ensures regular { IfOk result (λ _. IsRegular message.now) }
+    ensures err { IfErr result (λ fault. (fault ≡ SubnetFault.NotRegular) × ¬ IsRegular message.now) }
+{
+    match read_leader(message) {
+        Ok(leader) if leader.kind == REGULAR => Ok(leader),
+        _ => Err(SubnetFault::NotRegular),
+    }
+}
+
+/// The answer about a message to a host on a link: a leader, its flags and low field zero.
+#[tactic(auto, unfolding(crate::specs::Messages::answer_bits))]
+pub(crate) fn answer_of(kind: u8, host: u8, link: u8) -> Bits
+    requires { kind ≤ MAX_KIND }
+    ensures { result ≡ answer_bits kind host link }
+{
+    put_leader(&Leader {
+        flags: 0,
+        kind,
+        host,
+        link,
+        low: 0,
+    })
+}

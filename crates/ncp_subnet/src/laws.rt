@@ -1,0 +1,35 @@
+//! Laws about the subnet, each the contract of a function that does nothing.
+ghost use Rattle.std.specs.Prelude.{◌≡◌, ℕ, Some, None};
+ghost use Rattle.ncp_subnet.specs.declared.transit.Transit.{Transit};
+ghost use Rattle.ncp_subnet.specs.Transit.{accepted, delivered, lost, dead, answered, answer_kind, accepted_message};
+ghost use Rattle.ncp_subnet.specs.Ways.{OnLink};
+ghost use Rattle.ncp_subnet.specs.Subnet.{Subnet, transit_at, with_transit, OthersStay};
+
+use crate::addressed::{DESTINATION_DEAD, INCOMPLETE, REGULAR, RFNM};
+
+/// What is in transit at different places is apart.
+pub fn places_are_apart()
+    ensures same { (subnet : Subnet) (from to link : ℕ) (transit : OnLink) → transit_at (with_transit subnet from to link transit) from to link ≡ transit }
+    ensures others { (subnet : Subnet) (from to link : ℕ) (transit : OnLink) → OthersStay subnet (with_transit subnet from to link transit) from to link }
+{}
+
+/// A message is delivered at most once, and answered once: by Ready For Next Message where it came,
+/// and otherwise only where it will not come.
+pub fn each_message_is_answered_once<M>()
+    ensures accepted { (message : M) → accepted message Transit.Free ≡ Transit.Accepted message }
+    ensures once { (message : M) → accepted_message (delivered (Transit.Accepted message)) ≡ None }
+    ensures unanswered { (message : M) → answer_kind (Transit.Accepted message) ≡ None }
+    ensures came { (message : M) → answer_kind (delivered (Transit.Accepted message)) ≡ Some RFNM }
+    ensures lost { (message : M) → answer_kind (lost (Transit.Accepted message)) ≡ Some INCOMPLETE }
+    ensures dead { (message : M) → answer_kind (dead (Transit.Accepted message)) ≡ Some DESTINATION_DEAD }
+    ensures never { (message : M) → accepted_message (lost (Transit.Accepted message)) ≡ None }
+    ensures answered { (transit : Transit M) (kind : ℕ) → answer_kind transit ≡ Some kind → answered transit ≡ Transit.Free }
+{}
+
+/// The types of messages, by their numbers in the standard.
+pub fn types_are_numbered()
+    ensures regular { REGULAR ≡ 0 }
+    ensures rfnm { RFNM ≡ 5 }
+    ensures dead { DESTINATION_DEAD ≡ 7 }
+    ensures incomplete { INCOMPLETE ≡ 9 }
+{}

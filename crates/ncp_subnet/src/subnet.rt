@@ -1,0 +1,170 @@
+//! `Subnet`.
+ghost use Rattle.std.specs.Prelude.{◌≡◌, ◌≢◌, ◌≤◌, ◌<◌, ◌↔◌, ℕ, IsTrue, [], ◌∷◌, ◌++◌, length, map, slice_get, Some, IfOk, IfErr, IfSome, IfNone, OnOk, OnErr, IsOk};
+ghost use Rattle.std.specs.List.{position};
+ghost use Rattle.std.specs.Bool.{OnTrue, OnFalse};
+ghost use Rattle.ncp_bits.specs.Reasons.{IsFirst, NoneHolds};
+ghost use Rattle.ncp_subnet.specs.Transit.{is_accepted, is_delivered};
+ghost use Rattle.ncp_subnet.specs.declared.transit.Transit.{Transit};
+ghost use Rattle.ncp_subnet.specs.Messages.{host_in, link_in, arriving, answer_about};
+ghost use Rattle.ncp_subnet.specs.Ways.{leads, free_ways_from};
+ghost use Rattle.ncp_subnet.specs.Subnet.{are_two_of, has_way, transit_at, with_transit, new_subnet, refusals, Refuses};
+
+use crate::addressed::regular_leader;
+use crate::fault::SubnetFault;
+use crate::way::Way;
+use ncp_bits::Bits;
+use std::alloc::{AllocError, Global};
+use std::marker::Model;
+
+/// The subnet between hosts. On each link from one host to another it has at most one message that
+/// is not answered yet. The room for all of them is made by [`Subnet::new`] and [`Subnet::among`];
+/// no other call takes memory.
+#[derive(Drop)]
+pub struct Subnet {
+    ways: Vec<Way>,
+}
+
+impl Model for Subnet {
+    ghost use Rattle.std.specs.Coded.{codes};
+    ghost use Rattle.ncp_subnet.specs.Subnet.{Subnet as Seen, coded_in_transit, subnet_in};
+
+    ghost Value = { Seen };
+
+    ghost coded = { Prim.hlevel (codes, coded_in_transit) };
+
+    ghost view = { λ subnet. subnet_in subnet.ways.items };
+}
+
+// Where the way from one host to another is.
+fn way_between(ways: &[Way], from: u8, to: u8) -> Option<usize>
+    ensures { result ≡ position (leads from to) ways.now }
+{
+    ways.iter().position(|way| way.leads(from, to))
+}
+
+// Adds the ways from one host to the others.
+fn push_ways_from(
+    ways: &mut Vec<Way>,
+    alloc: Global,
+    from: u8,
+    hosts: &[u8],
+) -> Result<(), AllocError>
+    ensures { OnOk result (ways.new.items ≡ ways.old.items ++ free_ways_from from hosts.now) }
+{
+    for to in hosts {
+        if *to != from {
+            ways.push(Way::new(alloc, from, *to)?)?;
+        }
+    }
+    Ok(())
+}
+
+impl Subnet {
+    /// The subnet between two hosts, which differ.
+    pub fn new(alloc: Global, a: u8, b: u8) -> Result<Subnet, AllocError>
+        ensures subnet { IfOk result (λ subnet. subnet ≡ new_subnet (a ∷ b ∷ [])) }
+        ensures hosts { IfOk result (λ subnet. (from to : ℕ) → has_way subnet from to ≡ are_two_of (a ∷ b ∷ []) from to) }
+        ensures free { IfOk result (λ subnet. (from to link : ℕ) → transit_at subnet from to link ≡ Transit.Free) }
+    {
+        Subnet::among(alloc, &[a, b])
+    }
+
+    /// The subnet between any number of hosts.
+    pub fn among(alloc: Global, hosts: &[u8]) -> Result<Subnet, AllocError>
+        ensures subnet { IfOk result (λ subnet. subnet ≡ new_subnet hosts.now) }
+        ensures hosts { IfOk result (λ subnet. (from to : ℕ) → has_way subnet from to ≡ are_two_of hosts.now from to) }
+        ensures free { IfOk result (λ subnet. (from to link : ℕ) → transit_at subnet from to link ≡ Transit.Free) }
+    {
+        let mut ways = Vec::new(alloc);
+        for from in hosts {
+            push_ways_from(&mut ways, alloc, *from, hosts)?;
+        }
+        Ok(Subnet { ways })
+    }
+
+    /// Takes a copy of a message at a host, with the destination and the link of its leader.
+    ///
+    /// Refused, in this order: `NotRegular` (shorter than a leader, or of another type), `NoHost`
+    /// (the host and the destination are not two hosts of the subnet), `Occupied` (the last message
+    /// of this link is not answered yet). A refusal changes nothing.
+    pub fn accept(&mut self, from: u8, message: &Bits) -> Result<(), SubnetFault>
+        ensures variant { IsOk result ↔ NoneHolds (Refuses self.old from message.now) refusals }
+        ensures first { IfErr result (λ fault. IsFirst (Refuses self.old from message.now) refusals fault) }
+        ensures ok { OnOk result (self.new ≡ with_transit self.old from (host_in message.now) (link_in message.now) (Transit.Accepted message.now)) }
+        ensures err { OnErr result (self.new ≡ self.old) }
+    {
+        let leader = regular_leader(message)?;
+        let Some(place) = way_between(&self.ways, from, leader.host) else {
+            return Err(SubnetFault::NoHost);
+        };
+        let way = &mut self.ways[place];
+        if !way.is_free(leader.link) {
+            return Err(SubnetFault::Occupied);
+        }
+        way.accept(leader.link, message);
+        Ok(())
+    }
+
+    /// Gives out a message at its destination: the bits that were accepted, with the number of the
+    /// host from which it comes in bits 9 to 16. None, and nothing changes, where no message is
+    /// accepted on this link that has not come, was not lost, and did not find its destination
+    /// dead.
+    pub fn deliver(&mut self, from: u8, to: u8, link: u8) -> Option<Bits>
+        ensures message { result ≡ arriving from (transit_at self.old from to link) }
+        ensures some { IfSome result (λ _. self.new ≡ with_transit self.old from to link Transit.Delivered) }
+        ensures none { IfNone result (self.new ≡ self.old) }
+    {
+        let place = way_between(&self.ways, from, to)?;
+        self.ways[place].deliver(link)
+    }
+
+    /// Loses a message that was accepted and has not come. False, and nothing changes, where there
+    /// is none.
+    pub fn lose(&mut self, from: u8, to: u8, link: u8) -> bool
+        ensures told { result ≡ is_accepted (transit_at self.old from to link) }
+        ensures lost { OnTrue result (self.new ≡ with_transit self.old from to link Transit.Lost) }
+        ensures none { OnFalse result (self.new ≡ self.old) }
+    {
+        match way_between(&self.ways, from, to) {
+            Some(place) => self.ways[place].lose(link),
+            None => false,
+        }
+    }
+
+    /// Finds the destination dead of a message that was accepted and has not come. False, and
+    /// nothing changes, where there is none.
+    pub fn dead(&mut self, from: u8, to: u8, link: u8) -> bool
+        ensures told { result ≡ is_accepted (transit_at self.old from to link) }
+        ensures dead { OnTrue result (self.new ≡ with_transit self.old from to link Transit.Dead) }
+        ensures none { OnFalse result (self.new ≡ self.old) }
+    {
+        match way_between(&self.ways, from, to) {
+            Some(place) => self.ways[place].dead(link),
+            None => false,
+        }
+    }
+
+    /// Gives the answer about a message to the host that sent it, and has done with the message: a
+    /// leader with the destination and the link, of type [`RFNM`](crate::RFNM) where the message
+    /// came, [`INCOMPLETE`](crate::INCOMPLETE) where it was lost, and
+    /// [`DESTINATION_DEAD`](crate::DESTINATION_DEAD) where it found its destination dead. None, and
+    /// nothing changes, where there is no such message.
+    pub fn answer(&mut self, from: u8, to: u8, link: u8) -> Option<Bits>
+        ensures answer { result ≡ answer_about to link (transit_at self.old from to link) }
+        ensures some { IfSome result (λ _. self.new ≡ with_transit self.old from to link Transit.Free) }
+        ensures none { IfNone result (self.new ≡ self.old) }
+    {
+        let place = way_between(&self.ways, from, to)?;
+        self.ways[place].answer(link)
+    }
+
+    /// Whether a message came that is not answered yet.
+    pub fn delivered(&self, from: u8, to: u8, link: u8) -> bool
+        ensures { result ≡ is_delivered (transit_at self.now from to link) }
+    {
+        match way_between(&self.ways, from, to) {
+            Some(place) => self.ways[place].is_delivered(link),
+            None => false,
+        }
+    }
+}

@@ -1,0 +1,104 @@
+//! `Transit`.
+ghost use Rattle.std.specs.Prelude.{◌≡◌, ◌↔◌, IsTrue};
+ghost use Rattle.ncp_subnet.specs.Transit.{accepted, delivered, lost, dead, answered, accepted_message, answer_kind, is_free, is_accepted, is_delivered};
+
+use crate::addressed::{DESTINATION_DEAD, INCOMPLETE, RFNM};
+use std::mem;
+
+/// What the subnet has for a link from one host to another: at most one message that is not
+/// answered yet.
+#[derive(Debug, Drop)]
+pub enum Transit<M> {
+    /// No message.
+    Free,
+    /// A message that was accepted and has not come.
+    Accepted(M),
+    /// The message came.
+    Delivered,
+    /// The message was lost.
+    Lost,
+    /// The message found its destination dead.
+    Dead,
+}
+
+impl<M: Drop> Transit<M> {
+    /// Whether there is no message.
+    pub(crate) fn is_free(&self) -> bool
+        ensures { result ≡ is_free self.now }
+    {
+        matches!(self, Transit::Free)
+    }
+
+    /// Whether the message came and is not answered yet.
+    pub(crate) fn is_delivered(&self) -> bool
+        ensures { result ≡ is_delivered self.now }
+    {
+        matches!(self, Transit::Delivered)
+    }
+
+    /// Takes a message, where there is none.
+    pub(crate) fn accept(&mut self, message: M)
+        requires { self.old ≡ Transit.Free }
+        ensures { self.new ≡ accepted message self.old }
+    {
+        *self = Transit::Accepted(message);
+    }
+
+    /// Gives out the message that has not come, if there is one.
+    pub(crate) fn deliver(&mut self) -> Option<M>
+        ensures message { result ≡ accepted_message self.old }
+        ensures transit { self.new ≡ delivered self.old }
+    {
+        match mem::replace(self, Transit::Free) {
+            Transit::Accepted(message) => {
+                *self = Transit::Delivered;
+                Some(message)
+            }
+            other => {
+                *self = other;
+                None
+            }
+        }
+    }
+
+    /// Loses the message that has not come, if there is one.
+    pub(crate) fn lose(&mut self) -> bool
+        ensures told { result ≡ is_accepted self.old }
+        ensures transit { self.new ≡ lost self.old }
+    {
+        let has_message = matches!(self, Transit::Accepted(_));
+        if has_message {
+            *self = Transit::Lost;
+        }
+        has_message
+    }
+
+    /// Finds the destination of the message dead that has not come, if there is one.
+    pub(crate) fn dead(&mut self) -> bool
+        ensures told { result ≡ is_accepted self.old }
+        ensures transit { self.new ≡ dead self.old }
+    {
+        let has_message = matches!(self, Transit::Accepted(_));
+        if has_message {
+            *self = Transit::Dead;
+        }
+        has_message
+    }
+
+    /// Has done with a message that came or will not come, and gives the type of its answer.
+    pub(crate) fn answer(&mut self) -> Option<u8>
+        ensures kind { result ≡ answer_kind self.old }
+        ensures transit { self.new ≡ answered self.old }
+    {
+        let kind = match self {
+            Transit::Free | Transit::Accepted(_) => None,
+            Transit::Delivered => Some(RFNM),
+            Transit::Lost => Some(INCOMPLETE),
+            Transit::Dead => Some(DESTINATION_DEAD),
+        };
+        if kind.is_some() {
+            *self = Transit::Free;
+        }
+        kind
+    }
+}

@@ -1,0 +1,120 @@
+//! `Way`: what is in transit from one host to another.
+ghost use Rattle.std.specs.Prelude.{◌≡◌, ◌≤◌, ◌<◌, ◌==◌, ◌&&◌, length, IfOk};
+ghost use Rattle.ncp_subnet.specs.Transit.{answer_kind, is_accepted, is_delivered, is_free};
+ghost use Rattle.ncp_subnet.specs.Ways.{OneWay, free_way, on_link, with_link, leads};
+ghost use Rattle.ncp_subnet.specs.Transit as transit;
+ghost use Rattle.ncp_subnet.specs.Messages.{arriving, answer_about};
+ghost use Rattle.ncp_leader.specs.declared.leader.TheConstants.{LEADER_BITS};
+
+use crate::addressed::{Addressed, answer_of};
+use crate::transit::Transit;
+use ncp_bits::Bits;
+use std::alloc::{AllocError, Global};
+use std::marker::Model;
+
+/// How many links there are from one host to another, by the eight bits of a leader.
+pub const LINKS: usize = 256;
+
+/// What is in transit from one host to another, for each link.
+#[derive(Drop)]
+pub(crate) struct Way {
+    from: u8,
+    to: u8,
+    links: Vec<Transit<Addressed>>,
+}
+
+impl Model for Way {
+    ghost use Rattle.std.specs.Prelude.{◌≡◌, length};
+    ghost use Rattle.ncp_subnet.specs.declared.way.TheConstants.{LINKS};
+    ghost use Rattle.ncp_subnet.specs.Ways.{OneWay};
+
+    ghost Value = { OneWay };
+
+    ghost view = { λ way. record { from = way.from; to = way.to; links = way.links.items } };
+
+    ghost invariant = { λ way. length way.links.items ≡ LINKS };
+}
+
+impl Way {
+    /// Nothing is in transit.
+    pub(crate) fn new(alloc: Global, from: u8, to: u8) -> Result<Way, AllocError>
+        ensures { IfOk result (λ way. way ≡ free_way from to) }
+    {
+        let mut links = Vec::with_capacity(alloc, LINKS)?;
+        for _link in 0..LINKS {
+            links.push_reserved(Transit::Free);
+        }
+        Ok(Way { from, to, links })
+    }
+
+    /// Whether it is the way from one host to another.
+    pub(crate) fn leads(&self, from: u8, to: u8) -> bool
+        ensures { result ≡ leads from to self.now }
+    {
+        self.from == from && self.to == to
+    }
+
+    /// Whether no message is in transit on a link.
+    pub(crate) fn is_free(&self, link: u8) -> bool
+        ensures free { result ≡ is_free (on_link self.now link) }
+        ensures inside { link < length self.now.links }
+    {
+        self.links[usize::from(link)].is_free()
+    }
+
+    /// Whether the message on a link came and is not answered yet.
+    pub(crate) fn is_delivered(&self, link: u8) -> bool
+        ensures delivered { result ≡ is_delivered (on_link self.now link) }
+        ensures inside { link < length self.now.links }
+    {
+        self.links[usize::from(link)].is_delivered()
+    }
+
+    /// Takes a copy of a message on a link on which none is in transit.
+    pub(crate) fn accept(&mut self, link: u8, message: &Bits)
+        requires free { on_link self.old link ≡ Transit.Free }
+        requires leader { LEADER_BITS ≤ length message.now }
+        ensures { self.new ≡ with_link self.old link (Transit.Accepted message.now) }
+    {
+        self.links[usize::from(link)].accept(Addressed::of(message));
+    }
+
+    /// Gives out the message of a link that has not come, as it comes from the host.
+    pub(crate) fn deliver(&mut self, link: u8) -> Option<Bits>
+        ensures message { result ≡ arriving self.old.from (on_link self.old link) }
+        ensures way { self.new ≡ with_link self.old link (transit.delivered (on_link self.old link)) }
+        ensures inside { link < length self.old.links }
+    {
+        let message = self.links[usize::from(link)].deliver()?;
+        Some(message.from_host(self.from))
+    }
+
+    /// Loses the message of a link that has not come.
+    pub(crate) fn lose(&mut self, link: u8) -> bool
+        ensures told { result ≡ is_accepted (on_link self.old link) }
+        ensures way { self.new ≡ with_link self.old link (transit.lost (on_link self.old link)) }
+        ensures inside { link < length self.old.links }
+    {
+        self.links[usize::from(link)].lose()
+    }
+
+    /// Finds the destination of the message of a link dead that has not come.
+    pub(crate) fn dead(&mut self, link: u8) -> bool
+        ensures told { result ≡ is_accepted (on_link self.old link) }
+        ensures way { self.new ≡ with_link self.old link (transit.dead (on_link self.old link)) }
+        ensures inside { link < length self.old.links }
+    {
+        self.links[usize::from(link)].dead()
+    }
+
+    /// Gives the answer about the message of a link that came or will not come, and has done with
+    /// it.
+    pub(crate) fn answer(&mut self, link: u8) -> Option<Bits>
+        ensures answer { result ≡ answer_about self.old.to link (on_link self.old link) }
+        ensures way { self.new ≡ with_link self.old link (transit.answered (on_link self.old link)) }
+        ensures inside { link < length self.old.links }
+    {
+        let kind = self.links[usize::from(link)].answer()?;
+        Some(answer_of(kind, self.to, link))
+    }
+}
