@@ -1,0 +1,6 @@
+pub mod States
+pub mod Ready
+pub mod PeerRuns
+pub mod HostRuns
+pub mod EachPeer
+pub mod Ignored

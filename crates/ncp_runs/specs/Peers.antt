@@ -1,0 +1,159 @@
+-- The notes of each peer, and what they alone make of what a host keeps for it.
+use Rattle.std.specs.Prelude.{◌≡◌, ℕ, ◌<◌, ◌==◌, Bool, false, true, if◌then◌else◌, List, [], ◌∷◌, Option, None, Some, Result, Ok, Err}
+use Rattle.std.specs.List.{filter}
+use Rattle.ncp_leader.specs.declared.leader.Leader.{Leader}
+use Rattle.ncp_leader.specs.declared.leader.Short.{Short}
+use Rattle.ncp_leader.specs.Leader.{leader_in}
+use Rattle.ncp_leader.specs.Message.{message_in}
+use Rattle.ncp_model.specs.Peers.{Ask_to_send, Ask_to_receive, Close, Give, Take, Allocate, Call_back, Interrupt, comes_of, reply_of_take}
+use Rattle.ncp_host.specs.declared.counts.Ignored.{Ignored}
+use Rattle.ncp_host.specs.declared.received.Received.{Received}
+use Rattle.ncp_host.specs.declared.received.Received.TheVariants as received
+use Rattle.ncp_host.specs.Counting.{one_more}
+use Rattle.ncp_host.specs.PeerState.{PeerState, calls, calls_reset, calls_echo, calls_wake, answer_comes}
+use Rattle.ncp_host.specs.Hearing.{regular, message_after, message_received, answer_received}
+use Rattle.ncp_host.specs.Output.{leader_to, links, output_on, after_output}
+use Rattle.ncp_host.specs.Host.{is_one_of, are_distinct, new_host}
+use Rattle.ncp_transcript.specs.declared.call.Call.{Call}
+use Rattle.ncp_transcript.specs.declared.call.Call.TheVariants as calls_of
+use Rattle.ncp_transcript.specs.declared.note.HostNote.{HostNote}
+use Rattle.ncp_transcript.specs.declared.note.HostNote.TheVariants as notes
+use Rattle.ncp_transcript.specs.Runs.{IsRun}
+
+-- the notes of a host from its beginning: its peers are distinct, and each number has a place in a leader
+pub record FromBeginning (me : ℕ) (ns : List ℕ) (notes : List HostNote) : Type 0 where
+  pub distinct : are_distinct ns ≡ true
+  pub places : (n : ℕ) → is_one_of n ns ≡ true → n < 256
+  pub run : IsRun notes (new_host me ns)
+
+-- Which peer a note names.
+
+abbrev pub peer_of_call : Call → Option ℕ
+peer_of_call (calls_of.Reset peer) = Some peer
+peer_of_call (calls_of.AskSend peer pair size room) = Some peer
+peer_of_call (calls_of.AskReceive peer pair room) = Some peer
+peer_of_call (calls_of.Give peer pair text) = Some peer
+peer_of_call (calls_of.Take peer pair bytes) = Some peer
+peer_of_call (calls_of.Allocate peer pair messages bits) = Some peer
+peer_of_call (calls_of.CallBack peer pair fm fb) = Some peer
+peer_of_call (calls_of.Interrupt peer pair) = Some peer
+peer_of_call (calls_of.Echo peer byte) = Some peer
+peer_of_call (calls_of.Close peer pair) = Some peer
+peer_of_call (calls_of.Wake peer) = Some peer
+peer_of_call (calls_of.State peer pair) = Some peer
+peer_of_call (calls_of.Phase peer) = Some peer
+peer_of_call (calls_of.Echoed peer) = Some peer
+peer_of_call (calls_of.Errors peer) = Some peer
+peer_of_call (calls_of.Counts peer) = Some peer
+peer_of_call (calls_of.Waiting peer place) = Some peer
+peer_of_call (calls_of.Kept peer link) = Some peer
+peer_of_call calls_of.Ignored = None
+
+-- a regular message names the host of its leader: where it comes from, or goes to (BBN 1822, section 3)
+abbrev pub peer_of_leader : Result Leader Short → Option ℕ
+peer_of_leader (Err short) = None
+peer_of_leader (Ok leader) = if leader.kind == regular then Some leader.host else None
+
+abbrev pub peer_of : HostNote → Option ℕ
+peer_of (notes.Refused call fault) = peer_of_call call
+peer_of (notes.Done call) = peer_of_call call
+peer_of (notes.Took peer pair bytes text) = Some peer
+peer_of (notes.State peer pair record_read) = Some peer
+peer_of (notes.Phase peer flags) = Some peer
+peer_of (notes.Echoed peer byte) = Some peer
+peer_of (notes.Errors peer errors) = Some peer
+peer_of (notes.Counts peer counts) = Some peer
+peer_of (notes.Waiting peer place command) = Some peer
+peer_of (notes.Kept peer link message) = Some peer
+peer_of (notes.Ignored ignored) = None
+peer_of (notes.Out message) = peer_of_leader (leader_in message)
+peer_of notes.Nothing = None
+peer_of (notes.In message received) = peer_of_leader (leader_in message)
+peer_of (notes.Answered peer link answer received) = Some peer
+
+abbrev pub is_number : ℕ → Option ℕ → Bool
+is_number n None = false
+is_number n (Some m) = m == n
+
+abbrev pub names : ℕ → HostNote → Bool
+names n note = is_number n (peer_of note)
+
+abbrev pub notes_of : ℕ → List HostNote → List HostNote
+notes_of n all = filter (names n) all
+
+-- What a note makes of what is kept for the peer that it names.
+
+abbrev pub called_for : Call → PeerState → PeerState
+called_for (calls_of.Reset peer) s = calls_reset s
+called_for (calls_of.AskSend peer pair size room) s = calls pair (Ask_to_send size room) s
+called_for (calls_of.AskReceive peer pair room) s = calls pair (Ask_to_receive room) s
+called_for (calls_of.Give peer pair text) s = calls pair (Give text) s
+called_for (calls_of.Take peer pair bytes) s = calls pair (Take bytes) s
+called_for (calls_of.Allocate peer pair messages bits) s = calls pair (Allocate messages bits) s
+called_for (calls_of.CallBack peer pair fm fb) s = calls pair (Call_back fm fb) s
+called_for (calls_of.Interrupt peer pair) s = calls pair Interrupt s
+called_for (calls_of.Echo peer byte) s = calls_echo byte s
+called_for (calls_of.Close peer pair) s = calls pair Close s
+called_for (calls_of.Wake peer) s = calls_wake s
+called_for reading s = s
+
+abbrev pub bits_for : Result Leader Short → List Bool → PeerState → PeerState
+bits_for (Err short) bits s = s
+bits_for (Ok leader) bits s = message_after leader.link bits (message_in bits) s
+
+abbrev pub out_for : Result Leader Short → List Bool → PeerState → PeerState
+out_for (Err short) message s = s
+out_for (Ok leader) message s = after_output leader.link message s
+
+abbrev pub note_for : HostNote → PeerState → PeerState
+note_for (notes.Done call) s = called_for call s
+note_for (notes.Took peer pair bytes text) s = calls pair (Take bytes) s
+note_for (notes.Out message) s = out_for (leader_in message) message s
+note_for (notes.In message received) s = bits_for (leader_in message) message s
+note_for (notes.Answered peer link answer received) s = answer_comes link answer s
+note_for other s = s
+
+-- the first note first
+abbrev pub notes_for : List HostNote → PeerState → PeerState
+notes_for [] s = s
+notes_for (note ∷ rest) s = notes_for rest (note_for note s)
+
+-- What the notes of a peer say of what is kept for it before each: a message that goes out to it is the one
+-- that is ready on the link of its leader, and what comes from it and what is taken is answered by the rules.
+
+pub record IsOut (n : ℕ) (message : List Bool) (s : PeerState) : Type 0 where
+  pub on : ℕ
+  pub a_link : is_one_of on links ≡ true
+  pub leader : leader_in message ≡ Ok (leader_to n on)
+  pub ready : output_on n on s ≡ Some message
+
+abbrev pub IsIn : Result Leader Short → List Bool → Received → PeerState → Type 0
+IsIn (Err short) bits told s = ⊥
+IsIn (Ok leader) bits told s = told ≡ message_received leader.link (message_in bits) s
+
+abbrev pub IsSaidOf : ℕ → HostNote → PeerState → Type 0
+IsSaidOf n (notes.Took peer pair bytes text) s = reply_of_take (comes_of pair (Take bytes) s.peer) ≡ Ok text
+IsSaidOf n (notes.Out message) s = IsOut n message s
+IsSaidOf n (notes.In message told) s = IsIn (leader_in message) message told s
+IsSaidOf n (notes.Answered peer link answer told) s = told ≡ answer_received link s
+IsSaidOf n other s = Unit {0}
+
+abbrev pub IsRunOf : ℕ → List HostNote → PeerState → Type 0
+IsRunOf n [] s = Unit {0}
+IsRunOf n (note ∷ rest) s = IsSaidOf n note s × IsRunOf n rest (note_for note s)
+
+-- What is ignored: messages too short for a leader, of another type, and of a host that is no peer.
+
+abbrev pub ignored_more : Received → Ignored → Ignored
+ignored_more received.Short i = record i { short = one_more i.short }
+ignored_more (received.Other kind) i = record i { other = one_more i.other }
+ignored_more received.Unknown i = record i { unknown = one_more i.unknown }
+ignored_more told i = i
+
+abbrev pub ignored_after : HostNote → Ignored → Ignored
+ignored_after (notes.In message told) i = ignored_more told i
+ignored_after other i = i
+
+abbrev pub ignored_by : List HostNote → Ignored → Ignored
+ignored_by [] i = i
+ignored_by (note ∷ rest) i = ignored_by rest (ignored_after note i)
