@@ -13,7 +13,7 @@ use Rattle.ncp_model.specs.Pairs.{pair_cmp}
 use Rattle.ncp_model.specs.End.{End}
 use Rattle.ncp_model.specs.Act.{Act, end_after}
 use Rattle.ncp_model.specs.Texts.{Rfnm, hear_text}
-use Rattle.ncp_model.specs.Ends.{Ends, any, count, is_by_peer, hears_link, uses_link, sender_on, receiver_on, pair_of, end_of, leads_to, hear, text_in, cut_in, answered_in, map_after, map_after_at, no_ends, put}
+use Rattle.ncp_model.specs.Ends.{Ends, any, count, is_by_peer, hears_link, uses_link, sender_on, receiver_on, pair_of, leads_to, hear, text_in, cut_in, answered_in, map_after, map_after_at, no_ends, put}
 use Rattle.ncp_model.specs.Leading.{passes, comes}
 use Rattle.ncp_model.specs.Happenings.{Happening, Happened, happens}
 use Rattle.ncp_model.specs.Happenings as all

@@ -20,15 +20,15 @@ use Rattle.ncp_model.proofs.Lookups.{any-none, none-any, leads-there}
 use Rattle.ncp_model.proofs.LinksLead.{led}
 use Rattle.ncp_host.specs.PeerState.{PeerState, new_state, control_link, calls, calls_echo, calls_reset, calls_wake}
 use Rattle.ncp_host.specs.Hearing.{is_kind, after_bits}
-use Rattle.ncp_host.specs.Output.{control_message, text_message, output_by, output_on, after_output, links, first_or, first_output, next_of}
+use Rattle.ncp_host.specs.Output.{control_message, text_message, output_by, output_on, first_or, first_output, next_of}
 use Rattle.ncp_host.specs.Host.{Host, state_of, at_peer, new_host}
-use Rattle.ncp_host.specs.Arrivals.{after_with, after_from, after_hearing, after_received, one_other}
+use Rattle.ncp_host.specs.Arrivals.{after_with, after_from, one_other}
 use Rattle.ncp_host.specs.Turns.{message_in_turn, after_turn, first_message, first_goes, next_output}
-use Rattle.ncp_host.specs.Readiness.{has_text, has_new, is_ready_by, is_ready, NoLinkReady, IsFirstLink, IsMessageTo, IsNext}
+use Rattle.ncp_host.specs.Readiness.{has_text, is_ready_by, is_ready, NoLinkReady, IsFirstLink, IsNext}
 use Rattle.ncp_host.specs.Running.{Step, Calls, Resets, Echoes, Wakes, Receives, Sends, after_step, after_steps, HasLived}
 use Rattle.ncp_host.proofs.Steady.{is_busy}
 use Rattle.ncp_host.proofs.Agreeing.{Agree, IsOut, hears}
-use Rattle.ncp_host.proofs.Sound.{Sound, IsSound, sound-calls, sound-echo, sound-reset, sound-wakes, sound-bits, sound-output, sound-new}
+use Rattle.ncp_host.proofs.Sound.{IsSound, sound-calls, sound-echo, sound-reset, sound-wakes, sound-bits, sound-output, sound-new}
 use Rattle.ncp_host.proofs.Outputs.{first_none, first_more}
 use Rattle.ncp_host.proofs.Turns.{message_cons, message_nil, after_cons, after_nil}
 

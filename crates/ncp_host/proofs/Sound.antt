@@ -1,13 +1,11 @@
 -- What is true of what a host has for a peer, whatever it lives through: two sending ends never hear one
 -- link, a text that is out is in its slot, and while the host is not up no end is there.
-use Rattle.std.proofs.Common.{◌≡◌, ℕ, ◌==◌, Bool, true, false, if◌then◌else◌, List, [], ◌∷◌, length, take, Option, None, Some, Result, Ok, Err, refl, sym, ap, ◌∙◌, subst, arith}
+use Rattle.std.proofs.Common.{◌≡◌, ℕ, ◌==◌, Bool, true, false, if◌then◌else◌, List, [], ◌∷◌, take, Option, None, Some, Result, Ok, Err, refl, sym, ap, ◌∙◌, subst, arith}
 use Rattle.ncp_bits.specs.Bits.{bytes_of}
 use Rattle.std.specs.FinMap.{get-empty}
 use Rattle.ncp_leader.specs.declared.leader.Leader.{Leader}
 use Rattle.ncp_leader.specs.declared.regular.TheConstants.{FRONT_BITS}
-use Rattle.ncp_leader.specs.declared.leader.Short.{Short}
 use Rattle.ncp_leader.specs.declared.fault.MessageFault.{MessageFault}
-use Rattle.ncp_leader.specs.Leader.{leader_in}
 use Rattle.ncp_leader.specs.Message.{Message, message_in}
 use Rattle.ncp_control.specs.declared.command.Command.{Command}
 use Rattle.ncp_control.specs.declared.command.Command.TheVariants.{Rst, Rrp}
@@ -21,24 +19,21 @@ use Rattle.ncp_slot.specs.Slots.{LinkSlot, LinkSlots, slot_at, with_slot, all_wo
 use Rattle.ncp_slot.proofs.Places.{slot_at-with_slot_same, slot_at-with_slot_other}
 use Rattle.ncp_slot.proofs.Waking.{slot_at-all_woken}
 use Rattle.ncp_model.specs.declared.pair.Pair.{Pair}
-use Rattle.ncp_model.specs.End.{End}
-use Rattle.ncp_model.specs.Act.{answer, made_if_any}
-use Rattle.ncp_model.specs.Texts.{made_by_text}
-use Rattle.ncp_model.specs.Echo.{Echoes, purge_echo, echo_asked}
+use Rattle.ncp_model.specs.Echo.{Echoes, purge_echo}
 use Rattle.ncp_model.specs.Pairs.{pair_cmp}
 use Rattle.ncp_model.specs.Leading.{passes}
 use Rattle.ncp_model.proofs.Lookups.{nowhere}
-use Rattle.ncp_model.specs.Ends.{Ends, hears_link, sender_on, receiver_on, pair_of, leads_to, hear, text_in, cut_in, answered_in, map_after_at, no_ends, put, count, has_asked, free_link}
+use Rattle.ncp_model.specs.Ends.{Ends, hears_link, sender_on, pair_of, cut_in, map_after_at, no_ends, put}
 use Rattle.ncp_model.specs.Phase.{Phase, up, hears_rrp, is_resetting}
 use Rattle.ncp_model.specs.Phase as phases
-use Rattle.ncp_model.specs.Sending.{is_full, next_commands}
+use Rattle.ncp_model.specs.Sending.{is_full}
 use Rattle.ncp_model.specs.Happenings.{Happening}
 use Rattle.ncp_model.specs.Peers.{Peer, Call, Ask_to_send, Ask_to_receive, Close, Give, Take, Allocate, Call_back, Interrupt, called, calls_up, echo_called, standing, cleared, makes, hears_other, takes_text, frees_up}
 use Rattle.ncp_model.specs.Peers as peers
 use Rattle.ncp_host.specs.Counting.{one_more}
-use Rattle.ncp_host.specs.PeerState.{PeerState, new_state, calls, calls_echo, calls_reset, calls_wake, control_link, frees_on, after_answer, is_answered, answer_taken, answer_comes}
-use Rattle.ncp_host.specs.Hearing.{hears, hears_all, hears_last, hears_fault, hears_text, control_size, control_after, text_after, is_wrong_link, message_after, regular, answer_of, after_bits}
-use Rattle.ncp_host.specs.Output.{output_by, output_on, after_by, after_made, after_output}
+use Rattle.ncp_host.specs.PeerState.{PeerState, new_state, calls_wake, control_link, frees_on, is_answered, answer_taken, answer_comes}
+use Rattle.ncp_host.specs.Hearing.{hears, hears_all, hears_last, hears_text, control_size, control_after, text_after, is_wrong_link, message_after, regular, answer_of, after_bits}
+use Rattle.ncp_host.specs.Output.{after_by, after_made, after_output}
 use Rattle.ncp_host.proofs.Steady.{is_still}
 use Rattle.ncp_host.proofs.Agreeing.{Agree, IsTold, StaysFull, agree-empty, agree-full, agree-put, agree-hears, agree-text, agree-cut, agree-emptied, agree-freed}
 

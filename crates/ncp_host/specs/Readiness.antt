@@ -17,7 +17,7 @@ use Rattle.ncp_host.specs.Output.{output_on}
 abbrev pub has_text : ℕ → Pair × End → Bool
 has_text on p = hears_link on p && is_open p.1 && nat_le 1 (bytes_to_send p.1) && nat_le 1 p.1.messages
 
--- on link 0 commands wait that a control message takes, on a data link a connection has text
+-- on link 0 commands wait, of which a control message takes one at least, on a data link a connection has text
 abbrev pub has_new : ℕ → Peer → Bool
 has_new on p = if on == control_link then nat_lt 0 (length (next_commands p.phase.waiting)) else any (has_text on) p.ends
 

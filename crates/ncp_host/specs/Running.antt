@@ -7,7 +7,8 @@ use Rattle.ncp_host.specs.Calls.{after_call, after_reset, after_echo, after_wake
 use Rattle.ncp_host.specs.Arrivals.{after_received}
 use Rattle.ncp_host.specs.Turns.{after_next_output}
 
--- a call for want of memory leaves the host as it was, and so do the readers: neither is a step
+-- A call that is refused for want of memory leaves the host as it was, and so does what is read: neither
+-- is a step.
 pub data Step : Type 0 where
   Calls : (number : ℕ) → (pair : Pair) → (call : Call) → Step
   Resets : (number : ℕ) → Step
