@@ -4,3 +4,4 @@ pub mod Quiet
 pub mod Beginning
 pub mod Saying
 pub mod Growing
+pub mod Touching

@@ -5,3 +5,4 @@ pub mod After
 pub mod Noting
 pub mod Runs
 pub mod Alone
+pub mod Touching

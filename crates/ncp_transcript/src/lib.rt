@@ -24,3 +24,6 @@ pub use input::Input;
 pub use message::Message;
 pub use note::{HostNote, NOTE_BYTES};
 pub use output::send;
+
+#[cfg(test)]
+mod tests;

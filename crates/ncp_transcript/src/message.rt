@@ -69,13 +69,6 @@ impl Message {
         Ok(pack(room, bits))
     }
 
-    /// Another message of the same bits, which takes memory of its own.
-    pub fn copied(&self, alloc: Global) -> Result<Message, AllocError>
-        ensures { IfOk result (λ message. message ≡ self.now) }
-    {
-        Message::from_bits(alloc, &self.to_bits())
-    }
-
     /// A copy of the bits.
     pub fn to_bits(&self) -> Bits
         ensures { result ≡ self.now }
@@ -95,6 +88,6 @@ impl Message {
     pub fn is_empty(&self) -> bool
         ensures { IsTrue result ↔ (length self.now ≡ 0) }
     {
-        self.len() == 0
+        0 == self.len()
     }
 }

@@ -1,0 +1,101 @@
+-- What is done with one peer leaves what the host has for the others.
+use Rattle.std.proofs.Common.{◌≡◌, ◌≢◌, ℕ, ◌==◌, Bool, true, false, if◌then◌else◌, List, [], ◌∷◌, Option, None, Some, Result, Ok, Err, refl, sym, ap, ◌∙◌, arith}
+use Rattle.ncp_leader.specs.declared.leader.Leader.{Leader}
+use Rattle.ncp_leader.specs.declared.leader.Short.{Short}
+use Rattle.ncp_leader.specs.Leader.{leader_in}
+use Rattle.ncp_model.specs.Peers.{Ask_to_send, Ask_to_receive, Close, Give, Take, Allocate, Call_back, Interrupt}
+use Rattle.ncp_host.specs.PeerState.{PeerState, calls as calls_pair, calls_echo, calls_reset, calls_wake, answer_comes}
+use Rattle.ncp_host.specs.Output.{next_of, after_output}
+use Rattle.ncp_host.specs.Host.{Host, state_in, state_of, at_peer, changed}
+use Rattle.ncp_host.specs.Hearing.{is_kind, after_bits}
+use Rattle.ncp_host.specs.Arrivals.{after_from, after_with, after_received, one_other}
+use Rattle.ncp_host.specs.Turns.{after_turn, first_goes, after_next_output}
+use Rattle.ncp_transcript.specs.declared.call.Call.{Call}
+use Rattle.ncp_transcript.specs.declared.call.Call.TheVariants as calls
+use Rattle.ncp_transcript.specs.declared.note.HostNote.{HostNote}
+use Rattle.ncp_transcript.specs.declared.note.HostNote.TheVariants as notes
+use Rattle.ncp_transcript.specs.After.{after_call, after_note}
+use Rattle.ncp_transcript.specs.Touching.{named, sender_of, first_peer, next_peer, touched}
+
+apart : (a other : ℕ) → ◌≢◌ {A = Option ℕ} (Some a) (Some other) → (a == other) ≡ false
+apart a other d = go (a == other) refl
+  where
+    go : (b : Bool) → (a == other) ≡ b → (a == other) ≡ false
+    go false e = e
+    go true e = let same : a ≡ other = grind arith in absurd (d (ap Some same))
+
+same_number : (a n : ℕ) → (a == n) ≡ true → a ≡ n
+same_number a n e = grind arith
+
+-- one that is changed is not looked at
+passed : (p : ℕ × PeerState) (s : PeerState) (rest : Option PeerState) (other : ℕ) → (p.0 == other) ≡ false → (if p.0 == other then Some s else rest) ≡ (if p.0 == other then Some p.1 else rest)
+passed p s rest other e = ap (λ b. if b then Some s else rest) e ∙ sym (ap (λ b. if b then Some p.1 else rest) e)
+
+at_other : (ps : List (ℕ × PeerState)) (n other : ℕ) (f : PeerState → PeerState) → ◌≢◌ {A = Option ℕ} (Some n) (Some other) → state_in (at_peer n f ps) other ≡ state_in ps other
+at_other [] n other f d = refl
+at_other (p ∷ ps) n other f d = go (p.0 == n) refl (at_other ps n other f d)
+  where
+    go : (b : Bool) → (p.0 == n) ≡ b → state_in (at_peer n f ps) other ≡ state_in ps other
+        → state_in (if b then (p.0, f p.1) ∷ ps else p ∷ at_peer n f ps) other ≡ (if p.0 == other then Some p.1 else state_in ps other)
+    go true e rest = passed p (f p.1) (state_in ps other) other (ap (λ (k : ℕ). k == other) (same_number p.0 n e) ∙ apart n other d)
+    go false e rest = ap (λ (o : Option PeerState). if p.0 == other then Some p.1 else o) rest
+
+in_turn : (ps : List (ℕ × PeerState)) (other : ℕ) → next_peer ps ≢ Some other → state_in (after_turn ps) other ≡ state_in ps other
+unfolding after_turn
+in_turn [] other d = refl
+in_turn (p ∷ ps) other d = go (next_of p.0 p.1) (in_turn ps other) d
+  where
+    go : (o : Option (ℕ × List Bool)) → (next_peer ps ≢ Some other → state_in (after_turn ps) other ≡ state_in ps other)
+        → first_peer o p.0 (next_peer ps) ≢ Some other → state_in (first_goes o p ps (after_turn ps)) other ≡ (if p.0 == other then Some p.1 else state_in ps other)
+    go None rest d = ap (λ (o : Option PeerState). if p.0 == other then Some p.1 else o) (rest d)
+    go (Some out) rest d = passed p (after_output out.0 out.1 p.1) (state_in ps other) other (apart p.0 other d)
+
+heard : (bits : List Bool) (h : Host) (other : ℕ) → sender_of (leader_in bits) ≢ Some other → state_of (after_received bits h) other ≡ state_of h other
+heard bits h other d = go (leader_in bits) d
+  where
+    from : (leader : Leader) (b : Bool) (o : Option PeerState) → ◌≢◌ {A = Option ℕ} (Some leader.host) (Some other) → state_of (if b then after_from o leader bits h else one_other h) other ≡ state_of h other
+    from leader true (Some s) d = at_other h.peers leader.host other (after_bits leader bits) d
+    from leader true None d = refl
+    from leader false o d = refl
+
+    go : (r : Result Leader Short) → sender_of r ≢ Some other → state_of (after_with r bits h) other ≡ state_of h other
+    go (Err short) d = refl
+    go (Ok leader) d = from leader (is_kind leader.kind) (state_of h leader.host) d
+
+called : (call : Call) (h : Host) (other : ℕ) → named call ≢ Some other → state_of (after_call call h) other ≡ state_of h other
+called (calls.Reset peer) h other d = at_other h.peers peer other calls_reset d
+called (calls.AskSend peer pair size room) h other d = at_other h.peers peer other (calls_pair pair (Ask_to_send size room)) d
+called (calls.AskReceive peer pair room) h other d = at_other h.peers peer other (calls_pair pair (Ask_to_receive room)) d
+called (calls.Give peer pair text) h other d = at_other h.peers peer other (calls_pair pair (Give text)) d
+called (calls.Take peer pair bytes) h other d = at_other h.peers peer other (calls_pair pair (Take bytes)) d
+called (calls.Allocate peer pair messages bits) h other d = at_other h.peers peer other (calls_pair pair (Allocate messages bits)) d
+called (calls.CallBack peer pair fm fb) h other d = at_other h.peers peer other (calls_pair pair (Call_back fm fb)) d
+called (calls.Interrupt peer pair) h other d = at_other h.peers peer other (calls_pair pair Interrupt) d
+called (calls.Echo peer byte) h other d = at_other h.peers peer other (calls_echo byte) d
+called (calls.Close peer pair) h other d = at_other h.peers peer other (calls_pair pair Close) d
+called (calls.Wake peer) h other d = at_other h.peers peer other calls_wake d
+called (calls.State peer pair) h other d = refl
+called (calls.Phase peer) h other d = refl
+called (calls.Echoed peer) h other d = refl
+called (calls.Errors peer) h other d = refl
+called (calls.Counts peer) h other d = refl
+called (calls.Waiting peer place) h other d = refl
+called (calls.Kept peer link) h other d = refl
+called calls.Ignored h other d = refl
+
+pub others_stay : (note : HostNote) (h : Host) (other : ℕ) → touched note h ≢ Some other → state_of (after_note note h) other ≡ state_of h other
+others_stay (notes.Done call) h other d = called call h other d
+others_stay (notes.Took peer pair bytes text) h other d = at_other h.peers peer other (calls_pair pair (Take bytes)) d
+others_stay (notes.Out message) h other d = in_turn h.peers other d
+others_stay (notes.In message received) h other d = heard message h other d
+others_stay (notes.Answered peer link answer received) h other d = at_other h.peers peer other (answer_comes link answer) d
+others_stay (notes.Refused call fault) h other d = refl
+others_stay (notes.State peer pair r) h other d = refl
+others_stay (notes.Phase peer flags) h other d = refl
+others_stay (notes.Echoed peer byte) h other d = refl
+others_stay (notes.Errors peer errors) h other d = refl
+others_stay (notes.Counts peer counts) h other d = refl
+others_stay (notes.Waiting peer place command) h other d = refl
+others_stay (notes.Kept peer link message) h other d = refl
+others_stay (notes.Ignored ignored) h other d = refl
+others_stay notes.Nothing h other d = refl

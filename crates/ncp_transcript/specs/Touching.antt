@@ -1,0 +1,49 @@
+-- The one peer for which a note changes what the host has.
+use Rattle.std.specs.Prelude.{ℕ, List, [], ◌∷◌, Bool, Option, None, Some, Result, Ok, Err}
+use Rattle.ncp_leader.specs.declared.leader.Leader.{Leader}
+use Rattle.ncp_leader.specs.declared.leader.Short.{Short}
+use Rattle.ncp_leader.specs.Leader.{leader_in}
+use Rattle.ncp_host.specs.PeerState.{PeerState}
+use Rattle.ncp_host.specs.Output.{next_of}
+use Rattle.ncp_host.specs.Host.{Host}
+use Rattle.ncp_transcript.specs.declared.call.Call.{Call}
+use Rattle.ncp_transcript.specs.declared.call.Call.TheVariants as calls
+use Rattle.ncp_transcript.specs.declared.note.HostNote.{HostNote}
+use Rattle.ncp_transcript.specs.declared.note.HostNote.TheVariants as notes
+
+-- the peer that a call names which changes something
+abbrev pub named : Call → Option ℕ
+named (calls.Reset peer) = Some peer
+named (calls.AskSend peer pair size room) = Some peer
+named (calls.AskReceive peer pair room) = Some peer
+named (calls.Give peer pair text) = Some peer
+named (calls.Take peer pair bytes) = Some peer
+named (calls.Allocate peer pair messages bits) = Some peer
+named (calls.CallBack peer pair fm fb) = Some peer
+named (calls.Interrupt peer pair) = Some peer
+named (calls.Echo peer byte) = Some peer
+named (calls.Close peer pair) = Some peer
+named (calls.Wake peer) = Some peer
+named reading = None
+
+-- the host that a leader names
+abbrev pub sender_of : Result Leader Short → Option ℕ
+sender_of (Err short) = None
+sender_of (Ok leader) = Some leader.host
+
+-- the first peer to which a message is ready
+abbrev pub first_peer : Option (ℕ × List Bool) → ℕ → Option ℕ → Option ℕ
+first_peer None number rest = rest
+first_peer (Some out) number rest = Some number
+
+abbrev pub next_peer : List (ℕ × PeerState) → Option ℕ
+next_peer [] = None
+next_peer (p ∷ ps) = first_peer (next_of p.0 p.1) p.0 (next_peer ps)
+
+abbrev pub touched : HostNote → Host → Option ℕ
+touched (notes.Done call) h = named call
+touched (notes.Took peer pair bytes text) h = Some peer
+touched (notes.Out message) h = next_peer h.peers
+touched (notes.In message received) h = sender_of (leader_in message)
+touched (notes.Answered peer link answer received) h = Some peer
+touched other h = None
