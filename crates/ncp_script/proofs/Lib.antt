@@ -1,0 +1,4 @@
+pub mod Digits
+pub mod Cuts
+pub mod HexDigits
+pub mod Kept

@@ -1,0 +1,13 @@
+//! Laws about lines, each the contract of a function that does nothing.
+ghost use Rattle.std.specs.Prelude.{◌≡◌, ℕ, Bool, List, ◌++◌, take};
+ghost use Rattle.ncp_script.specs.Lines.{text_of, kind_of};
+
+use crate::line_buffer::{KEPT, LineKind};
+
+/// What is kept of a line is enough. It is the same however the line comes in pieces; it says
+/// whether the line is skipped or too long; and it is the whole line where that is played.
+pub fn kept_lines_tell_all()
+    ensures pieces { (line piece : List ℕ) → take KEPT (take KEPT line ++ piece) ≡ take KEPT (line ++ piece) }
+    ensures kind { (ended : Bool) (line : List ℕ) → kind_of (text_of ended (take KEPT line)) ≡ kind_of (text_of ended line) }
+    ensures text { (ended : Bool) (line : List ℕ) → kind_of (text_of ended line) ≡ LineKind.Played → text_of ended (take KEPT line) ≡ text_of ended line }
+{}

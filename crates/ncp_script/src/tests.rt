@@ -1,0 +1,141 @@
+//! What words, numbers and bits of a script are.
+
+use crate::{LineBuffer, LineKind, MAX_LINE, Words, bits, number};
+use ncp_bits::Bits;
+use std::process::Abort;
+
+// The largest number.
+const MOST: u32 = u32::MAX;
+
+#[test]
+fn reads_numbers(rt: HostRuntime) {
+    assert!(rt; number(b"0", MOST) == Some(0));
+    assert!(rt; number(b"0000000007", MOST) == Some(7));
+    assert!(rt; number(b"4294967295", MOST) == Some(4_294_967_295));
+    assert!(rt; number(b"255", 255) == Some(255));
+}
+
+#[test]
+fn refuses_what_is_no_number(rt: HostRuntime) {
+    let words = [
+        b"".as_slice(),
+        b"4294967296",
+        b"00000000007",
+        b"+7",
+        b"-7",
+        b"0x7",
+        b"7 ",
+    ];
+    for word in words {
+        assert!(rt; number(word, MOST).is_none());
+    }
+    assert!(rt; number(b"256", 255).is_none());
+}
+
+#[test]
+fn reads_words(rt: HostRuntime) {
+    let mut words = Words::new(b"close 3  2");
+    assert!(rt; words.next_word() == Some(b"close".as_slice()));
+    assert!(rt; words.next_number(MOST) == Some(3));
+    assert!(rt; words.next_word() == Some(b"".as_slice()));
+    assert!(rt; !words.is_empty());
+    assert!(rt; words.next_number(MOST) == Some(2));
+    assert!(rt; words.is_empty());
+    assert!(rt; words.next_word().is_none());
+}
+
+// Whether the words of a line are these bits, and no word is left.
+fn are_bits(line: &[u8], bytes: &[u8], len: usize) -> bool {
+    let mut words = Words::new(line);
+    let Some(read) = bits(&mut words) else {
+        return false;
+    };
+    words.is_empty() && Bits::from_bytes(bytes, len).is_ok_and(|wanted| read == wanted)
+}
+
+#[test]
+fn reads_bits(rt: HostRuntime) {
+    assert!(rt; are_bits(b"0", b"", 0));
+    assert!(rt; are_bits(b"24 616263", b"abc", 24));
+    assert!(rt; are_bits(b"032 05aBCd0f", b"\x05\xab\xcd\x0f", 32));
+    assert!(rt; are_bits(b"4 f0", b"\xf0", 4));
+}
+
+#[test]
+fn refuses_what_are_no_bits(rt: HostRuntime) {
+    let lines = [
+        b"".as_slice(),
+        b"8",
+        b"8 ",
+        b"8 6",
+        b"8 6162",
+        b"8 6g",
+        b"16 61",
+        b"4 f1",
+        b"8193 00",
+        b"x 00",
+    ];
+    for line in lines {
+        assert!(rt; bits(&mut Words::new(line)).is_none());
+    }
+}
+
+// Whether a line that comes in these pieces, the last with its LF, is of a kind and says a text.
+fn is_line(pieces: &[&[u8]], ended: bool, kind: LineKind, text: &[u8]) -> bool {
+    let mut line = LineBuffer::new();
+    for piece in pieces {
+        let _used = line.take(piece);
+    }
+    line.kind(ended) == kind && line.text(ended) == text
+}
+
+#[test]
+fn reads_lines(rt: HostRuntime) {
+    let reset = b"a reset".as_slice();
+    assert!(rt; is_line(&[b"a reset\nb out"], true, LineKind::Played, reset));
+    assert!(rt; is_line(&[b"a reset\r\n"], true, LineKind::Played, reset));
+    assert!(rt;
+        is_line(
+            &[b"a re", b"", b"set\r", b"\n"],
+            true,
+            LineKind::Played,
+            reset
+        )
+    );
+    assert!(rt; is_line(&[b"a reset\r\r\n"], true, LineKind::Played, b"a reset\r"));
+    assert!(rt; is_line(&[b"a reset\r"], false, LineKind::Played, b"a reset\r"));
+    assert!(rt; is_line(&[b"\n"], true, LineKind::Skipped, b""));
+    assert!(rt; is_line(&[b"\r\n"], true, LineKind::Skipped, b""));
+    assert!(rt; is_line(&[b"# a reset\n"], true, LineKind::Skipped, b"# a reset"));
+}
+
+#[test]
+fn tells_how_much_a_line_takes(rt: HostRuntime) {
+    let mut line = LineBuffer::new();
+    assert!(rt; line.take(b"a reset\nb out\n") == Some(8));
+    line.clear();
+    assert!(rt; line.take(b"b out").is_none());
+    assert!(rt; line.text(true) == b"b out".as_slice());
+}
+
+// The kind of a line that comes in these pieces.
+fn kind_of(pieces: &[&[u8]], ended: bool) -> LineKind {
+    let mut line = LineBuffer::new();
+    for piece in pieces {
+        let _used = line.take(piece);
+    }
+    line.kind(ended)
+}
+
+#[test]
+fn judges_the_longest_lines(rt: HostRuntime) {
+    let bytes = [b'a'; MAX_LINE + 1];
+    let longest = &bytes[..MAX_LINE];
+    assert!(rt; is_line(&[longest, b"\r\n"], true, LineKind::Played, longest));
+    assert!(rt; is_line(&[longest], false, LineKind::Played, longest));
+    assert!(rt; kind_of(&[longest, b"\r"], false) == LineKind::TooLong);
+    assert!(rt; kind_of(&[longest, b"\r\r\n"], true) == LineKind::TooLong);
+    assert!(rt; kind_of(&[&bytes, b"\n"], true) == LineKind::TooLong);
+    assert!(rt; kind_of(&[&bytes, &bytes, b"\n"], true) == LineKind::TooLong);
+    assert!(rt; kind_of(&[b"#", &bytes, &bytes, b"\n"], true) == LineKind::Skipped);
+}
