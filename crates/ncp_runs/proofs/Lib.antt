@@ -4,3 +4,5 @@ pub mod PeerRuns
 pub mod HostRuns
 pub mod EachPeer
 pub mod Ignored
+pub mod LinksTold
+pub mod InRuns

@@ -81,7 +81,7 @@ called-state calls_of.Ignored h n = done_not (λ s. s) (state_of h n)
 
 -- The order of turns.
 
-message_cons : (p : ℕ × PeerState) (ps : List (ℕ × PeerState)) → message_in_turn (p ∷ ps) ≡ first_message (next_of p.0 p.1) (message_in_turn ps)
+pub message_cons : (p : ℕ × PeerState) (ps : List (ℕ × PeerState)) → message_in_turn (p ∷ ps) ≡ first_message (next_of p.0 p.1) (message_in_turn ps)
 unfolding message_in_turn
 message_cons p ps = refl
 
@@ -89,7 +89,7 @@ after_cons : (p : ℕ × PeerState) (ps : List (ℕ × PeerState)) → after_tur
 unfolding after_turn
 after_cons p ps = refl
 
-message_nil : message_in_turn [] ≡ None
+pub message_nil : message_in_turn [] ≡ None
 unfolding message_in_turn
 message_nil = refl
 

@@ -2,4 +2,5 @@
 //! of lists of notes alone.
 #![tactic(auto)]
 
+pub mod links;
 pub mod peers;
