@@ -6,3 +6,4 @@ pub mod EachPeer
 pub mod Ignored
 pub mod LinksTold
 pub mod InRuns
+pub mod BooksOfRuns

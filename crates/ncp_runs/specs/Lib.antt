@@ -1,3 +1,4 @@
 pub mod Peers
 pub mod Links
+pub mod Histories
 pub mod Examples
