@@ -36,8 +36,6 @@ mod link_index;
 mod pairs;
 mod record;
 mod table;
-#[cfg(test)]
-mod tests;
 
 pub use ncp_model::{
     CallFault, FIRST_LINK, Heard, LAST_LINK, MAX_AMOUNT, MAX_BY_PEER, MAX_MESSAGES, MAX_OWN,

@@ -1,5 +1,6 @@
-//! Tests of message files and of the command line, over the public calls of the program: worked
-//! files with their lines, printed texts, streams that fail, and memory.
+//! The worked rows, as tests of what the crates below show to everybody: of message files and of the
+//! command line, with printed texts, streams that fail and memory; and of a table of connections. They
+//! stand in a crate of their own, since a crate with tests is proved twice.
 #![tactic(auto)]
 
 #[cfg(test)]
@@ -12,3 +13,5 @@ mod faults;
 mod files;
 #[cfg(test)]
 mod pieces;
+#[cfg(test)]
+mod table;

@@ -1,7 +1,8 @@
 //! A whole connection, from the requests of either side to the CLS of either side.
+use super::tried::Tried;
 use super::{INWARD, OUTWARD, ROOM, are_same, cls_of, known, new_table, text};
-use crate::{End, FIRST_LINK, Heard, Table, Took, equality};
 use ncp_bits::BitStore;
+use ncp_conn::{End, FIRST_LINK, Heard, Took, equality};
 use std::alloc::Global;
 use std::process::Abort;
 use std::test::Fail;
@@ -14,24 +15,24 @@ const BITS: u32 = 16;
 // Both sides ask: the request of each is heard by the other.
 fn opens<S: BitStore>(
     rt: &impl Abort,
-    sender: &mut Table<S>,
-    receiver: &mut Table<S>,
+    sender: &mut Tried<S>,
+    receiver: &mut Tried<S>,
 ) -> Result<(), Fail> {
     let str = sender.ask_send(OUTWARD, SIZE, ROOM, false)?;
     let rts = receiver.ask_receive(INWARD, ROOM, false)?;
-    assert!(rt; receiver.hear(&str) == Heard::Nothing);
-    assert!(rt; sender.hear(&rts) == Heard::Nothing);
+    assert!(rt; receiver.hears(&str, Heard::Nothing));
+    assert!(rt; sender.hears(&rts, Heard::Nothing));
     Ok(())
 }
 
 // A text is allowed, given, sent, admitted, taken and answered.
 fn carries<S: BitStore>(
     rt: &impl Abort,
-    sender: &mut Table<S>,
-    receiver: &mut Table<S>,
+    sender: &mut Tried<S>,
+    receiver: &mut Tried<S>,
 ) -> Result<(), Fail> {
     let all = receiver.allocate(INWARD, 1, BITS, false)?;
-    assert!(rt; sender.hear(&all) == Heard::Nothing);
+    assert!(rt; sender.hears(&all, Heard::Nothing));
     let given = text(BITS as usize)?;
     sender.give(OUTWARD, &given)?;
     let (size, out) = sender.cut(2).ok_or("a text")?;
@@ -51,8 +52,8 @@ pub(super) fn opens_carries_and_closes<S: BitStore>(
     opens(rt, &mut sender, &mut receiver)?;
     carries(rt, &mut sender, &mut receiver)?;
     let cls = sender.close(OUTWARD, false)?.ok_or("a CLS")?;
-    assert!(rt; receiver.hear(&cls) == Heard::Reply(cls_of(INWARD)));
-    assert!(rt; sender.hear(&cls_of(INWARD)) == Heard::Nothing);
+    assert!(rt; receiver.hears(&cls, Heard::Reply(cls_of(INWARD))));
+    assert!(rt; sender.hears(&cls_of(INWARD), Heard::Nothing));
     assert!(rt; sender.record(OUTWARD).is_none() && receiver.record(INWARD).is_none());
     Ok(())
 }
@@ -64,11 +65,11 @@ pub(super) fn tells_pairs_and_links<S: BitStore>(
 ) -> Result<(), Fail> {
     let mut sender = new_table::<S>(alloc)?;
     let mut receiver = new_table::<S>(alloc)?;
-    assert!(rt; sender.pairs().next().is_none());
+    assert!(rt; sender.some_pair().is_none());
     opens(rt, &mut sender, &mut receiver)?;
-    assert!(rt; sender.pairs().next() == Some(OUTWARD));
+    assert!(rt; sender.some_pair() == Some(OUTWARD));
     let all = receiver.allocate(INWARD, 1, BITS, false)?;
-    assert!(rt; sender.hear(&all) == Heard::Nothing && sender.next_cut(FIRST_LINK).is_none());
+    assert!(rt; sender.hears(&all, Heard::Nothing) && sender.next_cut(FIRST_LINK).is_none());
     sender.give(OUTWARD, &text(BITS as usize)?)?;
     assert!(rt; sender.next_cut(FIRST_LINK) == Some(2) && sender.next_cut(3).is_none());
     let here = known(rt, &sender, OUTWARD);

@@ -1,9 +1,10 @@
 //! Requests of either side.
+use super::tried::Tried;
 use super::{
-    INWARD, OUTWARD, ROOM, cls_for, err, known, new_table, pair, refusal, rts_for, str_for,
+    INWARD, OUTWARD, ROOM, are_one, cls_for, err, known, new_table, refusal, rts_for, str_for,
 };
-use crate::{CallFault, End, Heard, Pair, Table};
 use ncp_bits::BitStore;
+use ncp_conn::{CallFault, End, Heard, Pair};
 use ncp_control::Command;
 use ncp_model::{FIRST_LINK, LAST_LINK, MAX_BY_PEER, MAX_OWN, MAX_ROOM};
 use std::alloc::Global;
@@ -18,47 +19,64 @@ pub(super) fn asks_meets_and_closes<S: BitStore>(
     let mut table = new_table::<S>(alloc)?;
     let first = table.ask_receive(INWARD, ROOM, false)?;
     assert!(rt;
-        first
-            == Command::Rts {
+        are_one(
+            Some(first),
+            Some(Command::Rts {
                 receive: 2,
                 send: 3,
                 link: 2
-            }
+            })
+        )
     );
-    let second = table.ask_receive(pair(4, 5), ROOM, false)?;
+    let second = table.ask_receive(Pair::new(4, 5), ROOM, false)?;
     assert!(rt;
-        second
-            == Command::Rts {
+        are_one(
+            Some(second),
+            Some(Command::Rts {
                 receive: 4,
                 send: 5,
                 link: 3
-            }
+            })
+        )
     );
-    assert!(rt; table.hear(&str_for(INWARD, 8)) == Heard::Nothing);
+    assert!(rt; table.hears(&str_for(INWARD, 8), Heard::Nothing));
     assert!(rt; known(rt, &table, INWARD).opened);
-    assert!(rt; table.hear(&str_for(INWARD, 8)) == err(3, &[2, 0, 0, 0, 3, 0, 0, 0, 2, 8]));
+    assert!(rt; table.hears(&str_for(INWARD, 8), err(3, &[2, 0, 0, 0, 3, 0, 0, 0, 2, 8])));
     let behind = Command::Rts {
         receive: 8,
         send: 9,
         link: 72,
     };
-    assert!(rt; table.hear(&behind) == err(3, &[1, 0, 0, 0, 8, 0, 0, 0, 9, 0x48]));
+    assert!(rt; table.hears(&behind, err(3, &[1, 0, 0, 0, 8, 0, 0, 0, 9, 0x48])));
     assert!(rt;
-        table.hear(&Command::Cls { my: 7, your: 6 }) == err(4, &[3, 0, 0, 0, 7, 0, 0, 0, 6])
+        table.hears(
+            &Command::Cls { my: 7, your: 6 },
+            err(4, &[3, 0, 0, 0, 7, 0, 0, 0, 6])
+        )
     );
     assert!(rt;
-        table.hear(&Command::Cls { my: 7, your: 5 }) == err(3, &[3, 0, 0, 0, 7, 0, 0, 0, 5])
+        table.hears(
+            &Command::Cls { my: 7, your: 5 },
+            err(3, &[3, 0, 0, 0, 7, 0, 0, 0, 5])
+        )
     );
-    assert!(rt; table.hear(&cls_for(INWARD)) == Heard::Reply(Command::Cls { my: 2, your: 3 }));
+    assert!(rt;
+        table.hears(
+            &cls_for(INWARD),
+            Heard::Reply(Command::Cls { my: 2, your: 3 })
+        )
+    );
     assert!(rt; table.record(INWARD).is_none());
-    let third = table.ask_receive(pair(10, 11), ROOM, false)?;
+    let third = table.ask_receive(Pair::new(10, 11), ROOM, false)?;
     assert!(rt;
-        third
-            == Command::Rts {
+        are_one(
+            Some(third),
+            Some(Command::Rts {
                 receive: 10,
                 send: 11,
                 link: 2
-            }
+            })
+        )
     );
     Ok(())
 }
@@ -73,12 +91,12 @@ pub(super) fn copies_what_is_known<S: BitStore>(
     let asked = known(rt, &table, OUTWARD);
     assert!(rt; asked.end == End::Send && asked.asked && !asked.heard && !asked.opened);
     assert!(rt; asked.size == 36 && asked.link == 0);
-    assert!(rt; table.hear(&rts_for(OUTWARD, LAST_LINK)) == Heard::Nothing);
+    assert!(rt; table.hears(&rts_for(OUTWARD, LAST_LINK), Heard::Nothing));
     let opened = known(rt, &table, OUTWARD);
     assert!(rt; opened.heard && opened.opened && opened.link == LAST_LINK);
     assert!(rt; !opened.leaving && !opened.left && !opened.cls && !opened.busy && !opened.recall);
     assert!(rt; opened.messages == 0 && opened.bits == 0 && opened.stored == 0);
-    assert!(rt; table.hear(&str_for(INWARD, 255)) == Heard::Nothing);
+    assert!(rt; table.hears(&str_for(INWARD, 255), Heard::Nothing));
     let heard = known(rt, &table, INWARD);
     assert!(rt; heard.end == End::Receive && !heard.asked && heard.heard && heard.size == 255);
     Ok(())
@@ -92,8 +110,8 @@ pub(super) fn refuses_to_ask_to_send<S: BitStore>(
     let mut table = new_table::<S>(alloc)?;
     let wrong = [
         (INWARD, 0, 0, CallFault::BadSex),
-        (pair(2, 2), 8, ROOM, CallFault::BadSex),
-        (pair(3, 5), 8, ROOM, CallFault::BadSex),
+        (Pair::new(2, 2), 8, ROOM, CallFault::BadSex),
+        (Pair::new(3, 5), 8, ROOM, CallFault::BadSex),
         (OUTWARD, 0, 0, CallFault::BadSize),
         (OUTWARD, 8, 0, CallFault::BadRoom),
         (OUTWARD, 8, MAX_ROOM + 1, CallFault::BadRoom),
@@ -118,7 +136,7 @@ pub(super) fn refuses_to_ask_to_receive<S: BitStore>(
     let mut table = new_table::<S>(alloc)?;
     let wrong = [
         (OUTWARD, 0, CallFault::BadSex),
-        (pair(2, 4), ROOM, CallFault::BadSex),
+        (Pair::new(2, 4), ROOM, CallFault::BadSex),
         (INWARD, 0, CallFault::BadRoom),
         (INWARD, MAX_ROOM + 1, CallFault::BadRoom),
         (INWARD, MAX_ROOM, CallFault::QueueFull),
@@ -137,11 +155,11 @@ pub(super) fn refuses_to_ask_to_receive<S: BitStore>(
 
 // A receiving pair for each number.
 fn numbered(number: u8) -> Pair {
-    pair(2 * u32::from(number), 2 * u32::from(number) + 1)
+    Pair::new(2 * u32::from(number), 2 * u32::from(number) + 1)
 }
 
 // The 64th own request is the last, and on it stands the 64th link.
-fn fill_with_requests<S: BitStore>(rt: &impl Abort, table: &mut Table<S>) -> Result<(), Fail> {
+fn fill_with_requests<S: BitStore>(rt: &impl Abort, table: &mut Tried<S>) -> Result<(), Fail> {
     for number in 0..MAX_OWN as u8 {
         let command = table.ask_receive(numbered(number), 1, false)?;
         let Command::Rts { link, .. } = command else {
@@ -154,7 +172,7 @@ fn fill_with_requests<S: BitStore>(rt: &impl Abort, table: &mut Table<S>) -> Res
 
 pub(super) fn has_64_own_requests<S: BitStore>(rt: &impl Abort, alloc: Global) -> Result<(), Fail> {
     let mut table = new_table::<S>(alloc)?;
-    assert!(rt; table.hear(&str_for(numbered(200), 8)) == Heard::Nothing);
+    assert!(rt; table.hears(&str_for(numbered(200), 8), Heard::Nothing));
     fill_with_requests(rt, &mut table)?;
     // The 65th, also where the peer's request is there; but what is asked for stays asked for.
     assert!(rt; refusal(table.ask_receive(numbered(201), 1, true)) == Some(CallFault::TableFull));
@@ -163,15 +181,17 @@ pub(super) fn has_64_own_requests<S: BitStore>(rt: &impl Abort, alloc: Global) -
     assert!(rt; refusal(table.ask_receive(numbered(0), 1, false)) == Some(CallFault::AlreadyAsked));
     // One that ends makes room, and its link is free again.
     let gone = numbered(7);
-    assert!(rt; table.hear(&cls_for(gone)) == Heard::Reply(super::cls_of(gone)));
+    assert!(rt; table.hears(&cls_for(gone), Heard::Reply(super::cls_of(gone))));
     let again = table.ask_receive(numbered(200), 1, false)?;
     assert!(rt;
-        again
-            == Command::Rts {
+        are_one(
+            Some(again),
+            Some(Command::Rts {
                 receive: 400,
                 send: 401,
                 link: FIRST_LINK + 7
-            }
+            })
+        )
     );
     assert!(rt; known(rt, &table, numbered(200)).opened);
     Ok(())
@@ -184,17 +204,22 @@ pub(super) fn has_64_requests_of_the_peer<S: BitStore>(
     let mut table = new_table::<S>(alloc)?;
     table.ask_receive(numbered(200), 1, false)?;
     for number in 0..MAX_BY_PEER as u8 {
-        assert!(rt; table.hear(&str_for(numbered(number), 8)) == Heard::Nothing);
+        assert!(rt; table.hears(&str_for(numbered(number), 8), Heard::Nothing));
     }
-    assert!(rt; table.hear(&str_for(numbered(100), 8)) == Heard::Full);
-    assert!(rt; table.hear(&rts_for(OUTWARD, 2)) == Heard::Full);
+    assert!(rt; table.hears(&str_for(numbered(100), 8), Heard::Full));
+    assert!(rt; table.hears(&rts_for(OUTWARD, 2), Heard::Full));
     assert!(rt; table.record(OUTWARD).is_none());
     // A wrong one is refused first, and one that was asked for is heard.
-    assert!(rt; table.hear(&rts_for(OUTWARD, 1)) == err(3, &[1, 0, 0, 0, 2, 0, 0, 0, 3, 1]));
-    assert!(rt; table.hear(&str_for(numbered(200), 8)) == Heard::Nothing);
+    assert!(rt;
+        table.hears(
+            &rts_for(OUTWARD, 1),
+            err(3, &[1, 0, 0, 0, 2, 0, 0, 0, 3, 1])
+        )
+    );
+    assert!(rt; table.hears(&str_for(numbered(200), 8), Heard::Nothing));
     // With an own request it is no more the peer's alone.
     table.ask_receive(numbered(0), 1, false)?;
-    assert!(rt; table.hear(&rts_for(OUTWARD, 2)) == Heard::Nothing);
+    assert!(rt; table.hears(&rts_for(OUTWARD, 2), Heard::Nothing));
     Ok(())
 }
 
@@ -203,21 +228,21 @@ pub(super) fn refuses_wrong_requests<S: BitStore>(
     alloc: Global,
 ) -> Result<(), Fail> {
     let mut table = new_table::<S>(alloc)?;
-    assert!(rt; table.hear(&rts_for(OUTWARD, 2)) == Heard::Nothing);
+    assert!(rt; table.hears(&rts_for(OUTWARD, 2), Heard::Nothing));
     let wrong = [
         (rts_for(INWARD, 3), [1, 0, 0, 0, 3, 0, 0, 0, 2, 3]),
-        (rts_for(pair(3, 3), 3), [1, 0, 0, 0, 3, 0, 0, 0, 3, 3]),
-        (rts_for(pair(5, 4), 1), [1, 0, 0, 0, 4, 0, 0, 0, 5, 1]),
+        (rts_for(Pair::new(3, 3), 3), [1, 0, 0, 0, 3, 0, 0, 0, 3, 3]),
+        (rts_for(Pair::new(5, 4), 1), [1, 0, 0, 0, 4, 0, 0, 0, 5, 1]),
         (rts_for(OUTWARD, 3), [1, 0, 0, 0, 2, 0, 0, 0, 3, 3]),
-        (rts_for(pair(5, 4), 2), [1, 0, 0, 0, 4, 0, 0, 0, 5, 2]),
+        (rts_for(Pair::new(5, 4), 2), [1, 0, 0, 0, 4, 0, 0, 0, 5, 2]),
         (str_for(OUTWARD, 8), [2, 0, 0, 0, 2, 0, 0, 0, 3, 8]),
         (str_for(INWARD, 0), [2, 0, 0, 0, 3, 0, 0, 0, 2, 0]),
     ];
     for (command, data) in wrong {
-        assert!(rt; table.hear(&command) == err(3, &data));
+        assert!(rt; table.hears(&command, err(3, &data)));
     }
     assert!(rt; known(rt, &table, OUTWARD).link == 2);
-    assert!(rt; table.record(pair(5, 4)).is_none());
+    assert!(rt; table.record(Pair::new(5, 4)).is_none());
     Ok(())
 }
 
@@ -239,7 +264,7 @@ pub(super) fn passes_other_commands_by<S: BitStore>(
         Command::Rrp,
     ];
     for command in others {
-        assert!(rt; table.hear(&command) == Heard::Nothing);
+        assert!(rt; table.hears(&command, Heard::Nothing));
     }
     Ok(())
 }
@@ -249,7 +274,7 @@ pub(super) fn asks_or_has_no_memory<S: BitStore>(
     rt: &impl Abort,
     alloc: Global,
 ) -> Result<(), Fail> {
-    let Ok(mut table) = Table::<S>::new(alloc) else {
+    let Ok(mut table) = Tried::<S>::new(alloc) else {
         return Ok(());
     };
     let mut refused = false;
@@ -263,15 +288,17 @@ pub(super) fn asks_or_has_no_memory<S: BitStore>(
         assert!(rt; table.record(OUTWARD).is_none());
         refused = true;
     }
-    if let Ok(command) = table.ask_receive(pair(4, 5), 1, false) {
+    if let Ok(command) = table.ask_receive(Pair::new(4, 5), 1, false) {
         let link = if table.record(INWARD).is_none() { 2 } else { 3 };
         assert!(rt;
-            command
-                == Command::Rts {
+            are_one(
+                Some(command),
+                Some(Command::Rts {
                     receive: 4,
                     send: 5,
                     link
-                }
+                })
+            )
         );
     } else {
         assert!(rt; !refused);
@@ -300,7 +327,7 @@ pub(super) fn has_memory_for_all_requests<S: BitStore>(
             table.ask_receive(numbered(number), ROOM, false)?;
         } else {
             let at = numbered(number);
-            table.ask_send(pair(at.remote, at.local), 8, ROOM, false)?;
+            table.ask_send(Pair::new(at.remote, at.local), 8, ROOM, false)?;
         }
     }
     let beyond = numbered(MAX_OWN as u8);
@@ -322,8 +349,8 @@ pub(super) fn asks_and_closes_in_turn<S: BitStore>(
         table.ask_receive(INWARD, ROOM, false)?;
         table.close(OUTWARD, false)?;
         table.close(INWARD, false)?;
-        assert!(rt; table.hear(&cls_for(OUTWARD)) == Heard::Nothing);
-        assert!(rt; table.hear(&cls_for(INWARD)) == Heard::Nothing);
+        assert!(rt; table.hears(&cls_for(OUTWARD), Heard::Nothing));
+        assert!(rt; table.hears(&cls_for(INWARD), Heard::Nothing));
     }
     assert!(rt; table.record(OUTWARD).is_none() && table.record(INWARD).is_none());
     Ok(())

@@ -1,9 +1,10 @@
 //! Text.
 use super::{
-    INWARD, OUTWARD, ROOM, are_same, known, new_table, receiver, refusal, rts_for, sender, text,
+    INWARD, OUTWARD, ROOM, are_one, are_same, known, new_table, receiver, refusal, rts_for, sender,
+    text,
 };
-use crate::{CallFault, Heard, Took};
 use ncp_bits::{BitStore, Bits};
+use ncp_conn::{CallFault, Heard, Took};
 use ncp_control::Command;
 use ncp_model::{MAX_MESSAGES, MAX_ROOM};
 use std::alloc::Global;
@@ -15,7 +16,7 @@ fn carries<S: BitStore>(rt: &impl Abort, alloc: Global, size: u8, len: usize) ->
     let mut from = sender::<S>(alloc, size, MAX_ROOM)?;
     let mut to = receiver::<S>(alloc, size, MAX_ROOM)?;
     let all = to.allocate(INWARD, 1, MAX_ROOM, false)?;
-    assert!(rt; from.hear(&all) == Heard::Nothing);
+    assert!(rt; from.hears(&all, Heard::Nothing));
     let given = text(len)?;
     from.give(OUTWARD, &given)?;
     let (cut_size, out) = from.cut(2).ok_or("a text")?;
@@ -49,11 +50,14 @@ pub(super) fn cuts_what_fits_one_message<S: BitStore>(
 ) -> Result<(), Fail> {
     let mut table = sender::<S>(alloc, 8, MAX_ROOM)?;
     assert!(rt;
-        table.hear(&Command::All {
-            link: 2,
-            messages: 9,
-            bits: MAX_ROOM
-        }) == Heard::Nothing
+        table.hears(
+            &Command::All {
+                link: 2,
+                messages: 9,
+                bits: MAX_ROOM
+            },
+            Heard::Nothing
+        )
     );
     assert!(rt; table.cut(2).is_none());
     table.give(OUTWARD, &text(8000)?)?;
@@ -77,19 +81,25 @@ pub(super) fn cuts_what_is_allocated<S: BitStore>(
     table.give(OUTWARD, &text(24)?)?;
     assert!(rt; table.cut(2).is_none());
     assert!(rt;
-        table.hear(&Command::All {
-            link: 2,
-            messages: 0,
-            bits: 23
-        }) == Heard::Nothing
+        table.hears(
+            &Command::All {
+                link: 2,
+                messages: 0,
+                bits: 23
+            },
+            Heard::Nothing
+        )
     );
     assert!(rt; table.cut(2).is_none());
     assert!(rt;
-        table.hear(&Command::All {
-            link: 2,
-            messages: 1,
-            bits: 0
-        }) == Heard::Nothing
+        table.hears(
+            &Command::All {
+                link: 2,
+                messages: 1,
+                bits: 0
+            },
+            Heard::Nothing
+        )
     );
     let (_, out) = table.cut(2).ok_or("a text")?;
     assert!(rt; out.len() == 16);
@@ -231,10 +241,14 @@ pub(super) fn interrupts<S: BitStore>(rt: &impl Abort, alloc: Global) -> Result<
     let mut from = sender::<S>(alloc, 8, ROOM)?;
     let mut to = receiver::<S>(alloc, 8, ROOM)?;
     let ins = from.interrupt(OUTWARD, false)?;
-    assert!(rt; ins == Command::Ins { link: 2 } && to.hear(&ins) == Heard::Nothing);
+    assert!(rt;
+        are_one(Some(ins), Some(Command::Ins { link: 2 })) && to.hears(&ins, Heard::Nothing)
+    );
     let inr = to.interrupt(INWARD, false)?;
-    assert!(rt; inr == Command::Inr { link: 2 } && from.hear(&inr) == Heard::Nothing);
-    assert!(rt; from.hear(&inr) == Heard::Nothing);
+    assert!(rt;
+        are_one(Some(inr), Some(Command::Inr { link: 2 })) && from.hears(&inr, Heard::Nothing)
+    );
+    assert!(rt; from.hears(&inr, Heard::Nothing));
     assert!(rt; known(rt, &from, OUTWARD).interrupts == 2);
     assert!(rt; known(rt, &to, INWARD).interrupts == 1);
     Ok(())
@@ -252,6 +266,6 @@ pub(super) fn interrupts_open_connections_only<S: BitStore>(
     assert!(rt; refusal(table.interrupt(OUTWARD, true)) == Some(CallFault::QueueFull));
     table.close(OUTWARD, false)?;
     assert!(rt; refusal(table.interrupt(OUTWARD, true)) == Some(CallFault::Closing));
-    assert!(rt; table.hear(&Command::Inr { link: 2 }) == Heard::Late);
+    assert!(rt; table.hears(&Command::Inr { link: 2 }, Heard::Late));
     Ok(())
 }

@@ -1,7 +1,9 @@
 //! Allocation.
-use super::{INWARD, OUTWARD, ROOM, err, known, new_table, receiver, refusal, sender, text};
-use crate::{CallFault, Heard, Took};
+use super::{
+    INWARD, OUTWARD, ROOM, are_one, err, known, new_table, receiver, refusal, sender, text,
+};
 use ncp_bits::BitStore;
+use ncp_conn::{CallFault, Heard, Took};
 use ncp_control::Command;
 use ncp_model::{MAX_AMOUNT, MAX_MESSAGES};
 use std::alloc::Global;
@@ -11,11 +13,14 @@ use std::test::Fail;
 pub(super) fn gives_parts_back<S: BitStore>(rt: &impl Abort, alloc: Global) -> Result<(), Fail> {
     let mut table = sender::<S>(alloc, 8, ROOM)?;
     assert!(rt;
-        table.hear(&Command::All {
-            link: 2,
-            messages: 5,
-            bits: 1000
-        }) == Heard::Nothing
+        table.hears(
+            &Command::All {
+                link: 2,
+                messages: 5,
+                bits: 1000
+            },
+            Heard::Nothing
+        )
     );
     let first = Command::Ret {
         link: 2,
@@ -23,11 +28,14 @@ pub(super) fn gives_parts_back<S: BitStore>(rt: &impl Abort, alloc: Global) -> R
         bits: 8,
     };
     assert!(rt;
-        table.hear(&Command::Gvb {
-            link: 2,
-            fm: 64,
-            fb: 1
-        }) == Heard::Reply(first)
+        table.hears(
+            &Command::Gvb {
+                link: 2,
+                fm: 64,
+                fb: 1
+            },
+            Heard::Reply(first)
+        )
     );
     let left = known(rt, &table, OUTWARD);
     assert!(rt; left.messages == 2 && left.bits == 992);
@@ -37,11 +45,14 @@ pub(super) fn gives_parts_back<S: BitStore>(rt: &impl Abort, alloc: Global) -> R
         bits: 0,
     };
     assert!(rt;
-        table.hear(&Command::Gvb {
-            link: 2,
-            fm: 200,
-            fb: 0
-        }) == Heard::Reply(second)
+        table.hears(
+            &Command::Gvb {
+                link: 2,
+                fm: 200,
+                fb: 0
+            },
+            Heard::Reply(second)
+        )
     );
     let left = known(rt, &table, OUTWARD);
     assert!(rt; left.messages == 0 && left.bits == 992);
@@ -63,11 +74,14 @@ pub(super) fn rounds_up_what_is_given_back<S: BitStore>(
     ] {
         let mut table = sender::<S>(alloc, 8, ROOM)?;
         assert!(rt;
-            table.hear(&Command::All {
-                link: 2,
-                messages: 0,
-                bits: counter
-            }) == Heard::Nothing
+            table.hears(
+                &Command::All {
+                    link: 2,
+                    messages: 0,
+                    bits: counter
+                },
+                Heard::Nothing
+            )
         );
         let reply = Command::Ret {
             link: 2,
@@ -79,16 +93,19 @@ pub(super) fn rounds_up_what_is_given_back<S: BitStore>(
             fm: 255,
             fb: fraction,
         };
-        assert!(rt; table.hear(&gvb) == Heard::Reply(reply));
+        assert!(rt; table.hears(&gvb, Heard::Reply(reply)));
     }
     for (counter, fraction, back) in [(1000, 1, 8), (5, 255, 5), (MAX_MESSAGES, 64, 32_768)] {
         let mut table = sender::<S>(alloc, 8, ROOM)?;
         assert!(rt;
-            table.hear(&Command::All {
-                link: 2,
-                messages: counter,
-                bits: 0
-            }) == Heard::Nothing
+            table.hears(
+                &Command::All {
+                    link: 2,
+                    messages: counter,
+                    bits: 0
+                },
+                Heard::Nothing
+            )
         );
         let reply = Command::Ret {
             link: 2,
@@ -100,7 +117,7 @@ pub(super) fn rounds_up_what_is_given_back<S: BitStore>(
             fm: fraction,
             fb: 255,
         };
-        assert!(rt; table.hear(&gvb) == Heard::Reply(reply));
+        assert!(rt; table.hears(&gvb, Heard::Reply(reply)));
     }
     Ok(())
 }
@@ -116,27 +133,36 @@ pub(super) fn keeps_counters_within_limits<S: BitStore>(
         messages: MAX_MESSAGES,
         bits: MAX_AMOUNT - 1,
     };
-    assert!(rt; table.hear(&most) == Heard::Nothing);
+    assert!(rt; table.hears(&most, Heard::Nothing));
     assert!(rt;
-        table.hear(&Command::All {
-            link: 2,
-            messages: 1,
-            bits: 0
-        }) == err(3, &[4, 2, 0, 1, 0, 0, 0, 0])
+        table.hears(
+            &Command::All {
+                link: 2,
+                messages: 1,
+                bits: 0
+            },
+            err(3, &[4, 2, 0, 1, 0, 0, 0, 0])
+        )
     );
     assert!(rt;
-        table.hear(&Command::All {
-            link: 2,
-            messages: 0,
-            bits: 2
-        }) == err(3, &[4, 2, 0, 0, 0, 0, 0, 2])
+        table.hears(
+            &Command::All {
+                link: 2,
+                messages: 0,
+                bits: 2
+            },
+            err(3, &[4, 2, 0, 0, 0, 0, 0, 2])
+        )
     );
     assert!(rt;
-        table.hear(&Command::All {
-            link: 2,
-            messages: 0,
-            bits: 1
-        }) == Heard::Nothing
+        table.hears(
+            &Command::All {
+                link: 2,
+                messages: 0,
+                bits: 1
+            },
+            Heard::Nothing
+        )
     );
     let full = known(rt, &table, OUTWARD);
     assert!(rt; full.messages == MAX_MESSAGES && full.bits == MAX_AMOUNT);
@@ -171,7 +197,7 @@ pub(super) fn allocates_no_more_than_fits<S: BitStore>(
         messages: MAX_MESSAGES,
         bits: ROOM,
     };
-    assert!(rt; all == made);
+    assert!(rt; are_one(Some(all), Some(made)));
     assert!(rt; refusal(table.allocate(INWARD, 1, 0, false)) == Some(CallFault::TooMuch));
     assert!(rt; refusal(table.allocate(INWARD, 0, 1, false)) == Some(CallFault::TooMuch));
     Ok(())
@@ -214,19 +240,25 @@ pub(super) fn calls_back_once_at_a_time<S: BitStore>(
     assert!(rt; refusal(table.call_back(INWARD, 64, 1, true)) == Some(CallFault::QueueFull));
     let gvb = table.call_back(INWARD, 64, 1, false)?;
     assert!(rt;
-        gvb == Command::Gvb {
-            link: 2,
-            fm: 64,
-            fb: 1
-        }
+        are_one(
+            Some(gvb),
+            Some(Command::Gvb {
+                link: 2,
+                fm: 64,
+                fb: 1
+            })
+        )
     );
     assert!(rt; refusal(table.call_back(INWARD, 64, 1, true)) == Some(CallFault::Busy));
     assert!(rt;
-        table.hear(&Command::Ret {
-            link: 2,
-            messages: 0,
-            bits: 0
-        }) == Heard::Nothing
+        table.hears(
+            &Command::Ret {
+                link: 2,
+                messages: 0,
+                bits: 0
+            },
+            Heard::Nothing
+        )
     );
     table.call_back(INWARD, 200, 0, false)?;
     Ok(())
@@ -245,24 +277,30 @@ pub(super) fn takes_back_what_is_outstanding<S: BitStore>(
         messages: 6,
         bits: 0,
     };
-    assert!(rt; table.hear(&too_much) == err(3, &[6, 2, 0, 6, 0, 0, 0, 0]));
+    assert!(rt; table.hears(&too_much, err(3, &[6, 2, 0, 6, 0, 0, 0, 0])));
     assert!(rt; known(rt, &table, INWARD).recall);
     assert!(rt;
-        table.hear(&Command::Ret {
-            link: 2,
-            messages: 3,
-            bits: 8
-        }) == Heard::Nothing
+        table.hears(
+            &Command::Ret {
+                link: 2,
+                messages: 3,
+                bits: 8
+            },
+            Heard::Nothing
+        )
     );
     let outstanding = known(rt, &table, INWARD);
     assert!(rt; outstanding.messages == 2 && outstanding.bits == 992 && !outstanding.recall);
     table.close(INWARD, false)?;
     assert!(rt;
-        table.hear(&Command::Ret {
-            link: 2,
-            messages: 2,
-            bits: 0
-        }) == Heard::Late
+        table.hears(
+            &Command::Ret {
+                link: 2,
+                messages: 2,
+                bits: 0
+            },
+            Heard::Late
+        )
     );
     Ok(())
 }
@@ -311,7 +349,7 @@ pub(super) fn answers_on_links_not_connected<S: BitStore>(
         (Command::Ins { link: 9 }, [8, 9, 0, 0, 0, 0, 0, 0]),
     ];
     for (command, data) in commands {
-        assert!(rt; table.hear(&command) == err(5, &data));
+        assert!(rt; table.hears(&command, err(5, &data)));
     }
     Ok(())
 }

@@ -6,13 +6,15 @@ mod connection;
 mod requests;
 mod stores;
 mod texts;
+mod tried;
 
-use crate::{CallFault, Heard, Pair, Record, Table};
 use ncp_bits::{BitStore, Bits};
+use ncp_conn::{CallFault, Heard, Pair, Record};
 use ncp_control::{Command, ERROR_DATA};
 use std::alloc::Global;
 use std::process::Abort;
 use std::test::Fail;
+use tried::Tried;
 
 /// Sockets 3 and 2, as the sender's host names them, and as the receiver's does.
 const OUTWARD: Pair = Pair {
@@ -28,12 +30,8 @@ const INWARD: Pair = Pair {
 /// How many bits each end can store in the tests that do not say otherwise.
 const ROOM: u32 = 1024;
 
-fn pair(local: u32, remote: u32) -> Pair {
-    Pair { local, remote }
-}
-
-fn new_table<S: BitStore>(alloc: Global) -> Result<Table<S>, Fail> {
-    Ok(Table::new(alloc)?)
+fn new_table<S: BitStore>(alloc: Global) -> Result<Tried<S>, Fail> {
+    Ok(Tried::new(alloc)?)
 }
 
 /// The reply ERR with a code and these first bytes of data.
@@ -76,7 +74,7 @@ fn cls_of(pair: Pair) -> Command {
 }
 
 /// A table with one open sender, on link 2.
-fn sender<S: BitStore>(alloc: Global, size: u8, room: u32) -> Result<Table<S>, Fail> {
+fn sender<S: BitStore>(alloc: Global, size: u8, room: u32) -> Result<Tried<S>, Fail> {
     let mut table = new_table(alloc)?;
     table.ask_send(OUTWARD, size, room, false)?;
     let _ = table.hear(&rts_for(OUTWARD, 2));
@@ -84,7 +82,7 @@ fn sender<S: BitStore>(alloc: Global, size: u8, room: u32) -> Result<Table<S>, F
 }
 
 /// A table with one open receiver, on link 2.
-fn receiver<S: BitStore>(alloc: Global, size: u8, room: u32) -> Result<Table<S>, Fail> {
+fn receiver<S: BitStore>(alloc: Global, size: u8, room: u32) -> Result<Tried<S>, Fail> {
     let mut table = new_table(alloc)?;
     table.ask_receive(INWARD, room, false)?;
     let _ = table.hear(&str_for(INWARD, size));
@@ -112,7 +110,12 @@ fn are_same(a: &Bits, b: &Bits) -> bool {
     true
 }
 
-fn known<S: BitStore>(rt: &impl Abort, table: &Table<S>, pair: Pair) -> Record {
+/// Whether two commands are the same, or neither is there.
+fn are_one(one: Option<Command>, other: Option<Command>) -> bool {
+    one == other
+}
+
+fn known<S: BitStore>(rt: &impl Abort, table: &Tried<S>, pair: Pair) -> Record {
     table.record(pair).expect(rt, "a connection")
 }
 
