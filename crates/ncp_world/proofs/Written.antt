@@ -6,7 +6,7 @@ use Rattle.ncp_bits.specs.Bits.{bits_of_bytes, bytes_of}
 use Rattle.ncp_bits.proofs.Packing.{bytes_of-bits_of_bytes}
 use Rattle.ncp_bits.proofs.Bytes.{length-bits_of_bytes}
 use Rattle.ncp_leader.specs.declared.leader.Leader.{Leader}
-use Rattle.ncp_leader.specs.Leader.{IsLeader, leader_in}
+use Rattle.ncp_leader.specs.Leader.{leader_bits, IsLeader, leader_in}
 use Rattle.ncp_leader.specs.Message.{Message, IsMessage, message_in, message_with}
 use Rattle.ncp_leader.proofs.Leaders.{leader_in-bits}
 use Rattle.ncp_leader.proofs.Messages.{message_in-bits, message_leader, IsMessage-with}
@@ -20,7 +20,7 @@ use Rattle.ncp_slot.specs.declared.slot.Answer.TheVariants as answer_kinds
 use Rattle.ncp_host.specs.PeerState.{PeerState, answer_comes}
 use Rattle.ncp_host.specs.Hearing.{hears_all, hears_text, message_received, message_after, rfnm, incomplete, destination_dead}
 use Rattle.ncp_host.specs.Output.{leader_to, message_to}
-use Rattle.ncp_world.specs.Subnet.{from_host, answer_leader, answer_bits}
+use Rattle.ncp_world.specs.Subnet.{from_host, answer_bits}
 use Rattle.ncp_world.specs.World.{after_with, after_received, received_with, received}
 use Rattle.ncp_world.specs.Tie.{AreCommands, IsText}
 
@@ -59,6 +59,14 @@ comes-received number on size text s n o t =
     ∙ ap (λ (r : Result Message _). message_received on r s) (read number on size text n o t)
 
 -- the answers
+
+abbrev answer_leader : ℕ → ℕ → ℕ → Leader
+answer_leader kind number on = record { flags = 0; kind = kind; host = number; link = on; low = 0 }
+
+answer-led : (kind number on : ℕ) → IsLeader (answer_leader kind number on) → leader_in (answer_bits kind number on) ≡ Ok (answer_leader kind number on)
+unfolding answer_bits
+answer-led kind number on fits = ap leader_in (sym (append-nil (leader_bits (answer_leader kind number on)))) ∙ leader_in-bits (answer_leader kind number on) [] fits
+
 pub answer_comes-is : (number on : ℕ) (s : PeerState) → number < 2 ^ 8 → on < 2 ^ 8
     → (after_received (answer_bits rfnm number on) s ≡ answer_comes on Rfnm s) × (after_received (answer_bits incomplete number on) s ≡ answer_comes on Incomplete s)
     × (after_received (answer_bits destination_dead number on) s ≡ answer_comes on answer_kinds.Dead s)
@@ -68,7 +76,7 @@ answer_comes-is number on s n o = (go rfnm (omega arith), go incomplete (omega a
     fits kind k = record { flags = omega arith; kind = k; host = n; link = o; low = omega arith }
 
     go : (kind : ℕ) → kind ≤ 15 → after_received (answer_bits kind number on) s ≡ after_with (Ok (answer_leader kind number on)) (answer_bits kind number on) s
-    go kind k = ap (λ (r : Result Leader _). after_with r (answer_bits kind number on) s) (ap leader_in (sym (append-nil (answer_bits kind number on))) ∙ leader_in-bits (answer_leader kind number on) [] (fits kind k))
+    go kind k = ap (λ (r : Result Leader _). after_with r (answer_bits kind number on) s) (answer-led kind number on (fits kind k))
 
 -- a control message is a text of bytes of eight bits, and is read as its commands
 pub control_text : (cs : List Command) → AreCommands cs → IsText 8 (bits_of_bytes (spellings cs))

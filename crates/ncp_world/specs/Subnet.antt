@@ -1,17 +1,16 @@
--- The subnet between two hosts, one way: on each link it holds at most one message (BBN 1822, section 3).
-use Rattle.std.specs.Prelude.{ℕ, ◌==◌, Bool, if◌then◌else◌, List, ◌++◌, take, drop}
-use Rattle.ncp_bits.specs.Numbers.{bits_of}
-use Rattle.ncp_leader.specs.declared.leader.Leader.{Leader}
-use Rattle.ncp_leader.specs.Leader.{leader_bits, number_at}
+-- What the subnet has of one host's messages to the other, by their links (BBN 1822, section 3). What may
+-- happen to a message, and how it comes and is answered, is said in ncp_subnet.
+use Rattle.std.specs.Prelude.{ℕ, ◌==◌, if◌then◌else◌}
+pub use Rattle.ncp_subnet.specs.declared.transit.Transit.TheVariants.{Free, Accepted, Delivered, Lost, Dead}
+pub use Rattle.ncp_subnet.specs.Messages.{link_in}
+unfoldable pub use Rattle.ncp_subnet.specs.Messages.{from_host, answer_bits}
+use Rattle.ncp_subnet.specs.Ways.{OnLink}
 
-pub data Holds : Type 0 where
-  Free : Holds
-  Accepted : (m : List Bool) → Holds
-  Delivered : Holds
-  Lost : Holds
-  Dead : Holds
+-- what it has for a link
+abbrev pub Holds : Type 0
+Holds = OnLink
 
--- what it holds on each link
+-- and for each link
 abbrev pub Subnet : Type 0
 Subnet = ℕ → Holds
 
@@ -20,18 +19,3 @@ new_subnet on = Free
 
 abbrev pub set_at : ℕ → Holds → Subnet → Subnet
 set_at on holds u k = if k == on then holds else u k
-
--- the link in the leader of a message
-abbrev pub link_in : List Bool → ℕ
-link_in m = number_at m 16 8
-
--- what comes: bits 9-16 are the number of the host from which it comes
-unfoldable pub from_host : ℕ → List Bool → List Bool
-from_host number m = take 8 m ++ bits_of 8 number ++ drop 16 m
-
--- the leader of an answer, of this type, about the link of a message to a host
-abbrev pub answer_leader : ℕ → ℕ → ℕ → Leader
-answer_leader kind number on = record { flags = 0; kind = kind; host = number; link = on; low = 0 }
-
-abbrev pub answer_bits : ℕ → ℕ → ℕ → List Bool
-answer_bits kind number on = leader_bits (answer_leader kind number on)
