@@ -16,3 +16,4 @@ pub mod Turns
 pub mod Flights
 pub mod Carried
 pub mod Underway
+pub mod Alike

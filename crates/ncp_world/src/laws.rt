@@ -18,6 +18,8 @@ ghost use Rattle.ncp_host.specs.Turns.{next_output};
 ghost use Rattle.ncp_host.specs.Output.{next_of, message_on};
 ghost use Rattle.ncp_world.specs.OnePeer.{one_peer};
 ghost use Rattle.ncp_world.specs.World as worlds;
+ghost use Rattle.ncp_world.specs.World.{Is_delivered, Is_lost, Finds_dead, Is_answered, moves};
+ghost use Rattle.ncp_subnet.specs.Transit as transit;
 ghost use Rattle.ncp_world.specs.Refused.{any_refused};
 ghost use Rattle.ncp_world.specs.Tie.{IsNewWorld, AreEvents, IsOfModel};
 
@@ -72,4 +74,12 @@ pub fn one_peer_is_its_state()
 /// There are new worlds, so the laws of all runs speak of something.
 pub fn worlds_can_begin()
     ensures { (here there : ℕ) → here < 2 ^ 8 → there < 2 ^ 8 → (v : World) × (v.here ≡ here) × (v.there ≡ there) × IsNewWorld v }
+{}
+
+/// What the moves of a world do to what is in transit on a link is what the subnet's calls do.
+pub fn subnets_move_alike()
+    ensures delivered { (on : ℕ) (v : World) → (moves (Is_delivered on) v).0.going on ≡ transit.delivered (v.going on) }
+    ensures lost { (on : ℕ) (v : World) → (moves (Is_lost on) v).0.going on ≡ transit.lost (v.going on) }
+    ensures dead { (on : ℕ) (v : World) → (moves (Finds_dead on) v).0.going on ≡ transit.dead (v.going on) }
+    ensures answered { (on : ℕ) (v : World) → (moves (Is_answered on) v).0.going on ≡ transit.answered (v.going on) }
 {}
