@@ -1,3 +1,5 @@
 pub mod Lines
 pub mod Words
 pub mod BitStrings
+pub mod Verbs
+pub mod Arguments

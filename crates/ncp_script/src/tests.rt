@@ -1,7 +1,8 @@
 //! What words, numbers and bits of a script are.
 
-use crate::{LineBuffer, LineKind, MAX_LINE, Words, bits, number};
+use crate::{LineBuffer, LineKind, MAX_LINE, Verb, Words, bits, call_named, number, pair, peer};
 use ncp_bits::Bits;
+use ncp_model::Pair;
 use std::process::Abort;
 
 // The largest number.
@@ -138,4 +139,29 @@ fn judges_the_longest_lines(rt: HostRuntime) {
     assert!(rt; kind_of(&[&bytes, b"\n"], true) == LineKind::TooLong);
     assert!(rt; kind_of(&[&bytes, &bytes, b"\n"], true) == LineKind::TooLong);
     assert!(rt; kind_of(&[b"#", &bytes, &bytes, b"\n"], true) == LineKind::Skipped);
+}
+
+#[test]
+fn names_calls(rt: HostRuntime) {
+    assert!(rt; call_named(b"ask-send") == Some(Verb::AskSend));
+    assert!(rt; call_named(b"ignored") == Some(Verb::Ignored));
+    assert!(rt; call_named(b"ask").is_none());
+    assert!(rt; call_named(b"Reset").is_none());
+    assert!(rt; call_named(b"").is_none());
+    assert!(rt; Verb::CallBack.word() == "call-back");
+}
+
+#[test]
+fn reads_arguments(rt: HostRuntime) {
+    let mut words = Words::new(b"255 3 4294967295");
+    assert!(rt; peer(&mut words, Some(9)) == Some(9));
+    assert!(rt; peer(&mut words, None) == Some(255));
+    let wanted = Pair {
+        local: 3,
+        remote: 4_294_967_295,
+    };
+    assert!(rt; pair(&mut words) == Some(wanted));
+    assert!(rt; words.is_empty());
+    assert!(rt; peer(&mut Words::new(b"256"), None).is_none());
+    assert!(rt; pair(&mut Words::new(b"3")).is_none());
 }
