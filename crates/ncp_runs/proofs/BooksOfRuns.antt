@@ -62,7 +62,7 @@ same_pair a b e =
     ap (λ (x : ℕ). (let q : Pair = record { local = x; remote = a.remote } in q)) (eqb-true a.local b.local p.0)
     ∙ ap (λ (x : ℕ). (let q : Pair = record { local = b.local; remote = x } in q)) (eqb-true a.remote b.remote p.1)
 
-same_itself : (a : Pair) → same a a ≡ true
+pub same_itself : (a : Pair) → same a a ≡ true
 same_itself a = grind arith
 
 another : (a b : Pair) → same a b ≡ false → (a ≡ b) → ⊥

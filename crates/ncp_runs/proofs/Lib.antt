@@ -7,3 +7,4 @@ pub mod Ignored
 pub mod LinksTold
 pub mod InRuns
 pub mod BooksOfRuns
+pub mod Taken

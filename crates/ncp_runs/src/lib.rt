@@ -2,5 +2,6 @@
 //! of lists of notes alone.
 #![tactic(auto)]
 
+pub mod histories;
 pub mod links;
 pub mod peers;

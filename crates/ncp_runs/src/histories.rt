@@ -1,0 +1,43 @@
+//! Pairs of sockets: what was got there since the connection opened is taken or held, and what is
+//! outstanding was granted, and neither returned nor used.
+ghost use Rattle.std.specs.Prelude.{◌≡◌, ℕ, ◌+◌, Bool, true, false, List, [], ◌∷◌, ◌++◌, length, Some};
+ghost use Rattle.std.specs.FinMap.{get};
+ghost use Rattle.ncp_model.specs.Pairs.{receives};
+ghost use Rattle.ncp_model.specs.End.{End};
+ghost use Rattle.ncp_model.specs.Rows.{inward, outward, ones, asked_receive, counting, storing};
+ghost use Rattle.ncp_model.specs.Ends.{Ends};
+ghost use Rattle.ncp_model.specs.Happenings.{happens};
+ghost use Rattle.ncp_model.specs.Happenings as all;
+ghost use Rattle.ncp_watch.specs.Histories.{no_past};
+ghost use Rattle.ncp_host.specs.PeerState.{PeerState};
+ghost use Rattle.ncp_host.specs.Host.{state_of, new_host};
+ghost use Rattle.ncp_transcript.specs.declared.note.HostNote.{HostNote as Note};
+ghost use Rattle.ncp_transcript.specs.After.{after_notes};
+ghost use Rattle.ncp_runs.specs.Peers.{FromBeginning, notes_of};
+ghost use Rattle.ncp_runs.specs.Histories.{past_then, past_at, past_of};
+
+use ncp_host::Pair;
+use ncp_transcript::HostNote;
+
+/// At a receiver that has opened and is not left, after any run: what was got is what was taken, followed
+/// by what is held; and what is outstanding is what was granted less what was returned and used, of
+/// messages and of bits. Each is since its connection opened.
+pub fn what_is_got_is_taken_or_held()
+    ensures held { (me : ℕ) (ns : List ℕ) (all : List Note) (n : ℕ) (s : PeerState) (pair : Pair) (e : End) → FromBeginning me ns all → state_of (after_notes all (new_host me ns)) n ≡ Some s → receives pair ≡ true → get s.peer.ends pair ≡ Some e → e.opened ≡ true → e.left ≡ false → (past_of pair (notes_of n all)).got ≡ (past_of pair (notes_of n all)).taken ++ e.stored }
+    ensures messages { (me : ℕ) (ns : List ℕ) (all : List Note) (n : ℕ) (s : PeerState) (pair : Pair) (e : End) → FromBeginning me ns all → state_of (after_notes all (new_host me ns)) n ≡ Some s → receives pair ≡ true → get s.peer.ends pair ≡ Some e → e.opened ≡ true → e.messages + (past_of pair (notes_of n all)).returned_messages + (past_of pair (notes_of n all)).used_messages ≡ (past_of pair (notes_of n all)).granted_messages }
+    ensures bits { (me : ℕ) (ns : List ℕ) (all : List Note) (n : ℕ) (s : PeerState) (pair : Pair) (e : End) → FromBeginning me ns all → state_of (after_notes all (new_host me ns)) n ≡ Some s → receives pair ≡ true → get s.peer.ends pair ≡ Some e → e.opened ≡ true → e.bits + (past_of pair (notes_of n all)).returned_bits + length (past_of pair (notes_of n all)).got ≡ (past_of pair (notes_of n all)).granted_bits }
+{}
+
+/// What a note says was taken joins what was taken of its pair.
+pub fn what_take_answers_is_taken()
+    ensures { (me : ℕ) (ns : List ℕ) (before after : List Note) (n : ℕ) (pair : Pair) (bytes : ℕ) (text : List Bool) → FromBeginning me ns (before ++ HostNote.Took n pair bytes text ∷ after) → (past_of pair (notes_of n (before ++ HostNote.Took n pair bytes text ∷ []))).taken ≡ (past_of pair (notes_of n before)).taken ++ text }
+{}
+
+/// That these laws speak of something: a connection opens, and nothing is left of the one before; a text
+/// of two bytes comes to its receiver; and one is taken. All that says nothing of another pair.
+pub fn two_bytes_come_and_one_is_taken()
+    ensures opened { past_then (Some asked_receive) (all.Str_comes 8 0) (happens inward (all.Str_comes 8 0) (Some asked_receive)) (record no_past { got = ones 8; taken = ones 8 }) ≡ no_past }
+    ensures got { past_then (Some (counting 2 16)) (all.Text_comes [] 8 (ones 16)) (happens inward (all.Text_comes [] 8 (ones 16)) (Some (counting 2 16))) no_past ≡ record no_past { got = ones 16; used_messages = 1 } }
+    ensures taken { past_then (Some (storing (ones 16))) (all.Takes 1) (happens inward (all.Takes 1) (Some (storing (ones 16)))) (record no_past { got = ones 16 }) ≡ record no_past { got = ones 16; taken = ones 8 } }
+    ensures another { (m : Ends) (what : all.Happening) → past_at outward (Some inward) (Some what) m no_past ≡ no_past }
+{}
