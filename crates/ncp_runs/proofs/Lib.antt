@@ -8,3 +8,4 @@ pub mod LinksTold
 pub mod InRuns
 pub mod BooksOfRuns
 pub mod Taken
+pub mod MadeOfRuns

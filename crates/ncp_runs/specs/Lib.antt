@@ -1,4 +1,5 @@
 pub mod Peers
 pub mod Links
 pub mod Histories
+pub mod Making
 pub mod Examples
