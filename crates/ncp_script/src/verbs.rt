@@ -2,7 +2,7 @@
 ghost use Rattle.std.specs.Prelude.{◌≡◌};
 ghost use Rattle.ncp_script.specs.Verbs.{word_of, verb_among, verb_of};
 
-/// What a call is named by in a script, in the order of `docs/FORMATS.md`.
+/// What a call is named by in a script.
 #[derive(Clone, Copy, Debug, Drop, PartialEq, Eq)]
 pub enum Verb {
     Reset,
