@@ -9,3 +9,4 @@ pub mod InRuns
 pub mod BooksOfRuns
 pub mod Taken
 pub mod MadeOfRuns
+pub mod InOrder

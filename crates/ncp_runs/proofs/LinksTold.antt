@@ -194,7 +194,7 @@ called-tells on (calls_of.Waiting peer place) s t e = e
 called-tells on (calls_of.Kept peer link) s t e = e
 called-tells on calls_of.Ignored s t e = e
 
-note-tells : (n on : ℕ) (note : HostNote) (s : PeerState) (t : Told) → IsSaidOf n note s → Tells on s t → Tells on (note_for note s) (told_by on note t)
+pub note-tells : (n on : ℕ) (note : HostNote) (s : PeerState) (t : Told) → IsSaidOf n note s → Tells on s t → Tells on (note_for note s) (told_by on note t)
 note-tells n on (notes.Refused call fault) s t p e = e
 note-tells n on (notes.Done call) s t p e = called-tells on call s t e
 note-tells n on (notes.Took peer pair bytes text) s t p e = e

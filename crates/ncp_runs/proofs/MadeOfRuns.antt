@@ -33,13 +33,13 @@ fitting-first room (c ∷ cs) = go (nat_le (length (spelling c)) room) (fitting-
     go true rest = ap (λ (xs : List Command). c ∷ xs) rest
     go false rest = refl
 
-next-first : (cs : List Command) → next_commands cs ++ drop (length (next_commands cs)) cs ≡ cs
+pub next-first : (cs : List Command) → next_commands cs ++ drop (length (next_commands cs)) cs ≡ cs
 next-first cs = fitting-first 120 cs
 
 not_gone : (l : Made) (w g : List Command) → Agrees l w g → drop l.gone l.all ≡ w
 not_gone l w g a = ap (λ (xs : List Command). drop l.gone xs) a.all ∙ ap (λ (k : ℕ). drop k (g ++ w)) a.count ∙ drop-append_seam g w
 
-sent-agrees : (l : Made) (w g : List Command) → Agrees l w g → Agrees (sent l) (drop (length (next_commands w)) w) (g ++ next_commands w)
+pub sent-agrees : (l : Made) (w g : List Command) → Agrees l w g → Agrees (sent l) (drop (length (next_commands w)) w) (g ++ next_commands w)
 sent-agrees l w g a = record {
   all = a.all ∙ ap (λ (xs : List Command). g ++ xs) (sym (next-first w)) ∙ sym (append_assoc g (next_commands w) (drop (length (next_commands w)) w));
   count = ap (λ (k : ℕ). k + length (next_commands (drop l.gone l.all))) a.count ∙ ap (λ (xs : List Command). length g + length (next_commands xs)) (not_gone l w g a) ∙ sym (length-append g (next_commands w));
