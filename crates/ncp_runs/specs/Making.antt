@@ -31,7 +31,7 @@ use Rattle.ncp_model.specs.Phase as phases
 use Rattle.ncp_model.specs.Sending.{is_full, next_commands}
 use Rattle.ncp_model.specs.Peers.{Peer, Ask_to_send, Ask_to_receive, Close, Give, Take, Allocate, Call_back, Interrupt, happened_at, is_full_up, echo_replies}
 use Rattle.ncp_model.specs.Peers as peers
-use Rattle.ncp_host.specs.PeerState.{PeerState, control_link, is_answered, frees_on}
+use Rattle.ncp_host.specs.PeerState.{PeerState, new_state, control_link, is_answered, frees_on}
 use Rattle.ncp_host.specs.Hearing.{control_size, is_wrong_link, hears, hears_all}
 use Rattle.ncp_host.specs.Output.{message_to}
 use Rattle.ncp_transcript.specs.declared.call.Call.{Call}
@@ -190,3 +190,7 @@ message_of n cs = message_to n control_link control_size (bits_of_bytes (spellin
 abbrev pub joined : List (List Command) → List Command
 joined [] = []
 joined (cs ∷ css) = cs ++ joined css
+
+-- by all the notes of a peer
+abbrev pub made_of : List HostNote → Made
+made_of all = made_from all new_state nothing_told nothing_made

@@ -2,6 +2,7 @@
 //! of lists of notes alone.
 #![tactic(auto)]
 
+pub mod commands;
 pub mod histories;
 pub mod links;
 pub mod peers;

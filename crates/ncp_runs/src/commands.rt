@@ -1,0 +1,40 @@
+//! The commands that are made for a peer, and the order in which they go out.
+ghost use Rattle.std.specs.Prelude.{◌≡◌, ℕ, Bool, true, false, List, [], ◌∷◌, ◌++◌, map, length, Some};
+ghost use Rattle.ncp_control.specs.declared.command.Command.{Command as Order};
+ghost use Rattle.ncp_model.specs.Phase.{up_phase};
+ghost use Rattle.ncp_host.specs.PeerState.{PeerState, control_link};
+ghost use Rattle.ncp_host.specs.Host.{state_of, new_host};
+ghost use Rattle.ncp_transcript.specs.declared.note.HostNote.{HostNote as Note};
+ghost use Rattle.ncp_transcript.specs.After.{after_notes};
+ghost use Rattle.ncp_runs.specs.Peers.{FromBeginning, notes_of};
+ghost use Rattle.ncp_runs.specs.Links.{told_on};
+ghost use Rattle.ncp_runs.specs.Making.{made_in, struck, sent, settling_made, nothing_made, made_of, fresh_on, message_of, joined};
+ghost use Rattle.ncp_runs.specs.Examples.{message_on_0, message_on_2, lost, held, stray, woken, taken};
+
+use ncp_control::Command;
+
+/// The commands that were made for a peer in any run, less those that clearings struck, are those in the
+/// fresh messages on link 0, followed by those that wait, in order; and as many have gone as are in these
+/// messages.
+pub fn commands_go_out_as_they_were_made()
+    ensures { (me : ℕ) (ns : List ℕ) (all : List Note) (n : ℕ) (s : PeerState) → FromBeginning me ns all → state_of (after_notes all (new_host me ns)) n ≡ Some s → (css : List (List Order)) × (fresh_on control_link (notes_of n all) ≡ map (message_of n) css) × ((made_of (notes_of n all)).all ≡ joined css ++ s.peer.phase.waiting) × ((made_of (notes_of n all)).gone ≡ length (joined css)) }
+{}
+
+/// That this speaks of something: a command that is made stands last; a clearing strikes what has not gone
+/// out, all but RST and RRP; what fits one message goes; and the RRP that is owed is made before the RST
+/// that is wanted.
+pub fn commands_are_made_struck_and_sent()
+    ensures made { made_in (Command.Eco 2) up_phase (record { all = Command.Eco 1 ∷ []; gone = 1 }) ≡ record { all = Command.Eco 1 ∷ Command.Eco 2 ∷ []; gone = 1 } }
+    ensures struck { struck (record { all = Command.Eco 1 ∷ Command.Eco 2 ∷ Command.Rrp ∷ []; gone = 1 }) ≡ record { all = Command.Eco 1 ∷ Command.Rrp ∷ []; gone = 1 } }
+    ensures sent { sent (record { all = Command.Eco 1 ∷ Command.Eco 2 ∷ Command.Rrp ∷ []; gone = 1 }) ≡ record { all = Command.Eco 1 ∷ Command.Eco 2 ∷ Command.Rrp ∷ []; gone = 3 } }
+    ensures settled { settling_made true (record up_phase { owe = true; want = true }) nothing_made ≡ record { all = Command.Rrp ∷ Command.Rst ∷ []; gone = 0 } }
+    ensures waits { settling_made false (record up_phase { owe = true; want = true }) nothing_made ≡ nothing_made }
+{}
+
+/// A message that goes out again is no fresh one: of those on link 0 there is one, however often it was lost
+/// or held.
+pub fn a_message_is_fresh_once()
+    ensures control { fresh_on 0 (held ++ stray ++ woken ++ taken) ≡ message_on_0 ∷ [] }
+    ensures text { fresh_on 2 (held ++ stray ++ woken ++ taken) ≡ message_on_2 ∷ [] }
+    ensures last { (told_on 0 lost).fresh ≡ message_on_0 }
+{}
