@@ -1,7 +1,7 @@
 -- The books of a receiving end agree with its history, after each note.
-use Rattle.std.proofs.Common.{◌≡◌, ℕ, ◌==◌, Bool, true, false, cond, ◌&&◌, if◌then◌else◌, List, [], ◌∷◌, take, Option, None, Some, Result, Ok, Err, refl, sym, ap, ◌∙◌, subst, arith}
+use Rattle.std.proofs.Common.{◌≡◌, ℕ, ◌==◌, Bool, true, false, cond, if◌then◌else◌, List, [], ◌∷◌, take, Option, None, Some, Result, Ok, Err, refl, sym, ap, ◌∙◌, subst, arith}
 use Rattle.std.proofs.lemmas.Bool.{eqb-true, and_parts}
-use Rattle.std.specs.FinMap.{get, insert, remove, get-insert, get-remove, get-empty}
+use Rattle.std.specs.FinMap.{get, get-insert, get-remove, get-empty}
 use Rattle.std.specs.Ordering.{eq_by_cmp}
 use Rattle.std.proofs.lemmas.Map.Views.{tells_apart}
 use Rattle.ncp_bits.specs.Bits.{bytes_of}
@@ -22,12 +22,11 @@ use Rattle.ncp_slot.specs.Slots.{LinkSlot, LinkSlots, slot_at, with_slot, is_qui
 use Rattle.ncp_model.specs.declared.pair.Pair.{Pair}
 use Rattle.ncp_model.specs.Pairs.{same, sends, receives, pair_cmp}
 use Rattle.ncp_model.specs.End.{End}
-use Rattle.ncp_model.specs.Act.{Act, answer, end_after}
+use Rattle.ncp_model.specs.Act.{Act, end_after}
 use Rattle.ncp_model.specs.Texts as texts
-use Rattle.ncp_model.specs.Ends.{Ends, uses_link, hears_link, pair_of, end_of, receiver_on, sender_on, leads_to, hear, text_in, cut_in, answered_in, map_after, map_after_at, no_ends, put}
-use Rattle.ncp_model.specs.Happenings.{Happening, Text_comes, happens, happened, of_hearing, of_text}
+use Rattle.ncp_model.specs.Ends.{Ends, uses_link, hears_link, pair_of, receiver_on, sender_on, leads_to, hear, text_in, cut_in, answered_in, map_after, map_after_at, no_ends, put}
+use Rattle.ncp_model.specs.Happenings.{Happening, Text_comes, happens}
 use Rattle.ncp_model.specs.Texts.{made_by_text, hear_text}
-use Rattle.ncp_model.specs.Act.{made_by_hearing}
 use Rattle.ncp_model.specs.Leading.{suits, comes}
 use Rattle.ncp_model.specs.Phase.{Phase, up, is_resetting, resets}
 use Rattle.ncp_model.specs.Sending.{is_full}

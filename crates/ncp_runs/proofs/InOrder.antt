@@ -1,9 +1,7 @@
 -- Commands go out in the order in which they were made, note by note.
 use Rattle.std.proofs.Common.{◌≡◌, ℕ, ◌==◌, Bool, true, false, if◌then◌else◌, List, [], ◌∷◌, ◌++◌, map, length, take, drop, Option, None, Some, Result, Ok, Err, inl, inr, refl, sym, ap, ◌∙◌, subst}
 use Rattle.std.proofs.lemmas.List.{append_assoc, append-nil, map-append}
-use Rattle.std.proofs.lemmas.Bool.{eqb-true}
 use Rattle.std.proofs.lemmas.Bool.Decides.{eqb_tells}
-use Rattle.std.specs.List.{filter}
 use Rattle.ncp_bits.specs.Bits.{bytes_of}
 use Rattle.ncp_leader.specs.declared.leader.Leader.{Leader}
 use Rattle.ncp_leader.specs.declared.leader.Short.{Short}
@@ -31,15 +29,15 @@ use Rattle.ncp_model.specs.Sending.{is_full, next_commands}
 use Rattle.ncp_model.specs.Peers.{Peer, Ask_to_send, Ask_to_receive, Close, Give, Take, Allocate, Call_back, Interrupt, happened_at}
 use Rattle.ncp_model.specs.Peers as peers
 use Rattle.ncp_host.specs.Counting.{one_more}
-use Rattle.ncp_host.specs.PeerState.{PeerState, new_state, control_link, is_answered, answer_taken, answer_comes, frees_on, after_answer}
+use Rattle.ncp_host.specs.PeerState.{PeerState, control_link, is_answered, answer_taken, answer_comes, frees_on, after_answer}
 use Rattle.ncp_host.specs.Hearing.{control_size, control_after, text_after, is_wrong_link, hears, hears_all, hears_last, message_after}
-use Rattle.ncp_host.specs.Output.{leader_to, control_message, made_on, output_by, output_on, after_made, after_by}
+use Rattle.ncp_host.specs.Output.{control_message, output_by, output_on, after_by}
 use Rattle.ncp_transcript.specs.declared.call.Call.{Call}
 use Rattle.ncp_transcript.specs.declared.call.Call.TheVariants as calls_of
 use Rattle.ncp_transcript.specs.declared.note.HostNote.{HostNote}
 use Rattle.ncp_transcript.specs.declared.note.HostNote.TheVariants as notes
 use Rattle.ncp_runs.specs.Peers.{is_number, called_for, bits_for, out_for, note_for, notes_for, IsOut, IsSaidOf, IsRunOf}
-use Rattle.ncp_runs.specs.Links.{Told, takes_fresh, is_fresh, link_of_leader, told_by, slot_of_answer, slot_told, ready_told}
+use Rattle.ncp_runs.specs.Links.{Told, takes_fresh, is_fresh, link_of_leader, told_by, slot_of_answer}
 use Rattle.ncp_runs.specs.Making.{Made, struck, sent, all_made_in, settling_made, by_pair_call, by_echo, by_reset, by_call, by_command, by_commands, by_fault, by_control, by_text, by_message, by_bits, by_freeing, by_answer, by_answered, by_out, made_by_note, made_from, fresh_by, fresh_from, message_of, joined}
 use Rattle.ncp_runs.proofs.LinksTold.{Tells, ready-is, out-free, note-tells}
 use Rattle.ncp_runs.proofs.MadeOfRuns.{Agrees, all_made-agrees, settling-agrees, asked-agrees, command-agrees, sent-agrees}

@@ -7,20 +7,19 @@ use Rattle.ncp_leader.specs.Leader.{leader_in}
 use Rattle.ncp_slot.specs.declared.slot.Answer.{Answer}
 use Rattle.ncp_slot.specs.declared.slot.Answer.TheVariants.{Dead}
 use Rattle.ncp_slot.specs.Slots.{slot_at}
-use Rattle.ncp_model.specs.Peers.{Peer}
 use Rattle.ncp_host.specs.declared.received.Received.{Received}
 use Rattle.ncp_host.specs.PeerState.{PeerState, new_state}
 use Rattle.ncp_host.specs.Hearing.{answer_received}
-use Rattle.ncp_host.specs.Output.{leader_to, links, output_on, next_of, first_output}
-use Rattle.ncp_host.specs.Host.{Host, state_in, state_of, numbers_of, is_one_of, new_host}
-use Rattle.ncp_host.specs.Turns.{message_in_turn, first_message, next_output}
+use Rattle.ncp_host.specs.Output.{leader_to, links, output_on, next_of}
+use Rattle.ncp_host.specs.Host.{Host, state_in, state_of, is_one_of, new_host}
+use Rattle.ncp_host.specs.Turns.{message_in_turn, first_message}
 use Rattle.ncp_transcript.specs.declared.note.HostNote.{HostNote}
 use Rattle.ncp_transcript.specs.declared.note.HostNote.TheVariants as notes
 use Rattle.ncp_transcript.specs.After.{after_note, after_notes}
 use Rattle.ncp_transcript.specs.Runs.{answer_told, IsSaid, IsRun}
-use Rattle.ncp_runs.specs.Peers.{FromBeginning, names, notes_of, notes_for, IsOut, IsSaidOf}
-use Rattle.ncp_runs.specs.Links.{Told, nothing_told, is_fresh, told_on, slot_told, received_told, ready_told}
-use Rattle.ncp_runs.proofs.States.{is_there, Turn, message_nil, message_cons}
+use Rattle.ncp_runs.specs.Peers.{FromBeginning, notes_of, notes_for}
+use Rattle.ncp_runs.specs.Links.{nothing_told, is_fresh, told_on, slot_told, received_told, ready_told}
+use Rattle.ncp_runs.proofs.States.{is_there, message_cons}
 use Rattle.ncp_runs.proofs.Ready.{none_is}
 use Rattle.ncp_runs.proofs.HostRuns.{Holds, some_same, out-turn, out-is}
 use Rattle.ncp_runs.proofs.EachPeer.{holds-after, new-holds, each_peer}

@@ -1,12 +1,11 @@
 -- What is kept for a link is what its notes say.
-use Rattle.std.proofs.Common.{◌≡◌, ◌≢◌, ℕ, ◌==◌, Bool, true, false, if◌then◌else◌, List, [], ◌∷◌, ◌++◌, Option, None, Some, Result, Ok, Err, inl, inr, refl, sym, ap, ◌∙◌, subst}
-use Rattle.std.proofs.lemmas.Bool.{eqb-true}
+use Rattle.std.proofs.Common.{◌≡◌, ◌≢◌, ℕ, ◌==◌, Bool, true, false, if◌then◌else◌, List, [], ◌∷◌, Option, None, Some, Result, Ok, Err, inl, inr, refl, sym, ap, ◌∙◌, subst}
 use Rattle.std.proofs.lemmas.Bool.Decides.{eqb_tells}
 use Rattle.ncp_leader.specs.declared.leader.Leader.{Leader}
 use Rattle.ncp_leader.specs.declared.leader.Short.{Short}
 use Rattle.ncp_leader.specs.Leader.{leader_in}
 use Rattle.ncp_leader.specs.Message.{message_in}
-use Rattle.ncp_slot.specs.declared.slot.Slot.TheVariants.{Empty, Ready, Travelling, Held}
+use Rattle.ncp_slot.specs.declared.slot.Slot.TheVariants.{Travelling}
 use Rattle.ncp_slot.specs.declared.slot.Answer.{Answer}
 use Rattle.ncp_slot.specs.declared.slot.Answer.TheVariants.{Rfnm, Incomplete, Dead}
 use Rattle.ncp_slot.specs.Slot.{answered, woken, is_travelling}
@@ -15,11 +14,10 @@ use Rattle.ncp_slot.proofs.Places.{slot_at-with_slot_same, slot_at-with_slot_oth
 use Rattle.ncp_slot.proofs.Waking.{slot_at-all_woken}
 use Rattle.ncp_model.specs.Peers.{Peer}
 use Rattle.ncp_host.specs.Counting.{one_more}
-use Rattle.ncp_host.specs.declared.received.Received.{Received}
 use Rattle.ncp_host.specs.declared.received.Received.TheVariants as received
 use Rattle.ncp_host.specs.PeerState.{PeerState, new_state, is_answered, answer_taken, answer_comes}
-use Rattle.ncp_host.specs.Hearing.{answer_received, message_after}
-use Rattle.ncp_host.specs.Output.{leader_to, made_on, output_by, output_on}
+use Rattle.ncp_host.specs.Hearing.{answer_received}
+use Rattle.ncp_host.specs.Output.{made_on, output_by, output_on}
 use Rattle.ncp_transcript.specs.declared.call.Call.{Call}
 use Rattle.ncp_transcript.specs.declared.call.Call.TheVariants as calls_of
 use Rattle.ncp_transcript.specs.declared.note.HostNote.{HostNote}

@@ -1,20 +1,19 @@
 -- What is got is taken or is held; and what a note says was taken is what joins the taken.
-use Rattle.std.proofs.Common.{◌≡◌, ℕ, ◌==◌, ◌+◌, Bool, true, false, cond, if◌then◌else◌, List, [], ◌∷◌, ◌++◌, length, Option, None, Some, Result, Ok, Err, refl, sym, ap, ◌∙◌, subst, arith}
+use Rattle.std.proofs.Common.{◌≡◌, ℕ, ◌==◌, Bool, true, false, cond, if◌then◌else◌, List, [], ◌∷◌, ◌++◌, Option, None, Some, Ok, refl, sym, ap, ◌∙◌, subst, arith}
 use Rattle.std.proofs.lemmas.List.Elements.{filter-append}
 use Rattle.std.specs.FinMap.{get}
-use Rattle.ncp_model.specs.declared.call_fault.CallFault.{CallFault}
 use Rattle.ncp_model.specs.declared.call_fault.CallFault.TheVariants.{NotUp}
 use Rattle.ncp_model.specs.declared.pair.Pair.{Pair}
-use Rattle.ncp_model.specs.Pairs.{same, receives}
+use Rattle.ncp_model.specs.Pairs.{receives}
 use Rattle.ncp_model.specs.End.{End}
 use Rattle.ncp_model.specs.Happenings.{Outcome, Refused, Takes, happens}
 use Rattle.ncp_model.specs.Happenings as all
 use Rattle.ncp_model.specs.Phase.{up}
 use Rattle.ncp_model.specs.Peers.{Take, comes_of, happened_at, reply_of_take}
-use Rattle.ncp_watch.specs.Histories.{Past, no_past, adds, opens, taken_out}
+use Rattle.ncp_watch.specs.Histories.{Past, no_past, opens, taken_out}
 use Rattle.ncp_watch.specs.Books.{Books, BooksAt}
 use Rattle.ncp_host.specs.PeerState.{PeerState, new_state}
-use Rattle.ncp_host.specs.Host.{Host, state_of, new_host, if_known}
+use Rattle.ncp_host.specs.Host.{state_of, new_host, if_known}
 use Rattle.ncp_transcript.specs.declared.call.Call.TheVariants as calls_of
 use Rattle.ncp_transcript.specs.declared.note.HostNote.{HostNote}
 use Rattle.ncp_transcript.specs.declared.note.HostNote.TheVariants as notes
@@ -23,7 +22,7 @@ use Rattle.ncp_transcript.specs.After.{after_notes}
 use Rattle.ncp_runs.specs.Peers.{FromBeginning, names, notes_of, note_for, notes_for}
 use Rattle.ncp_runs.specs.Histories.{past_then, past_at, past_called, past_by, past_from, past_of}
 use Rattle.ncp_runs.proofs.HostRuns.{note-said}
-use Rattle.ncp_runs.proofs.BooksOfRuns.{Kept, same_itself, run-kept, new-kept}
+use Rattle.ncp_runs.proofs.BooksOfRuns.{same_itself, run-kept, new-kept}
 use Rattle.ncp_runs.proofs.InRuns.{before_note, kept_as_noted}
 
 pub books-agree : (me : ℕ) (ns : List ℕ) (all_notes : List HostNote) (n : ℕ) (s : PeerState) (pair : Pair) (e : End) → FromBeginning me ns all_notes → state_of (after_notes all_notes (new_host me ns)) n ≡ Some s → receives pair ≡ true → get s.peer.ends pair ≡ Some e

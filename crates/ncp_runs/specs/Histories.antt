@@ -1,7 +1,7 @@
 -- What the notes of a peer say of a pair of sockets since its connection opened: what was given, got and
 -- taken there, and what was granted, returned and used (the words are this profile's). A history only
 -- watches: no rule asks it.
-use Rattle.std.specs.Prelude.{ℕ, ◌==◌, Bool, if◌then◌else◌, List, [], ◌∷◌, take, Option, None, Some, Result, Ok, Err}
+use Rattle.std.specs.Prelude.{ℕ, ◌==◌, Bool, if◌then◌else◌, List, [], ◌∷◌, take, Option, Some, Result, Ok, Err}
 use Rattle.std.specs.FinMap.{get}
 use Rattle.ncp_bits.specs.Bits.{bytes_of}
 use Rattle.ncp_leader.specs.declared.leader.Leader.{Leader}

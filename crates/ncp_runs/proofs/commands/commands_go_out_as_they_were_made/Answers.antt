@@ -1,5 +1,4 @@
-use Rattle.std.proofs.Common.{◌≡◌, List, [], ◌∷◌, ◌++◌, refl, sym, ap, ◌∙◌}
-use Rattle.ncp_control.specs.declared.command.Command.{Command}
+use Rattle.std.proofs.Common.{[], ◌++◌, refl, sym, ap, ◌∙◌}
 use Rattle.ncp_host.specs.PeerState.{PeerState, new_state, control_link}
 use Rattle.ncp_runs.specs.Peers.{notes_of}
 use Rattle.ncp_runs.specs.Links.{nothing_told}
