@@ -10,3 +10,4 @@ pub mod BooksOfRuns
 pub mod Taken
 pub mod MadeOfRuns
 pub mod InOrder
+pub mod Got

@@ -65,11 +65,11 @@ taken-more p bytes text s past e = go (up s.peer.phase) e
 
 -- One more note.
 
-past-more : (pair : Pair) (before : List HostNote) (note : HostNote) (s : PeerState) (past : Past) → past_from pair (before ++ note ∷ []) s past ≡ past_by pair note (notes_for before s) (past_from pair before s past)
+pub past-more : (pair : Pair) (before : List HostNote) (note : HostNote) (s : PeerState) (past : Past) → past_from pair (before ++ note ∷ []) s past ≡ past_by pair note (notes_for before s) (past_from pair before s past)
 past-more pair [] note s past = refl
 past-more pair (first ∷ before) note s past = past-more pair before note (note_for first s) (past_by pair first s past)
 
-notes-more : (n : ℕ) (before : List HostNote) (note : HostNote) → names n note ≡ true → notes_of n (before ++ note ∷ []) ≡ notes_of n before ++ note ∷ []
+pub notes-more : (n : ℕ) (before : List HostNote) (note : HostNote) → names n note ≡ true → notes_of n (before ++ note ∷ []) ≡ notes_of n before ++ note ∷ []
 notes-more n before note e = filter-append (names n) before (note ∷ []) ∙ ap (λ (b : Bool). notes_of n before ++ cond b (note ∷ []) []) e
 
 took-known : (o : Option PeerState) (n : ℕ) (p : Pair) (bytes : ℕ) (text : List Bool) → told_or_refused (calls_of.Take n p bytes) (notes.Took n p bytes) (if_known o (λ x. reply_of_take (comes_of p (Take bytes) x.peer))) ≡ notes.Took n p bytes text
@@ -77,7 +77,7 @@ took-known : (o : Option PeerState) (n : ℕ) (p : Pair) (bytes : ℕ) (text : L
 took-known None n p bytes text e = absurd (cc)
 took-known (Some s) n p bytes text e = (s, refl)
 
-itself : (n : ℕ) → (n == n) ≡ true
+pub itself : (n : ℕ) → (n == n) ≡ true
 itself n = grind arith
 
 pub taken-noted : (me : ℕ) (ns : List ℕ) (before after : List HostNote) (n : ℕ) (p : Pair) (bytes : ℕ) (text : List Bool) → FromBeginning me ns (before ++ notes.Took n p bytes text ∷ after)

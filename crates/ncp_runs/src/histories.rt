@@ -1,22 +1,25 @@
 //! Pairs of sockets: what was got there since the connection opened is taken or held, and what is
 //! outstanding was granted, and neither returned nor used.
-ghost use Rattle.std.specs.Prelude.{◌≡◌, ℕ, ◌+◌, Bool, true, false, List, [], ◌∷◌, ◌++◌, length, Some};
+ghost use Rattle.std.specs.Prelude.{◌≡◌, ℕ, ◌+◌, Bool, true, false, List, [], ◌∷◌, ◌++◌, length, Some, Ok};
 ghost use Rattle.std.specs.FinMap.{get};
+ghost use Rattle.ncp_leader.specs.declared.leader.Leader.{Leader as Front};
+ghost use Rattle.ncp_leader.specs.Leader.{leader_in};
+ghost use Rattle.ncp_leader.specs.Message.{Message, message_in};
 ghost use Rattle.ncp_model.specs.Pairs.{receives};
 ghost use Rattle.ncp_model.specs.End.{End};
 ghost use Rattle.ncp_model.specs.Rows.{inward, outward, ones, asked_receive, counting, storing};
-ghost use Rattle.ncp_model.specs.Ends.{Ends};
+ghost use Rattle.ncp_model.specs.Ends.{Ends, pair_of, receiver_on};
 ghost use Rattle.ncp_model.specs.Happenings.{happens};
 ghost use Rattle.ncp_model.specs.Happenings as all;
 ghost use Rattle.ncp_watch.specs.Histories.{no_past};
-ghost use Rattle.ncp_host.specs.PeerState.{PeerState};
+ghost use Rattle.ncp_host.specs.PeerState.{PeerState, new_state};
 ghost use Rattle.ncp_host.specs.Host.{state_of, new_host};
 ghost use Rattle.ncp_transcript.specs.declared.note.HostNote.{HostNote as Note};
 ghost use Rattle.ncp_transcript.specs.After.{after_notes};
-ghost use Rattle.ncp_runs.specs.Peers.{FromBeginning, notes_of};
+ghost use Rattle.ncp_runs.specs.Peers.{FromBeginning, notes_of, notes_for};
 ghost use Rattle.ncp_runs.specs.Histories.{past_then, past_at, past_of};
 
-use ncp_host::Pair;
+use ncp_host::{Pair, Received, Took};
 use ncp_transcript::HostNote;
 
 /// At a receiver that has opened and is not left, after any run: what was got is what was taken, followed
@@ -31,6 +34,11 @@ pub fn what_is_got_is_taken_or_held()
 /// What a note says was taken joins what was taken of its pair.
 pub fn what_take_answers_is_taken()
     ensures { (me : ℕ) (ns : List ℕ) (before after : List Note) (n : ℕ) (pair : Pair) (bytes : ℕ) (text : List Bool) → FromBeginning me ns (before ++ HostNote.Took n pair bytes text ∷ after) → (past_of pair (notes_of n (before ++ HostNote.Took n pair bytes text ∷ []))).taken ≡ (past_of pair (notes_of n before)).taken ++ text }
+{}
+
+/// The text of a message that was admitted joins what was got of the pair to which its link leads.
+pub fn what_is_admitted_is_got()
+    ensures { (me : ℕ) (ns : List ℕ) (before after : List Note) (message : List Bool) (leader : Front) (m : Message) (pair : Pair) → FromBeginning me ns (before ++ HostNote.In message (Received.Text Took.Admitted) ∷ after) → leader_in message ≡ Ok leader → message_in message ≡ Ok m → pair_of (receiver_on leader.link (notes_for (notes_of leader.host before) new_state).peer.ends) ≡ Some pair → (past_of pair (notes_of leader.host (before ++ HostNote.In message (Received.Text Took.Admitted) ∷ []))).got ≡ (past_of pair (notes_of leader.host before)).got ++ m.text }
 {}
 
 /// That these laws speak of something: a connection opens, and nothing is left of the one before; a text
