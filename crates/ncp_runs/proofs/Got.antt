@@ -1,5 +1,5 @@
 -- What a note says was admitted is what joins what was got.
-use Rattle.std.proofs.Common.{◌≡◌, ℕ, ◌==◌, Bool, true, false, if◌then◌else◌, List, [], ◌∷◌, ◌++◌, take, length, Option, None, Some, Result, Ok, Err, refl, sym, ap, ◌∙◌, subst, arith}
+use Rattle.std.proofs.Common.{◌≡◌, ℕ, ◌==◌, Bool, true, false, if◌then◌else◌, List, [], ◌∷◌, ◌++◌, take, length, Option, None, Some, Result, Ok, refl, sym, ap, ◌∙◌, subst, arith}
 use Rattle.std.specs.FinMap.{get}
 use Rattle.ncp_bits.specs.Bits.{bytes_of}
 use Rattle.ncp_leader.specs.declared.leader.Leader.{Leader}
@@ -14,22 +14,21 @@ use Rattle.ncp_model.specs.declared.outcomes.Took.TheVariants.{Admitted}
 use Rattle.ncp_model.specs.End.{End}
 use Rattle.ncp_model.specs.Act.{answer}
 use Rattle.ncp_model.specs.Texts.{hear_text}
-use Rattle.ncp_model.specs.Ends.{uses_link, pair_of, end_of, receiver_on, text_in}
+use Rattle.ncp_model.specs.Ends.{uses_link, pair_of, receiver_on}
 use Rattle.ncp_model.specs.Happenings.{Text_comes, happens, of_text}
 use Rattle.ncp_model.specs.Phase.{up}
 use Rattle.ncp_model.proofs.LinksLead.{led}
 use Rattle.ncp_watch.specs.Histories.{Past, no_past, opens, is_admitted}
-use Rattle.ncp_host.specs.declared.received.Received.{Received}
 use Rattle.ncp_host.specs.declared.received.Received.TheVariants as told_of
 use Rattle.ncp_host.specs.PeerState.{PeerState, new_state, control_link, is_answered}
-use Rattle.ncp_host.specs.Hearing.{regular, is_kind, is_wrong_link, control_size, took, message_received, answer_received, received_of}
+use Rattle.ncp_host.specs.Hearing.{regular, is_kind, is_wrong_link, control_size, took, message_received}
 use Rattle.ncp_host.specs.Host.{Host, state_of, new_host}
 use Rattle.ncp_host.specs.Arrivals.{received_with, received_from}
 use Rattle.ncp_transcript.specs.declared.note.HostNote.{HostNote}
 use Rattle.ncp_transcript.specs.declared.note.HostNote.TheVariants as notes
 use Rattle.ncp_transcript.specs.After.{after_notes}
 use Rattle.ncp_runs.specs.Peers.{FromBeginning, is_number, peer_of_leader, names, notes_of, notes_for, IsIn}
-use Rattle.ncp_runs.specs.Histories.{past_then, past_at, past_heard_all, past_text, past_message, past_bits, past_of}
+use Rattle.ncp_runs.specs.Histories.{past_then, past_at, past_heard_all, past_message, past_bits, past_of}
 use Rattle.ncp_runs.proofs.HostRuns.{note-said}
 use Rattle.ncp_runs.proofs.BooksOfRuns.{same_itself}
 use Rattle.ncp_runs.proofs.InRuns.{before_note, kept_as_noted}
@@ -91,9 +90,9 @@ got-noted me ns before after message leader m pair from e f to =
     let h = after_notes before (new_host me ns) in
     let w = came_from leader message h Admitted (ap (λ (r : Result Leader Short). received_with r message h) (sym e) ∙ b.said.1) in
     let named : names leader.host note ≡ true =
-        ap (λ (r : Result Leader Short). is_number leader.host (peer_of_leader r)) e
-        ∙ ap (λ (c : Bool). is_number leader.host (if c then Some leader.host else None)) w.2
-        ∙ itself leader.host in
+    ap (λ (r : Result Leader Short). is_number leader.host (peer_of_leader r)) e
+    ∙ ap (λ (c : Bool). is_number leader.host (if c then Some leader.host else None)) w.2
+    ∙ itself leader.host in
     let s = notes_for (notes_of leader.host before) new_state in
     let is : w.0 ≡ s = kept_as_noted me ns before leader.host w.0 b.from w.1 in
     let said : IsIn (leader_in message) message (told_of.Text Admitted) w.0 = note-said ns note h leader.host w.0 b.holds b.said w.1 named in
