@@ -1,12 +1,12 @@
 -- A host keeps its number and its peers, whatever is done.
-use Rattle.std.proofs.Common.{◌≡◌, ℕ, ◌==◌, Bool, true, false, if◌then◌else◌, List, [], ◌∷◌, map, Option, None, Some, Result, Ok, Err, refl, ap}
+use Rattle.std.proofs.Common.{◌≡◌, ◌<◌, ℕ, suc, ◌==◌, Bool, true, false, ◌||◌, if◌then◌else◌, List, [], ◌∷◌, map, get_or, Option, None, Some, Result, Ok, Err, refl, sym, ap, ◌∙◌, arith}
 use Rattle.ncp_leader.specs.declared.leader.Leader.{Leader}
 use Rattle.ncp_leader.specs.declared.leader.Short.{Short}
 use Rattle.ncp_leader.specs.Leader.{leader_in}
 use Rattle.ncp_model.specs.Peers.{Ask_to_send, Ask_to_receive, Close, Give, Take, Allocate, Call_back, Interrupt}
 use Rattle.ncp_host.specs.PeerState.{PeerState, new_state, calls as calls_pair, calls_echo, calls_reset, calls_wake, answer_comes}
 use Rattle.ncp_host.specs.Output.{next_of}
-use Rattle.ncp_host.specs.Host.{Host, numbers_of, at_peer, changed, new_host, state_of}
+use Rattle.ncp_host.specs.Host.{Host, numbers_of, at_peer, changed, is_one_of, new_host, state_of}
 use Rattle.ncp_host.specs.Hearing.{is_kind, after_bits}
 use Rattle.ncp_host.specs.Arrivals.{after_from, after_with, after_received, one_other}
 use Rattle.ncp_host.specs.Turns.{after_turn, first_goes}
@@ -17,7 +17,7 @@ use Rattle.ncp_transcript.specs.declared.note.HostNote.TheVariants as notes
 use Rattle.ncp_transcript.specs.After.{after_call, after_note}
 use Rattle.ncp_transcript.specs.Runs.{began}
 
-numbers_new : (ns : List ℕ) → numbers_of (map (λ n. (n, new_state)) ns) ≡ ns
+pub numbers_new : (ns : List ℕ) → numbers_of (map (λ n. (n, new_state)) ns) ≡ ns
 numbers_new [] = refl
 numbers_new (n ∷ ns) = ap (λ (ms : List ℕ). n ∷ ms) (numbers_new ns)
 
@@ -93,3 +93,23 @@ began_noted (notes.Waiting peer place command) h = refl
 began_noted (notes.Kept peer link message) h = refl
 began_noted (notes.Ignored ignored) h = refl
 began_noted notes.Nothing h = refl
+
+-- what has begun as another host has its number and its peers
+
+pub same_me : (h after : Host) → began after ≡ began h → after.me ≡ h.me
+same_me h after e = ap (λ (x : Host). x.me) e
+
+pub same_peers : (h after : Host) → began after ≡ began h → numbers_of after.peers ≡ numbers_of h.peers
+same_peers h after e = sym (numbers_new (numbers_of after.peers)) ∙ ap (λ (x : Host). numbers_of x.peers) e ∙ numbers_new (numbers_of h.peers)
+
+same_number : (m n : ℕ) → (m == n) ≡ true → m ≡ n
+same_number m n e = grind arith
+
+-- one of bytes is a byte
+pub one_fits : (ns : List ℕ) → ((k : ℕ) → get_or ns k 0 < 256) → (n : ℕ) → is_one_of n ns ≡ true → n < 256
+one_fits [] fits n e = absurd (cc e)
+one_fits (m ∷ ns) fits n e = go (m == n) refl e (one_fits ns (λ (k : ℕ). fits (suc k)) n)
+  where
+    go : (b : Bool) → (m == n) ≡ b → (b || is_one_of n ns) ≡ true → (is_one_of n ns ≡ true → n < 256) → n < 256
+    go true s e rest = let small : m < 256 = fits 0 in let same : m ≡ n = same_number m n s in omega arith
+    go false s e rest = rest e

@@ -1,13 +1,13 @@
 -- A transcript grows at its end.
-use Rattle.std.proofs.Common.{◌≡◌, ℕ, suc, List, [], ◌∷◌, ◌++◌, length, refl, sym, ap, ◌∙◌, subst}
+use Rattle.std.proofs.Common.{◌≡◌, ◌<◌, ℕ, suc, true, List, [], ◌∷◌, ◌++◌, length, refl, sym, ap, ◌∙◌, subst}
 use Rattle.std.proofs.lemmas.List.{append_assoc, append-nil}
-use Rattle.ncp_host.specs.Host.{Host, new_host}
+use Rattle.ncp_host.specs.Host.{Host, numbers_of, is_one_of, are_peers, new_host}
 use Rattle.ncp_transcript.specs.declared.input.Input.{Input}
 use Rattle.ncp_transcript.specs.declared.note.HostNote.{HostNote}
 use Rattle.ncp_transcript.specs.After.{after_note, after_notes}
 use Rattle.ncp_transcript.specs.Runs.{IsSaid, IsRun, AreNotes, began, IsTranscript}
 use Rattle.ncp_transcript.specs.Alone.{Alone, AreSteps}
-use Rattle.ncp_transcript.proofs.Beginning.{began_new, began_noted}
+use Rattle.ncp_transcript.proofs.Beginning.{numbers_new, began_new, began_noted, same_me, same_peers}
 use Rattle.ncp_transcript.proofs.Saying.{noted_said}
 
 pub after_append : (some more : List HostNote) (h : Host) → after_notes (some ++ more) h ≡ after_notes more (after_notes some h)
@@ -19,13 +19,24 @@ run_append [] more h r rest = rest
 run_append (n ∷ ns) more h r rest = (r.0, run_append ns more (after_note n h) r.1 rest)
 
 -- a new host has an empty transcript
-pub transcript_new : (me : ℕ) (ns : List ℕ) (h : Host) → h ≡ new_host me ns → IsTranscript [] h
-transcript_new me ns h e = record { run = tt; state = e ∙ sym (began_new me ns) ∙ ap began (sym e) }
+pub transcript_new : (me : ℕ) (ns : List ℕ) (h : Host) → are_peers me ns ≡ true → ((n : ℕ) → is_one_of n ns ≡ true → n < 256) → h ≡ new_host me ns → IsTranscript [] h
+transcript_new me ns h good small e =
+    let number : h.me ≡ me = ap (λ (x : Host). x.me) e in
+    let numbers : numbers_of h.peers ≡ ns = ap (λ (x : Host). numbers_of x.peers) e ∙ numbers_new ns in
+    record {
+      peers = ap (λ (n : ℕ). are_peers n (numbers_of h.peers)) number ∙ ap (are_peers me) numbers ∙ good;
+      fits = subst (λ (ms : List ℕ). (n : ℕ) → is_one_of n ms ≡ true → n < 256) (sym numbers) small;
+      run = tt;
+      state = e ∙ sym (began_new me ns) ∙ ap began (sym e);
+    }
 
 pub transcript_grows : (some now : List HostNote) (note : HostNote) (h after : Host) → IsTranscript some h → IsSaid note h → now ≡ some ++ note ∷ [] → after ≡ after_note note h → IsTranscript now after
 transcript_grows some now note h after t said e is =
     let same : began after ≡ began h = ap began is ∙ began_noted note h in
+    let numbers : numbers_of after.peers ≡ numbers_of h.peers = same_peers h after same in
     record {
+      peers = ap (λ (n : ℕ). are_peers n (numbers_of after.peers)) (same_me h after same) ∙ ap (are_peers h.me) numbers ∙ t.peers;
+      fits = subst (λ (ms : List ℕ). (n : ℕ) → is_one_of n ms ≡ true → n < 256) (sym numbers) t.fits;
       run = subst (λ (ns : List HostNote). IsRun ns (began after)) (sym e) (subst (IsRun (some ++ note ∷ [])) (sym same) (run_append some (note ∷ []) (began h) t.run (subst (IsSaid note) t.state said, tt)));
       state = is ∙ ap (after_note note) t.state ∙ sym (after_append some (note ∷ []) (began h)) ∙ ap (after_notes (some ++ note ∷ [])) (sym same) ∙ ap (λ (ns : List HostNote). after_notes ns (began after)) (sym e);
     }

@@ -1,8 +1,8 @@
 -- A run of one host: each note says what the rules say at the state that the notes before it leave.
-use Rattle.std.specs.Prelude.{◌≡◌, ◌⊎◌, ℕ, List, [], ◌∷◌, Option, None, Some}
+use Rattle.std.specs.Prelude.{◌≡◌, ◌⊎◌, ◌<◌, ℕ, true, List, [], ◌∷◌, Option, None, Some}
 use Rattle.ncp_host.specs.declared.received.Received.{Received}
 use Rattle.ncp_host.specs.PeerState.{PeerState}
-use Rattle.ncp_host.specs.Host.{Host, state_of, numbers_of, new_host}
+use Rattle.ncp_host.specs.Host.{Host, state_of, numbers_of, is_one_of, are_peers, new_host}
 use Rattle.ncp_host.specs.Hearing.{answer_received}
 use Rattle.ncp_host.specs.Arrivals.{received_in}
 use Rattle.ncp_host.specs.Turns.{next_output}
@@ -51,7 +51,10 @@ AreNotes inputs rest h = ⊥
 abbrev pub began : Host → Host
 began h = new_host h.me (numbers_of h.peers)
 
--- a transcript: it is a run from there, and has led to the host as it is now
+-- a transcript: a host can have these peers, and each number has a place in a leader; it is a run from the
+-- beginning, and has led to the host as it is now
 pub record IsTranscript (notes : List HostNote) (now : Host) : Type 0 where
+  pub peers : are_peers now.me (numbers_of now.peers) ≡ true
+  pub fits : (n : ℕ) → is_one_of n (numbers_of now.peers) ≡ true → n < 256
   pub run : IsRun notes (began now)
   pub state : now ≡ after_notes notes (began now)
