@@ -7,11 +7,11 @@ use Rattle.std.proofs.lemmas.Bool.{and_parts}
 use Rattle.std.proofs.lemmas.List.Quantifiers.{position-Some}
 use Rattle.std.proofs.lemmas.Iterator.Adapters.{position_from-zero}
 use Rattle.ncp_subnet.specs.declared.transit.Transit.TheVariants.{Free, Accepted, Delivered, Lost, Dead}
-use Rattle.ncp_subnet.specs.Transit.{is_free, is_accepted, undelivered, delivered, answered}
+use Rattle.ncp_subnet.specs.Transit.{is_free, is_accepted, if_accepted, delivered, answered}
 use Rattle.ncp_subnet.specs.Messages.{arriving, answer_about}
 use Rattle.ncp_subnet.specs.Ways.{OnLink, OneWay, leads, on_link, with_link, free_way}
-use Rattle.ncp_subnet.specs.Subnet.{Place, place, place_cmp, InTransit, Subnet, on, put, has_way, transit_at, with_transit, ways_in, hosts_of, subnet_in}
-use Rattle.ncp_subnet.proofs.Places.{same_or_apart, same_everywhere, get-put_same, get-put_other, links-other, links-at, links-set_other, links-same_behind}
+use Rattle.ncp_subnet.specs.Subnet.{Place, place, place_cmp, InTransit, Subnet, on, put, has_way, transit_at, with_transit, OthersStay, ways_in, hosts_of, subnet_in}
+use Rattle.ncp_subnet.proofs.Places.{same_or_apart, same_everywhere, get-put_same, get-put_other, links-other, links-at, links-set_other, links-same_behind, transit_at-same, transit_at-others}
 
 -- a way that leads is one from and to these hosts
 leads-from : (from to : ℕ) (way : OneWay) → leads from to way ≡ true → way.from ≡ from
@@ -114,6 +114,21 @@ changed-found ways all from to link at way transit is f =
       | inr ne ↦ ways-elsewhere ways at link way transit q f.read (λ e. ne (e ∙ there)) ∙ sym (get-put_other (ways_in ways) from to link transit q ne)
     ])
 
+-- what a change makes of a link, and elsewhere
+
+pub transit-changed : (ways : List OneWay) (all : Subnet) (from to link at : ℕ) (way new : OneWay) (change : OnLink → OnLink) → subnet_in ways ≡ all → Found ways from to link at way → new ≡ with_link way link (change (on_link way link)) → transit_at (subnet_in (slice_set ways at new)) from to link ≡ change (transit_at all from to link)
+transit-changed ways all from to link at way new change is f made =
+    ap (λ (w : OneWay). transit_at (subnet_in (slice_set ways at w)) from to link) made
+    ∙ ap (λ (s : Subnet). transit_at s from to link) (changed-found ways all from to link at way (change (on_link way link)) is f)
+    ∙ transit_at-same all from to link (change (on_link way link))
+    ∙ ap change (sym (transit-found ways all from to link at way is f))
+
+pub others-stay : (ways : List OneWay) (all : Subnet) (from to link at : ℕ) (way new : OneWay) (transit : OnLink) → subnet_in ways ≡ all → Found ways from to link at way → new ≡ with_link way link transit → OthersStay all (subnet_in (slice_set ways at new)) from to link
+others-stay ways all from to link at way new transit is f made sender destination other ne =
+    ap (λ (w : OneWay). transit_at (subnet_in (slice_set ways at w)) sender destination other) made
+    ∙ ap (λ (s : Subnet). transit_at s sender destination other) (changed-found ways all from to link at way transit is f)
+    ∙ transit_at-others all from to link transit sender destination other ne
+
 -- Where no way was found.
 
 none-from : (p : OneWay → Bool) (ways : List OneWay) (from : ℕ) → position_from p from ways ≡ None → list_any p ways ≡ false
@@ -140,6 +155,12 @@ pub transit-none : (ways : List OneWay) (all : Subnet) (from to link : ℕ) → 
 unfolding on subnet_in
 transit-none ways all from to link is none =
     ap (λ (s : Subnet). transit_at s from to link) (sym is) ∙ ap (λ (o : Option OnLink). unwrap_or o Free) (ways-none ways from to link (none-leads ways from to none))
+
+-- what changes nothing that is free changes nothing there
+pub transit-kept : (ways : List OneWay) (all : Subnet) (from to link : ℕ) (change : OnLink → OnLink) → subnet_in ways ≡ all → position (leads from to) ways ≡ None → change Free ≡ Free → transit_at all from to link ≡ change (transit_at all from to link)
+transit-kept ways all from to link change is none keeps =
+    let free_there : transit_at all from to link ≡ Free = transit-none ways all from to link is none in
+    free_there ∙ sym keeps ∙ ap change (sym free_there)
 
 -- The ways that there are.
 
@@ -194,7 +215,7 @@ on_false : (b : Bool) (P : Type 0) → b ≡ false → OnTrue b P
 on_false true P e = absurd cc
 on_false false P e = tt
 
-pub when_accepted : (b : Bool) (becomes transit : OnLink) {P : Type 0} → b ≡ is_accepted transit → (undelivered becomes transit ≡ becomes → P) → OnTrue b P
+pub when_accepted : (b : Bool) (becomes transit : OnLink) {P : Type 0} → b ≡ is_accepted transit → (if_accepted becomes transit ≡ becomes → P) → OnTrue b P
 when_accepted b becomes Free {P} e f = on_false b P e
 when_accepted b becomes (Accepted message) e f = on_true b (f refl)
 when_accepted b becomes Delivered {P} e f = on_false b P e
@@ -250,7 +271,7 @@ unchanged ways all link at way new transit is read made same =
     ap (λ (w : OneWay). subnet_in (slice_set ways at w)) (made ∙ ap (with_link way link) same ∙ ap (λ (links : List OnLink). let r : OneWay = record { from = way.from; to = way.to; links = links } in r) (slice_set-same way.links link))
     ∙ ap subnet_in (slice_set-read ways at way read) ∙ is
 
-pub when_not_accepted : (b : Bool) (becomes transit : OnLink) {P : Type 0} → b ≡ is_accepted transit → (undelivered becomes transit ≡ transit → P) → OnFalse b P
+pub when_not_accepted : (b : Bool) (becomes transit : OnLink) {P : Type 0} → b ≡ is_accepted transit → (if_accepted becomes transit ≡ transit → P) → OnFalse b P
 when_not_accepted true becomes Free e f = tt
 when_not_accepted true becomes (Accepted message) e f = tt
 when_not_accepted true becomes Delivered e f = tt

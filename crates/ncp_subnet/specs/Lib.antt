@@ -2,3 +2,4 @@ pub mod Transit
 pub mod Messages
 pub mod Ways
 pub mod Subnet
+pub mod Codes

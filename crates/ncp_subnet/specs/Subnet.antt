@@ -1,15 +1,14 @@
 -- The subnet between hosts: a finite map that has, for each sender, destination and link, what is in
 -- transit there (BBN 1822, section 3). Which hosts there are, and the order of the refusals, are this
 -- profile's.
-use Rattle.std.specs.Prelude.{◌≡◌, ◌≢◌, ℕ, suc, ◌==◌, Bool, false, not, ◌&&◌, List, [], ◌∷◌, map, unwrap_or, refl, nat_eq, if◌then◌else◌}
+use Rattle.std.specs.Prelude.{◌≡◌, ◌≢◌, ℕ, suc, ◌==◌, Bool, false, not, ◌&&◌, List, [], ◌∷◌, map, unwrap_or}
 use Rattle.std.specs.List.{list_any}
 use Rattle.std.specs.declared.cmp.Ordering.{Ordering}
 use Rattle.std.specs.Ordering.{nat_cmp, ordering_then}
-use Rattle.std.specs.Coded.{Coded, code_by, coded×, coded_ℕ, coded_bool, coded_list}
-use Rattle.std.specs.FinMap.{FinMap, code, empty, get, insert}
+use Rattle.std.specs.FinMap.{FinMap, empty, get, insert}
 use Rattle.ncp_subnet.specs.declared.fault.SubnetFault.{SubnetFault}
 use Rattle.ncp_subnet.specs.declared.fault.SubnetFault.TheVariants.{NotRegular, NoHost, Occupied}
-use Rattle.ncp_subnet.specs.declared.transit.Transit.TheVariants.{Free, Accepted, Delivered, Lost, Dead}
+use Rattle.ncp_subnet.specs.declared.transit.Transit.TheVariants.{Free}
 use Rattle.ncp_subnet.specs.Messages.{IsRegular, host_in, link_in}
 use Rattle.ncp_subnet.specs.Ways.{OnLink, OneWay, free_ways}
 
@@ -38,10 +37,11 @@ pub record Subnet : Type 0 where
 abbrev pub has_way : Subnet → ℕ → ℕ → Bool
 has_way subnet from to = list_any (λ way. way.0 == from && way.1 == to) subnet.ways
 
--- they are two of these hosts
+-- it is one of these hosts
 abbrev pub is_one_of : ℕ → List ℕ → Bool
 is_one_of host hosts = list_any (λ other. other == host) hosts
 
+-- they are two of these hosts, and differ
 abbrev pub are_two_of : List ℕ → ℕ → ℕ → Bool
 are_two_of hosts from to = is_one_of from hosts && is_one_of to hosts && not (from == to)
 
@@ -93,35 +93,3 @@ subnet_in ways = record { ways = map hosts_of ways; in_transit = ways_in ways }
 -- a new subnet: nothing is in transit
 unfoldable pub new_subnet : List ℕ → Subnet
 new_subnet hosts = subnet_in (free_ways hosts)
-
--- how these are stored
-abbrev pub coded_place : Coded Place
-coded_place = code_by (ℕ × (ℕ × ℕ)) (coded× coded_ℕ (coded× coded_ℕ coded_ℕ)) (λ p. (p.from, (p.to, p.link))) (λ n. record { from = n.0; to = n.1.0; link = n.1.1 }) (λ _. refl)
-
-abbrev pub transit_parts : OnLink → ℕ × List Bool
-transit_parts Free = (0, [])
-transit_parts (Accepted message) = (1, message)
-transit_parts Delivered = (2, [])
-transit_parts Lost = (3, [])
-transit_parts Dead = (4, [])
-
-abbrev pub transit_of_parts : ℕ × List Bool → OnLink
-transit_of_parts parts =
-    if nat_eq parts.0 0 then Free
-    else if nat_eq parts.0 1 then Accepted parts.1
-    else if nat_eq parts.0 2 then Delivered
-    else if nat_eq parts.0 3 then Lost
-    else Dead
-
-abbrev pub transit_of_parts-transit_parts : (transit : OnLink) → transit_of_parts (transit_parts transit) ≡ transit
-transit_of_parts-transit_parts Free = refl
-transit_of_parts-transit_parts (Accepted message) = refl
-transit_of_parts-transit_parts Delivered = refl
-transit_of_parts-transit_parts Lost = refl
-transit_of_parts-transit_parts Dead = refl
-
-abbrev pub coded_transit : Coded OnLink
-coded_transit = code_by (ℕ × List Bool) (coded× coded_ℕ (coded_list coded_bool)) transit_parts transit_of_parts transit_of_parts-transit_parts
-
-abbrev pub coded_in_transit : Coded InTransit
-coded_in_transit = code coded_place coded_transit

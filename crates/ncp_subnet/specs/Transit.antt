@@ -15,21 +15,21 @@ accepted message Dead = Dead
 
 -- a message that has not come: it comes, it is lost, or it finds its destination dead (this profile: the
 -- caller says which)
-abbrev pub undelivered : {M : Type 0} → Transit M → Transit M → Transit M
-undelivered becomes Free = Free
-undelivered becomes (Accepted message) = becomes
-undelivered becomes Delivered = Delivered
-undelivered becomes Lost = Lost
-undelivered becomes Dead = Dead
+abbrev pub if_accepted : {M : Type 0} → Transit M → Transit M → Transit M
+if_accepted becomes Free = Free
+if_accepted becomes (Accepted message) = becomes
+if_accepted becomes Delivered = Delivered
+if_accepted becomes Lost = Lost
+if_accepted becomes Dead = Dead
 
 abbrev pub delivered : {M : Type 0} → Transit M → Transit M
-delivered transit = undelivered Delivered transit
+delivered transit = if_accepted Delivered transit
 
 abbrev pub lost : {M : Type 0} → Transit M → Transit M
-lost transit = undelivered Lost transit
+lost transit = if_accepted Lost transit
 
 abbrev pub dead : {M : Type 0} → Transit M → Transit M
-dead transit = undelivered Dead transit
+dead transit = if_accepted Dead transit
 
 -- a message that came or will not come is answered, and the next may be accepted
 abbrev pub answered : {M : Type 0} → Transit M → Transit M

@@ -1,5 +1,5 @@
 //! Laws about the subnet, each the contract of a function that does nothing.
-ghost use Rattle.std.specs.Prelude.{◌≡◌, ℕ, Some, None};
+ghost use Rattle.std.specs.Prelude.{◌≡◌, ◌≢◌, ℕ, Some, None};
 ghost use Rattle.ncp_subnet.specs.declared.transit.Transit.{Transit};
 ghost use Rattle.ncp_subnet.specs.Transit.{accepted, delivered, lost, dead, answered, answer_kind, accepted_message};
 ghost use Rattle.ncp_subnet.specs.Ways.{OnLink};
@@ -14,16 +14,21 @@ pub fn places_are_apart()
 {}
 
 /// A message is delivered at most once, and answered once: by Ready For Next Message where it came,
-/// and otherwise only where it will not come.
+/// and otherwise only where it will not come. Until it is answered no other is accepted, and what
+/// has become of it stays.
 pub fn each_message_is_answered_once<M>()
     ensures accepted { (message : M) → accepted message Transit.Free ≡ Transit.Accepted message }
+    ensures full { (message : M) (transit : Transit M) → transit ≢ Transit.Free → accepted message transit ≡ transit }
     ensures once { (message : M) → accepted_message (delivered (Transit.Accepted message)) ≡ None }
     ensures unanswered { (message : M) → answer_kind (Transit.Accepted message) ≡ None }
     ensures came { (message : M) → answer_kind (delivered (Transit.Accepted message)) ≡ Some RFNM }
     ensures lost { (message : M) → answer_kind (lost (Transit.Accepted message)) ≡ Some INCOMPLETE }
     ensures dead { (message : M) → answer_kind (dead (Transit.Accepted message)) ≡ Some DESTINATION_DEAD }
     ensures never { (message : M) → accepted_message (lost (Transit.Accepted message)) ≡ None }
+    ensures never_dead { (message : M) → accepted_message (dead (Transit.Accepted message)) ≡ None }
+    ensures over { (transit : Transit M) → accepted_message transit ≡ None → (delivered transit ≡ transit) × (lost transit ≡ transit) × (dead transit ≡ transit) }
     ensures answered { (transit : Transit M) (kind : ℕ) → answer_kind transit ≡ Some kind → answered transit ≡ Transit.Free }
+    ensures kept { (transit : Transit M) → answer_kind transit ≡ None → answered transit ≡ transit }
 {}
 
 /// The types of messages, by their numbers in the standard.

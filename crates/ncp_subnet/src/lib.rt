@@ -7,7 +7,7 @@
 //! when.
 //!
 //! A contract sees the subnet as a finite map: from a sender, a destination and a link to what is
-//! transit there, and a message as a list of bits.
+//! in transit there, and a message as a list of bits.
 #![tactic(auto)]
 
 mod addressed;

@@ -3,11 +3,11 @@ ghost use Rattle.std.specs.Prelude.{◌≡◌, ◌≢◌, ◌≤◌, ◌<◌, �
 ghost use Rattle.std.specs.List.{position};
 ghost use Rattle.std.specs.Bool.{OnTrue, OnFalse};
 ghost use Rattle.ncp_bits.specs.Reasons.{IsFirst, NoneHolds};
-ghost use Rattle.ncp_subnet.specs.Transit.{is_accepted, is_delivered};
+ghost use Rattle.ncp_subnet.specs.Transit.{is_accepted, is_delivered, delivered, lost, dead, answered};
 ghost use Rattle.ncp_subnet.specs.declared.transit.Transit.{Transit};
 ghost use Rattle.ncp_subnet.specs.Messages.{host_in, link_in, arriving, answer_about};
 ghost use Rattle.ncp_subnet.specs.Ways.{leads, free_ways_from};
-ghost use Rattle.ncp_subnet.specs.Subnet.{are_two_of, has_way, transit_at, with_transit, new_subnet, refusals, Refuses};
+ghost use Rattle.ncp_subnet.specs.Subnet.{are_two_of, has_way, transit_at, with_transit, OthersStay, new_subnet, refusals, Refuses};
 
 use crate::addressed::regular_leader;
 use crate::fault::SubnetFault;
@@ -26,7 +26,8 @@ pub struct Subnet {
 
 impl Model for Subnet {
     ghost use Rattle.std.specs.Coded.{codes};
-    ghost use Rattle.ncp_subnet.specs.Subnet.{Subnet as Seen, coded_in_transit, subnet_in};
+    ghost use Rattle.ncp_subnet.specs.Subnet.{Subnet as Seen, subnet_in};
+    ghost use Rattle.ncp_subnet.specs.Codes.{coded_in_transit};
 
     ghost Value = { Seen };
 
@@ -60,7 +61,8 @@ fn push_ways_from(
 }
 
 impl Subnet {
-    /// The subnet between two hosts, which differ.
+    /// The subnet between two hosts (BBN Report 1822, section 3). Where both are the same no message
+    /// goes. Takes room for 256 messages each way, about 0.5 MiB.
     pub fn new(alloc: Global, a: u8, b: u8) -> Result<Subnet, AllocError>
         ensures subnet { IfOk result (λ subnet. subnet ≡ new_subnet (a ∷ b ∷ [])) }
         ensures hosts { IfOk result (λ subnet. (from to : ℕ) → has_way subnet from to ≡ are_two_of (a ∷ b ∷ []) from to) }
@@ -69,7 +71,9 @@ impl Subnet {
         Subnet::among(alloc, &[a, b])
     }
 
-    /// The subnet between any number of hosts.
+    /// The subnet between any number of hosts, each with each other. A host that is named twice
+    /// counts once in what the subnet does, but takes room twice. Takes room for 256 messages each
+    /// way: about 14 MiB for eight hosts.
     pub fn among(alloc: Global, hosts: &[u8]) -> Result<Subnet, AllocError>
         ensures subnet { IfOk result (λ subnet. subnet ≡ new_subnet hosts.now) }
         ensures hosts { IfOk result (λ subnet. (from to : ℕ) → has_way subnet from to ≡ are_two_of hosts.now from to) }
@@ -84,9 +88,9 @@ impl Subnet {
 
     /// Takes a copy of a message at a host, with the destination and the link of its leader.
     ///
-    /// Refused, in this order: `NotRegular` (shorter than a leader, or of another type), `NoHost`
-    /// (the host and the destination are not two hosts of the subnet), `Occupied` (the last message
-    /// of this link is not answered yet). A refusal changes nothing.
+    /// Refused, in this order (this profile): `NotRegular` (shorter than a leader, or of another
+    /// type), `NoHost` (the host and the destination are not two hosts of the subnet), `Occupied`
+    /// (the last message of this link is not answered yet). A refusal changes nothing.
     pub fn accept(&mut self, from: u8, message: &Bits) -> Result<(), SubnetFault>
         ensures variant { IsOk result ↔ NoneHolds (Refuses self.old from message.now) refusals }
         ensures first { IfErr result (λ fault. IsFirst (Refuses self.old from message.now) refusals fault) }
@@ -106,13 +110,15 @@ impl Subnet {
     }
 
     /// Gives out a message at its destination: the bits that were accepted, with the number of the
-    /// host from which it comes in bits 9 to 16. None, and nothing changes, where no message is
-    /// accepted on this link that has not come, was not lost, and did not find its destination
-    /// dead.
+    /// host from which it comes in bits 9 to 16 (BBN Report 1822, section 3). None, and nothing
+    /// changes, where no message was accepted on this link, or it came, was lost, or found its
+    /// destination dead.
     pub fn deliver(&mut self, from: u8, to: u8, link: u8) -> Option<Bits>
         ensures message { result ≡ arriving from (transit_at self.old from to link) }
         ensures some { IfSome result (λ _. self.new ≡ with_transit self.old from to link Transit.Delivered) }
         ensures none { IfNone result (self.new ≡ self.old) }
+        ensures transit { transit_at self.new from to link ≡ delivered (transit_at self.old from to link) }
+        ensures others { OthersStay self.old self.new from to link }
     {
         let place = way_between(&self.ways, from, to)?;
         self.ways[place].deliver(link)
@@ -124,6 +130,8 @@ impl Subnet {
         ensures told { result ≡ is_accepted (transit_at self.old from to link) }
         ensures lost { OnTrue result (self.new ≡ with_transit self.old from to link Transit.Lost) }
         ensures none { OnFalse result (self.new ≡ self.old) }
+        ensures transit { transit_at self.new from to link ≡ lost (transit_at self.old from to link) }
+        ensures others { OthersStay self.old self.new from to link }
     {
         match way_between(&self.ways, from, to) {
             Some(place) => self.ways[place].lose(link),
@@ -131,12 +139,14 @@ impl Subnet {
         }
     }
 
-    /// Finds the destination dead of a message that was accepted and has not come. False, and
-    /// nothing changes, where there is none.
+    /// The destination of a message is dead that was accepted and has not come. False, and nothing
+    /// changes, where there is none.
     pub fn dead(&mut self, from: u8, to: u8, link: u8) -> bool
         ensures told { result ≡ is_accepted (transit_at self.old from to link) }
         ensures dead { OnTrue result (self.new ≡ with_transit self.old from to link Transit.Dead) }
         ensures none { OnFalse result (self.new ≡ self.old) }
+        ensures transit { transit_at self.new from to link ≡ dead (transit_at self.old from to link) }
+        ensures others { OthersStay self.old self.new from to link }
     {
         match way_between(&self.ways, from, to) {
             Some(place) => self.ways[place].dead(link),
@@ -147,12 +157,15 @@ impl Subnet {
     /// Gives the answer about a message to the host that sent it, and has done with the message: a
     /// leader with the destination and the link, of type [`RFNM`](crate::RFNM) where the message
     /// came, [`INCOMPLETE`](crate::INCOMPLETE) where it was lost, and
-    /// [`DESTINATION_DEAD`](crate::DESTINATION_DEAD) where it found its destination dead. None, and
-    /// nothing changes, where there is no such message.
+    /// [`DESTINATION_DEAD`](crate::DESTINATION_DEAD) where it found its destination dead (BBN Report
+    /// 1822, section 3). None, and nothing changes, where no message is in transit on this link, or
+    /// it may still come.
     pub fn answer(&mut self, from: u8, to: u8, link: u8) -> Option<Bits>
         ensures answer { result ≡ answer_about to link (transit_at self.old from to link) }
         ensures some { IfSome result (λ _. self.new ≡ with_transit self.old from to link Transit.Free) }
         ensures none { IfNone result (self.new ≡ self.old) }
+        ensures transit { transit_at self.new from to link ≡ answered (transit_at self.old from to link) }
+        ensures others { OthersStay self.old self.new from to link }
     {
         let place = way_between(&self.ways, from, to)?;
         self.ways[place].answer(link)

@@ -135,6 +135,37 @@ fn refuses_in_order(rt: HostRuntime) -> Result<(), Fail> {
 }
 
 #[test]
+fn keeps_what_became_of_a_message(rt: HostRuntime) -> Result<(), Fail> {
+    let mut subnet = Subnet::new(rt.alloc(), 1, 2)?;
+    assert!(rt; subnet.deliver(1, 2, 0).is_none() && !subnet.dead(1, 2, 0));
+    for link in [0, 2, 3] {
+        assert!(rt; subnet.accept(1, &message(&rt, &[0, 2, link, 0])).is_ok());
+    }
+    assert!(rt; subnet.deliver(1, 2, 0).is_some() && subnet.lose(1, 2, 2) && subnet.dead(1, 2, 3));
+    for link in [0, 2, 3] {
+        assert_eq!(rt;
+            subnet.accept(1, &message(&rt, &[0, 2, link, 0])),
+            Err(SubnetFault::Occupied)
+        );
+    }
+    assert!(rt; !subnet.lose(1, 2, 2) && !subnet.dead(1, 2, 2) && !subnet.dead(1, 2, 3));
+    Ok(())
+}
+
+// The answer has neither.
+#[test]
+fn delivers_flags_and_low_field(rt: HostRuntime) -> Result<(), Fail> {
+    let mut subnet = Subnet::new(rt.alloc(), 1, 2)?;
+    let sent = message(&rt, &[0x10, 0x02, 0x0a, 0x05]);
+    assert!(rt; subnet.accept(1, &sent).is_ok());
+    let comes = message(&rt, &[0x10, 0x01, 0x0a, 0x05]);
+    assert!(rt; is(subnet.deliver(1, 2, 0x0a), &comes));
+    let answer = message(&rt, &[0x05, 0x02, 0x0a, 0x00]);
+    assert!(rt; is(subnet.answer(1, 2, 0x0a), &answer));
+    Ok(())
+}
+
+#[test]
 fn keeps_ways_apart(rt: HostRuntime) -> Result<(), Fail> {
     let hosts = [1, 2, 3, 4, 5, 6, 7, 8];
     let mut subnet = Subnet::among(rt.alloc(), &hosts)?;

@@ -6,7 +6,7 @@ use crate::addressed::{DESTINATION_DEAD, INCOMPLETE, RFNM};
 use std::mem;
 
 /// What the subnet has for a link from one host to another: at most one message that is not
-/// answered yet.
+/// answered yet (BBN Report 1822, section 3). Contracts speak of it; no call takes or gives one.
 #[derive(Debug, Drop)]
 pub enum Transit<M> {
     /// No message.

@@ -1,9 +1,9 @@
-use Rattle.std.proofs.Common.{◌≡◌, ◌∙◌, sym, ap, ℕ, slice_set}
+use Rattle.std.proofs.Common.{◌≡◌, ◌∙◌, refl, sym, ap, ℕ, slice_set}
 use Rattle.ncp_subnet.specs.Transit.{answered}
 use Rattle.ncp_subnet.specs.Messages.{answer_about}
 use Rattle.ncp_subnet.specs.Ways.{OneWay, on_link}
 use Rattle.ncp_subnet.specs.Subnet.{transit_at, with_transit, subnet_in}
-use Rattle.ncp_subnet.proofs.Rows.{Found, found-by, none-by, transit-found, changed-found, transit-none, unchanged, when_not_answered, to-found, when_answered}
+use Rattle.ncp_subnet.proofs.Rows.{Found, found-by, none-by, transit-found, changed-found, transit-none, transit-changed, transit-kept, others-stay, unchanged, when_not_answered, to-found, when_answered}
 use Rattle.ncp_subnet.proofs.subnet.Subnet.answer.Goals as goal
 
 -- the way that was found, as it was
@@ -32,3 +32,13 @@ returns-in_err-place-clause-answer c = c.from_residual.ensures ∙ sym (ap (answ
 pub returns-clause-none : goal.returns-clause-none
 returns-clause-none c = when_not_answered c.answer.result c.args.to c.args.link (on_link c.index_mut.result.now c.args.link) (given c) (λ is.
     unchanged c.self.inside.ways.items c.args.self.now c.args.link c.in_ok-place.place c.index_mut.result.now c.answer.new.self (answered (on_link c.index_mut.result.now c.args.link)) c.self.view_is c.index_mut.ensures.value c.answer.ensures.way is)
+
+pub returns-clause-transit : goal.returns-clause-transit
+returns-clause-transit c = transit-changed c.self.inside.ways.items c.args.self.now c.args.from c.args.to c.args.link c.in_ok-place.place c.index_mut.result.now c.answer.new.self answered c.self.view_is (found c) c.answer.ensures.way
+
+pub returns-clause-others : goal.returns-clause-others
+returns-clause-others c = others-stay c.self.inside.ways.items c.args.self.now c.args.from c.args.to c.args.link c.in_ok-place.place c.index_mut.result.now c.answer.new.self (answered (on_link c.index_mut.result.now c.args.link)) c.self.view_is (found c) c.answer.ensures.way
+
+pub returns-in_err-place-clause-transit : goal.returns-in_err-place-clause-transit
+returns-in_err-place-clause-transit c = transit-kept c.self.inside.ways.items c.args.self.now c.args.from c.args.to c.args.link answered c.self.view_is
+    (none-by c.deref.result.now c.self.inside.ways.items c.args.from c.args.to c.way_between.result c.deref.ensures.value c.way_between.ensures c.in_err-place.was) refl

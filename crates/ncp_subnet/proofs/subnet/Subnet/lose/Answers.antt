@@ -1,9 +1,9 @@
-use Rattle.std.proofs.Common.{◌≡◌, ◌∙◌, sym, ap, slice_set}
+use Rattle.std.proofs.Common.{◌≡◌, ◌∙◌, refl, sym, ap, slice_set}
 use Rattle.ncp_subnet.specs.declared.transit.Transit.TheVariants.{Lost}
 use Rattle.ncp_subnet.specs.Transit.{is_accepted, lost}
 use Rattle.ncp_subnet.specs.Ways.{OneWay, on_link}
 use Rattle.ncp_subnet.specs.Subnet.{transit_at, with_transit, subnet_in}
-use Rattle.ncp_subnet.proofs.Rows.{Found, found-by, none-by, transit-found, changed-found, transit-none, unchanged, when_not_accepted, when_accepted}
+use Rattle.ncp_subnet.proofs.Rows.{Found, found-by, none-by, transit-found, changed-found, transit-none, transit-changed, transit-kept, others-stay, unchanged, when_not_accepted, when_accepted}
 use Rattle.ncp_subnet.proofs.subnet.Subnet.lose.Goals as goal
 
 -- the way that was found, as it was
@@ -29,3 +29,13 @@ returns-in-None-clause-told c = sym (ap is_accepted (transit-none c.self.inside.
 pub returns-in-Some-clause-none : goal.returns-in-Some-clause-none
 returns-in-Some-clause-none c = when_not_accepted c.lose.result Lost (on_link c.index_mut.result.now c.args.link) c.lose.ensures.told (λ is.
     unchanged c.self.inside.ways.items c.args.self.now c.args.link c.in-Some.place c.index_mut.result.now c.lose.new.self (lost (on_link c.index_mut.result.now c.args.link)) c.self.view_is c.index_mut.ensures.value c.lose.ensures.way is)
+
+pub returns-in-Some-clause-transit : goal.returns-in-Some-clause-transit
+returns-in-Some-clause-transit c = transit-changed c.self.inside.ways.items c.args.self.now c.args.from c.args.to c.args.link c.in-Some.place c.index_mut.result.now c.lose.new.self lost c.self.view_is (found c) c.lose.ensures.way
+
+pub returns-in-Some-clause-others : goal.returns-in-Some-clause-others
+returns-in-Some-clause-others c = others-stay c.self.inside.ways.items c.args.self.now c.args.from c.args.to c.args.link c.in-Some.place c.index_mut.result.now c.lose.new.self (lost (on_link c.index_mut.result.now c.args.link)) c.self.view_is (found c) c.lose.ensures.way
+
+pub returns-in-None-clause-transit : goal.returns-in-None-clause-transit
+returns-in-None-clause-transit c = transit-kept c.self.inside.ways.items c.args.self.now c.args.from c.args.to c.args.link lost c.self.view_is
+    (none-by c.deref.result.now c.self.inside.ways.items c.args.from c.args.to c.way_between.result c.deref.ensures.value c.way_between.ensures c.in-None.is) refl
