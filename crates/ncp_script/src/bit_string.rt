@@ -48,16 +48,18 @@ fn bits_of(word: &[u8], len: usize) -> Option<Bits>
     Bits::from_bytes(bytes.as_slice(), len).ok()
 }
 
-/// The bits of the next words: how many they are, at most [`MAX_BITS`], and their bytes in
-/// hexadecimal of either case, the spare bits zero. For 0 bits no second word is read. Where they
-/// are no bits, the words that are left are not told.
-pub fn bits(words: &mut Words<'_>) -> Option<Bits>
-    ensures { option_map (λ bits. (bits, words.new)) result ≡ bits_first words.old }
-{
-    let len = words.next_number(MAX_BITS as u32)? as usize;
-    if len == 0 {
-        return Some(Bits::new());
+impl<'a> Words<'a> {
+    /// The bits of the next words: how many they are, at most [`MAX_BITS`], and their bytes in
+    /// hexadecimal of either case, the spare bits zero. For 0 bits no second word is read. Where
+    /// they are no bits, the words that are left are not told.
+    pub fn next_bits(&mut self) -> Option<Bits>
+        ensures { option_map (λ bits. (bits, self.new)) result ≡ bits_first self.old }
+    {
+        let len = self.next_number(MAX_BITS as u32)? as usize;
+        if len == 0 {
+            return Some(Bits::new());
+        }
+        let word = self.next_word()?;
+        bits_of(word, len)
     }
-    let word = words.next_word()?;
-    bits_of(word, len)
 }

@@ -5,6 +5,7 @@
 mod arguments;
 mod bit_string;
 mod cut;
+mod equality;
 pub mod laws;
 mod line_buffer;
 mod line_words;
@@ -13,9 +14,8 @@ mod numbers;
 mod tests;
 mod verbs;
 
-pub use arguments::{pair, peer};
-pub use bit_string::bits;
-pub use line_buffer::{KEPT, LineBuffer, LineKind, MAX_LINE};
+pub use equality::{equal_kinds, equal_verbs};
+pub use line_buffer::{LineBuffer, LineKind, MAX_KEPT, MAX_LINE};
 pub use line_words::Words;
-pub use numbers::{MOST_DIGITS, number};
-pub use verbs::{Verb, call_named};
+pub use numbers::MAX_DIGITS;
+pub use verbs::{Verb, verb_named};

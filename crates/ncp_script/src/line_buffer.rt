@@ -11,7 +11,7 @@ use std::marker::Model;
 pub const MAX_LINE: usize = 4096;
 
 /// How many bytes are kept of a line: those of the longest, a CR, and one that is too many.
-pub const KEPT: usize = MAX_LINE + 2;
+pub const MAX_KEPT: usize = MAX_LINE + 2;
 
 /// The byte that ends a line.
 pub(crate) const LF: u8 = b'\n';
@@ -33,11 +33,11 @@ pub enum LineKind {
     Played,
 }
 
-/// The first [`KEPT`] bytes of a line. They come in pieces, and are all that is needed to say what
+/// The first [`MAX_KEPT`] bytes of a line. They come in pieces, and are all that is needed to say what
 /// is to be done with it. It allocates nothing.
 #[derive(Drop)]
 pub struct LineBuffer {
-    bytes: ArrayVec<u8, KEPT>,
+    bytes: ArrayVec<u8, MAX_KEPT>,
 }
 
 impl Model for LineBuffer {
@@ -68,16 +68,18 @@ impl LineBuffer {
     // Bytes of the line come.
     #[tactic(auto, using(crate::proofs::Kept::kept_more))]
     fn add(&mut self, bytes: &[u8])
-        ensures { self.new ≡ take KEPT (self.old ++ bytes.now) }
+        ensures { self.new ≡ take MAX_KEPT (self.old ++ bytes.now) }
     {
         let count = self.bytes.remaining_capacity().min(bytes.len());
         self.bytes.try_extend_from_slice(&bytes[..count]).unwrap();
     }
 
     /// A piece of a script comes: of it the line has what stands before the first LF. It answers
-    /// how many bytes of the piece that is, the LF among them, or that the line goes on.
+    /// how many bytes of the piece that is, the LF among them. None where the piece has no LF: the
+    /// line goes on. After Some the next line begins with [`LineBuffer::clear`]; without it the
+    /// pieces run together.
     pub fn take(&mut self, piece: &[u8]) -> Option<usize>
-        ensures line { self.new ≡ take KEPT (self.old ++ before_first is_lf piece.now) }
+        ensures line { self.new ≡ take MAX_KEPT (self.old ++ before_first is_lf piece.now) }
         ensures used { MatchOption result (position is_lf piece.now ≡ None) (λ used. (place : ℕ) × (position is_lf piece.now ≡ Some place) × (used ≡ place + 1)) }
     {
         match place_of(LF, piece) {
@@ -93,7 +95,7 @@ impl LineBuffer {
     }
 
     /// The bytes of the line, without the one CR that stands before its LF. A last line that no LF
-    /// `ended` has all its bytes.
+    /// `ended` has all its bytes. Of a line that is longer than [`MAX_LINE`] it is a beginning only.
     pub fn text(&self, ended: bool) -> &[u8]
         ensures { result.now ≡ text_of ended self.now }
     {

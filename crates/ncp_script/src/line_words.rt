@@ -1,6 +1,6 @@
 //! `Words`.
 ghost use Rattle.std.specs.Prelude.{◌≡◌, ◌↔◌, IsTrue, [], ◌∷◌, MatchOption, option_map};
-ghost use Rattle.ncp_script.specs.Words.{words_of, number_first};
+ghost use Rattle.ncp_script.specs.Words.{words_of, number_first, largest_u8, largest_u16, largest_u32};
 
 use crate::cut::place_of;
 use crate::numbers::number;
@@ -57,11 +57,36 @@ impl<'a> Words<'a> {
         }
     }
 
-    /// The next word as a number of at most `most`. Where it is none, the words that are left are
-    /// not told.
-    pub fn next_number(&mut self, most: u32) -> Option<u32>
+    // The next word as a number of at most `most`.
+    pub(crate) fn next_number(&mut self, most: u32) -> Option<u32>
         ensures { option_map (λ number. (number, self.new)) result ≡ number_first most self.old }
     {
         number(self.next_word()?, most)
+    }
+
+    /// The next word as a number of 8 bits. Where it is none, the words that are left are not
+    /// told.
+    pub fn next_u8(&mut self) -> Option<u8>
+        ensures { option_map (λ number. (number, self.new)) result ≡ number_first largest_u8 self.old }
+    {
+        let number = self.next_number(u32::from(u8::MAX))?;
+        Some(number as u8)
+    }
+
+    /// The next word as a number of 16 bits. Where it is none, the words that are left are not
+    /// told.
+    pub fn next_u16(&mut self) -> Option<u16>
+        ensures { option_map (λ number. (number, self.new)) result ≡ number_first largest_u16 self.old }
+    {
+        let number = self.next_number(u32::from(u16::MAX))?;
+        Some(number as u16)
+    }
+
+    /// The next word as a number of 32 bits. Where it is none, the words that are left are not
+    /// told.
+    pub fn next_u32(&mut self) -> Option<u32>
+        ensures { option_map (λ number. (number, self.new)) result ≡ number_first largest_u32 self.old }
+    {
+        self.next_number(u32::MAX)
     }
 }

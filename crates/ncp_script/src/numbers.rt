@@ -4,12 +4,12 @@ ghost use Rattle.std.specs.Str.{all_ascii_digits};
 ghost use Rattle.ncp_script.specs.Words.{value_after, number_of};
 
 /// How many digits a number has at most, leading zeros among them.
-pub const MOST_DIGITS: usize = 10;
+pub const MAX_DIGITS: usize = 10;
 
 // The number that digits spell, where all these bytes are digits.
 #[tactic(auto, using(crate::proofs::Digits::value_step, crate::proofs::Digits::digits_step, crate::proofs::Digits::room, crate::proofs::Digits::small_step))]
 fn value_of(word: &[u8]) -> Option<u64>
-    requires { length word.now ≤ MOST_DIGITS }
+    requires { length word.now ≤ MAX_DIGITS }
     ensures { result ≡ (if all_ascii_digits word.now then Some (value_after 0 word.now) else None) }
 {
     let mut value = 0u64;
@@ -22,12 +22,12 @@ fn value_of(word: &[u8]) -> Option<u64>
     Some(value)
 }
 
-/// The number that a word is: one to [`MOST_DIGITS`] decimal digits, leading zeros admitted, of
+/// The number that a word is: one to [`MAX_DIGITS`] decimal digits, leading zeros admitted, of
 /// at most `most`. It has no sign and no prefix.
-pub fn number(word: &[u8], most: u32) -> Option<u32>
+pub(crate) fn number(word: &[u8], most: u32) -> Option<u32>
     ensures { result ≡ number_of most word.now }
 {
-    if word.is_empty() || word.len() > MOST_DIGITS {
+    if word.is_empty() || word.len() > MAX_DIGITS {
         return None;
     }
     let value = value_of(word)?;

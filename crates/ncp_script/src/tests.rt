@@ -1,19 +1,17 @@
 //! What words, numbers and bits of a script are.
 
-use crate::{LineBuffer, LineKind, MAX_LINE, Verb, Words, bits, call_named, number, pair, peer};
+use crate::{LineBuffer, LineKind, MAX_LINE, Verb, Words, verb_named};
 use ncp_bits::Bits;
 use ncp_model::Pair;
 use std::process::Abort;
 
-// The largest number.
-const MOST: u32 = u32::MAX;
-
 #[test]
 fn reads_numbers(rt: HostRuntime) {
-    assert!(rt; number(b"0", MOST) == Some(0));
-    assert!(rt; number(b"0000000007", MOST) == Some(7));
-    assert!(rt; number(b"4294967295", MOST) == Some(4_294_967_295));
-    assert!(rt; number(b"255", 255) == Some(255));
+    assert!(rt; Words::new(b"0").next_u32() == Some(0));
+    assert!(rt; Words::new(b"0000000007").next_u32() == Some(7));
+    assert!(rt; Words::new(b"4294967295").next_u32() == Some(4_294_967_295));
+    assert!(rt; Words::new(b"65535").next_u16() == Some(65535));
+    assert!(rt; Words::new(b"255").next_u8() == Some(255));
 }
 
 #[test]
@@ -25,22 +23,23 @@ fn refuses_what_is_no_number(rt: HostRuntime) {
         b"+7",
         b"-7",
         b"0x7",
-        b"7 ",
+        b" 7",
     ];
     for word in words {
-        assert!(rt; number(word, MOST).is_none());
+        assert!(rt; Words::new(word).next_u32().is_none());
     }
-    assert!(rt; number(b"256", 255).is_none());
+    assert!(rt; Words::new(b"65536").next_u16().is_none());
+    assert!(rt; Words::new(b"256").next_u8().is_none());
 }
 
 #[test]
 fn reads_words(rt: HostRuntime) {
     let mut words = Words::new(b"close 3  2");
     assert!(rt; words.next_word() == Some(b"close".as_slice()));
-    assert!(rt; words.next_number(MOST) == Some(3));
+    assert!(rt; words.next_u32() == Some(3));
     assert!(rt; words.next_word() == Some(b"".as_slice()));
     assert!(rt; !words.is_empty());
-    assert!(rt; words.next_number(MOST) == Some(2));
+    assert!(rt; words.next_u32() == Some(2));
     assert!(rt; words.is_empty());
     assert!(rt; words.next_word().is_none());
 }
@@ -48,7 +47,7 @@ fn reads_words(rt: HostRuntime) {
 // Whether the words of a line are these bits, and no word is left.
 fn are_bits(line: &[u8], bytes: &[u8], len: usize) -> bool {
     let mut words = Words::new(line);
-    let Some(read) = bits(&mut words) else {
+    let Some(read) = words.next_bits() else {
         return false;
     };
     words.is_empty() && Bits::from_bytes(bytes, len).is_ok_and(|wanted| read == wanted)
@@ -77,7 +76,7 @@ fn refuses_what_are_no_bits(rt: HostRuntime) {
         b"x 00",
     ];
     for line in lines {
-        assert!(rt; bits(&mut Words::new(line)).is_none());
+        assert!(rt; Words::new(line).next_bits().is_none());
     }
 }
 
@@ -108,6 +107,21 @@ fn reads_lines(rt: HostRuntime) {
     assert!(rt; is_line(&[b"\n"], true, LineKind::Skipped, b""));
     assert!(rt; is_line(&[b"\r\n"], true, LineKind::Skipped, b""));
     assert!(rt; is_line(&[b"# a reset\n"], true, LineKind::Skipped, b"# a reset"));
+}
+
+// Whether a line that comes one byte at a time is of a kind and says a text.
+fn is_line_of_bytes(bytes: &[u8], kind: LineKind, text: &[u8]) -> bool {
+    let mut line = LineBuffer::new();
+    for byte in bytes {
+        let _used = line.take(&[*byte]);
+    }
+    line.kind(true) == kind && line.text(true) == text
+}
+
+#[test]
+fn reads_lines_byte_by_byte(rt: HostRuntime) {
+    assert!(rt; is_line_of_bytes(b"a reset\r\n", LineKind::Played, b"a reset"));
+    assert!(rt; is_line_of_bytes(b"#..\n", LineKind::Skipped, b"#.."));
 }
 
 #[test]
@@ -143,25 +157,25 @@ fn judges_the_longest_lines(rt: HostRuntime) {
 
 #[test]
 fn names_calls(rt: HostRuntime) {
-    assert!(rt; call_named(b"ask-send") == Some(Verb::AskSend));
-    assert!(rt; call_named(b"ignored") == Some(Verb::Ignored));
-    assert!(rt; call_named(b"ask").is_none());
-    assert!(rt; call_named(b"Reset").is_none());
-    assert!(rt; call_named(b"").is_none());
+    assert!(rt; verb_named(b"ask-send") == Some(Verb::AskSend));
+    assert!(rt; verb_named(b"ignored") == Some(Verb::Ignored));
+    assert!(rt; verb_named(b"ask").is_none());
+    assert!(rt; verb_named(b"Reset").is_none());
+    assert!(rt; verb_named(b"").is_none());
     assert!(rt; Verb::CallBack.word() == "call-back");
 }
 
 #[test]
 fn reads_arguments(rt: HostRuntime) {
     let mut words = Words::new(b"255 3 4294967295");
-    assert!(rt; peer(&mut words, Some(9)) == Some(9));
-    assert!(rt; peer(&mut words, None) == Some(255));
+    assert!(rt; words.next_peer(Some(9)) == Some(9));
+    assert!(rt; words.next_peer(None) == Some(255));
     let wanted = Pair {
         local: 3,
         remote: 4_294_967_295,
     };
-    assert!(rt; pair(&mut words) == Some(wanted));
+    assert!(rt; words.next_pair() == Some(wanted));
     assert!(rt; words.is_empty());
-    assert!(rt; peer(&mut Words::new(b"256"), None).is_none());
-    assert!(rt; pair(&mut Words::new(b"3")).is_none());
+    assert!(rt; Words::new(b"256").next_peer(None).is_none());
+    assert!(rt; Words::new(b"3").next_pair().is_none());
 }

@@ -88,7 +88,7 @@ fn named_among(verbs: &[Verb], word: &[u8]) -> Option<Verb>
 }
 
 /// The call that a word names, if it names one.
-pub fn call_named(word: &[u8]) -> Option<Verb>
+pub fn verb_named(word: &[u8]) -> Option<Verb>
     ensures { result ≡ verb_of word.now }
 {
     named_among(&VERBS, word)
