@@ -35,15 +35,3 @@ abbrev pub takes_memory : Call → Bool
 takes_memory (calls.AskSend peer pair size room) = true
 takes_memory (calls.AskReceive peer pair room) = true
 takes_memory call = false
-
--- a call that only reads
-abbrev pub only_reads : Call → Bool
-only_reads (calls.State peer pair) = true
-only_reads (calls.Phase peer) = true
-only_reads (calls.Echoed peer) = true
-only_reads (calls.Errors peer) = true
-only_reads (calls.Counts peer) = true
-only_reads (calls.Waiting peer place) = true
-only_reads (calls.Kept peer link) = true
-only_reads calls.Ignored = true
-only_reads call = false

@@ -18,8 +18,8 @@ use std::marker::Model;
 
 /// A host with its transcript: one note for each input, in order.
 ///
-/// A note takes at most [`crate::NOTE_BYTES`] bytes, and one with a message those of the message
-/// beside.
+/// A note takes at most [`crate::NOTE_BYTES`] bytes, and beside them those of its message, or of the
+/// ERRs that were read.
 #[derive(Drop)]
 pub struct Alone<S: BitStore> {
     alloc: Global,

@@ -44,6 +44,7 @@ fn answer_in<S: BitStore>(host: &Host<S>, bits: &Bits) -> Option<Leader>
     let Ok(leader) = read_leader(bits) else {
         return None;
     };
+    // phase refuses only a host that is no peer
     if is_answer(leader.kind) && host.phase(leader.host).is_ok() {
         Some(leader)
     } else {

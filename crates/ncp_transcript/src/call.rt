@@ -88,7 +88,8 @@ pub enum Call {
     Counts {
         peer: u8,
     },
-    /// [`ncp_host::Host::waiting`]: the command at a place behind the first, which is at 0.
+    /// [`ncp_host::Host::waiting`]: the command that waits at this place from the front, the first
+    /// at 0.
     Waiting {
         peer: u8,
         place: u32,

@@ -6,7 +6,7 @@ use ncp_model::MAX_ERRORS;
 use std::alloc::{AllocError, Global};
 use std::marker::Model;
 
-/// The errors that came from a peer when they were asked for, oldest first.
+/// The ERRs that were kept of a peer when they were read, oldest first.
 #[derive(Debug, Drop)]
 pub struct ErrorList {
     errors: Vec<Error>,

@@ -7,7 +7,7 @@ use std::alloc::{AllocError, Global};
 use std::marker::Model;
 
 /// How many bytes the bits of the longest message take.
-pub const MAX_BYTES: usize = MAX_BITS / 8;
+pub(crate) const MAX_BYTES: usize = MAX_BITS / 8;
 
 /// The bits of a message, in as many bytes as they need: the bytes are on the heap, eight bits a
 /// byte, the spare bits zero.
@@ -56,6 +56,7 @@ pub(crate) fn pack_in_room(room: Vec<u8>, bits: &Bits) -> Message
     requires { MAX_BYTES ≤ vec_capacity room }
     ensures { result ≡ bits.now }
 {
+    // At most MAX_BITS.
     let _bits = bits.len();
     pack(room, bits)
 }

@@ -17,7 +17,7 @@ pub enum HostNote {
         call: Call,
         fault: CallFault,
     },
-    /// A call that answers no more than this was done.
+    /// A call that answers no more was accepted.
     Done {
         call: Call,
     },
@@ -76,12 +76,13 @@ pub enum HostNote {
     },
     /// The host was asked for output, and no link was ready.
     Nothing,
-    /// These bits came, which are no answer of a peer.
+    /// These bits came, and are no answer that names a peer.
     In {
         message: Message,
         received: Received,
     },
-    /// A peer's IMP answered on a link: by type 5, 9 or 7.
+    /// The answer to a message to this peer on this link: RFNM (type 5), Destination Dead (7) or
+    /// Incomplete Transmission (9). `received` is `Stray` where no message there was unanswered.
     Answered {
         peer: u8,
         link: u8,
@@ -90,7 +91,7 @@ pub enum HostNote {
     },
 }
 
-/// How many bytes a note takes at most, beside those of its message.
+/// How many bytes a note takes at most, beside those of its message or of its ERRs.
 pub const NOTE_BYTES: usize = 64;
 
 const _: () = prove!(size_of::<HostNote>() <= NOTE_BYTES);

@@ -100,6 +100,14 @@ fn is_stray<S: BitStore>(alone: &Alone<S>) -> bool {
     )
 }
 
+/// How many stray answers the last note counts.
+fn strays<S: BitStore>(alone: &Alone<S>) -> Option<u32> {
+    match alone.transcript().last() {
+        Some(HostNote::Counts { counts, .. }) => Some(counts.stray),
+        _ => None,
+    }
+}
+
 /// What the last note says was received.
 fn received<S: BitStore>(alone: &Alone<S>) -> Option<Received> {
     match alone.transcript().last() {
@@ -125,7 +133,7 @@ fn is_up<S: BitStore>(alone: &Alone<S>) -> bool {
     }
 }
 
-// A stray answer, and a second echo before the first is answered.
+// An echo before the host is up, a stray answer, and a second echo before the first is answered.
 fn notes_a_stray_answer_and_an_echo<S: BitStore>(
     rt: &impl Abort,
     alloc: Global,
@@ -134,8 +142,12 @@ fn notes_a_stray_answer_and_an_echo<S: BitStore>(
     let peer = PEER;
     calls(rt, &mut alone, Call::Phase { peer });
     assert!(rt; !is_up(&alone));
+    calls(rt, &mut alone, Call::Echo { peer, byte: 64 });
+    assert!(rt; fault(&alone) == Some(CallFault::NotUp));
     comes(rt, &mut alone, &RFNM);
     assert!(rt; is_stray(&alone));
+    calls(rt, &mut alone, Call::Counts { peer });
+    assert!(rt; strays(&alone) == Some(1));
     comes(rt, &mut alone, &[0, 2, 0, 0, 0, 8, 0, 1, 0, 12]);
     assert!(rt; received(&alone) == Some(Received::Control(1)));
     calls(rt, &mut alone, Call::Phase { peer });
@@ -147,7 +159,7 @@ fn notes_a_stray_answer_and_an_echo<S: BitStore>(
     sends(rt, &mut alone);
     assert!(rt; message(&alone) == Some(bits_of(rt, &[0, 2, 0, 0, 0, 8, 0, 3, 0, 13, 9, 65])));
     sends(rt, &mut alone);
-    assert!(rt; message(&alone) == None && alone.transcript().len() == 8);
+    assert!(rt; message(&alone) == None && alone.transcript().len() == 10);
     Ok(())
 }
 
