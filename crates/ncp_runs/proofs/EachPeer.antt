@@ -133,7 +133,7 @@ new-numbers : (ns : List ℕ) → numbers_of (map (λ n. (n, new_state)) ns) ≡
 new-numbers [] = refl
 new-numbers (n ∷ ns) = ap (λ (xs : List ℕ). n ∷ xs) (new-numbers ns)
 
-new-state : (ns : List ℕ) (n : ℕ) → is_one_of n ns ≡ true → state_in (map (λ n. (n, new_state)) ns) n ≡ Some new_state
+pub new-state : (ns : List ℕ) (n : ℕ) → is_one_of n ns ≡ true → state_in (map (λ n. (n, new_state)) ns) n ≡ Some new_state
 new-state [] n e = absurd (cc)
 new-state (m ∷ ns) n e = go (m == n) e (new-state ns n)
   where

@@ -3,6 +3,7 @@ pub mod Ready
 pub mod PeerRuns
 pub mod HostRuns
 pub mod EachPeer
+pub mod Alone
 pub mod Ignored
 pub mod LinksTold
 pub mod InRuns

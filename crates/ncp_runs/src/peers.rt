@@ -5,17 +5,18 @@ ghost use Rattle.ncp_host.specs.Host.{state_of, is_one_of, new_host};
 ghost use Rattle.ncp_host.specs.Counting.{none_ignored};
 ghost use Rattle.ncp_transcript.specs.declared.note.HostNote.{HostNote as Note};
 ghost use Rattle.ncp_transcript.specs.After.{after_notes};
-ghost use Rattle.ncp_runs.specs.Peers.{FromBeginning, notes_of, notes_for, IsRunOf, ignored_by};
+ghost use Rattle.ncp_transcript.specs.Runs.{IsRun};
+ghost use Rattle.ncp_runs.specs.Peers.{FromBeginning, notes_of, notes_for, ignored_by};
 ghost use Rattle.ncp_runs.specs.Examples.{two_peers};
 
 use ncp_host::{Flags, Ignored};
 use ncp_transcript::{Call, HostNote};
 
 /// What a host keeps for a peer after any run is what the notes of that peer alone make of it, whatever
-/// stands between them; and those notes are a run by themselves.
+/// stands between them; and those notes are a run by themselves, of a host that has this peer alone.
 pub fn each_peer_is_by_itself()
     ensures kept { (me : ℕ) (ns : List ℕ) (all : List Note) (n : ℕ) → FromBeginning me ns all → is_one_of n ns ≡ true → state_of (after_notes all (new_host me ns)) n ≡ Some (notes_for (notes_of n all) new_state) }
-    ensures run { (me : ℕ) (ns : List ℕ) (all : List Note) (n : ℕ) → FromBeginning me ns all → is_one_of n ns ≡ true → IsRunOf n (notes_of n all) new_state }
+    ensures alone { (me : ℕ) (ns : List ℕ) (all : List Note) (n : ℕ) → FromBeginning me ns all → is_one_of n ns ≡ true → IsRun (notes_of n all) (new_host me (n ∷ [])) }
     ensures others { (me you : ℕ) (ns ms : List ℕ) (one other : List Note) (n : ℕ) → FromBeginning me ns one → FromBeginning you ms other → is_one_of n ns ≡ true → is_one_of n ms ≡ true → notes_of n one ≡ notes_of n other → state_of (after_notes one (new_host me ns)) n ≡ state_of (after_notes other (new_host you ms)) n }
 {}
 

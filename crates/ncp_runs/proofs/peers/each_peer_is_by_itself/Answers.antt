@@ -3,13 +3,14 @@ use Rattle.ncp_host.specs.PeerState.{new_state}
 use Rattle.ncp_transcript.specs.declared.note.HostNote.{HostNote}
 use Rattle.ncp_runs.specs.Peers.{notes_for}
 use Rattle.ncp_runs.proofs.EachPeer.{each_peer}
+use Rattle.ncp_runs.proofs.Alone.{alone}
 use Rattle.ncp_runs.proofs.peers.each_peer_is_by_itself.Goals as goal
 
 pub returns-clause-kept : goal.returns-clause-kept
 returns-clause-kept c me ns all n from e = (each_peer me ns all n from e).state
 
-pub returns-clause-run : goal.returns-clause-run
-returns-clause-run c me ns all n from e = (each_peer me ns all n from e).run
+pub returns-clause-alone : goal.returns-clause-alone
+returns-clause-alone c = alone
 
 pub returns-clause-others : goal.returns-clause-others
 returns-clause-others c me you ns ms one other n from from_too e e_too same =
