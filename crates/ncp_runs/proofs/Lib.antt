@@ -9,6 +9,7 @@ pub mod LinksTold
 pub mod InRuns
 pub mod BooksOfRuns
 pub mod Taken
+pub mod Given
 pub mod MadeOfRuns
 pub mod InOrder
 pub mod Got

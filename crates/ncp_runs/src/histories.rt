@@ -20,7 +20,7 @@ ghost use Rattle.ncp_runs.specs.Peers.{FromBeginning, notes_of, notes_for};
 ghost use Rattle.ncp_runs.specs.Histories.{past_then, past_at, past_of};
 
 use ncp_host::{Pair, Received, Took};
-use ncp_transcript::HostNote;
+use ncp_transcript::{Call, HostNote};
 
 /// At a receiver that has opened and is not left, after any run: what was got is what was taken, followed
 /// by what is held; and what is outstanding is what was granted less what was returned and used, of
@@ -34,6 +34,17 @@ pub fn what_is_got_is_taken_or_held()
 /// What a note says was taken joins what was taken of its pair.
 pub fn what_take_answers_is_taken()
     ensures { (me : ℕ) (ns : List ℕ) (before after : List Note) (n : ℕ) (pair : Pair) (bytes : ℕ) (text : List Bool) → FromBeginning me ns (before ++ HostNote.Took n pair bytes text ∷ after) → (past_of pair (notes_of n (before ++ HostNote.Took n pair bytes text ∷ []))).taken ≡ (past_of pair (notes_of n before)).taken ++ text }
+{}
+
+/// What a user gave by a call that was done joins what was given of its pair.
+pub fn what_give_takes_is_given()
+    ensures { (me : ℕ) (ns : List ℕ) (before after : List Note) (n : ℕ) (pair : Pair) (text : List Bool) → FromBeginning me ns (before ++ HostNote.Done (Call.Give n pair text) ∷ after) → (past_of pair (notes_of n (before ++ HostNote.Done (Call.Give n pair text) ∷ []))).given ≡ (past_of pair (notes_of n before)).given ++ text }
+{}
+
+/// What a user allocated by a call that was done joins what was granted to its pair, messages and bits.
+pub fn what_is_allocated_is_granted()
+    ensures messages { (me : ℕ) (ns : List ℕ) (before after : List Note) (n : ℕ) (pair : Pair) (messages bits : ℕ) → FromBeginning me ns (before ++ HostNote.Done (Call.Allocate n pair messages bits) ∷ after) → (past_of pair (notes_of n (before ++ HostNote.Done (Call.Allocate n pair messages bits) ∷ []))).granted_messages ≡ (past_of pair (notes_of n before)).granted_messages + messages }
+    ensures bits { (me : ℕ) (ns : List ℕ) (before after : List Note) (n : ℕ) (pair : Pair) (messages bits : ℕ) → FromBeginning me ns (before ++ HostNote.Done (Call.Allocate n pair messages bits) ∷ after) → (past_of pair (notes_of n (before ++ HostNote.Done (Call.Allocate n pair messages bits) ∷ []))).granted_bits ≡ (past_of pair (notes_of n before)).granted_bits + bits }
 {}
 
 /// The text of a message that was admitted joins what was got of the pair to which its link leads.
