@@ -1,5 +1,5 @@
 -- The notes of one peer are a run of a host that has this peer alone.
-use Rattle.std.proofs.Common.{◌≡◌, ◌⊎◌, ℕ, ◌<◌, ◌==◌, Bool, true, false, cond, ◌||◌, if◌then◌else◌, List, [], ◌∷◌, Option, None, Some, Result, Ok, Err, inl, inr, refl, sym, ap, ◌∙◌, subst, arith}
+use Rattle.std.proofs.Common.{◌≡◌, ℕ, ◌<◌, ◌==◌, Bool, true, false, cond, ◌||◌, if◌then◌else◌, List, [], ◌∷◌, Option, None, Some, Result, Ok, Err, inl, inr, refl, sym, ap, ◌∙◌, subst, arith}
 use Rattle.std.proofs.lemmas.Bool.{eqb-true}
 use Rattle.ncp_leader.specs.declared.leader.Leader.{Leader}
 use Rattle.ncp_leader.specs.declared.leader.Short.{Short}
@@ -8,9 +8,9 @@ use Rattle.ncp_model.specs.declared.pair.Pair.{Pair}
 use Rattle.ncp_model.specs.Phase.{reset_answer}
 use Rattle.ncp_model.specs.Peers.{Call as Pair_call, Ask_to_send, Ask_to_receive, Close, Give, Take, Allocate, Call_back, Interrupt, comes_of, reply, reply_of_take, reply_of_echo}
 use Rattle.ncp_conn.specs.Records.{record_in}
-use Rattle.ncp_host.specs.PeerState.{PeerState, new_state}
+use Rattle.ncp_host.specs.PeerState.{PeerState}
 use Rattle.ncp_host.specs.Hearing.{regular, is_kind}
-use Rattle.ncp_host.specs.Output.{leader_to, next_of}
+use Rattle.ncp_host.specs.Output.{next_of}
 use Rattle.ncp_host.specs.Host.{Host, state_in, state_of, numbers_of, is_one_of, new_host, if_known}
 use Rattle.ncp_host.specs.Calls.{record_answer, flags_of, waiting_at, kept_for}
 use Rattle.ncp_host.specs.Arrivals.{received_from, received_with}
@@ -26,7 +26,7 @@ use Rattle.ncp_transcript.specs.After.{after_note}
 use Rattle.ncp_transcript.specs.Noting.{is_answer, if_peer, answer_with, IsWant}
 use Rattle.ncp_transcript.specs.Runs.{answer_told, IsSaid, IsRun}
 use Rattle.ncp_runs.specs.Peers.{FromBeginning, peer_of_call, peer_of_leader, is_number, names, notes_of, note_for}
-use Rattle.ncp_runs.proofs.States.{done, message_cons, Turn}
+use Rattle.ncp_runs.proofs.States.{done, message_cons}
 use Rattle.ncp_runs.proofs.HostRuns.{Holds, some_same, out-turn, out-leader, note-state}
 use Rattle.ncp_runs.proofs.EachPeer.{holds-after, new-holds, new-state}
 

@@ -37,8 +37,8 @@ use Rattle.ncp_transcript.specs.declared.call.Call.TheVariants as calls_of
 use Rattle.ncp_transcript.specs.declared.note.HostNote.{HostNote}
 use Rattle.ncp_transcript.specs.declared.note.HostNote.TheVariants as notes
 use Rattle.ncp_runs.specs.Peers.{is_number, called_for, bits_for, out_for, note_for, notes_for, IsOut, IsSaidOf, IsRunOf}
-use Rattle.ncp_runs.specs.Links.{Told, takes_fresh, is_fresh, link_of_leader, told_by, slot_of_answer}
-use Rattle.ncp_runs.specs.Making.{Made, struck, sent, all_made_in, settling_made, by_pair_call, by_echo, by_reset, by_call, by_command, by_commands, by_fault, by_control, by_text, by_message, by_bits, by_freeing, by_answer, by_answered, by_out, made_by_note, made_from, fresh_by, fresh_from, message_of, joined}
+use Rattle.ncp_runs.specs.Links.{LinkHistory, takes_fresh, is_fresh, link_of_leader, told_by, slot_of_answer, fresh_by, fresh_from}
+use Rattle.ncp_runs.specs.Making.{Made, struck, sent, all_made_in, settling_made, by_pair_call, by_echo, by_reset, by_call, by_command, by_commands, by_fault, by_control, by_text, by_message, by_bits, by_freeing, by_answer, by_answered, by_out, made_by_note, made_from, message_of, joined}
 use Rattle.ncp_runs.proofs.LinksTold.{Tells, ready-is, out-free, note-tells}
 use Rattle.ncp_runs.proofs.MadeOfRuns.{Agrees, all_made-agrees, settling-agrees, asked-agrees, command-agrees, sent-agrees}
 
@@ -154,7 +154,7 @@ commands-message : (n : ℕ) (cs : List Command) (message : List Bool) → contr
 commands-message n [] message e = absurd (cc)
 commands-message n (c ∷ cs) message e = cc
 
-module _ (n : ℕ) (message : List Bool) (s : PeerState) (t : Told) (l : Made) (g : List Command) (tells : Tells control_link s t) (a : Agrees l s.peer.phase.waiting g) where
+module _ (n : ℕ) (message : List Bool) (s : PeerState) (t : LinkHistory) (l : Made) (g : List Command) (tells : Tells control_link s t) (a : Agrees l s.peer.phase.waiting g) where
   -- it is the one that is ready on link 0
   control-went : output_on n control_link s ≡ Some message → Went n (if is_fresh t then message ∷ [] else []) (if is_fresh t then sent l else l) (after_by (slot_at s.slots control_link) control_link s.peer).phase.waiting g
   control-went ready = go t.answer refl
@@ -209,7 +209,7 @@ module _ (n : ℕ) (message : List Bool) (s : PeerState) (t : Told) (l : Made) (
             (subst (λ (xs : List Command). Went n [] l xs g) (sym (other-waits p.on (slot_at s.slots p.on) there.0)) (none-went n l s.peer.phase.waiting g a))
       ])
 
-note-went : (n : ℕ) (note : HostNote) (s : PeerState) (t : Told) (l : Made) (g : List Command) → IsSaidOf n note s → Tells control_link s t → Agrees l s.peer.phase.waiting g
+note-went : (n : ℕ) (note : HostNote) (s : PeerState) (t : LinkHistory) (l : Made) (g : List Command) → IsSaidOf n note s → Tells control_link s t → Agrees l s.peer.phase.waiting g
     → Went n (fresh_by control_link note t) (made_by_note note s t l) (note_for note s).peer.phase.waiting g
 note-went n (notes.Refused call fault) s t l g p e a = none-went n l s.peer.phase.waiting g a
 note-went n (notes.Done call) s t l g p e a = none-went n (by_call call s l) (called_for call s).peer.phase.waiting g (call-agrees g call s l a)
@@ -231,7 +231,7 @@ joined-append : (xs ys : List (List Command)) → joined (xs ++ ys) ≡ joined x
 joined-append [] ys = refl
 joined-append (x ∷ xs) ys = ap (λ (zs : List Command). x ++ zs) (joined-append xs ys) ∙ sym (append_assoc x (joined xs) (joined ys))
 
-pub run-went : (n : ℕ) (all : List HostNote) (s : PeerState) (t : Told) (l : Made) (g : List Command) → IsRunOf n all s → Tells control_link s t → Agrees l s.peer.phase.waiting g
+pub run-went : (n : ℕ) (all : List HostNote) (s : PeerState) (t : LinkHistory) (l : Made) (g : List Command) → IsRunOf n all s → Tells control_link s t → Agrees l s.peer.phase.waiting g
     → Went n (fresh_from control_link all t) (made_from all s t l) (notes_for all s).peer.phase.waiting g
 run-went n [] s t l g p e a = none-went n l s.peer.phase.waiting g a
 run-went n (note ∷ rest) s t l g p e a =

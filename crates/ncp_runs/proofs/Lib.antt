@@ -7,6 +7,7 @@ pub mod Alone
 pub mod Ignored
 pub mod LinksTold
 pub mod InRuns
+pub mod Quiet
 pub mod BooksOfRuns
 pub mod Taken
 pub mod Given

@@ -12,6 +12,7 @@ use Rattle.ncp_model.specs.Phase.{up}
 use Rattle.ncp_model.specs.Peers.{Take, comes_of, happened_at, reply_of_take}
 use Rattle.ncp_watch.specs.Histories.{Past, no_past, opens, taken_out}
 use Rattle.ncp_watch.specs.Books.{Books, BooksAt}
+use Rattle.ncp_watch.specs.Sound.{Sound, SoundAt}
 use Rattle.ncp_host.specs.PeerState.{PeerState, new_state}
 use Rattle.ncp_host.specs.Host.{state_of, new_host, if_known}
 use Rattle.ncp_transcript.specs.declared.call.Call.TheVariants as calls_of
@@ -31,6 +32,14 @@ books-agree me ns all_notes n s pair e from there r is =
     let k = run-kept pair r (notes_of n all_notes) new_state no_past (new-kept pair r) in
     subst (λ (o : Option End). BooksAt o (past_of pair (notes_of n all_notes)))
     (ap (λ (x : PeerState). get x.peer.ends pair) (sym (kept_as_noted me ns all_notes n s from there)) ∙ is) k.1
+
+-- it is sound
+pub sound-there : (me : ℕ) (ns : List ℕ) (all_notes : List HostNote) (n : ℕ) (s : PeerState) (pair : Pair) (e : End) → FromBeginning me ns all_notes → state_of (after_notes all_notes (new_host me ns)) n ≡ Some s → receives pair ≡ true → get s.peer.ends pair ≡ Some e
+    → Sound pair e
+sound-there me ns all_notes n s pair e from there r is =
+    let k = run-kept pair r (notes_of n all_notes) new_state no_past (new-kept pair r) in
+    subst (λ (o : Option End). SoundAt pair o)
+    (ap (λ (x : PeerState). get x.peer.ends pair) (sym (kept_as_noted me ns all_notes n s from there)) ∙ is) k.0
 
 -- Taking.
 

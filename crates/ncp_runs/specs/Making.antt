@@ -39,7 +39,7 @@ use Rattle.ncp_transcript.specs.declared.call.Call.TheVariants as calls
 use Rattle.ncp_transcript.specs.declared.note.HostNote.{HostNote}
 use Rattle.ncp_transcript.specs.declared.note.HostNote.TheVariants as notes
 use Rattle.ncp_runs.specs.Peers.{is_number, note_for}
-use Rattle.ncp_runs.specs.Links.{Told, nothing_told, is_fresh, link_of_leader, told_by}
+use Rattle.ncp_runs.specs.Links.{LinkHistory, nothing_told, is_fresh, link_of_leader, told_by}
 
 pub record Made : Type 0 where
   pub all : List Command  -- made, and not struck; the oldest first
@@ -155,10 +155,10 @@ by_answered on how s l = if is_answered on s then by_answer on how (with_slot s.
 
 -- By each note: what goes out fresh on link 0 takes the next of what was made.
 
-abbrev pub by_out : Result Leader Short → Told → Made → Made
+abbrev pub by_out : Result Leader Short → LinkHistory → Made → Made
 by_out r t l = if is_number control_link (link_of_leader r) then (if is_fresh t then sent l else l) else l
 
-abbrev pub made_by_note : HostNote → PeerState → Told → Made → Made
+abbrev pub made_by_note : HostNote → PeerState → LinkHistory → Made → Made
 made_by_note (notes.Done call) s t l = by_call call s l
 made_by_note (notes.Took peer pair bytes text) s t l = by_pair_call pair (Take bytes) s l
 made_by_note (notes.Out message) s t l = by_out (leader_in message) t l
@@ -166,22 +166,9 @@ made_by_note (notes.In message told) s t l = by_bits (leader_in message) message
 made_by_note (notes.Answered peer link how told) s t l = by_answered link how s l
 made_by_note other s t l = l
 
-abbrev pub made_from : List HostNote → PeerState → Told → Made → Made
+abbrev pub made_from : List HostNote → PeerState → LinkHistory → Made → Made
 made_from [] s t l = l
 made_from (note ∷ rest) s t l = made_from rest (note_for note s) (told_by control_link note t) (made_by_note note s t l)
-
--- The fresh messages of a link.
-
-abbrev pub fresh_by : ℕ → HostNote → Told → List (List Bool)
-fresh_by on (notes.Out message) t = if is_number on (link_of_leader (leader_in message)) then (if is_fresh t then message ∷ [] else []) else []
-fresh_by on note t = []
-
-abbrev pub fresh_from : ℕ → List HostNote → Told → List (List Bool)
-fresh_from on [] t = []
-fresh_from on (note ∷ rest) t = fresh_by on note t ++ fresh_from on rest (told_by on note t)
-
-abbrev pub fresh_on : ℕ → List HostNote → List (List Bool)
-fresh_on on all = fresh_from on all nothing_told
 
 -- the control message of commands, and the commands of several, one after the other
 abbrev pub message_of : ℕ → List Command → List Bool

@@ -7,8 +7,8 @@ ghost use Rattle.ncp_host.specs.Host.{state_of, new_host};
 ghost use Rattle.ncp_transcript.specs.declared.note.HostNote.{HostNote as Note};
 ghost use Rattle.ncp_transcript.specs.After.{after_notes};
 ghost use Rattle.ncp_runs.specs.Peers.{FromBeginning, notes_of};
-ghost use Rattle.ncp_runs.specs.Links.{told_on};
-ghost use Rattle.ncp_runs.specs.Making.{made_in, struck, sent, settling_made, nothing_made, made_of, fresh_on, message_of, joined};
+ghost use Rattle.ncp_runs.specs.Links.{told_on, fresh_on};
+ghost use Rattle.ncp_runs.specs.Making.{made_in, struck, sent, settling_made, nothing_made, made_of, message_of, joined};
 ghost use Rattle.ncp_runs.specs.Examples.{message_on_0, message_on_2, lost, held, stray, woken, taken};
 
 use ncp_control::Command;

@@ -24,11 +24,12 @@ use ncp_transcript::{Call, HostNote};
 
 /// At a receiver that has opened and is not left, after any run: what was got is what was taken, followed
 /// by what is held; and what is outstanding is what was granted less what was returned and used, of
-/// messages and of bits. Each is since its connection opened.
+/// messages and of bits. Each is since its connection opened; before, nothing is outstanding, held or counted.
 pub fn what_is_got_is_taken_or_held()
     ensures held { (me : ℕ) (ns : List ℕ) (all : List Note) (n : ℕ) (s : PeerState) (pair : Pair) (e : End) → FromBeginning me ns all → state_of (after_notes all (new_host me ns)) n ≡ Some s → receives pair ≡ true → get s.peer.ends pair ≡ Some e → e.opened ≡ true → e.left ≡ false → (past_of pair (notes_of n all)).got ≡ (past_of pair (notes_of n all)).taken ++ e.stored }
     ensures messages { (me : ℕ) (ns : List ℕ) (all : List Note) (n : ℕ) (s : PeerState) (pair : Pair) (e : End) → FromBeginning me ns all → state_of (after_notes all (new_host me ns)) n ≡ Some s → receives pair ≡ true → get s.peer.ends pair ≡ Some e → e.opened ≡ true → e.messages + (past_of pair (notes_of n all)).returned_messages + (past_of pair (notes_of n all)).used_messages ≡ (past_of pair (notes_of n all)).granted_messages }
     ensures bits { (me : ℕ) (ns : List ℕ) (all : List Note) (n : ℕ) (s : PeerState) (pair : Pair) (e : End) → FromBeginning me ns all → state_of (after_notes all (new_host me ns)) n ≡ Some s → receives pair ≡ true → get s.peer.ends pair ≡ Some e → e.opened ≡ true → e.bits + (past_of pair (notes_of n all)).returned_bits + length (past_of pair (notes_of n all)).got ≡ (past_of pair (notes_of n all)).granted_bits }
+    ensures unopened { (me : ℕ) (ns : List ℕ) (all : List Note) (n : ℕ) (s : PeerState) (pair : Pair) (e : End) → FromBeginning me ns all → state_of (after_notes all (new_host me ns)) n ≡ Some s → receives pair ≡ true → get s.peer.ends pair ≡ Some e → e.opened ≡ false → (e.messages ≡ 0) × (e.bits ≡ 0) × (e.interrupts ≡ 0) × (e.stored ≡ []) }
 {}
 
 /// What a note says was taken joins what was taken of its pair.

@@ -1,8 +1,9 @@
 //! The links to a peer: what the notes on a link say is what is kept for it, and what goes out on it.
 ghost use Rattle.std.specs.Prelude.{◌≡◌, ℕ, Bool, true, false, List, [], ◌∷◌, ◌++◌, Option, Some, None, Ok};
+ghost use Rattle.std.specs.List.{list_all};
 ghost use Rattle.ncp_leader.specs.Leader.{leader_in};
 ghost use Rattle.ncp_slot.specs.declared.slot.Slot.TheVariants.{Empty, Ready, Travelling, Held};
-ghost use Rattle.ncp_slot.specs.Slots.{slot_at};
+ghost use Rattle.ncp_slot.specs.Slots.{slot_at, data_links, is_quiet};
 ghost use Rattle.ncp_host.specs.PeerState.{PeerState, new_state};
 ghost use Rattle.ncp_host.specs.Output.{leader_to, links};
 ghost use Rattle.ncp_host.specs.Host.{state_of, is_one_of, new_host};
@@ -11,7 +12,7 @@ ghost use Rattle.ncp_slot.specs.declared.slot.Answer.{Answer as How};
 ghost use Rattle.ncp_transcript.specs.declared.note.HostNote.{HostNote as Note};
 ghost use Rattle.ncp_transcript.specs.After.{after_notes};
 ghost use Rattle.ncp_runs.specs.Peers.{FromBeginning, notes_of, notes_for};
-ghost use Rattle.ncp_runs.specs.Links.{is_fresh, told_on, slot_told, received_told, ready_told};
+ghost use Rattle.ncp_runs.specs.Links.{is_fresh, told_on, is_quiet_told, slot_told, received_told, ready_told};
 ghost use Rattle.ncp_runs.specs.Examples.{message_on_0, message_on_2, lost, held, stray, woken, taken};
 
 use ncp_slot::Answer;
@@ -20,6 +21,11 @@ use ncp_transcript::HostNote;
 /// What a host keeps for a link to a peer after any run is what the notes of that link say.
 pub fn links_are_what_their_notes_say()
     ensures { (me : ℕ) (ns : List ℕ) (all : List Note) (n on : ℕ) (s : PeerState) → FromBeginning me ns all → state_of (after_notes all (new_host me ns)) n ≡ Some s → slot_at s.slots on ≡ slot_told (told_on on (notes_of n all)) }
+{}
+
+/// The data links to a peer are quiet after any run exactly where the notes of each of them say so.
+pub fn links_are_quiet_as_their_notes_say()
+    ensures { (me : ℕ) (ns : List ℕ) (all : List Note) (n : ℕ) (s : PeerState) → FromBeginning me ns all → state_of (after_notes all (new_host me ns)) n ≡ Some s → is_quiet s.slots ≡ list_all (λ on. is_quiet_told (told_on on (notes_of n all))) data_links }
 {}
 
 /// A message that goes out names a peer and a link of it, and no message on that link is unanswered. It is
