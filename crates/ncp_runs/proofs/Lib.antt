@@ -8,6 +8,7 @@ pub mod Ignored
 pub mod LinksTold
 pub mod InRuns
 pub mod Quiet
+pub mod First
 pub mod BooksOfRuns
 pub mod Taken
 pub mod Given

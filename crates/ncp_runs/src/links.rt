@@ -7,6 +7,7 @@ ghost use Rattle.ncp_slot.specs.Slots.{slot_at, data_links, is_quiet};
 ghost use Rattle.ncp_host.specs.PeerState.{PeerState, new_state};
 ghost use Rattle.ncp_host.specs.Output.{leader_to, links};
 ghost use Rattle.ncp_host.specs.Host.{state_of, is_one_of, new_host};
+ghost use Rattle.ncp_host.specs.Readiness.{IsNext};
 ghost use Rattle.ncp_host.specs.declared.received.Received.{Received as What};
 ghost use Rattle.ncp_slot.specs.declared.slot.Answer.{Answer as How};
 ghost use Rattle.ncp_transcript.specs.declared.note.HostNote.{HostNote as Note};
@@ -37,6 +38,13 @@ pub fn messages_go_out_one_by_one()
     ensures alone { (me : ℕ) (ns : List ℕ) (before after : List Note) (message : List Bool) (n on : ℕ) → FromBeginning me ns (before ++ HostNote.Out message ∷ after) → leader_in message ≡ Ok (leader_to n on) → (told_on on (notes_of n before)).unanswered ≡ false }
     ensures again { (me : ℕ) (ns : List ℕ) (before after : List Note) (message : List Bool) (n on : ℕ) → FromBeginning me ns (before ++ HostNote.Out message ∷ after) → leader_in message ≡ Ok (leader_to n on) → is_fresh (told_on on (notes_of n before)) ≡ false → message ≡ (told_on on (notes_of n before)).fresh }
     ensures woken { (me : ℕ) (ns : List ℕ) (before after : List Note) (message : List Bool) (n on : ℕ) → FromBeginning me ns (before ++ HostNote.Out message ∷ after) → leader_in message ≡ Ok (leader_to n on) → (told_on on (notes_of n before)).answer ≡ Some Answer.Dead → (told_on on (notes_of n before)).woken ≡ true }
+{}
+
+/// What goes out is the message on the first link that is ready, to the first of the peers that has one; and
+/// a host is asked in vain only where no link to any peer is ready.
+pub fn what_goes_out_is_first()
+    ensures out { (me : ℕ) (ns : List ℕ) (before after : List Note) (message : List Bool) → FromBeginning me ns (before ++ HostNote.Out message ∷ after) → IsNext (Some message) (after_notes before (new_host me ns)).peers }
+    ensures nothing { (me : ℕ) (ns : List ℕ) (before after : List Note) → FromBeginning me ns (before ++ HostNote.Nothing ∷ after) → IsNext None (after_notes before (new_host me ns)).peers }
 {}
 
 /// An answer comes from a peer; and it is stray exactly where no message on its link is unanswered.
