@@ -1,5 +1,5 @@
 -- What goes out is the message on the first link that is ready, to the first peer that has one.
-use Rattle.std.proofs.Common.{◌≡◌, ℕ, ◌==◌, Bool, true, false, if◌then◌else◌, List, [], ◌∷◌, ◌++◌, map, Option, None, Some, Result, Ok, Err, sym, subst}
+use Rattle.std.proofs.Common.{ℕ, ◌==◌, Bool, true, false, if◌then◌else◌, List, [], ◌∷◌, ◌++◌, map, Option, None, Some, Result, Ok, Err, sym, subst}
 use Rattle.ncp_leader.specs.declared.leader.Leader.{Leader}
 use Rattle.ncp_leader.specs.declared.leader.Short.{Short}
 use Rattle.ncp_leader.specs.Leader.{leader_in}
