@@ -13,8 +13,6 @@ mod part;
 mod plain_store;
 mod reading;
 mod store;
-#[cfg(test)]
-mod tests;
 mod writing;
 
 pub use bits::{Bits, BitsFault, MAX_BITS};

@@ -11,8 +11,6 @@ mod fault;
 mod front;
 pub mod laws;
 mod opcodes;
-#[cfg(test)]
-mod tests;
 
 pub use command::{Command, CommandBytes, ERROR_DATA, LONGEST_COMMAND, error_for, put_command};
 pub use commands::Commands;

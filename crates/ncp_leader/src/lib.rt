@@ -10,8 +10,6 @@ mod fault;
 pub mod laws;
 mod leader;
 mod regular;
-#[cfg(test)]
-mod tests;
 
 pub use fault::MessageFault;
 pub use leader::{LEADER_BITS, Leader, MAX_FLAGS, MAX_KIND, Short, put_leader, read_leader};

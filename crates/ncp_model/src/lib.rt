@@ -18,8 +18,6 @@ pub mod peers;
 pub mod phases;
 pub mod profile;
 pub mod rows;
-#[cfg(test)]
-mod tests;
 
 pub use amounts::give_back;
 pub use call_fault::CallFault;

@@ -13,8 +13,6 @@
 pub mod laws;
 mod slot;
 mod slots;
-#[cfg(test)]
-mod tests;
 
 pub use slot::{Answer, Busy, Slot, Stray};
 pub use slots::{DATA_LINKS, FIRST_DATA_LINK, LAST_LINK, SLOTS, Slots, UNUSED_LINK, has_slot};

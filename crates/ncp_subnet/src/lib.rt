@@ -15,8 +15,6 @@ pub mod equality;
 mod fault;
 pub mod laws;
 mod subnet;
-#[cfg(test)]
-mod tests;
 mod transit;
 mod way;
 

@@ -1,9 +1,9 @@
 //! What no clause says: that the calls succeed, and that the definitions mean what the worked
 //! examples mean.
-use crate::equality::equal_faults;
-use crate::laws::{each_message_is_answered_once, places_are_apart, types_are_numbered};
-use crate::{DESTINATION_DEAD, INCOMPLETE, RFNM, Subnet, SubnetFault};
 use ncp_bits::Bits;
+use ncp_subnet::equality::equal_faults;
+use ncp_subnet::laws::{each_message_is_answered_once, places_are_apart, types_are_numbered};
+use ncp_subnet::{DESTINATION_DEAD, INCOMPLETE, RFNM, Subnet, SubnetFault};
 use std::process::Abort;
 use std::test::Fail;
 

@@ -1,6 +1,6 @@
 //! What no clause says: that the calls succeed, that memory is asked for where it is needed, and
 //! that the definitions mean what the worked examples mean.
-use crate::{BitStore, Bits, BitsFault, NoRoom, PackedStore, PlainStore, equality, laws};
+use ncp_bits::{BitStore, Bits, BitsFault, NoRoom, PackedStore, PlainStore, equality, laws};
 use std::alloc::Global;
 use std::process::Abort;
 use std::test::Fail;

@@ -4,12 +4,12 @@ ghost use Rattle.std.specs.Prelude.{◌≡◌, ◌*◌, ◌≤◌, ◌%◌, ◌+
 ghost use Rattle.ncp_bits.specs.Bits.{bytes_of};
 ghost use Rattle.ncp_control.specs.Reading.{commands_in, fault_in};
 
-use crate::{
+use ncp_bits::{Bits, Part};
+use ncp_control::{
     Command, CommandFault, Commands, ERRONEOUS_PARAMETERS, ILLEGAL_OPCODE, LONGEST_COMMAND,
     NONEXISTENT_SOCKET, SHORT_PARAMETER_SPACE, SOCKET_NOT_CONNECTED, equality, error_for, laws,
     put_command,
 };
-use ncp_bits::{Bits, Part};
 use std::alloc::AllocError;
 use std::process::Abort;
 use std::test::Fail;

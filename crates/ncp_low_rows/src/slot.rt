@@ -1,12 +1,14 @@
 //! What no clause says: that the calls succeed, that memory is asked for where it is needed, and
 //! that the definitions mean what the worked examples mean.
-use crate::laws::{
+use ncp_bits::Bits;
+use ncp_slot::laws::{
     LinkEvent, LinkNote, a_message_is_kept, answers_are_compared, each_slot_is_woken,
     links_are_numbered, quiet_links_are_empty, run_link, slots_are_apart, slots_are_compared,
     what_is_held_stays,
 };
-use crate::{Answer, Busy, FIRST_DATA_LINK, LAST_LINK, Slot, Slots, Stray, UNUSED_LINK, has_slot};
-use ncp_bits::Bits;
+use ncp_slot::{
+    Answer, Busy, FIRST_DATA_LINK, LAST_LINK, Slot, Slots, Stray, UNUSED_LINK, has_slot,
+};
 use std::process::Abort;
 use std::test::Fail;
 

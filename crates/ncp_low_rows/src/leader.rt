@@ -1,10 +1,10 @@
 //! What no clause says: that the definitions mean what the worked examples mean, that the calls
 //! succeed, and the texts and numbers of the faults.
-use crate::{
+use ncp_bits::{Bits, BitsFault, Part};
+use ncp_leader::{
     Leader, MAX_TEXT_BITS, MessageFault, Regular, Short, equality, laws, put_leader, put_regular,
     read_leader, read_regular,
 };
-use ncp_bits::{Bits, BitsFault, Part};
 use std::process::Abort;
 use std::test::Fail;
 
