@@ -1,3 +1,5 @@
+-- Meant for other crates too: they cite what is public here.
+--
 -- Two hosts without their ends and texts are the reset machine: each step is some of its steps.
 use Rattle.std.proofs.Common.{◌≡◌, ℕ, Bool, true, false, if◌then◌else◌, List, [], ◌∷◌, ◌++◌, Option, None, Some, refl, sym, ap, ◌∙◌, arith}
 use Rattle.ncp_control.specs.declared.command.Command.{Command}

@@ -3,4 +3,3 @@ pub mod Seen
 pub mod Watching
 pub mod Moving
 pub mod HostRuns
-pub mod Headline

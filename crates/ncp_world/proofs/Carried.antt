@@ -9,9 +9,9 @@ use Rattle.ncp_watch.specs.Books.{BooksAt}
 use Rattle.ncp_model.specs.Peers.{Peer}
 use Rattle.ncp_hosts.specs.Hosts.{Event, run, past_of}
 use Rattle.ncp_hosts.specs.Hosts as hosts
-use Rattle.ncp_hosts.specs.Headline.{Begins, TakenOrHeld, WithinAllocation}
-use Rattle.ncp_hosts.proofs.HostsHeld.{ever}
-use Rattle.ncp_hosts.proofs.HostsHeadline.{begins, held_all, within}
+use Rattle.ncp_headline.specs.Headline.{Begins, TakenOrHeld, WithinAllocation}
+use Rattle.ncp_ties.proofs.HostsHeld.{ever}
+use Rattle.ncp_headline.proofs.HostsHeadline.{begins, held_all, within}
 use Rattle.ncp_world.specs.World.{World, swap}
 use Rattle.ncp_world.specs.Watch.{Both, turn}
 use Rattle.ncp_world.specs.Streams.{GotIsBeginning, GotIsTakenOrHeld, NeverBeyondAllocation}

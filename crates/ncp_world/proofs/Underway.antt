@@ -30,11 +30,11 @@ use Rattle.ncp_resets.proofs.ResetRuns.{agreeing}
 use Rattle.ncp_resets.specs.Resets as resets
 use Rattle.ncp_hosts.specs.Hosts.{TextOut, Node, Event, run, past_of}
 use Rattle.ncp_hosts.specs.Hosts as hosts
-use Rattle.ncp_hosts.specs.Headline.{sum_on}
-use Rattle.ncp_hosts.specs.Headline as headline
+use Rattle.ncp_headline.specs.Headline.{sum_on}
+use Rattle.ncp_headline.specs.Headline as headline
 use Rattle.ncp_hosts.proofs.EndsGood.{Good}
-use Rattle.ncp_hosts.proofs.HostsHeld.{ever}
-use Rattle.ncp_hosts.proofs.HostsHeadline.{messages_agree, bits_agree, parted}
+use Rattle.ncp_ties.proofs.HostsHeld.{ever}
+use Rattle.ncp_headline.proofs.HostsHeadline.{messages_agree, bits_agree, parted}
 use Rattle.ncp_host.specs.PeerState.{PeerState}
 use Rattle.ncp_world.specs.Subnet.{Holds, Subnet}
 use Rattle.ncp_world.specs.World.{World}

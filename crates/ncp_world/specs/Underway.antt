@@ -14,7 +14,7 @@ use Rattle.std.specs.List.{filter}
 use Rattle.ncp_model.specs.Phase.{up, is_reset}
 use Rattle.ncp_model.specs.End.{End, is_open, or_new}
 use Rattle.ncp_hosts.specs.Hosts.{past_of}
-use Rattle.ncp_hosts.specs.Headline.{sum_on}
+use Rattle.ncp_headline.specs.Headline.{sum_on}
 use Rattle.ncp_host.specs.PeerState.{PeerState}
 use Rattle.ncp_world.specs.Subnet.{Holds, Free, Accepted, Delivered, Lost, Dead, Subnet}
 use Rattle.ncp_world.specs.World.{World}

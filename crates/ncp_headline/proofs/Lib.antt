@@ -1,0 +1,3 @@
+mod OpensNot
+mod LinkSums
+pub mod HostsHeadline
