@@ -7,6 +7,7 @@ ghost use Rattle.ncp_bits.specs.Numbers.{number_at};
 ghost use Rattle.ncp_leader.specs.declared.leader.Leader.{Leader};
 ghost use Rattle.ncp_leader.specs.declared.fault.MessageFault.{MessageFault};
 
+use crate::kinds::{DESTINATION_DEAD, INCOMPLETE, REGULAR, RFNM};
 use crate::leader::{LEADER_BITS, MAX_FLAGS, MAX_KIND};
 use crate::regular::{FRONT_BITS, MAX_MADE_BITS, MAX_TEXT_BITS};
 
@@ -72,4 +73,12 @@ pub fn limits_are_these()
     ensures front { FRONT_BITS ≡ 72 }
     ensures made { MAX_MADE_BITS ≡ 8000 }
     ensures text { MAX_TEXT_BITS ≡ 7928 }
+{}
+
+/// The types of messages, by their numbers in the standard.
+pub fn types_are_numbered()
+    ensures regular { REGULAR ≡ 0 }
+    ensures rfnm { RFNM ≡ 5 }
+    ensures dead { DESTINATION_DEAD ≡ 7 }
+    ensures incomplete { INCOMPLETE ≡ 9 }
 {}

@@ -7,10 +7,12 @@
 
 pub mod equality;
 mod fault;
+mod kinds;
 pub mod laws;
 mod leader;
 mod regular;
 
 pub use fault::MessageFault;
+pub use kinds::{DESTINATION_DEAD, INCOMPLETE, REGULAR, RFNM};
 pub use leader::{LEADER_BITS, Leader, MAX_FLAGS, MAX_KIND, Short, put_leader, read_leader};
 pub use regular::{FRONT_BITS, MAX_MADE_BITS, MAX_TEXT_BITS, Regular, put_regular, read_regular};

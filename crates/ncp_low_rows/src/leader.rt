@@ -374,6 +374,7 @@ fn states_laws(_rt: HostRuntime) {
     laws::written_is_read();
     laws::read_stands();
     laws::whole_bytes_make_a_message();
+    laws::types_are_numbered();
     laws::faults_are_in_order();
     laws::fields_have_places();
     laws::limits_are_these();

@@ -4,7 +4,7 @@ use Rattle.ncp_bits.specs.Numbers.{bits_of}
 use Rattle.ncp_leader.specs.declared.leader.TheConstants.{LEADER_BITS}
 use Rattle.ncp_leader.specs.Leader.{leader_at, leader_bits}
 use Rattle.ncp_subnet.specs.declared.transit.Transit.{Transit}
-use Rattle.ncp_subnet.specs.declared.addressed.TheConstants.{REGULAR}
+use Rattle.ncp_leader.specs.declared.kinds.TheConstants.{REGULAR}
 use Rattle.ncp_subnet.specs.Transit.{accepted_message, answer_kind}
 
 -- a regular message: it has a leader, of that type

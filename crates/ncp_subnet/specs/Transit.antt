@@ -3,7 +3,7 @@
 use Rattle.std.specs.Prelude.{ℕ, Bool, true, false, Option, Some, None}
 use Rattle.ncp_subnet.specs.declared.transit.Transit.{Transit}
 use Rattle.ncp_subnet.specs.declared.transit.Transit.TheVariants.{Free, Accepted, Delivered, Lost, Dead}
-use Rattle.ncp_subnet.specs.declared.addressed.TheConstants.{RFNM, DESTINATION_DEAD, INCOMPLETE}
+use Rattle.ncp_leader.specs.declared.kinds.TheConstants.{RFNM, DESTINATION_DEAD, INCOMPLETE}
 
 -- a message is accepted: only where none is in transit
 abbrev pub accepted : {M : Type 0} → M → Transit M → Transit M

@@ -6,20 +6,8 @@ ghost use Rattle.ncp_subnet.specs.Messages.{IsRegular, from_host, answer_bits};
 
 use crate::fault::SubnetFault;
 use ncp_bits::Bits;
-use ncp_leader::{Leader, put_leader, read_leader};
+use ncp_leader::{Leader, REGULAR, put_leader, read_leader};
 use std::marker::Model;
-
-/// The type of a regular message.
-pub const REGULAR: u8 = 0;
-
-/// The type of Ready For Next Message: the message was delivered.
-pub const RFNM: u8 = 5;
-
-/// The type of Destination Dead: the message was not delivered.
-pub const DESTINATION_DEAD: u8 = 7;
-
-/// The type of Incomplete Transmission: the message was not delivered.
-pub const INCOMPLETE: u8 = 9;
 
 // Where the host stands in a leader: bits 9 to 16, counted from 0.
 const HOST_AT: usize = 8;

@@ -5,7 +5,7 @@ ghost use Rattle.ncp_subnet.specs.Transit.{accepted, delivered, lost, dead, answ
 ghost use Rattle.ncp_subnet.specs.Ways.{OnLink};
 ghost use Rattle.ncp_subnet.specs.Subnet.{Subnet, transit_at, with_transit, OthersStay};
 
-use crate::addressed::{DESTINATION_DEAD, INCOMPLETE, REGULAR, RFNM};
+use ncp_leader::{DESTINATION_DEAD, INCOMPLETE, RFNM};
 
 /// What is in transit at different places is apart.
 pub fn places_are_apart()
@@ -29,12 +29,4 @@ pub fn each_message_is_answered_once<M>()
     ensures over { (transit : Transit M) → accepted_message transit ≡ None → (delivered transit ≡ transit) × (lost transit ≡ transit) × (dead transit ≡ transit) }
     ensures answered { (transit : Transit M) (kind : ℕ) → answer_kind transit ≡ Some kind → answered transit ≡ Transit.Free }
     ensures kept { (transit : Transit M) → answer_kind transit ≡ None → answered transit ≡ transit }
-{}
-
-/// The types of messages, by their numbers in the standard.
-pub fn types_are_numbered()
-    ensures regular { REGULAR ≡ 0 }
-    ensures rfnm { RFNM ≡ 5 }
-    ensures dead { DESTINATION_DEAD ≡ 7 }
-    ensures incomplete { INCOMPLETE ≡ 9 }
 {}

@@ -18,7 +18,6 @@ mod subnet;
 mod transit;
 mod way;
 
-pub use addressed::{DESTINATION_DEAD, INCOMPLETE, REGULAR, RFNM};
 pub use fault::SubnetFault;
 pub use subnet::Subnet;
 pub use transit::Transit;

@@ -2,7 +2,7 @@
 ghost use Rattle.std.specs.Prelude.{◌≡◌, ◌↔◌, IsTrue};
 ghost use Rattle.ncp_subnet.specs.Transit.{accepted, delivered, lost, dead, answered, accepted_message, answer_kind, is_free, is_accepted, is_delivered};
 
-use crate::addressed::{DESTINATION_DEAD, INCOMPLETE, RFNM};
+use ncp_leader::{DESTINATION_DEAD, INCOMPLETE, RFNM};
 use std::mem;
 
 /// What the subnet has for a link from one host to another: at most one message that is not

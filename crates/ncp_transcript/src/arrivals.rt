@@ -8,16 +8,9 @@ use crate::message::Message;
 use crate::note::HostNote;
 use ncp_bits::{BitStore, Bits};
 use ncp_host::Host;
-use ncp_leader::{Leader, read_leader};
+use ncp_leader::{DESTINATION_DEAD, INCOMPLETE, Leader, RFNM, read_leader};
 use ncp_slot::Answer;
 use std::alloc::{AllocError, Global};
-
-/// The types of the answers (BBN 1822, section 3).
-const RFNM: u8 = 5;
-
-const DESTINATION_DEAD: u8 = 7;
-
-const INCOMPLETE: u8 = 9;
 
 // Whether a type is one of an answer.
 fn is_answer(kind: u8) -> bool

@@ -9,21 +9,9 @@ use crate::counts::one_more;
 use crate::peer::{CONTROL_LINK, CONTROL_SIZE, Peer};
 use crate::received::Received;
 use ncp_bits::{BitStore, Bits, Part};
-use ncp_leader::{FRONT_BITS, Leader, Regular, read_regular};
+use ncp_leader::{DESTINATION_DEAD, FRONT_BITS, Leader, REGULAR, RFNM, Regular, read_regular};
 use ncp_model::Took;
 use ncp_slot::{Answer, LAST_LINK, UNUSED_LINK};
-
-/// The type of a regular message.
-pub(crate) const REGULAR: u8 = 0;
-
-/// The type of an RFNM.
-pub(crate) const RFNM: u8 = 5;
-
-/// The type of a Destination Dead.
-pub(crate) const DESTINATION_DEAD: u8 = 7;
-
-/// The type of an Incomplete Transmission.
-pub(crate) const INCOMPLETE: u8 = 9;
 
 impl<S: BitStore> Peer<S> {
     // An answer to the message that went out on a link.
