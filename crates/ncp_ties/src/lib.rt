@@ -2,4 +2,4 @@
 //! the machine.
 #![tactic(auto)]
 
-pub mod ties;
+pub mod machines;
