@@ -12,10 +12,10 @@ use Rattle.ncp_model.specs.Ends.{cut_in, text_in, answered_in}
 use Rattle.ncp_model.specs.Happenings.{happens}
 use Rattle.ncp_model.specs.Echo.{echo_answer}
 use Rattle.ncp_model.specs.Sending.{is_full}
-use Rattle.ncp_resets.specs.Delivery.{Slot, Empty, Ready, Travelling, Held, Subnet, Free, Accepted, Delivered, Lost, Dead, answered}
+use Rattle.ncp_resets.specs.Delivery.{Slot, Empty, Ready, Travelling, Held, Subnet, Free, Accepted, Delivered, Lost, Dead, Link, answered}
 use Rattle.ncp_resets.specs.Resets.{Host, is_up, host_makes, host_makes_all, host_hears, host_hears_other, host_hears_all, Side, This, That}
 use Rattle.ncp_resets.specs.Resets as resets
-use Rattle.ncp_hosts.specs.Hosts.{TextOut, Node, quiet, reaction, hears, hears_other, hears_all, calls_reset, called, happens_at, echo_called, cuts, sends_text, takes_text, text_answered, text_comes, frees, settles, control_answered, message_comes, World, swap, base, Step, Calls_reset, Calls, Calls_echo, Falls, Sends, Sends_text, Hears, Hears_text, Loses, Loses_text, Dies, Text_dies, Is_answered, Text_is_answered, Wakes, steps, Event, at, run_from, run, start}
+use Rattle.ncp_hosts.specs.Hosts.{TextOut, Node, quiet, reaction, hears, hears_other, hears_all, calls_reset, called, happens_at, echo_called, cuts, sends_text, takes_text, text_answered, text_comes, frees, settles, control_answered, message_comes, set_link, World, swap, base, Step, Calls_reset, Calls, Calls_echo, Falls, Sends, Sends_text, Hears, Hears_text, Loses, Loses_text, Dies, Text_dies, Is_answered, Text_is_answered, Wakes, steps, Event, at, run_from, run, start}
 
 -- the reset machine comes from one world to another
 abbrev pub Reaches : resets.World → resets.World → Type 0
@@ -74,7 +74,7 @@ hears-host Rst n = refl
 hears-host Rrp n = refl
 hears-host c n = chosen (is_up n.host) (hears_other c n) n (host_hears_other c (reaction c n) n.host) refl refl (idle_other c (reaction c n) n.host)
 
-either : (P : Node → Type 0) (b : Bool) (n m : Node) → P n → P m → P (if b then n else m)
+pub either : (P : Node → Type 0) (b : Bool) (n m : Node) → P n → P m → P (if b then n else m)
 either P true n m p q = p
 either P false n m p q = q
 
@@ -212,3 +212,25 @@ reaching (e ∷ es) w = further (base w) (base (at e.side e.step w)) (base (run_
 -- every run of the hosts is one of the reset machine
 pub projected : (es : List Event) → (fs : List resets.Event) × (base (run es) ≡ resets.run fs)
 projected es = let p = reaching es start in (p.0, sym p.1)
+
+-- Of the other host a step changes nothing but that a message on its links is delivered.
+
+module _ (P : Node → Type 0) (on_control : (n : Node) (l : Link (List Command)) → P n → P (record n { control = l })) (on_texts : (n : Node) (ls : ℕ → Link TextOut) → P n → P (record n { texts = ls })) where
+  other_message : (subnet : Subnet (List Command)) (w : World) → P w.that → P (message_comes subnet w).that
+  other_message (Accepted m) w p = on_control w.that (record w.that.control { subnet = Delivered }) p
+  other_message Free w p = p
+  other_message Delivered w p = p
+  other_message Lost w p = p
+  other_message Dead w p = p
+
+  other_text : (on : ℕ) (head : List Bool) (subnet : Subnet TextOut) (w : World) → P w.that → P (text_comes on head subnet w).that
+  other_text on head (Accepted t) w p = on_texts w.that (set_link on (record (w.that.texts on) { subnet = Delivered }) w.that.texts) p
+  other_text on head Free w p = p
+  other_text on head Delivered w p = p
+  other_text on head Lost w p = p
+  other_text on head Dead w p = p
+
+  pub other-keeps : (step : Step) (w : World) → P w.that → P (steps step w).that
+  other-keeps Hears w p = other_message w.that.control.subnet w p
+  other-keeps (Hears_text on head) w p = other_text on head (w.that.texts on).subnet w p
+  other-keeps step w p = p

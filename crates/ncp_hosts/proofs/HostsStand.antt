@@ -2,222 +2,54 @@
 --
 -- A host that is not up has no ends; all its ends are sound and in their limits, and no two are on
 -- one link.
-use Rattle.std.proofs.Common.{◌≡◌, ℕ, Bool, true, false, if◌then◌else◌, List, [], ◌∷◌, Option, None, Some, refl, sym, ap, ◌∙◌, subst, arith}
-use Rattle.std.specs.FinMap.{get, get-empty}
+use Rattle.std.proofs.Common.{List, [], ◌∷◌}
+use Rattle.std.specs.FinMap.{get}
 use Rattle.ncp_control.specs.declared.command.Command.{Command}
-use Rattle.ncp_control.specs.declared.command.Command.TheVariants.{Rst, Rrp}
 use Rattle.ncp_model.specs.declared.pair.Pair.{Pair}
-use Rattle.ncp_model.specs.Pairs.{pair_cmp}
-use Rattle.ncp_model.specs.End.{End}
-use Rattle.ncp_model.specs.Act.{Act, answer, end_after}
-use Rattle.ncp_model.specs.Texts.{hear_text, Rfnm}
-use Rattle.ncp_model.specs.Ends.{Ends, hears_link, uses_link, sender_on, receiver_on, pair_of, leads_to, hear, text_in, cut_at, cut_in, answered_in, map_after, map_after_at, no_ends, put}
-use Rattle.ncp_model.specs.Happenings.{Happening, Happened, happens, happened, of_hearing, of_text, of_cut}
-use Rattle.ncp_model.specs.Happenings as all
-use Rattle.ncp_model.specs.Leading.{suits, passes, comes}
-use Rattle.ncp_model.specs.Phase.{is_resetting}
+use Rattle.ncp_model.specs.Ends.{Ends, put}
+use Rattle.ncp_model.specs.Happenings.{Happening, Happened, happens}
 use Rattle.ncp_model.specs.Sending.{is_full}
-use Rattle.ncp_resets.specs.Delivery.{Slot, Empty, Ready, Travelling, Held, Subnet, Free, Accepted, Delivered, Lost, Dead}
-use Rattle.ncp_resets.specs.Resets.{Host, is_up, host_resets, host_settles, host_falls, host_makes_all, host_hears, Side, This, That}
-use Rattle.ncp_resets.specs.Resets as resets
-use Rattle.ncp_hosts.specs.Hosts.{TextOut, Node, quiet, reaction, kept, cleared, called, happens_at, echo_called, calls_reset, hears, hears_other, hears_all, takes_text, hears_text, cuts, sends_text, frees, settles, text_answered, text_comes, control_answered, message_comes, World, swap, base, Step, Calls_reset, Calls, Calls_echo, Falls, Sends, Sends_text, Hears, Hears_text, Is_answered, Text_is_answered, steps, Event, at, run_from, run, start}
-use Rattle.ncp_model.proofs.LinksLead.{led, command-led, cut-led, answered-led, suits-led, user-receives}
-use Rattle.ncp_hosts.proofs.EndsGood.{Good, none-good, Fresh, good-after, put-changes, act-changes, none-fresh, called-suits, called-fresh, comes-fresh}
-
--- of the ends at a host that is up or not
-abbrev pub Stand : Bool → Ends → Type 0
-Stand is_there m = record { none : is_there ≡ false → m ≡ no_ends; good : Good m }
+use Rattle.ncp_resets.specs.Resets.{is_up, host_makes_all, Side, This, That}
+use Rattle.ncp_hosts.specs.Hosts.{Node, Call, called, happens_at, calls, hears, hears_all, World, swap, Step, steps, Event, at, run_from, run, start}
+use Rattle.ncp_hosts.proofs.EndsGood.{Good, none-good, Changes, good-after, put-changes, called-suits, called-fresh}
+use Rattle.ncp_hosts.proofs.HostsBase.{either, other-keeps}
+use Rattle.ncp_hosts.proofs.Standing.{ByLinks, StandsIn, keeping, none-stand, command-stands, commands-stand, step-keeps}
 
 abbrev pub Stands : Node → Type 0
-Stands n = Stand (is_up n.host) n.ends
+Stands n = StandsIn Good n
 
-none-stand : (b : Bool) → Stand b no_ends
-none-stand b = record { none = λ _. refl; good = none-good }
-
-keeping : (h : Host) (m : Ends) → Good m → Stand (is_up h) (kept h m)
-keeping h m g = go (is_up h)
-  where
-    go : (b : Bool) → Stand b (if b then m else no_ends)
-    go true = record { none = λ e. absurd (cc e); good = g }
-    go false = none-stand false
-
--- where a host is not up, it was not
-staying : (b c : Bool) (m : Ends) → (c ≡ false → b ≡ false) → Stand b m → Stand c m
-staying b c m f p = record { none = λ e. p.none (f e); good = p.good }
-
--- where a look-up led, the act is what happens to the end there
-looked : {A : Type 0} → (m : Ends) (o : Option Pair) (act : Act A)
-    → ((pair : Pair) → o ≡ Some pair → (what : Happening) × ((happens pair what (get m pair)).after ≡ end_after (get m pair) act) × Fresh m what × (suits pair what ≡ true))
-    → Good m → Good (map_after_at m o act)
-looked m None act f g = g
-looked m (Some pair) act f g = let w = f pair refl in good-after m (map_after m pair act) pair w.0 w.3 (act-changes m pair w.0 act w.1) w.2 g
-
-comes-some : (c : Command) (m : Ends) (pair : Pair) → leads_to c m ≡ Some pair → (what : Happening) × (comes c m ≡ Some what)
-comes-some (Command.Rts a b d) m pair e = (_, refl)
-comes-some (Command.Str a b d) m pair e = (_, refl)
-comes-some (Command.Cls a b) m pair e = (_, refl)
-comes-some (Command.All a b d) m pair e = (_, refl)
-comes-some (Command.Gvb a b d) m pair e = (_, refl)
-comes-some (Command.Ret a b d) m pair e = (_, refl)
-comes-some (Command.Inr a) m pair e = (_, refl)
-comes-some (Command.Ins a) m pair e = (_, refl)
-comes-some c m pair e = absurd (cc e)
-
-command-good : (c : Command) (m : Ends) → Good m → Good (map_after_at m (leads_to c m) (hear c m))
-command-good c m =
-    looked m (leads_to c m) (hear c m)
-    (λ pair e. let w = comes-some c m pair e in let l = command-led m c pair w.0 e w.1 in (w.0, ap (λ (d : Happened). d.after) l.1, comes-fresh c m w.0 w.1, suits-led pair w.0 (get m pair) l.0))
-
-text-good : (m : Ends) (on : ℕ) (of_size : ℕ) (text : List Bool) → Good m → Good (map_after_at m (pair_of (receiver_on on m)) (text_in on of_size text m))
-text-good m on of_size text =
-    looked m (pair_of (receiver_on on m)) (text_in on of_size text m)
-    (λ pair e. let l = led (uses_link on) m pair e in (all.Text_comes [] of_size text, ap (λ o. end_after (get m pair) (hear_text of_size text o)) l.0, none-fresh m (all.Text_comes [] of_size text) (λ l. refl) (λ l. refl), user-receives on pair (get m pair) l.1))
-
-cut-good : (m : Ends) (on : ℕ) → Good m → Good (map_after_at m (pair_of (sender_on on m)) (cut_in on m))
-cut-good m on =
-    looked m (pair_of (sender_on on m)) (cut_in on m)
-    (λ pair e. (all.Text_goes_out, ap (λ (d : Happened). d.after) (cut-led m on pair e).1, none-fresh m all.Text_goes_out (λ l. refl) (λ l. refl), (cut-led m on pair e).0))
-
-answered-good : (m : Ends) (on : ℕ) → Good m → Good (map_after_at m (pair_of (sender_on on m)) (answered_in on Rfnm m))
-answered-good m on =
-    looked m (pair_of (sender_on on m)) (answered_in on Rfnm m)
-    (λ pair e. (all.Is_answered Rfnm, ap (λ (d : Happened). d.after) (answered-led m on Rfnm pair e).1, none-fresh m (all.Is_answered Rfnm) (λ l. refl) (λ l. refl), (answered-led m on Rfnm pair e).0))
-
--- Each step.
-
-happening-stands : (pair : Pair) (what : Happening) (n : Node) → suits pair what ≡ true → Fresh n.ends what → Stands n → Stands (happens_at pair what n)
-happening-stands pair what n s f p =
-    let did : Happened = happens pair what (get n.ends pair) in
-    keeping (host_makes_all did.made n.host) (put n.ends pair did.after) (good-after n.ends (put n.ends pair did.after) pair what s (put-changes n.ends pair what) f p.good)
-
-either : (P : Node → Type 0) (b : Bool) (n m : Node) → P n → P m → P (if b then n else m)
-either P true n m p q = p
-either P false n m p q = q
-
-echoing-stands : (byte : ℕ) (n : Node) → Stands n → Stands (echo_called byte n)
-echoing-stands byte n p = keeping (echo_called byte n).host n.ends p.good
-
-cleared-stands : (h : Host) (n : Node) → Stands (cleared h n)
-cleared-stands h n = none-stand (is_up h)
-
-resetting-stands : (n : Node) → Stands n → Stands (calls_reset n)
-resetting-stands n p = either Stands (is_resetting n.host.phase) n (cleared (host_resets (quiet n) n.host) n) p (cleared-stands (host_resets (quiet n) n.host) n)
-
-rrp_up : (n : Node) → is_up (host_hears Rrp (reaction Rrp n) n.host) ≡ false → is_up n.host ≡ false
-rrp_up n e = grind arith
+by_links : (m k : Ends) (pair : Pair) (what : Happening) → ByLinks m pair what → Changes m k pair what → Good m → Good k
+by_links m k pair what b c g = good-after m k pair what b.suited c b.fresh g
 
 pub hearing-stands : (c : Command) (n : Node) → Stands n → Stands (hears c n)
-hearing-stands Rst n p = cleared-stands (host_hears Rst (reaction Rst n) n.host) n
-hearing-stands Rrp n p = staying (is_up n.host) (is_up (host_hears Rrp (reaction Rrp n) n.host)) n.ends (rrp_up n) p
-hearing-stands c n p = either Stands (is_up n.host) (hears_other c n) n (keeping (hears_other c n).host (map_after_at n.ends (leads_to c n.ends) (hear c n.ends)) (command-good c n.ends p.good)) p
+hearing-stands c n p = command-stands Good none-good by_links c n p
 
 pub hearing_all-stands : (cs : List Command) (n : Node) → Stands n → Stands (hears_all cs n)
-hearing_all-stands [] n p = p
-hearing_all-stands (c ∷ cs) n p = hearing_all-stands cs (hears c n) (hearing-stands c n p)
+hearing_all-stands cs n p = commands-stand Good none-good by_links cs n p
 
-text-stands : (on : ℕ) (head : List Bool) (t : TextOut) (n : Node) → Stands n → Stands (hears_text on head t n)
-text-stands on head t n p = either Stands (is_up n.host) (takes_text on head t n) n (keeping (takes_text on head t n).host (map_after_at n.ends (pair_of (receiver_on on n.ends)) (text_in on t.of_size t.bits n.ends)) (text-good n.ends on t.of_size t.bits p.good)) p
-
--- where there are no ends nothing goes out
-pub nothing_out : (on : ℕ) → answer (cut_in on no_ends) ≡ None
-nothing_out on = go (sender_on on no_ends) refl
-  where
-    go : (o : Option (Pair × End)) → sender_on on no_ends ≡ o → answer (cut_at o) ≡ None
-    go None e = refl
-    go (Some q) e =
-        let l = led (hears_link on) no_ends q.0 (ap pair_of e) in
-        absurd (cc (subst (λ o. passes (hears_link on) q.0 o ≡ true) (get-empty pair_cmp q.0) l.1))
-
-cutting-stands : (on : ℕ) (o : Option (ℕ × List Bool)) (n : Node) → answer (cut_in on n.ends) ≡ o → Stands n → Stands (cuts on o n)
-cutting-stands on None n e p = p
-cutting-stands on (Some text) n e p = record {
-  none = λ d. let k : answer (cut_in on n.ends) ≡ None = ap (λ m. answer (cut_in on m)) (p.none d) ∙ nothing_out on in absurd (cc (k, e));
-  good = cut-good n.ends on p.good;
-}
-
-sending-stands : (on : ℕ) (slot : Slot TextOut) (n : Node) → Stands n → Stands (sends_text on slot n)
-sending-stands on Empty n p = cutting-stands on (answer (cut_in on n.ends)) n refl p
-sending-stands on (Ready t) n p = p
-sending-stands on (Travelling t) n p = p
-sending-stands on (Held t) n p = p
-
-settled_up : (q : Bool) (h : Host) → is_up (host_settles q h) ≡ false → is_up h ≡ false
-settled_up true h e = go (is_up h) refl
-  where
-    go : (b : Bool) → is_up h ≡ b → is_up h ≡ false
-    go false u = u
-    go true u = let s : is_up (host_settles true h) ≡ true = grind arith in absurd (cc (s, e))
-settled_up false h e = e
-
-settling-stands : (n : Node) → Stands n → Stands (settles n)
-settling-stands n p = staying (is_up n.host) (is_up (host_settles (quiet n) n.host)) n.ends (settled_up (quiet n) n.host) p
-
-freeing-stands : (on : ℕ) (n : Node) → Stands n → Stands (frees on n)
-freeing-stands on n p = go (is_up n.host) refl
-  where
-    m : Ends
-    m = map_after_at n.ends (pair_of (sender_on on n.ends)) (answered_in on Rfnm n.ends)
-
-    go : (b : Bool) → is_up n.host ≡ b → Stand (is_up (frees on n).host) (if b then kept (frees on n).host m else n.ends)
-    go true u = keeping (frees on n).host m (answered-good n.ends on p.good)
-    go false d = record { none = λ _. p.none d; good = p.good }
-
-text_answered-stands : (on : ℕ) (slot : Slot TextOut) (subnet : Subnet TextOut) (n : Node) → Stands n → Stands (text_answered on slot subnet n)
-text_answered-stands on (Travelling t) Delivered n p = settling-stands (frees on n) (freeing-stands on n p)
-text_answered-stands on slot subnet n p = p
-
-control_answered-stands : (slot : Slot (List Command)) (subnet : Subnet (List Command)) (n : Node) → Stands n → Stands (control_answered slot subnet n)
-control_answered-stands (Travelling m) Delivered n p = settling-stands (record n { control = record { slot = Empty; subnet = Free } }) p
-control_answered-stands slot subnet n p = p
-
-sent_up : (slot : Slot (List Command)) (q : List Command) (n : ℕ) (a : resets.World) → is_up (resets.sends slot q n a).this ≡ is_up a.this
-sent_up (Ready m) q n a = refl
-sent_up (Travelling m) q n a = refl
-sent_up (Held m) q n a = refl
-sent_up Empty [] n a = refl
-sent_up Empty (c ∷ cs) n a = refl
+calling-stands : (pair : Pair) (call : Call) (n : Node) → Stands n → Stands (calls pair call n)
+calling-stands pair call n p =
+    let what : Happening = called call (is_full n.host.phase) n.ends in
+    let did : Happened = happens pair what (get n.ends pair) in
+    let good = good-after n.ends (put n.ends pair did.after) pair what (called-suits pair call (is_full n.host.phase) n.ends) (put-changes n.ends pair what) (called-fresh call (is_full n.host.phase) n.ends) p.good in
+    either Stands (is_up n.host) (happens_at pair what n) n (keeping Good none-good by_links (host_makes_all did.made n.host) (put n.ends pair did.after) good) p
 
 abbrev pub BothStand : World → Type 0
 BothStand w = Stands w.this × Stands w.that
 
-text_coming-stands : (on : ℕ) (head : List Bool) (subnet : Subnet TextOut) (w : World) → BothStand w → BothStand (text_comes on head subnet w)
-text_coming-stands on head (Accepted t) w p = (text-stands on head t w.this p.0, p.1)
-text_coming-stands on head Free w p = p
-text_coming-stands on head Delivered w p = p
-text_coming-stands on head Lost w p = p
-text_coming-stands on head Dead w p = p
-
-coming-stands : (subnet : Subnet (List Command)) (w : World) → BothStand w → BothStand (message_comes subnet w)
-coming-stands (Accepted m) w p = (hearing_all-stands m w.this p.0, p.1)
-coming-stands Free w p = p
-coming-stands Delivered w p = p
-coming-stands Lost w p = p
-coming-stands Dead w p = p
-
-pub step-stands : (step : Step) (w : World) → BothStand w → BothStand (steps step w)
-step-stands Calls_reset w p = (resetting-stands w.this p.0, p.1)
-step-stands (Calls pair call) w p =
-    let what = called call (is_full w.this.host.phase) w.this.ends in
-    (either Stands (is_up w.this.host) (happens_at pair what w.this) w.this (happening-stands pair what w.this (called-suits pair call (is_full w.this.host.phase) w.this.ends) (called-fresh call (is_full w.this.host.phase) w.this.ends) p.0) p.0, p.1)
-step-stands (Calls_echo byte) w p = (either Stands (is_up w.this.host) (echo_called byte w.this) w.this (echoing-stands byte w.this p.0) p.0, p.1)
-step-stands Falls w p = (cleared-stands (host_falls w.this.host) w.this, p.1)
-step-stands (Sends n) w p =
-    let up = sent_up w.this.control.slot w.this.host.phase.waiting n (base w) in
-    (staying (is_up w.this.host) (is_up (resets.steps (resets.Sends n) (base w)).this) w.this.ends (λ e. sym up ∙ e) p.0, p.1)
-step-stands (Sends_text on) w p = (sending-stands on (w.this.texts on).slot w.this p.0, p.1)
-step-stands Hears w p = coming-stands w.that.control.subnet w p
-step-stands (Hears_text on head) w p = text_coming-stands on head (w.that.texts on).subnet w p
-step-stands (Text_is_answered on) w p = (text_answered-stands on (w.this.texts on).slot (w.this.texts on).subnet w.this p.0, p.1)
-step-stands Is_answered w p = (control_answered-stands w.this.control.slot w.this.control.subnet w.this p.0, p.1)
-step-stands step w p = p
+step-stands : (step : Step) (w : World) → BothStand w → BothStand (steps step w)
+step-stands step w p = (
+  step-keeps Good none-good by_links step w (λ pair call e. calling-stands pair call w.this p.0) p.0,
+  other-keeps Stands (λ n l q. q) (λ n ls q. q) step w p.1,
+)
 
 pub side-stands : (side : Side) (step : Step) (w : World) → BothStand w → BothStand (at side step w)
 side-stands This step w p = step-stands step w p
 side-stands That step w p = let q = step-stands step (swap w) (p.1, p.0) in (q.1, q.0)
 
-pub run-stands : (es : List Event) (w : World) → BothStand w → BothStand (run_from es w)
+run-stands : (es : List Event) (w : World) → BothStand w → BothStand (run_from es w)
 run-stands [] w p = p
 run-stands (e ∷ es) w p = run-stands es (at e.side e.step w) (side-stands e.side e.step w p)
 
 pub ever-stand : (es : List Event) → BothStand (run es)
-ever-stand es = run-stands es start (none-stand (is_up start.this.host), none-stand (is_up start.that.host))
+ever-stand es = let n = none-stand Good none-good by_links in run-stands es start (n (is_up start.this.host), n (is_up start.that.host))

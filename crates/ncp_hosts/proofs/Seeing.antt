@@ -11,8 +11,8 @@ use Rattle.ncp_model.specs.Ends.{text_in, receiver_on, sender_on, pair_of, answe
 use Rattle.ncp_model.specs.Ends.{Ends, hear, leads_to, map_after_at}
 use Rattle.ncp_model.specs.Echo.{Echoes, echo_answer, echo_asked}
 use Rattle.ncp_model.specs.Phase.{Phase, up, makes, makes_all, is_resetting, resets}
-use Rattle.ncp_resets.specs.Resets.{Host, is_up, anew, host_resets, host_falls, host_makes, host_makes_all, host_hears, host_hears_other}
-use Rattle.ncp_hosts.specs.Hosts.{Node, TextOut, peer_of, quiet, calls, calls_reset, hears, hears_text, echoes_after, reaction}
+use Rattle.ncp_resets.specs.Resets.{Host, is_up, anew, host_makes_all}
+use Rattle.ncp_hosts.specs.Hosts.{Node, TextOut, peer_of, quiet, hears, echoes_after, reaction}
 use Rattle.ncp_hosts.specs.Hosts as hosts
 use Rattle.ncp_model.specs.Sending.{is_full}
 use Rattle.ncp_model.specs.Peers.{Peer, Call, standing}
@@ -27,10 +27,10 @@ use Rattle.std.proofs.Math.Seq.{drop-nil}
 use Rattle.ncp_model.specs.declared.limits.TheConstants.{DATA_LINKS, FIRST_LINK, MAX_CONTROL}
 use Rattle.ncp_resets.specs.Resets as resets
 use Rattle.ncp_resets.specs.Delivery.{Slot, Empty, Ready, Travelling, Held, Subnet, Free, Accepted, Delivered, Lost, Dead, Link, idle, out}
-use Rattle.ncp_hosts.specs.Hosts.{World, base, moved, set_link, all_empty, hears_all, cuts, sends_text, text_answered, control_answered, text_comes, message_comes, Step, Calls_reset, Calls, Calls_echo, Falls, Sends, Sends_text, Hears, Hears_text, Is_answered, Text_is_answered, steps}
+use Rattle.ncp_hosts.specs.Hosts.{World, base, moved, set_link, all_empty, cuts, text_answered, control_answered, text_comes, message_comes, Calls_reset, Calls, Calls_echo, Falls, Sends, Sends_text, Hears, Hears_text, Is_answered, Text_is_answered, steps}
 use Rattle.ncp_hosts.specs.Seen.{CallsAgree, EchoesAgree, ResetsAgree, FallsAgree, HearsAgree, TextsAgree, FreesAgree, SettlesAgree, MessagesAgree, CutsAgree, SendsAgree, StepsAgree, OthersStay, hears_each, takes_commands, hears_message, hears_coming, control_taken, text_taken}
 use Rattle.ncp_resets.proofs.ResetRuns.{phase-makes_all, phase-hears}
-use Rattle.ncp_hosts.proofs.HostsBase.{hears_all-texts}
+use Rattle.ncp_hosts.proofs.HostsBase.{hears_all-texts, other-keeps}
 
 pub none_made : (cs : List Command) (p : Phase) → up p ≡ false → makes_all cs p ≡ p
 none_made [] p d = refl
@@ -197,21 +197,5 @@ steps_agree Is_answered w = control_told w.this.control.slot w.this.control.subn
 steps_agree (Text_is_answered on) w = text_told on (w.this.texts on).slot (w.this.texts on).subnet w.this
 steps_agree step w = refl
 
-others_heard : (subnet : Subnet (List Command)) (w : World) → peer_of (message_comes subnet w).that ≡ peer_of w.that
-others_heard (Accepted m) w = refl
-others_heard Free w = refl
-others_heard Delivered w = refl
-others_heard Lost w = refl
-others_heard Dead w = refl
-
-others_text : (on : ℕ) (head : List Bool) (subnet : Subnet TextOut) (w : World) → peer_of (text_comes on head subnet w).that ≡ peer_of w.that
-others_text on head (Accepted t) w = refl
-others_text on head Free w = refl
-others_text on head Delivered w = refl
-others_text on head Lost w = refl
-others_text on head Dead w = refl
-
 pub others_stay : OthersStay
-others_stay Hears w = others_heard w.that.control.subnet w
-others_stay (Hears_text on head) w = others_text on head (w.that.texts on).subnet w
-others_stay step w = refl
+others_stay step w = other-keeps (λ (n : Node). peer_of n ≡ peer_of w.that) (λ n l e. e) (λ n ls e. e) step w refl

@@ -17,10 +17,11 @@ use Rattle.ncp_model.specs.Sending.{is_full}
 use Rattle.ncp_model.specs.Peers.{Peer, Call, called, happened_at}
 use Rattle.ncp_model.specs.Peers as peers
 use Rattle.ncp_resets.specs.Delivery.{Slot, Empty, Ready, Travelling, Held, Subnet, Free, Accepted, Delivered, Lost, Dead}
-use Rattle.ncp_resets.specs.Resets.{Host, is_up, anew, host_resets, host_falls, host_makes, host_makes_all, host_hears, host_hears_other}
+use Rattle.ncp_resets.specs.Resets.{Host, anew, host_falls, host_makes, host_makes_all, host_hears_other}
 use Rattle.ncp_resets.specs.Resets as resets
 use Rattle.ncp_hosts.specs.Hosts.{Node, TextOut, Pasts, quiet, peer_of, cleared, reaction, calls, happens_at, echo_called, calls_echo, calls_reset, hears, hears_other, hears_all, takes_text, hears_text, cuts, sends_text, frees, text_answered, control_answered, text_comes, message_comes, World, base, moved, Calls_reset, Calls, Calls_echo, Falls, Sends, Sends_text, Hears, Hears_text, Is_answered, Text_is_answered}
 use Rattle.ncp_hosts.specs.Watching.{Watch, watch_of, begins_anew, notes, sees_call, sees_echo, sees_command, sees_each, sees_text, sees_taken, sees_message, sees_coming, sees_answer, WatchesAgree, OtherWatchesStay}
+use Rattle.ncp_hosts.proofs.HostsBase.{other-keeps}
 use Rattle.ncp_hosts.proofs.Seeing.{none_made, quiet_stays, hears_agree}
 
 -- What is made and what came, where commands are made at a host that is up.
@@ -193,21 +194,5 @@ watches_agree Is_answered w = told_seen w.this.control.slot w.this.control.subne
 watches_agree (Text_is_answered on) w = answer_seen on (w.this.texts on).slot (w.this.texts on).subnet w.this
 watches_agree step w = refl
 
-other_message : (subnet : Subnet (List Command)) (w : World) → watch_of (message_comes subnet w).that ≡ watch_of w.that
-other_message (Accepted m) w = refl
-other_message Free w = refl
-other_message Delivered w = refl
-other_message Lost w = refl
-other_message Dead w = refl
-
-other_text : (on : ℕ) (head : List Bool) (subnet : Subnet TextOut) (w : World) → watch_of (text_comes on head subnet w).that ≡ watch_of w.that
-other_text on head (Accepted t) w = refl
-other_text on head Free w = refl
-other_text on head Delivered w = refl
-other_text on head Lost w = refl
-other_text on head Dead w = refl
-
 pub other_watches_stay : OtherWatchesStay
-other_watches_stay Hears w = other_message w.that.control.subnet w
-other_watches_stay (Hears_text on head) w = other_text on head (w.that.texts on).subnet w
-other_watches_stay step w = refl
+other_watches_stay step w = other-keeps (λ (n : Node). watch_of n ≡ watch_of w.that) (λ n l e. e) (λ n ls e. e) step w refl

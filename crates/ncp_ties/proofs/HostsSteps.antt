@@ -27,7 +27,7 @@ use Rattle.ncp_connections.specs.Connections.{Text}
 use Rattle.ncp_hosts.specs.Hosts.{TextOut, Node, set_link, is_empty, kept, kept_echoes, pasts_after, pasts_after_at, Call, called, happens_at, calls, echo_called, calls_echo, is_full_up, echo_replies, echoes_after, reaction, hears, hears_all, takes_text, hears_text, goes_out, cuts, sends_text, frees, text_answered}
 use Rattle.ncp_model.proofs.ResetLists.{rrps}
 use Rattle.ncp_resets.proofs.ResetKept.{falling, came_up, dropped}
-use Rattle.ncp_hosts.proofs.HostsStand.{nothing_out}
+use Rattle.ncp_hosts.proofs.Standing.{nothing_out}
 use Rattle.ncp_ties.proofs.Lives.{live, fronts_other, behind_other, alive}
 use Rattle.ncp_ties.proofs.Ties.{Owners, Carried, Owned, Texts, Ties}
 use Rattle.ncp_ties.proofs.TiesClear.{SameText, ties-to, ties-links, one-link, same-ready, same-answered}

@@ -13,7 +13,7 @@ use Rattle.ncp_hosts.specs.Hosts.{TextOut, Node, quiet, cleared, frees, hears, h
 use Rattle.ncp_model.proofs.ResetLists.{bit, rsts, any-rsts}
 use Rattle.ncp_ties.proofs.HostsHeld.{ever}
 use Rattle.ncp_resets.proofs.Waiting.{down, silent_all, settling, waiting, sends-wait}
-use Rattle.ncp_hosts.proofs.HostsBase.{reactions, hears_all-host}
+use Rattle.ncp_hosts.proofs.HostsBase.{reactions, hears_all-host, other-keeps}
 use Rattle.ncp_headline.proofs.headline.only_resets_act_until_the_answer.Goals as goal
 
 -- a host that is not up does what is said of it there
@@ -105,25 +105,8 @@ until step w a b = absurd (cc (a, b))
 counted : (u : List Command) (a b : Bool) (c : ℕ) → list_any is_rst u ≡ true → rsts u + bit a + c ≡ bit b → b ≡ true
 counted u a b c r e = grind (arith, any-rsts)
 
--- a step of this host leaves that one
-message-that : (subnet : Subnet (List Command)) (w : World) → (message_comes subnet w).that.host ≡ w.that.host
-message-that (Accepted m) w = refl
-message-that Free w = refl
-message-that Delivered w = refl
-message-that Lost w = refl
-message-that Dead w = refl
-
-text-that : (on : ℕ) (head : List Bool) (subnet : Subnet TextOut) (w : World) → (text_comes on head subnet w).that.host ≡ w.that.host
-text-that on head (Accepted t) w = refl
-text-that on head Free w = refl
-text-that on head Delivered w = refl
-text-that on head Lost w = refl
-text-that on head Dead w = refl
-
 each : (step : Step) (w : World) → (steps step w).that.host ≡ w.that.host
-each Hears w = message-that w.that.control.subnet w
-each (Hears_text on head) w = text-that on head (w.that.texts on).subnet w
-each step w = refl
+each step w = other-keeps (λ (n : Node). n.host ≡ w.that.host) (λ n l e. e) (λ n ls e. e) step w refl
 
 pub returns-clause-waits : goal.returns-clause-waits
 returns-clause-waits c = λ es r. (let k = (ever es).holds.joined.kept.there.count in counted _ _ _ _ r k)
