@@ -1,9 +1,10 @@
 //! The connections with one peer.
 ghost use Rattle.std.specs.Prelude.{◌≡◌, ℕ, ◌≤◌, OnErr, IfOk};
-ghost use Rattle.std.specs.FinMap.{get};
+ghost use Rattle.std.specs.FinMap.{get, insert};
 ghost use Rattle.ncp_model.specs.Act.{answer};
 ghost use Rattle.ncp_model.specs.Calls.{close};
 ghost use Rattle.ncp_model.specs.Ends.{count, has_asked, is_by_peer, hears_link, uses_link, map_after, no_ends};
+ghost use Rattle.ncp_conn.specs.Asking.{Enters};
 ghost use Rattle.ncp_conn.specs.Records.{record_in};
 ghost use Rattle.ncp_conn.specs.Walking.{AreItsPairs};
 
@@ -12,8 +13,10 @@ mod hearing;
 mod texts;
 
 use crate::entries::Entries;
+use crate::entry::Entry;
 use crate::pairs::Pairs;
 use crate::record::Record;
+use asking::Stores;
 use ncp_bits::BitStore;
 use ncp_control::Command;
 use ncp_model::{CallFault, MAX_BY_PEER, MAX_OWN, Pair};
@@ -27,7 +30,7 @@ use std::marker::Model;
 /// was made and the peer's came: it is then out of the table, with what it stored.
 #[derive(Drop)]
 pub struct Table<S: BitStore> {
-    alloc: Global,
+    stores: Stores,
     entries: Entries<S>,
 }
 
@@ -55,7 +58,7 @@ impl<S: BitStore> Table<S> {
         ensures { IfOk result (λ table. table ≡ no_ends) }
     {
         Ok(Table {
-            alloc,
+            stores: Stores::new(alloc),
             entries: Entries::new(alloc)?,
         })
     }
@@ -86,6 +89,14 @@ impl<S: BitStore> Table<S> {
         Pairs {
             entries: self.entries.slab.iter(),
         }
+    }
+
+    // Makes an entry for a pair that has none.
+    fn enter(&mut self, entry: Entry<S>)
+        requires enters { Enters self.old entry }
+        ensures { self.new ≡ insert self.old entry.0 entry.1 }
+    {
+        self.entries.insert(entry);
     }
 
     /// A copy of what is known of a connection.

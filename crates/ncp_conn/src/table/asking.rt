@@ -1,12 +1,14 @@
 //! The own requests.
-ghost use Rattle.std.specs.Prelude.{◌≡◌, ◌≤◌, true, false, IfOk, IfErr, OnOk, OnErr, []};
-ghost use Rattle.std.specs.FinMap.{get, insert};
+ghost use Rattle.std.specs.Prelude.{◌≡◌, ◌≤◌, true, false, OnOk, OnErr, []};
+ghost use Rattle.std.specs.FinMap.{get};
 ghost use Rattle.ncp_model.specs.Pairs.{sends, receives};
 ghost use Rattle.ncp_model.specs.End.{or_new};
 ghost use Rattle.ncp_model.specs.Act.{is_room};
 ghost use Rattle.ncp_model.specs.Calls.{asked_to_send, asked_to_receive, end_to_ask};
 ghost use Rattle.ncp_model.specs.Ends.{any, uses_link, free_link, ask_send_in, ask_receive_in, map_with, may_ask_in};
-ghost use Rattle.ncp_conn.specs.Asking.{MayAsk, Enters, DoneOrNoMemory};
+ghost use Rattle.ncp_conn.specs.Asking.{MayAsk, DoneOrNoMemory};
+
+mod stores;
 
 use crate::entries::free_from;
 use crate::entry::Entry;
@@ -14,22 +16,13 @@ use crate::table::Table;
 use ncp_bits::BitStore;
 use ncp_control::Command;
 use ncp_model::{CallFault, FIRST_LINK, LAST_LINK, MAX_OWN, MAX_ROOM, Pair};
-use std::alloc::Global;
+pub(super) use stores::Stores;
 
 // Whether a store may have so many bits.
 fn is_room(room: u32) -> bool
     ensures { result ≡ is_room room }
 {
     room >= 1 && room <= MAX_ROOM
-}
-
-// A store for so many bits.
-fn make_store<S: BitStore>(alloc: Global, room: u32) -> Result<S, CallFault>
-    ensures held { IfOk result (λ store. S.held store ≡ []) }
-    ensures capacity { IfOk result (λ store. S.capacity store ≡ room) }
-    ensures err { IfErr result (λ fault. fault ≡ CallFault.OutOfMemory) }
-{
-    S::with_room(alloc, room as usize).map_err(|_| CallFault::OutOfMemory)
 }
 
 impl<S: BitStore> Table<S> {
@@ -56,14 +49,6 @@ impl<S: BitStore> Table<S> {
             return Err(CallFault::QueueFull);
         }
         Ok(())
-    }
-
-    // Makes an entry for a pair that has none.
-    pub(crate) fn enter(&mut self, entry: Entry<S>)
-        requires enters { Enters self.old entry }
-        ensures { self.new ≡ insert self.old entry.0 entry.1 }
-    {
-        self.entries.insert(entry);
     }
 
     // The own request of a sender that may ask.
@@ -110,7 +95,7 @@ impl<S: BitStore> Table<S> {
             return Err(CallFault::BadRoom);
         }
         self.may_ask(pair, full)?;
-        let store = make_store(self.alloc, room)?;
+        let store = self.stores.make(room)?;
         self.ask_send_of(pair, size, store);
         Ok(Command::Str {
             send: pair.local,
@@ -163,7 +148,7 @@ impl<S: BitStore> Table<S> {
             return Err(CallFault::BadRoom);
         }
         self.may_ask(pair, full)?;
-        let store = make_store(self.alloc, room)?;
+        let store = self.stores.make(room)?;
         let link = self.free_link();
         self.ask_receive_of(pair, link, store);
         Ok(Command::Rts {
