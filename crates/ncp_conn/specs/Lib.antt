@@ -1,4 +1,5 @@
 pub mod Stores
+pub mod Lends
 pub mod Records
 pub mod Changes
 pub mod Indexes

@@ -9,17 +9,17 @@ ghost use Rattle.ncp_conn.specs.Entries.{Found, Led, Puts, Settled, key_of};
 ghost use Rattle.ncp_conn.specs.Indexes.{key_at, LeadsTo};
 
 use crate::entry::Entry;
+use crate::fixed_slab::FixedSlab;
 use crate::link_index::LinkIndex;
 use ncp_bits::BitStore;
 use ncp_model::{LAST_LINK, MAX_BY_PEER, MAX_OWN, Pair};
-use slab::Slab;
 use std::alloc::{AllocError, Global};
 
 /// The entries under their keys, with the keys of the senders that heard a link and of the
 /// receivers that asked with one.
 #[derive(Drop)]
 pub(crate) struct Entries<S: BitStore> {
-    pub(crate) slab: Slab<Entry<S>>,
+    pub(crate) slab: FixedSlab<Entry<S>>,
     pub(crate) senders: LinkIndex,
     pub(crate) receivers: LinkIndex,
 }
@@ -33,7 +33,7 @@ impl<S: BitStore> Entries<S> {
         ensures receivers { IfOk result (λ new. (on : ℕ) → key_at new.receivers on ≡ None) }
     {
         Ok(Entries {
-            slab: Slab::with_capacity(alloc, MAX_OWN + MAX_BY_PEER)?,
+            slab: FixedSlab::with_capacity(alloc, MAX_OWN + MAX_BY_PEER)?,
             senders: LinkIndex::new(),
             receivers: LinkIndex::new(),
         })
@@ -104,7 +104,7 @@ impl<S: BitStore> Entries<S> {
         ensures vacant { get self.old.slab self.old.slab.vacant_key ≡ None }
         ensures enters { Puts self.old self.new self.old.slab.vacant_key (Some entry) entry (Some self.old.slab.vacant_key) }
     {
-        let key = self.slab.insert_reserved(entry);
+        let key = self.slab.insert(entry);
         self.lead(key);
     }
 

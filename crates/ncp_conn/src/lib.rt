@@ -32,6 +32,7 @@
 mod entries;
 mod entry;
 pub mod equality;
+mod fixed_slab;
 mod link_index;
 mod pairs;
 mod record;

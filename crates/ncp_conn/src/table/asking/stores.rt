@@ -7,8 +7,8 @@ use std::alloc::Global;
 
 /// Makes the stores of own requests.
 ///
-/// It has the allocator of a table, and its field is out of reach outside this file. [`Stores::make`]
-/// is in reach of the calls that ask alone: no other call of a table can take memory.
+/// It has the one allocator that a table keeps, out of reach outside this file, and `make` is in reach
+/// of the calls that ask alone. So no other call of a table takes memory.
 #[derive(Clone, Copy, Drop)]
 pub(crate) struct Stores {
     alloc: Global,
