@@ -3,3 +3,4 @@ pub mod Words
 pub mod BitStrings
 pub mod Verbs
 pub mod Arguments
+pub mod Calls

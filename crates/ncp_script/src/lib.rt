@@ -4,8 +4,10 @@
 
 mod arguments;
 mod bit_string;
+mod calls;
 mod cut;
 mod equality;
+pub mod examples;
 pub mod laws;
 mod line_buffer;
 mod line_words;
@@ -14,6 +16,7 @@ mod numbers;
 mod tests;
 mod verbs;
 
+pub use calls::call;
 pub use equality::{equal_kinds, equal_verbs};
 pub use line_buffer::{LineBuffer, LineKind, MAX_KEPT, MAX_LINE};
 pub use line_words::Words;

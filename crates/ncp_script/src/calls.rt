@@ -1,0 +1,152 @@
+//! The call that the words of a line are.
+ghost use Rattle.std.specs.Prelude.{◌≡◌, ◌≢◌, IfOk, option_map};
+ghost use Rattle.ncp_script.specs.declared.verbs.Verb.TheVariants.{Give};
+ghost use Rattle.ncp_script.specs.Verbs.{verb_of};
+ghost use Rattle.ncp_script.specs.Calls.{pair_call, peer_call, verb_call, named_call, call_of, all_of};
+
+use crate::line_words::Words;
+use crate::verbs::{Verb, verb_named};
+use ncp_model::Pair;
+use ncp_transcript::{Call, Message};
+use std::alloc::{AllocError, Global};
+
+// A call of a pair that has no text: its arguments behind the pair.
+fn call_at_pair(verb: Verb, peer: u8, pair: Pair, words: &mut Words<'_>) -> Option<Call>
+    requires { verb ≢ Give }
+    ensures { option_map (λ call. (call, words.new)) result ≡ pair_call verb peer pair words.old }
+{
+    match verb {
+        Verb::AskSend => {
+            let size = words.next_u8()?;
+            let room = words.next_u32()?;
+            Some(Call::AskSend {
+                peer,
+                pair,
+                size,
+                room,
+            })
+        }
+        Verb::AskReceive => {
+            let room = words.next_u32()?;
+            Some(Call::AskReceive { peer, pair, room })
+        }
+        Verb::Take => {
+            let bytes = words.next_u32()?;
+            Some(Call::Take { peer, pair, bytes })
+        }
+        Verb::Allocate => {
+            let messages = words.next_u16()?;
+            let bits = words.next_u32()?;
+            Some(Call::Allocate {
+                peer,
+                pair,
+                messages,
+                bits,
+            })
+        }
+        Verb::CallBack => {
+            let fm = words.next_u8()?;
+            let fb = words.next_u8()?;
+            Some(Call::CallBack { peer, pair, fm, fb })
+        }
+        Verb::Interrupt => Some(Call::Interrupt { peer, pair }),
+        Verb::Close => Some(Call::Close { peer, pair }),
+        Verb::State => Some(Call::State { peer, pair }),
+        _ => None,
+    }
+}
+
+// A call that has no text: its arguments behind the peer.
+fn call_to_peer(verb: Verb, peer: u8, words: &mut Words<'_>) -> Option<Call>
+    requires { verb ≢ Give }
+    ensures { option_map (λ call. (call, words.new)) result ≡ peer_call verb peer words.old }
+{
+    match verb {
+        Verb::Reset => Some(Call::Reset { peer }),
+        Verb::Echo => {
+            let byte = words.next_u8()?;
+            Some(Call::Echo { peer, byte })
+        }
+        Verb::Wake => Some(Call::Wake { peer }),
+        Verb::Phase => Some(Call::Phase { peer }),
+        Verb::Echoed => Some(Call::Echoed { peer }),
+        Verb::Errors => Some(Call::Errors { peer }),
+        Verb::Counts => Some(Call::Counts { peer }),
+        verb => {
+            let pair = words.next_pair()?;
+            call_at_pair(verb, peer, pair, words)
+        }
+    }
+}
+
+// A call that has no text: its peer, if none is given, and its arguments.
+fn call_without_text(verb: Verb, words: &mut Words<'_>, given: Option<u8>) -> Option<Call>
+    requires { verb ≢ Give }
+    ensures { option_map (λ call. (call, words.new)) result ≡ verb_call given verb words.old }
+{
+    if verb == Verb::Ignored {
+        return Some(Call::Ignored);
+    }
+    let peer = words.next_peer(given)?;
+    call_to_peer(verb, peer, words)
+}
+
+// A call that gives a text, for which memory is taken.
+fn give(alloc: Global, words: &mut Words<'_>, given: Option<u8>) -> Result<Option<Call>, AllocError>
+    ensures { IfOk result (λ call. option_map (λ call. (call, words.new)) call ≡ verb_call given Give words.old) }
+{
+    let Some(peer) = words.next_peer(given) else {
+        return Ok(None);
+    };
+    let Some(pair) = words.next_pair() else {
+        return Ok(None);
+    };
+    let Some(bits) = words.next_bits() else {
+        return Ok(None);
+    };
+    let text = Message::from_bits(alloc, &bits)?;
+    Ok(Some(Call::Give { peer, pair, text }))
+}
+
+// A call where no word is left behind it.
+fn last(call: Option<Call>, words: &Words<'_>) -> Option<Call>
+    ensures { result ≡ all_of (option_map (λ call. (call, words.now)) call) }
+{
+    if words.is_empty() { call } else { None }
+}
+
+// The call that a word names, with the words behind it, all that are left.
+pub(crate) fn call_named(
+    alloc: Global,
+    word: &[u8],
+    words: &mut Words<'_>,
+    given: Option<u8>,
+) -> Result<Option<Call>, AllocError>
+    ensures { IfOk result (λ call. call ≡ all_of (named_call given (verb_of word.now) words.old)) }
+{
+    let Some(verb) = verb_named(word) else {
+        return Ok(None);
+    };
+    let call = if verb == Verb::Give {
+        give(alloc, words, given)?
+    } else {
+        call_without_text(verb, words, given)
+    };
+    Ok(last(call, words))
+}
+
+/// The call that the words of a line are, all that are left: the word that names it, its peer where
+/// none is given, and its arguments. Memory is taken for the text of a `give` alone. Where the words
+/// are no call, the words that are left are not told.
+pub fn call(
+    alloc: Global,
+    words: &mut Words<'_>,
+    given: Option<u8>,
+) -> Result<Option<Call>, AllocError>
+    ensures { IfOk result (λ call. call ≡ call_of given words.old) }
+{
+    let Some(word) = words.next_word() else {
+        return Ok(None);
+    };
+    call_named(alloc, word, words, given)
+}

@@ -1,0 +1,53 @@
+//! Lines of scripts and what they ask for, computed from the definitions.
+ghost use Rattle.std.specs.Prelude.{◌≡◌, codes, List, [], ◌∷◌, Option, None, Some, true, false};
+ghost use Rattle.ncp_transcript.specs.declared.call.Call.TheVariants as calls;
+ghost use Rattle.ncp_script.specs.Words.{words_of};
+ghost use Rattle.ncp_script.specs.Calls.{call_of};
+
+/// A text that is given: its number of bits, and their bytes.
+#[tactic(auto, unfolding(ncp_bits::specs::Bits::byte_bits, ncp_bits::specs::Numbers::bits_of))]
+pub fn texts_are_given_so()
+    ensures some { call_of None (words_of (codes "give 9 3 4 4 A0")) ≡ Some (calls.Give 9 (record { local = 3; remote = 4 }) (true ∷ false ∷ true ∷ false ∷ [])) }
+    ensures none { call_of None (words_of (codes "give 9 3 4 0")) ≡ Some (calls.Give 9 (record { local = 3; remote = 4 }) []) }
+{}
+
+/// Each other call, with arguments that all differ.
+pub fn calls_are_read_so()
+    ensures reset { call_of None (words_of (codes "reset 9")) ≡ Some (calls.Reset 9) }
+    ensures ask_send { call_of None (words_of (codes "ask-send 9 3 4 8 1024")) ≡ Some (calls.AskSend 9 (record { local = 3; remote = 4 }) 8 1024) }
+    ensures ask_receive { call_of None (words_of (codes "ask-receive 9 2 5 1024")) ≡ Some (calls.AskReceive 9 (record { local = 2; remote = 5 }) 1024) }
+    ensures take { call_of None (words_of (codes "take 9 2 5 100")) ≡ Some (calls.Take 9 (record { local = 2; remote = 5 }) 100) }
+    ensures allocate { call_of None (words_of (codes "allocate 9 2 5 65535 65536")) ≡ Some (calls.Allocate 9 (record { local = 2; remote = 5 }) 65535 65536) }
+    ensures call_back { call_of None (words_of (codes "call-back 9 2 5 64 1")) ≡ Some (calls.CallBack 9 (record { local = 2; remote = 5 }) 64 1) }
+    ensures interrupt { call_of None (words_of (codes "interrupt 9 3 4")) ≡ Some (calls.Interrupt 9 (record { local = 3; remote = 4 })) }
+    ensures echo { call_of None (words_of (codes "echo 9 65")) ≡ Some (calls.Echo 9 65) }
+    ensures close { call_of None (words_of (codes "close 9 3 4")) ≡ Some (calls.Close 9 (record { local = 3; remote = 4 })) }
+    ensures wake { call_of None (words_of (codes "wake 9")) ≡ Some (calls.Wake 9) }
+    ensures phase { call_of None (words_of (codes "phase 9")) ≡ Some (calls.Phase 9) }
+    ensures state { call_of None (words_of (codes "state 9 3 4")) ≡ Some (calls.State 9 (record { local = 3; remote = 4 })) }
+    ensures echoed { call_of None (words_of (codes "echoed 9")) ≡ Some (calls.Echoed 9) }
+    ensures errors { call_of None (words_of (codes "errors 9")) ≡ Some (calls.Errors 9) }
+    ensures counts { call_of None (words_of (codes "counts 9")) ≡ Some (calls.Counts 9) }
+    ensures ignored { call_of None (words_of (codes "ignored")) ≡ Some calls.Ignored }
+{}
+
+/// In a script of two hosts no word is the peer.
+pub fn a_given_peer_has_no_word()
+    ensures close { call_of (Some 9) (words_of (codes "close 3 4")) ≡ Some (calls.Close 9 (record { local = 3; remote = 4 })) }
+    ensures phase { call_of (Some 9) (words_of (codes "phase")) ≡ Some (calls.Phase 9) }
+    ensures ignored { call_of (Some 9) (words_of (codes "ignored")) ≡ Some calls.Ignored }
+    ensures word { call_of (Some 9) (words_of (codes "phase 9")) ≡ None }
+{}
+
+/// What is no call: no word, a word too few or too many, a number that is too large.
+pub fn no_calls()
+    ensures none { call_of None (words_of []) ≡ None }
+    ensures unknown { call_of None (words_of (codes "Reset 9")) ≡ None }
+    ensures few { call_of None (words_of (codes "close 9 3")) ≡ None }
+    ensures many { call_of None (words_of (codes "close 9 3 4 5")) ≡ None }
+    ensures end { call_of None (words_of (codes "close 9 3 4 ")) ≡ None }
+    ensures peer { call_of None (words_of (codes "ignored 9")) ≡ None }
+    ensures byte { call_of None (words_of (codes "echo 9 256")) ≡ None }
+    ensures messages { call_of None (words_of (codes "allocate 9 2 5 65536 0")) ≡ None }
+    ensures size { call_of None (words_of (codes "ask-send 9 3 4 256 1024")) ≡ None }
+{}
