@@ -2,3 +2,4 @@ pub mod Digits
 pub mod Cuts
 pub mod HexDigits
 pub mod Kept
+pub mod Peers

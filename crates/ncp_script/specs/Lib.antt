@@ -4,3 +4,5 @@ pub mod BitStrings
 pub mod Verbs
 pub mod Arguments
 pub mod Calls
+pub mod HostLines
+pub mod FirstLines

@@ -1,8 +1,12 @@
 //! Lines of scripts and what they ask for, computed from the definitions.
 ghost use Rattle.std.specs.Prelude.{◌≡◌, codes, List, [], ◌∷◌, Option, None, Some, true, false};
 ghost use Rattle.ncp_transcript.specs.declared.call.Call.TheVariants as calls;
+ghost use Rattle.ncp_transcript.specs.declared.input.Input.TheVariants as inputs;
+ghost use Rattle.ncp_script.specs.declared.host_lines.HostLine.TheVariants as lines;
 ghost use Rattle.ncp_script.specs.Words.{words_of};
 ghost use Rattle.ncp_script.specs.Calls.{call_of};
+ghost use Rattle.ncp_script.specs.HostLines.{host_line_of};
+ghost use Rattle.ncp_script.specs.FirstLines.{first_of_host, hosts_named};
 
 /// A text that is given: its number of bits, and their bytes.
 #[tactic(auto, unfolding(ncp_bits::specs::Bits::byte_bits, ncp_bits::specs::Numbers::bits_of))]
@@ -50,4 +54,46 @@ pub fn no_calls()
     ensures byte { call_of None (words_of (codes "echo 9 256")) ≡ None }
     ensures messages { call_of None (words_of (codes "allocate 9 2 5 65536 0")) ≡ None }
     ensures size { call_of None (words_of (codes "ask-send 9 3 4 256 1024")) ≡ None }
+{}
+
+/// Bits that come, in a script of one host.
+#[tactic(auto, unfolding(ncp_bits::specs::Bits::byte_bits, ncp_bits::specs::Numbers::bits_of))]
+pub fn bits_come_so()
+    ensures some { host_line_of (words_of (codes "in 4 A0")) ≡ Some (lines.Input (inputs.In (true ∷ false ∷ true ∷ false ∷ []))) }
+{}
+
+/// What a line of a script of one host asks for.
+pub fn host_lines_are_read_so()
+    ensures in_none { host_line_of (words_of (codes "in 0")) ≡ Some (lines.Input (inputs.In [])) }
+    ensures out { host_line_of (words_of (codes "out")) ≡ Some (lines.Input inputs.Out) }
+    ensures feed { host_line_of (words_of (codes "feed")) ≡ Some lines.Feed }
+    ensures call { host_line_of (words_of (codes "close 9 3 4")) ≡ Some (lines.Input (inputs.Call (calls.Close 9 (record { local = 3; remote = 4 })))) }
+    ensures no_bits { host_line_of (words_of (codes "in")) ≡ None }
+    ensures more_bits { host_line_of (words_of (codes "in 4 A0 0")) ≡ None }
+    ensures more_out { host_line_of (words_of (codes "out 9")) ≡ None }
+    ensures more_feed { host_line_of (words_of (codes "feed ")) ≡ None }
+    ensures none { host_line_of (words_of []) ≡ None }
+{}
+
+/// The first line of a script of one host: one to eight distinct peers, and none is the host.
+pub fn first_lines_are_read_so()
+    ensures one { first_of_host (words_of (codes "host 9 3")) ≡ Some (record { me = 9; peers = 3 ∷ [] }) }
+    ensures eight { first_of_host (words_of (codes "host 0 8 7 6 5 4 3 2 255")) ≡ Some (record { me = 0; peers = 8 ∷ 7 ∷ 6 ∷ 5 ∷ 4 ∷ 3 ∷ 2 ∷ 255 ∷ [] }) }
+    ensures nine { first_of_host (words_of (codes "host 0 8 7 6 5 4 3 2 255 1")) ≡ None }
+    ensures no_peer { first_of_host (words_of (codes "host 9")) ≡ None }
+    ensures itself { first_of_host (words_of (codes "host 9 3 9")) ≡ None }
+    ensures twice { first_of_host (words_of (codes "host 9 3 3")) ≡ None }
+    ensures large { first_of_host (words_of (codes "host 9 256")) ≡ None }
+    ensures word { first_of_host (words_of (codes "hosts 9 3")) ≡ None }
+    ensures end { first_of_host (words_of (codes "host 9 3 ")) ≡ None }
+{}
+
+/// The first line of a script of two hosts: they are distinct.
+pub fn first_lines_of_two_are_read_so()
+    ensures two { hosts_named (words_of (codes "hosts 0 255")) ≡ Some (record { a = 0; b = 255 }) }
+    ensures same { hosts_named (words_of (codes "hosts 3 03")) ≡ None }
+    ensures one { hosts_named (words_of (codes "hosts 3")) ≡ None }
+    ensures three { hosts_named (words_of (codes "hosts 3 4 5")) ≡ None }
+    ensures large { hosts_named (words_of (codes "hosts 3 256")) ≡ None }
+    ensures word { hosts_named (words_of (codes "host 3 4")) ≡ None }
 {}

@@ -8,6 +8,8 @@ mod calls;
 mod cut;
 mod equality;
 pub mod examples;
+mod first_lines;
+mod host_lines;
 pub mod laws;
 mod line_buffer;
 mod line_words;
@@ -18,6 +20,8 @@ mod verbs;
 
 pub use calls::call;
 pub use equality::{equal_kinds, equal_verbs};
+pub use first_lines::{HostAndPeers, TwoHosts, host_named, hosts_named};
+pub use host_lines::{HostLine, host_line};
 pub use line_buffer::{LineBuffer, LineKind, MAX_KEPT, MAX_LINE};
 pub use line_words::Words;
 pub use numbers::MAX_DIGITS;
