@@ -1,4 +1,4 @@
--- The books of a receiving end agree with its history, after each note.
+-- Each end is sound, and the books of one that receives agree with its history, after each note.
 use Rattle.std.proofs.Common.{◌≡◌, ℕ, ◌==◌, Bool, true, false, cond, if◌then◌else◌, List, [], ◌∷◌, take, Option, None, Some, Result, Ok, Err, refl, sym, ap, ◌∙◌, subst, arith}
 use Rattle.std.proofs.lemmas.Bool.{eqb-true, and_parts}
 use Rattle.std.specs.FinMap.{get, get-insert, get-remove, get-empty}
@@ -25,7 +25,7 @@ use Rattle.ncp_model.specs.End.{End}
 use Rattle.ncp_model.specs.Act.{Act, end_after}
 use Rattle.ncp_model.specs.Texts as texts
 use Rattle.ncp_model.specs.Ends.{Ends, uses_link, hears_link, pair_of, receiver_on, sender_on, leads_to, hear, text_in, cut_in, answered_in, map_after, map_after_at, no_ends, put}
-use Rattle.ncp_model.specs.Happenings.{Happening, Text_comes, happens}
+use Rattle.ncp_model.specs.Happenings.{Happening, Text_comes, Text_goes_out, Is_answered, happens}
 use Rattle.ncp_model.specs.Texts.{made_by_text, hear_text}
 use Rattle.ncp_model.specs.Leading.{suits, comes}
 use Rattle.ncp_model.specs.Phase.{Phase, up, is_resetting, resets}
@@ -34,7 +34,7 @@ use Rattle.ncp_model.specs.Peers.{Peer, Ask_to_send, Ask_to_receive, Close, Give
 use Rattle.ncp_model.specs.Peers as peers
 use Rattle.ncp_model.proofs.PairOrder.{pairs_exact, pairs_total}
 use Rattle.ncp_model.proofs.EndsAfter.{after-at, after-elsewhere}
-use Rattle.ncp_model.proofs.LinksLead.{itself, led, command-led, hearer-sends, user-receives, suits-led}
+use Rattle.ncp_model.proofs.LinksLead.{itself, led, command-led, cut-led, answered-led, hearer-sends, user-receives, suits-led}
 use Rattle.ncp_watch.specs.Histories.{Past, no_past}
 use Rattle.ncp_watch.specs.Sound.{SoundAt}
 use Rattle.ncp_watch.specs.Books.{BooksAt}
@@ -51,9 +51,9 @@ use Rattle.ncp_transcript.specs.declared.note.HostNote.TheVariants as notes
 use Rattle.ncp_runs.specs.Peers.{called_for, bits_for, out_for, note_for, notes_for}
 use Rattle.ncp_runs.specs.Histories.{past_then, past_at, past_called, past_heard, past_heard_all, past_text, past_message, past_bits, past_of_call, past_by, past_from}
 
--- the end of a pair is sound, and its books agree
+-- the end of a pair is sound, and where it receives its books agree
 abbrev pub Kept : Pair → Ends → Past → Type 0
-Kept pair m past = SoundAt pair (get m pair) × BooksAt (get m pair) past
+Kept pair m past = SoundAt pair (get m pair) × (receives pair ≡ true → BooksAt (get m pair) past)
 
 same_pair : (a b : Pair) → same a b ≡ true → a ≡ b
 same_pair a b e =
@@ -67,9 +67,9 @@ same_itself a = grind arith
 another : (a b : Pair) → same a b ≡ false → (a ≡ b) → ⊥
 another a b e i = let yes : same a b ≡ true = ap (same a) (sym i) ∙ same_itself a in absurd (cc (e, yes))
 
-module _ (pair : Pair) (r : receives pair ≡ true) where
+module _ (pair : Pair) where
   none-kept : (past : Past) → Kept pair no_ends past
-  none-kept past = subst (λ (o : Option End). SoundAt pair o × BooksAt o past) (sym (get-empty pair_cmp pair)) (tt, tt)
+  none-kept past = subst (λ (o : Option End). SoundAt pair o × (receives pair ≡ true → BooksAt o past)) (sym (get-empty pair_cmp pair)) (tt, λ r. tt)
 
   while-up : (q : Phase) (m : Ends) (past : Past) → Kept pair m past → Kept pair (kept q m) past
   while-up q m past k = go (up q)
@@ -79,7 +79,7 @@ module _ (pair : Pair) (r : receives pair ≡ true) where
       go false = none-kept past
 
   elsewhere-kept : (m now : Ends) (past : Past) → get now pair ≡ get m pair → Kept pair m past → Kept pair now past
-  elsewhere-kept m now past e k = subst (λ (o : Option End). SoundAt pair o × BooksAt o past) (sym e) k
+  elsewhere-kept m now past e k = subst (λ (o : Option End). SoundAt pair o × (receives pair ≡ true → BooksAt o past)) (sym e) k
 
   -- something happened to a pair, and the others stay
   moved : (m now : Ends) (p : Pair) (what : Happening) (past : Past) → suits p what ≡ true → get now p ≡ (happens p what (get m p)).after → ((q : Pair) → (q ≡ p → ⊥) → get now q ≡ get m q) → Kept pair m past → Kept pair now (past_at pair (Some p) (Some what) m past)
@@ -90,8 +90,8 @@ module _ (pair : Pair) (r : receives pair ≡ true) where
           let i : pair ≡ p = same_pair pair p e in
           let is : get now pair ≡ (happens pair what (get m pair)).after = ap (get now) i ∙ here ∙ ap (λ (q : Pair). (happens q what (get m q)).after) (sym i) in
           let fit : suits pair what ≡ true = ap (λ (q : Pair). suits q what) i ∙ fits in
-          subst (λ (o : Option End). SoundAt pair o × BooksAt o (past_then (get m pair) what (happens pair what (get m pair)) past)) (sym is)
-          (sound-after pair what (get m pair) k.0, books-kept pair what (get m pair) past (one_way pair r) fit k.0 k.1)
+          subst (λ (o : Option End). SoundAt pair o × (receives pair ≡ true → BooksAt o (past_then (get m pair) what (happens pair what (get m pair)) past))) (sym is)
+          (sound-after pair what (get m pair) k.0, λ r. books-kept pair what (get m pair) past (one_way pair r) fit k.0 (k.1 r))
       go false e = elsewhere-kept m now past (there pair (another pair p e)) k
 
   -- A call.
@@ -216,21 +216,42 @@ module _ (pair : Pair) (r : receives pair ≡ true) where
 
   -- A text that goes out, and one that was taken, are of a pair that sends.
 
-  sender-stays : {A : Type 0} → (on : ℕ) (m : Ends) (act : Act A) (past : Past) → Kept pair m past → Kept pair (map_after_at m (pair_of (sender_on on m)) act) past
-  sender-stays on m act past k = go (pair_of (sender_on on m)) refl
+  sender-moves : {A : Type 0} → (on : ℕ) (m : Ends) (act : Act A) (past : Past) → ((p : Pair) → pair_of (sender_on on m) ≡ Some p → SoundAt p (get m p) → SoundAt p (end_after (get m p) act)) → Kept pair m past
+      → Kept pair (map_after_at m (pair_of (sender_on on m)) act) past
+  sender-moves on m act past f k = go (pair_of (sender_on on m)) refl
     where
+      here : (p : Pair) → pair_of (sender_on on m) ≡ Some p → pair ≡ p → Kept pair (map_after m p act) past
+      here p e i =
+          let sent : sends pair ≡ true = ap sends i ∙ hearer-sends on p (get m p) (led (hears_link on) m p e).1 in
+          let sound : SoundAt pair (get m pair) = k.0 in (
+            subst (λ (q : Pair). SoundAt q (get (map_after m p act) q)) (sym i)
+                (subst (λ (o : Option End). SoundAt p o) (sym (after-at m p act)) (f p e (subst (λ (q : Pair). SoundAt q (get m q)) i sound))),
+            λ r. let no : sends pair ≡ false = one_way pair r in absurd (cc (sent, no)),
+          )
+
+      by : (p : Pair) (b : Bool) → pair_of (sender_on on m) ≡ Some p → same pair p ≡ b → Kept pair (map_after m p act) past
+      by p true e q = here p e (same_pair pair p q)
+      by p false e q = elsewhere-kept m (map_after m p act) past (after-elsewhere m p pair act (another pair p q)) k
+
       go : (o : Option Pair) → pair_of (sender_on on m) ≡ o → Kept pair (map_after_at m o act) past
       go None e = k
-      go (Some p) e =
-          let sent : sends p ≡ true = hearer-sends on p (get m p) (led (hears_link on) m p e).1 in
-          let no : sends pair ≡ false = one_way pair r in
-          elsewhere-kept m (map_after m p act) past (after-elsewhere m p pair act (λ i. let yes : sends pair ≡ true = ap sends i ∙ sent in absurd (cc (yes, no)))) k
+      go (Some p) e = by p (same pair p) e refl
+
+  freed : (on : ℕ) (m : Ends) (past : Past) → Kept pair m past → Kept pair (map_after_at m (pair_of (sender_on on m)) (answered_in on texts.Rfnm m)) past
+  freed on m past k =
+      sender-moves on m (answered_in on texts.Rfnm m) past
+      (λ p e s. subst (λ (o : Option End). SoundAt p o) (ap (λ h. h.after) (answered-led m on texts.Rfnm p e).1) (sound-after p (Is_answered texts.Rfnm) (get m p) s)) k
+
+  gone : (on : ℕ) (m : Ends) (past : Past) → Kept pair m past → Kept pair (map_after_at m (pair_of (sender_on on m)) (cut_in on m)) past
+  gone on m past k =
+      sender-moves on m (cut_in on m) past
+      (λ p e s. subst (λ (o : Option End). SoundAt p o) (ap (λ h. h.after) (cut-led m on p e).1) (sound-after p Text_goes_out (get m p) s)) k
 
   frees-kept : (on : ℕ) (p : Peer) (past : Past) → Kept pair p.ends past → Kept pair (peers.frees on p).ends past
   frees-kept on p past k = go (up p.phase)
     where
       go : (b : Bool) → Kept pair (if b then peers.frees_up on p else p).ends past
-      go true = while-up (peers.frees_up on p).phase (map_after_at p.ends (pair_of (sender_on on p.ends)) (answered_in on texts.Rfnm p.ends)) past (sender-stays on p.ends (answered_in on texts.Rfnm p.ends) past k)
+      go true = while-up (peers.frees_up on p).phase (map_after_at p.ends (pair_of (sender_on on p.ends)) (answered_in on texts.Rfnm p.ends)) past (freed on p.ends past k)
       go false = k
 
   freed-kept : (on : ℕ) (p : Peer) (past : Past) → Kept pair p.ends past → Kept pair (frees_on on p).ends past
@@ -257,7 +278,7 @@ module _ (pair : Pair) (r : receives pair ≡ true) where
     where
       go : (b : Bool) → Kept pair (if b then peers.sends p else peers.cuts on p).ends past
       go true = k
-      go false = sender-stays on p.ends (cut_in on p.ends) past k
+      go false = gone on p.ends past k
 
   out-kept : (on : ℕ) (slot : LinkSlot) (p : Peer) (past : Past) → Kept pair p.ends past → Kept pair (after_by slot on p).ends past
   out-kept on Empty p past k = made-kept on p past k

@@ -15,7 +15,8 @@ use Rattle.ncp_transcript.specs.declared.note.HostNote.{HostNote}
 use Rattle.ncp_transcript.specs.declared.note.HostNote.TheVariants as notes
 use Rattle.ncp_transcript.specs.After.{after_call, after_note, after_notes}
 use Rattle.ncp_transcript.specs.Runs.{IsSaid, IsRun}
-use Rattle.ncp_runs.specs.Peers.{FromBeginning, names, notes_of, note_for, notes_for, IsRunOf}
+use Rattle.ncp_runs.specs.Peers.{FromBeginning, names, notes_of, note_for, notes_for}
+use Rattle.ncp_runs.proofs.Said.{IsRunOf}
 use Rattle.ncp_runs.proofs.States.{done, is_there}
 use Rattle.ncp_runs.proofs.Ready.{Addressed}
 use Rattle.ncp_runs.proofs.PeerRuns.{addressed-after}

@@ -23,7 +23,8 @@ use Rattle.ncp_transcript.specs.Notes.{told_or_refused}
 use Rattle.ncp_transcript.specs.After.{after_note}
 use Rattle.ncp_transcript.specs.Noting.{answer_with}
 use Rattle.ncp_transcript.specs.Runs.{answer_told, IsSaid}
-use Rattle.ncp_runs.specs.Peers.{peer_of_leader, is_number, names, out_for, note_for, IsOut, IsIn, IsSaidOf}
+use Rattle.ncp_runs.specs.Peers.{peer_of_leader, is_number, names, out_for, note_for}
+use Rattle.ncp_runs.proofs.Said.{IsOut, IsIn, IsSaidOf}
 use Rattle.ncp_runs.proofs.States.{done, done_nothing, kind_first, at_peer-state, changed-state, called-state, bits-state, Turn, turn}
 use Rattle.ncp_runs.proofs.Ready.{Addressed, first_is, link_small, output-leader}
 

@@ -29,17 +29,22 @@ use Rattle.ncp_model.specs.Sending.{is_full, next_commands}
 use Rattle.ncp_model.specs.Peers.{Peer, Ask_to_send, Ask_to_receive, Close, Give, Take, Allocate, Call_back, Interrupt, happened_at}
 use Rattle.ncp_model.specs.Peers as peers
 use Rattle.ncp_host.specs.Counting.{one_more}
-use Rattle.ncp_host.specs.PeerState.{PeerState, control_link, is_answered, answer_taken, answer_comes, frees_on, after_answer}
+use Rattle.ncp_host.specs.PeerState.{PeerState, new_state, control_link, is_answered, answer_taken, answer_comes, frees_on, after_answer}
 use Rattle.ncp_host.specs.Hearing.{control_size, control_after, text_after, is_wrong_link, hears, hears_all, hears_last, message_after}
 use Rattle.ncp_host.specs.Output.{control_message, output_by, output_on, after_by}
+use Rattle.ncp_host.specs.Host.{state_of, new_host}
 use Rattle.ncp_transcript.specs.declared.call.Call.{Call}
 use Rattle.ncp_transcript.specs.declared.call.Call.TheVariants as calls_of
 use Rattle.ncp_transcript.specs.declared.note.HostNote.{HostNote}
 use Rattle.ncp_transcript.specs.declared.note.HostNote.TheVariants as notes
-use Rattle.ncp_runs.specs.Peers.{is_number, called_for, bits_for, out_for, note_for, notes_for, IsOut, IsSaidOf, IsRunOf}
-use Rattle.ncp_runs.specs.Links.{LinkHistory, takes_fresh, is_fresh, link_of_leader, told_by, slot_of_answer, fresh_by, fresh_from}
-use Rattle.ncp_runs.specs.Making.{Made, struck, sent, all_made_in, settling_made, by_pair_call, by_echo, by_reset, by_call, by_command, by_commands, by_fault, by_control, by_text, by_message, by_bits, by_freeing, by_answer, by_answered, by_out, made_by_note, made_from, message_of, joined}
-use Rattle.ncp_runs.proofs.LinksTold.{Tells, ready-is, out-free, note-tells}
+use Rattle.ncp_transcript.specs.After.{after_notes}
+use Rattle.ncp_runs.specs.Peers.{FromBeginning, notes_of, is_number, called_for, bits_for, out_for, note_for, notes_for}
+use Rattle.ncp_runs.specs.Links.{LinkHistory, nothing_told, takes_fresh, is_fresh, link_of_leader, told_by, slot_of_answer, fresh_by, fresh_from, fresh_on}
+use Rattle.ncp_runs.specs.Making.{Made, struck, sent, all_made_in, settling_made, by_pair_call, by_echo, by_reset, by_call, by_command, by_commands, by_fault, by_control, by_text, by_message, by_bits, by_freeing, by_answer, by_answered, by_out, made_by_note, made_from, nothing_made, made_of, message_of, joined}
+use Rattle.ncp_runs.proofs.Said.{IsOut, IsSaidOf, IsRunOf}
+use Rattle.ncp_runs.proofs.EachPeer.{each_peer}
+use Rattle.ncp_runs.proofs.LinksTold.{Tells, ready-is, out-free, note-tells, new-tells}
+use Rattle.ncp_runs.proofs.InRuns.{is_a_peer, kept_as_noted}
 use Rattle.ncp_runs.proofs.MadeOfRuns.{Agrees, all_made-agrees, settling-agrees, asked-agrees, command-agrees, sent-agrees}
 
 waiting : PeerState → List Command
@@ -243,3 +248,10 @@ run-went n (note ∷ rest) s t l g p e a =
       agrees = subst (λ (xs : List Command). Agrees (made_from rest (note_for note s) (told_by control_link note t) (made_by_note note s t l)) (notes_for rest (note_for note s)).peer.phase.waiting xs)
           (append_assoc g (joined one.css) (joined more.css) ∙ ap (λ (xs : List Command). g ++ xs) (sym (joined-append one.css more.css))) more.agrees;
     }
+
+-- over all the notes of a peer
+pub commands-noted : (me : ℕ) (ns : List ℕ) (all : List HostNote) (n : ℕ) (s : PeerState) → FromBeginning me ns all → state_of (after_notes all (new_host me ns)) n ≡ Some s
+    → (css : List (List Command)) × (fresh_on control_link (notes_of n all) ≡ map (message_of n) css) × ((made_of (notes_of n all)).all ≡ joined css ++ s.peer.phase.waiting) × ((made_of (notes_of n all)).gone ≡ length (joined css))
+commands-noted me ns all n s from there =
+    let w = run-went n (notes_of n all) new_state nothing_told nothing_made [] (each_peer me ns all n from (is_a_peer me ns all n s from there)).run (new-tells control_link) (record { all = refl; count = refl }) in
+    (w.css, w.messages, w.agrees.all ∙ ap (λ (x : PeerState). joined w.css ++ x.peer.phase.waiting) (sym (kept_as_noted me ns all n s from there)), w.agrees.count)

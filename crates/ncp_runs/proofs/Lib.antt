@@ -1,4 +1,5 @@
 pub mod States
+pub mod Said
 pub mod Ready
 pub mod PeerRuns
 pub mod HostRuns

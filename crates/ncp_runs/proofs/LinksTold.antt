@@ -22,8 +22,9 @@ use Rattle.ncp_transcript.specs.declared.call.Call.{Call}
 use Rattle.ncp_transcript.specs.declared.call.Call.TheVariants as calls_of
 use Rattle.ncp_transcript.specs.declared.note.HostNote.{HostNote}
 use Rattle.ncp_transcript.specs.declared.note.HostNote.TheVariants as notes
-use Rattle.ncp_runs.specs.Peers.{is_number, called_for, bits_for, out_for, note_for, notes_for, IsOut, IsSaidOf, IsRunOf}
+use Rattle.ncp_runs.specs.Peers.{is_number, called_for, bits_for, out_for, note_for, notes_for}
 use Rattle.ncp_runs.specs.Links.{LinkHistory, nothing_told, takes_fresh, is_fresh, went_out, was_answered, was_woken, link_of_leader, told_by, told_from, slot_of_answer, slot_told, received_told, ready_after, ready_told}
+use Rattle.ncp_runs.proofs.Said.{IsOut, IsSaidOf, IsRunOf}
 use Rattle.ncp_runs.proofs.PeerRuns.{message-slots}
 
 -- What is ready on a link is what the notes say is ready.

@@ -25,7 +25,8 @@ use Rattle.ncp_transcript.specs.declared.call.Call.{Call}
 use Rattle.ncp_transcript.specs.declared.call.Call.TheVariants as calls_of
 use Rattle.ncp_transcript.specs.declared.note.HostNote.{HostNote}
 use Rattle.ncp_transcript.specs.declared.note.HostNote.TheVariants as notes
-use Rattle.ncp_runs.specs.Peers.{called_for, bits_for, out_for, note_for, IsOut, IsSaidOf}
+use Rattle.ncp_runs.specs.Peers.{called_for, bits_for, out_for, note_for}
+use Rattle.ncp_runs.proofs.Said.{IsOut, IsSaidOf}
 use Rattle.ncp_runs.proofs.Ready.{Addressed}
 
 -- What comes leaves the slots as they are.

@@ -29,15 +29,15 @@ use Rattle.ncp_runs.proofs.InRuns.{before_note, kept_as_noted}
 pub books-agree : (me : ℕ) (ns : List ℕ) (all_notes : List HostNote) (n : ℕ) (s : PeerState) (pair : Pair) (e : End) → FromBeginning me ns all_notes → state_of (after_notes all_notes (new_host me ns)) n ≡ Some s → receives pair ≡ true → get s.peer.ends pair ≡ Some e
     → Books e (past_of pair (notes_of n all_notes))
 books-agree me ns all_notes n s pair e from there r is =
-    let k = run-kept pair r (notes_of n all_notes) new_state no_past (new-kept pair r) in
+    let k = run-kept pair (notes_of n all_notes) new_state no_past (new-kept pair) in
     subst (λ (o : Option End). BooksAt o (past_of pair (notes_of n all_notes)))
-    (ap (λ (x : PeerState). get x.peer.ends pair) (sym (kept_as_noted me ns all_notes n s from there)) ∙ is) k.1
+    (ap (λ (x : PeerState). get x.peer.ends pair) (sym (kept_as_noted me ns all_notes n s from there)) ∙ is) (k.1 r)
 
--- it is sound
-pub sound-there : (me : ℕ) (ns : List ℕ) (all_notes : List HostNote) (n : ℕ) (s : PeerState) (pair : Pair) (e : End) → FromBeginning me ns all_notes → state_of (after_notes all_notes (new_host me ns)) n ≡ Some s → receives pair ≡ true → get s.peer.ends pair ≡ Some e
+-- an end is sound, whichever way its texts go
+pub sound-there : (me : ℕ) (ns : List ℕ) (all_notes : List HostNote) (n : ℕ) (s : PeerState) (pair : Pair) (e : End) → FromBeginning me ns all_notes → state_of (after_notes all_notes (new_host me ns)) n ≡ Some s → get s.peer.ends pair ≡ Some e
     → Sound pair e
-sound-there me ns all_notes n s pair e from there r is =
-    let k = run-kept pair r (notes_of n all_notes) new_state no_past (new-kept pair r) in
+sound-there me ns all_notes n s pair e from there is =
+    let k = run-kept pair (notes_of n all_notes) new_state no_past (new-kept pair) in
     subst (λ (o : Option End). SoundAt pair o)
     (ap (λ (x : PeerState). get x.peer.ends pair) (sym (kept_as_noted me ns all_notes n s from there)) ∙ is) k.0
 

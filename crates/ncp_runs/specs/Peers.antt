@@ -5,14 +5,14 @@ use Rattle.ncp_leader.specs.declared.leader.Leader.{Leader}
 use Rattle.ncp_leader.specs.declared.leader.Short.{Short}
 use Rattle.ncp_leader.specs.Leader.{leader_in}
 use Rattle.ncp_leader.specs.Message.{message_in}
-use Rattle.ncp_model.specs.Peers.{Ask_to_send, Ask_to_receive, Close, Give, Take, Allocate, Call_back, Interrupt, comes_of, reply_of_take}
+use Rattle.ncp_model.specs.Peers.{Ask_to_send, Ask_to_receive, Close, Give, Take, Allocate, Call_back, Interrupt}
 use Rattle.ncp_host.specs.declared.counts.Ignored.{Ignored}
 use Rattle.ncp_host.specs.declared.received.Received.{Received}
 use Rattle.ncp_host.specs.declared.received.Received.TheVariants as received
 use Rattle.ncp_host.specs.Counting.{one_more}
 use Rattle.ncp_host.specs.PeerState.{PeerState, calls, calls_reset, calls_echo, calls_wake, answer_comes}
-use Rattle.ncp_host.specs.Hearing.{regular, message_after, message_received, answer_received}
-use Rattle.ncp_host.specs.Output.{leader_to, links, output_on, after_output}
+use Rattle.ncp_host.specs.Hearing.{regular, message_after}
+use Rattle.ncp_host.specs.Output.{after_output}
 use Rattle.ncp_host.specs.Host.{is_one_of, are_distinct, new_host}
 use Rattle.ncp_transcript.specs.declared.call.Call.{Call}
 use Rattle.ncp_transcript.specs.declared.call.Call.TheVariants as calls_of
@@ -117,30 +117,6 @@ note_for other s = s
 abbrev pub notes_for : List HostNote → PeerState → PeerState
 notes_for [] s = s
 notes_for (note ∷ rest) s = notes_for rest (note_for note s)
-
--- What the notes of a peer say of what is kept for it before each: a message that goes out to it is the one
--- that is ready on the link of its leader, and what comes from it and what is taken is answered by the rules.
-
-pub record IsOut (n : ℕ) (message : List Bool) (s : PeerState) : Type 0 where
-  pub on : ℕ
-  pub a_link : is_one_of on links ≡ true
-  pub leader : leader_in message ≡ Ok (leader_to n on)
-  pub ready : output_on n on s ≡ Some message
-
-abbrev pub IsIn : Result Leader Short → List Bool → Received → PeerState → Type 0
-IsIn (Err short) bits told s = ⊥
-IsIn (Ok leader) bits told s = told ≡ message_received leader.link (message_in bits) s
-
-abbrev pub IsSaidOf : ℕ → HostNote → PeerState → Type 0
-IsSaidOf n (notes.Took peer pair bytes text) s = reply_of_take (comes_of pair (Take bytes) s.peer) ≡ Ok text
-IsSaidOf n (notes.Out message) s = IsOut n message s
-IsSaidOf n (notes.In message told) s = IsIn (leader_in message) message told s
-IsSaidOf n (notes.Answered peer link answer told) s = told ≡ answer_received link s
-IsSaidOf n other s = Unit {0}
-
-abbrev pub IsRunOf : ℕ → List HostNote → PeerState → Type 0
-IsRunOf n [] s = Unit {0}
-IsRunOf n (note ∷ rest) s = IsSaidOf n note s × IsRunOf n rest (note_for note s)
 
 -- What is ignored: messages too short for a leader, of another type, and of a host that is no peer.
 

@@ -24,12 +24,13 @@ use ncp_transcript::{Call, HostNote};
 
 /// At a receiver that has opened and is not left, after any run: what was got is what was taken, followed
 /// by what is held; and what is outstanding is what was granted less what was returned and used, of
-/// messages and of bits. Each is since its connection opened; before, nothing is outstanding, held or counted.
+/// messages and of bits. Each is since its connection opened; at an end that has not opened, of a receiver
+/// or a sender, the two numbers and the interrupts are zero, and nothing is stored.
 pub fn what_is_got_is_taken_or_held()
     ensures held { (me : ℕ) (ns : List ℕ) (all : List Note) (n : ℕ) (s : PeerState) (pair : Pair) (e : End) → FromBeginning me ns all → state_of (after_notes all (new_host me ns)) n ≡ Some s → receives pair ≡ true → get s.peer.ends pair ≡ Some e → e.opened ≡ true → e.left ≡ false → (past_of pair (notes_of n all)).got ≡ (past_of pair (notes_of n all)).taken ++ e.stored }
     ensures messages { (me : ℕ) (ns : List ℕ) (all : List Note) (n : ℕ) (s : PeerState) (pair : Pair) (e : End) → FromBeginning me ns all → state_of (after_notes all (new_host me ns)) n ≡ Some s → receives pair ≡ true → get s.peer.ends pair ≡ Some e → e.opened ≡ true → e.messages + (past_of pair (notes_of n all)).returned_messages + (past_of pair (notes_of n all)).used_messages ≡ (past_of pair (notes_of n all)).granted_messages }
     ensures bits { (me : ℕ) (ns : List ℕ) (all : List Note) (n : ℕ) (s : PeerState) (pair : Pair) (e : End) → FromBeginning me ns all → state_of (after_notes all (new_host me ns)) n ≡ Some s → receives pair ≡ true → get s.peer.ends pair ≡ Some e → e.opened ≡ true → e.bits + (past_of pair (notes_of n all)).returned_bits + length (past_of pair (notes_of n all)).got ≡ (past_of pair (notes_of n all)).granted_bits }
-    ensures unopened { (me : ℕ) (ns : List ℕ) (all : List Note) (n : ℕ) (s : PeerState) (pair : Pair) (e : End) → FromBeginning me ns all → state_of (after_notes all (new_host me ns)) n ≡ Some s → receives pair ≡ true → get s.peer.ends pair ≡ Some e → e.opened ≡ false → (e.messages ≡ 0) × (e.bits ≡ 0) × (e.interrupts ≡ 0) × (e.stored ≡ []) }
+    ensures unopened { (me : ℕ) (ns : List ℕ) (all : List Note) (n : ℕ) (s : PeerState) (pair : Pair) (e : End) → FromBeginning me ns all → state_of (after_notes all (new_host me ns)) n ≡ Some s → get s.peer.ends pair ≡ Some e → e.opened ≡ false → (e.messages ≡ 0) × (e.bits ≡ 0) × (e.interrupts ≡ 0) × (e.stored ≡ []) }
 {}
 
 /// What a note says was taken joins what was taken of its pair.
@@ -48,9 +49,11 @@ pub fn what_is_allocated_is_granted()
     ensures bits { (me : ℕ) (ns : List ℕ) (before after : List Note) (n : ℕ) (pair : Pair) (messages bits : ℕ) → FromBeginning me ns (before ++ HostNote.Done (Call.Allocate n pair messages bits) ∷ after) → (past_of pair (notes_of n (before ++ HostNote.Done (Call.Allocate n pair messages bits) ∷ []))).granted_bits ≡ (past_of pair (notes_of n before)).granted_bits + bits }
 {}
 
-/// The text of a message that was admitted joins what was got of the pair to which its link leads.
+/// The text of a message that was admitted joins what was got of the pair to which its link leads, and is
+/// one more that was used.
 pub fn what_is_admitted_is_got()
-    ensures { (me : ℕ) (ns : List ℕ) (before after : List Note) (message : List Bool) (leader : Front) (m : Message) (pair : Pair) → FromBeginning me ns (before ++ HostNote.In message (Received.Text Took.Admitted) ∷ after) → leader_in message ≡ Ok leader → message_in message ≡ Ok m → pair_of (receiver_on leader.link (notes_for (notes_of leader.host before) new_state).peer.ends) ≡ Some pair → (past_of pair (notes_of leader.host (before ++ HostNote.In message (Received.Text Took.Admitted) ∷ []))).got ≡ (past_of pair (notes_of leader.host before)).got ++ m.text }
+    ensures got { (me : ℕ) (ns : List ℕ) (before after : List Note) (message : List Bool) (leader : Front) (m : Message) (pair : Pair) → FromBeginning me ns (before ++ HostNote.In message (Received.Text Took.Admitted) ∷ after) → leader_in message ≡ Ok leader → message_in message ≡ Ok m → pair_of (receiver_on leader.link (notes_for (notes_of leader.host before) new_state).peer.ends) ≡ Some pair → (past_of pair (notes_of leader.host (before ++ HostNote.In message (Received.Text Took.Admitted) ∷ []))).got ≡ (past_of pair (notes_of leader.host before)).got ++ m.text }
+    ensures used { (me : ℕ) (ns : List ℕ) (before after : List Note) (message : List Bool) (leader : Front) (m : Message) (pair : Pair) → FromBeginning me ns (before ++ HostNote.In message (Received.Text Took.Admitted) ∷ after) → leader_in message ≡ Ok leader → message_in message ≡ Ok m → pair_of (receiver_on leader.link (notes_for (notes_of leader.host before) new_state).peer.ends) ≡ Some pair → (past_of pair (notes_of leader.host (before ++ HostNote.In message (Received.Text Took.Admitted) ∷ []))).used_messages ≡ (past_of pair (notes_of leader.host before)).used_messages + 1 }
 {}
 
 /// That these laws speak of something: a connection opens, and nothing is left of the one before; a text

@@ -11,5 +11,5 @@ pub returns-clause-bits : goal.returns-clause-bits
 returns-clause-bits c me ns all n s pair e from there r is = (books-agree me ns all n s pair e from there r is).bits
 
 pub returns-clause-unopened : goal.returns-clause-unopened
-returns-clause-unopened c me ns all n s pair e from there r is not_open =
-    let k = sound-there me ns all n s pair e from there r is in (k.messages not_open, k.bits not_open, k.interrupts not_open, k.stored not_open)
+returns-clause-unopened c me ns all n s pair e from there is not_open =
+    let k = sound-there me ns all n s pair e from there is in (k.messages not_open, k.bits not_open, k.interrupts not_open, k.stored not_open)
