@@ -16,3 +16,4 @@ pub mod Given
 pub mod MadeOfRuns
 pub mod InOrder
 pub mod Got
+pub mod Begun

@@ -1,0 +1,20 @@
+use Rattle.std.proofs.Common.{ap, ◌∙◌}
+use Rattle.ncp_host.specs.Host.{Host, numbers_of}
+use Rattle.ncp_runs.proofs.Ignored.{ignored_told}
+use Rattle.ncp_runs.proofs.Begun.{is_run, peer_told}
+use Rattle.ncp_runs.proofs.transcripts.a_host_is_what_its_notes_say.Goals as goal
+
+pub returns-clause-run : goal.returns-clause-run
+returns-clause-run g c = is_run c.args.alone.now.notes c.args.alone.now.host c.transcript-notes.ensures.run
+
+pub returns-clause-host : goal.returns-clause-host
+returns-clause-host g c = c.transcript-notes.ensures.run.state
+
+pub returns-clause-peer : goal.returns-clause-peer
+returns-clause-peer g c n e = peer_told c.args.alone.now.notes c.args.alone.now.host n c.transcript-notes.ensures.run e
+
+pub returns-clause-ignored : goal.returns-clause-ignored
+returns-clause-ignored g c =
+    let all = c.args.alone.now.notes in
+    let h = c.args.alone.now.host in
+    ap (λ (x : Host). x.ignored) c.transcript-notes.ensures.run.state ∙ ignored_told h.me (numbers_of h.peers) all (is_run all h c.transcript-notes.ensures.run)
