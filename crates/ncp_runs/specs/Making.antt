@@ -1,7 +1,8 @@
 -- The commands that were made for a peer, note by note, less those that a clearing struck, and how many of
--- them went out; and the control messages that went out fresh (NIC 8246, control messages; what is made
--- when, and that a clearing strikes what waits, all but RST and RRP, are this profile's).
-use Rattle.std.specs.Prelude.{ℕ, ◌+◌, ◌==◌, Bool, ◌&&◌, if◌then◌else◌, List, [], ◌∷◌, ◌++◌, length, take, drop, Option, None, Some, Result, Ok, Err}
+-- them went out; what was made and came of RST and RRP, by which a host is up; and the control messages that
+-- went out fresh (NIC 8246, control messages, RST and RRP; what is made when, and that a clearing strikes
+-- what waits, all but RST and RRP, are this profile's).
+use Rattle.std.specs.Prelude.{ℕ, ◌+◌, ◌==◌, Bool, true, false, ◌&&◌, if◌then◌else◌, List, [], ◌∷◌, ◌++◌, length, take, drop, Option, None, Some, Result, Ok, Err}
 use Rattle.std.specs.List.{filter, list_any}
 use Rattle.ncp_bits.specs.Bits.{bits_of_bytes, bytes_of}
 use Rattle.ncp_leader.specs.declared.leader.Leader.{Leader}
@@ -44,9 +45,18 @@ use Rattle.ncp_runs.specs.Links.{LinkHistory, nothing_told, is_fresh, link_of_le
 pub record Made : Type 0 where
   pub all : List Command  -- made, and not struck; the oldest first
   pub gone : ℕ  -- so many of them went out, from the front
+  pub began : Bool  -- since the start and the last going down an RST or RRP was made
+  pub did_reset : Bool  -- since the last reset that was accepted an RST was made
+  pub got_answer : Bool  -- since the last RST that was made an RRP came
+  pub gave_answer : Bool  -- since the last RST that came an RRP was made
 
+-- at the start nothing is owed either way, and the host is not up
 abbrev pub nothing_made : Made
-nothing_made = record { all = []; gone = 0 }
+nothing_made = record { all = []; gone = 0; began = false; did_reset = true; got_answer = true; gave_answer = true }
+
+-- the host is up with the peer
+abbrev pub is_up_told : Made → Bool
+is_up_told l = l.began && l.did_reset && l.got_answer && l.gave_answer
 
 abbrev pub made : Command → Made → Made
 made c l = record l { all = l.all ++ c ∷ [] }
@@ -55,25 +65,45 @@ made c l = record l { all = l.all ++ c ∷ [] }
 abbrev pub struck : Made → Made
 struck l = record l { all = take l.gone l.all ++ filter is_reset (drop l.gone l.all) }
 
+-- a clearing is one of these: going down, a reset that is accepted, an RST that comes
+abbrev pub went_down : Made → Made
+went_down l = record (struck l) { began = false }
+
+abbrev pub reset_asked : Made → Made
+reset_asked l = record (struck l) { did_reset = false }
+
+abbrev pub rst_came : Made → Made
+rst_came l = record (struck l) { gave_answer = false }
+
+abbrev pub rrp_came : Made → Made
+rrp_came l = record l { got_answer = true }
+
 -- the next of them go out
 abbrev pub sent : Made → Made
 sent l = record l { gone = l.gone + length (next_commands (drop l.gone l.all)) }
 
 -- What is made in a phase: a command of a call or a reply, while up; where it has no place the host goes
--- down. And where the data links are quiet the RRP that is owed, and then the RST that is wanted.
+-- down. And where the data links are quiet the RRP that is owed, and then the RST that is wanted. Where one
+-- of its kind still waits it counts as made, and none is added.
+
+abbrev pub counts_rrp : Made → Made
+counts_rrp l = record l { began = true; gave_answer = true }
+
+abbrev pub counts_rst : Made → Made
+counts_rst l = record l { began = true; did_reset = true; got_answer = false }
 
 abbrev pub made_in : Command → Phase → Made → Made
-made_in c p l = if up p && is_other c then (if has_place p then made c l else struck l) else l
+made_in c p l = if up p && is_other c then (if has_place p then made c l else went_down l) else l
 
 abbrev pub all_made_in : List Command → Phase → Made → Made
 all_made_in [] p l = l
 all_made_in (c ∷ cs) p l = all_made_in cs (phases.makes c p) (made_in c p l)
 
 abbrev pub answer_made : Phase → Made → Made
-answer_made p l = if p.owe then (if list_any is_rrp p.waiting then l else made Rrp l) else l
+answer_made p l = if p.owe then counts_rrp (if list_any is_rrp p.waiting then l else made Rrp l) else l
 
 abbrev pub reset_made : Phase → Made → Made
-reset_made p l = if p.want then (if list_any is_rst p.waiting then l else made Rst l) else l
+reset_made p l = if p.want then counts_rst (if list_any is_rst p.waiting then l else made Rst l) else l
 
 abbrev pub settling_made : Bool → Phase → Made → Made
 settling_made quiet p l = if quiet then reset_made (phases.answers p) (answer_made p l) else l
@@ -87,7 +117,7 @@ abbrev pub by_echo : ℕ → PeerState → Made → Made
 by_echo byte s l = if up s.peer.phase then all_made_in (made_by_call (echo_answer byte (is_full s.peer.phase) s.peer.echoes)) s.peer.phase l else l
 
 abbrev pub by_reset : PeerState → Made → Made
-by_reset s l = if is_resetting s.peer.phase then l else settling_made (is_quiet s.slots) (wants_reset s.peer.phase) (struck l)
+by_reset s l = if is_resetting s.peer.phase then l else settling_made (is_quiet s.slots) (wants_reset s.peer.phase) (reset_asked l)
 
 abbrev pub by_call : Call → PeerState → Made → Made
 by_call (calls.Reset peer) s l = by_reset s l
@@ -107,12 +137,12 @@ by_call other s l = l
 abbrev pub by_other : Command → Peer → Made → Made
 by_other c p l =
     if up p.phase
-    then (if is_full_up (answer (hear c p.ends)) then struck l else all_made_in (made_by_hearing (answer (hear c p.ends)) ++ echo_replies c) p.phase l)
+    then (if is_full_up (answer (hear c p.ends)) then went_down l else all_made_in (made_by_hearing (answer (hear c p.ends)) ++ echo_replies c) p.phase l)
     else l
 
 abbrev pub by_command : Bool → Command → Peer → Made → Made
-by_command quiet Rst p l = settling_made quiet (owes_answer p.phase) (struck l)
-by_command quiet Rrp p l = l
+by_command quiet Rst p l = settling_made quiet (owes_answer p.phase) (rst_came l)
+by_command quiet Rrp p l = rrp_came l
 by_command quiet c p l = by_other c p l
 
 abbrev pub by_commands : List Command → PeerState → Made → Made

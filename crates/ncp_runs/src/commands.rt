@@ -1,14 +1,14 @@
 //! The commands that are made for a peer, and the order in which they go out.
-ghost use Rattle.std.specs.Prelude.{◌≡◌, ℕ, Bool, true, false, List, [], ◌∷◌, ◌++◌, map, length, Some};
+ghost use Rattle.std.specs.Prelude.{◌≡◌, ℕ, Bool, true, false, not, List, [], ◌∷◌, ◌++◌, map, length, Some};
 ghost use Rattle.ncp_control.specs.declared.command.Command.{Command as Order};
-ghost use Rattle.ncp_model.specs.Phase.{up_phase};
+ghost use Rattle.ncp_model.specs.Phase.{up, up_phase};
 ghost use Rattle.ncp_host.specs.PeerState.{PeerState, control_link};
 ghost use Rattle.ncp_host.specs.Host.{state_of, new_host};
 ghost use Rattle.ncp_transcript.specs.declared.note.HostNote.{HostNote as Note};
 ghost use Rattle.ncp_transcript.specs.After.{after_notes};
 ghost use Rattle.ncp_runs.specs.Peers.{FromBeginning, notes_of};
 ghost use Rattle.ncp_runs.specs.Links.{told_on, fresh_on};
-ghost use Rattle.ncp_runs.specs.Making.{made_in, struck, sent, settling_made, nothing_made, made_of, message_of, joined};
+ghost use Rattle.ncp_runs.specs.Making.{is_up_told, made_in, struck, sent, settling_made, nothing_made, made_of, message_of, joined};
 ghost use Rattle.ncp_runs.specs.Examples.{message_on_0, message_on_2, lost, held, stray, woken, taken};
 
 use ncp_control::Command;
@@ -20,14 +20,25 @@ pub fn commands_go_out_as_they_were_made()
     ensures { (me : ℕ) (ns : List ℕ) (all : List Note) (n : ℕ) (s : PeerState) → FromBeginning me ns all → state_of (after_notes all (new_host me ns)) n ≡ Some s → (css : List (List Order)) × (fresh_on control_link (notes_of n all) ≡ map (message_of n) css) × ((made_of (notes_of n all)).all ≡ joined css ++ s.peer.phase.waiting) × ((made_of (notes_of n all)).gone ≡ length (joined css)) }
 {}
 
+/// A host is up with a peer exactly where, by the notes of that peer: since the start and the last going down
+/// it made an RST or RRP, since the last reset that was accepted an RST, since the last RST that came an RRP,
+/// and since the last RST that it made an RRP came. Each flag says that one of these is not so.
+pub fn flags_are_what_was_made_and_came()
+    ensures down { (me : ℕ) (ns : List ℕ) (all : List Note) (n : ℕ) (s : PeerState) → FromBeginning me ns all → state_of (after_notes all (new_host me ns)) n ≡ Some s → s.peer.phase.down ≡ not (made_of (notes_of n all)).began }
+    ensures want { (me : ℕ) (ns : List ℕ) (all : List Note) (n : ℕ) (s : PeerState) → FromBeginning me ns all → state_of (after_notes all (new_host me ns)) n ≡ Some s → s.peer.phase.want ≡ not (made_of (notes_of n all)).did_reset }
+    ensures owe { (me : ℕ) (ns : List ℕ) (all : List Note) (n : ℕ) (s : PeerState) → FromBeginning me ns all → state_of (after_notes all (new_host me ns)) n ≡ Some s → s.peer.phase.owe ≡ not (made_of (notes_of n all)).gave_answer }
+    ensures wait { (me : ℕ) (ns : List ℕ) (all : List Note) (n : ℕ) (s : PeerState) → FromBeginning me ns all → state_of (after_notes all (new_host me ns)) n ≡ Some s → s.peer.phase.wait ≡ not (made_of (notes_of n all)).got_answer }
+    ensures up { (me : ℕ) (ns : List ℕ) (all : List Note) (n : ℕ) (s : PeerState) → FromBeginning me ns all → state_of (after_notes all (new_host me ns)) n ≡ Some s → up s.peer.phase ≡ is_up_told (made_of (notes_of n all)) }
+{}
+
 /// That this speaks of something: a command that is made stands last; a clearing strikes what has not gone
 /// out, all but RST and RRP; what fits one message goes; and the RRP that is owed is made before the RST
 /// that is wanted.
 pub fn commands_are_made_struck_and_sent()
-    ensures made { made_in (Command.Eco 2) up_phase (record { all = Command.Eco 1 ∷ []; gone = 1 }) ≡ record { all = Command.Eco 1 ∷ Command.Eco 2 ∷ []; gone = 1 } }
-    ensures struck { struck (record { all = Command.Eco 1 ∷ Command.Eco 2 ∷ Command.Rrp ∷ []; gone = 1 }) ≡ record { all = Command.Eco 1 ∷ Command.Rrp ∷ []; gone = 1 } }
-    ensures sent { sent (record { all = Command.Eco 1 ∷ Command.Eco 2 ∷ Command.Rrp ∷ []; gone = 1 }) ≡ record { all = Command.Eco 1 ∷ Command.Eco 2 ∷ Command.Rrp ∷ []; gone = 3 } }
-    ensures settled { settling_made true (record up_phase { owe = true; want = true }) nothing_made ≡ record { all = Command.Rrp ∷ Command.Rst ∷ []; gone = 0 } }
+    ensures made { made_in (Command.Eco 2) up_phase (record nothing_made { all = Command.Eco 1 ∷ []; gone = 1 }) ≡ record nothing_made { all = Command.Eco 1 ∷ Command.Eco 2 ∷ []; gone = 1 } }
+    ensures struck { struck (record nothing_made { all = Command.Eco 1 ∷ Command.Eco 2 ∷ Command.Rrp ∷ []; gone = 1 }) ≡ record nothing_made { all = Command.Eco 1 ∷ Command.Rrp ∷ []; gone = 1 } }
+    ensures sent { sent (record nothing_made { all = Command.Eco 1 ∷ Command.Eco 2 ∷ Command.Rrp ∷ []; gone = 1 }) ≡ record nothing_made { all = Command.Eco 1 ∷ Command.Eco 2 ∷ Command.Rrp ∷ []; gone = 3 } }
+    ensures settled { settling_made true (record up_phase { owe = true; want = true }) nothing_made ≡ record nothing_made { all = Command.Rrp ∷ Command.Rst ∷ []; began = true; got_answer = false } }
     ensures waits { settling_made false (record up_phase { owe = true; want = true }) nothing_made ≡ nothing_made }
 {}
 
