@@ -6,10 +6,10 @@ use Rattle.ncp_leader.specs.Leader.{leader_in}
 use Rattle.ncp_model.specs.Peers.{Ask_to_send, Ask_to_receive, Close, Give, Take, Allocate, Call_back, Interrupt}
 use Rattle.ncp_host.specs.PeerState.{PeerState, calls as calls_pair, calls_echo, calls_reset, calls_wake, answer_comes}
 use Rattle.ncp_host.specs.Output.{next_of, after_output}
-use Rattle.ncp_host.specs.Host.{Host, state_in, state_of, at_peer, changed}
+use Rattle.ncp_host.specs.Host.{Host, state_in, state_of, at_peer}
 use Rattle.ncp_host.specs.Hearing.{is_kind, after_bits}
 use Rattle.ncp_host.specs.Arrivals.{after_from, after_with, after_received, one_other}
-use Rattle.ncp_host.specs.Turns.{after_turn, first_goes, after_next_output}
+use Rattle.ncp_host.specs.Turns.{after_turn, first_goes}
 use Rattle.ncp_transcript.specs.declared.call.Call.{Call}
 use Rattle.ncp_transcript.specs.declared.call.Call.TheVariants as calls
 use Rattle.ncp_transcript.specs.declared.note.HostNote.{HostNote}

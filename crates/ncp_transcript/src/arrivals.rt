@@ -4,8 +4,9 @@ ghost use Rattle.ncp_host.specs.Hearing.{answer_of};
 ghost use Rattle.ncp_transcript.specs.After.{after_note};
 ghost use Rattle.ncp_transcript.specs.Noting.{is_answer, answer_in, note_of_bits};
 
-use crate::message::Message;
+use crate::message::pack_in_room;
 use crate::note::HostNote;
+use crate::room::Room;
 use ncp_bits::{BitStore, Bits};
 use ncp_host::Host;
 use ncp_leader::{DESTINATION_DEAD, INCOMPLETE, Leader, RFNM, read_leader};
@@ -45,6 +46,26 @@ fn answer_in<S: BitStore>(host: &Host<S>, bits: &Bits) -> Option<Leader>
     }
 }
 
+/// Hands bits to a host, and gives their note. It takes no memory: the note has that of the room, and
+/// what it does not need is given back.
+pub fn hear_in_room<S: BitStore>(room: Room, host: &mut Host<S>, bits: &Bits) -> HostNote
+    ensures note { result ≡ note_of_bits bits.now host.old }
+    ensures host { host.new ≡ after_note result host.old }
+{
+    if let Some(leader) = answer_in(host, bits) {
+        let received = host.receive(bits);
+        return HostNote::Answered {
+            peer: leader.host,
+            link: leader.link,
+            answer: answer_of(leader.kind),
+            received,
+        };
+    }
+    let message = pack_in_room(room, bits);
+    let received = host.receive(bits);
+    HostNote::In { message, received }
+}
+
 /// Hands bits to a host, and gives their note. All memory that the note takes is taken first: an
 /// `AllocError` leaves the host as it was.
 pub fn hear<S: BitStore>(
@@ -56,16 +77,6 @@ pub fn hear<S: BitStore>(
     ensures host { IfOk result (λ note. host.new ≡ after_note note host.old) }
     ensures err { OnErr result (host.new ≡ host.old) }
 {
-    if let Some(leader) = answer_in(host, bits) {
-        let received = host.receive(bits);
-        return Ok(HostNote::Answered {
-            peer: leader.host,
-            link: leader.link,
-            answer: answer_of(leader.kind),
-            received,
-        });
-    }
-    let message = Message::from_bits(alloc, bits)?;
-    let received = host.receive(bits);
-    Ok(HostNote::In { message, received })
+    let room = Room::new(alloc)?;
+    Ok(hear_in_room(room, host, bits))
 }

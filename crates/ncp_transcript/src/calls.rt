@@ -8,9 +8,10 @@ use crate::acts::{
     allocate, ask_receive, ask_send, call_back, close, done, echo, interrupt, reset, wake,
 };
 use crate::call::Call;
-use crate::message::{Message, pack_in_room, room_for_any};
+use crate::message::{Message, pack_in_room};
 use crate::note::HostNote;
 use crate::readings::{counts, echoed, errors, kept, phase, state, waiting};
+use crate::room::Room;
 use ncp_bits::BitStore;
 use ncp_host::{Host, Pair};
 use std::alloc::{AllocError, Global};
@@ -45,7 +46,7 @@ fn take<S: BitStore>(
     ensures host { IfOk result (λ note. host.new ≡ after_note note host.old) }
     ensures err { OnErr result (host.new ≡ host.old) }
 {
-    let room = room_for_any(alloc)?;
+    let room = Room::new(alloc)?;
     match host.take(peer, pair, bytes) {
         Ok(text) => Ok(HostNote::Took {
             peer,

@@ -14,9 +14,10 @@ mod message;
 mod note;
 mod output;
 mod readings;
+mod room;
 
 pub use alone::Alone;
-pub use arrivals::hear;
+pub use arrivals::{hear, hear_in_room};
 pub use call::Call;
 pub use calls::perform;
 pub use error_list::ErrorList;
@@ -24,6 +25,7 @@ pub use input::Input;
 pub use message::Message;
 pub use note::{HostNote, NOTE_BYTES};
 pub use output::send;
+pub use room::Room;
 
 #[cfg(test)]
 mod tests;

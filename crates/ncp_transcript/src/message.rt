@@ -2,12 +2,10 @@
 ghost use Rattle.std.specs.Prelude.{◌≡◌, ◌≤◌, ◌↔◌, IsTrue, [], length, IfOk, vec_capacity};
 ghost use Rattle.ncp_bits.specs.Bits.{bytes_for};
 
+use crate::room::Room;
 use ncp_bits::{Bits, MAX_BITS};
 use std::alloc::{AllocError, Global};
 use std::marker::Model;
-
-/// How many bytes the bits of the longest message take.
-pub(crate) const MAX_BYTES: usize = MAX_BITS / 8;
 
 /// The bits of a message, in as many bytes as they need: the bytes are on the heap, eight bits a
 /// byte, the spare bits zero.
@@ -44,21 +42,13 @@ fn pack(room: Vec<u8>, bits: &Bits) -> Message
     }
 }
 
-/// Room for the bits of any message.
-pub(crate) fn room_for_any(alloc: Global) -> Result<Vec<u8>, AllocError>
-    ensures { IfOk result (λ room. MAX_BYTES ≤ vec_capacity room) }
-{
-    Vec::with_capacity(alloc, MAX_BYTES)
-}
-
-/// Bits in such room: what is too much is given back.
-pub(crate) fn pack_in_room(room: Vec<u8>, bits: &Bits) -> Message
-    requires { MAX_BYTES ≤ vec_capacity room }
+/// Bits in room for any message: what is too much is given back.
+pub(crate) fn pack_in_room(room: Room, bits: &Bits) -> Message
     ensures { result ≡ bits.now }
 {
     // At most MAX_BITS.
     let _bits = bits.len();
-    pack(room, bits)
+    pack(room.into_bytes(), bits)
 }
 
 impl Message {

@@ -3,8 +3,9 @@ ghost use Rattle.std.specs.Prelude.{◌≡◌, IfOk, OnErr};
 ghost use Rattle.ncp_transcript.specs.After.{after_note};
 ghost use Rattle.ncp_transcript.specs.Noting.{note_of_output};
 
-use crate::message::{pack_in_room, room_for_any};
+use crate::message::pack_in_room;
 use crate::note::HostNote;
+use crate::room::Room;
 use ncp_bits::BitStore;
 use ncp_host::Host;
 use std::alloc::{AllocError, Global};
@@ -16,7 +17,7 @@ pub fn send<S: BitStore>(alloc: Global, host: &mut Host<S>) -> Result<HostNote, 
     ensures host { IfOk result (λ note. host.new ≡ after_note note host.old) }
     ensures err { OnErr result (host.new ≡ host.old) }
 {
-    let room = room_for_any(alloc)?;
+    let room = Room::new(alloc)?;
     match host.next_output() {
         Some(bits) => Ok(HostNote::Out {
             message: pack_in_room(room, &bits),

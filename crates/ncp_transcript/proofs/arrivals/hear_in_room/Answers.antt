@@ -2,7 +2,7 @@ use Rattle.std.proofs.Common.{sym, ap, ◌∙◌}
 use Rattle.ncp_host.specs.PeerState.{answer_comes}
 use Rattle.ncp_host.specs.Host.{changed}
 use Rattle.ncp_transcript.proofs.Arriving.{after_answer}
-use Rattle.ncp_transcript.proofs.arrivals.hear.Goals as goal
+use Rattle.ncp_transcript.proofs.arrivals.hear_in_room.Goals as goal
 
 pub returns-in-Some-clause-host : goal.returns-in-Some-clause-host
 returns-in-Some-clause-host g c =
