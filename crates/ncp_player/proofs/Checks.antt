@@ -4,7 +4,7 @@ use Rattle.std.proofs.lemmas.List.{append-nil}
 use Rattle.ncp_player.specs.declared.file.FileFault.{FileFault}
 use Rattle.ncp_player.specs.declared.file.FileFault.TheVariants.{BadHeader, Truncated, TooLong, SpareNotZero, ReadFailed, WriteFailed}
 use Rattle.ncp_player.specs.declared.tally.Tally.{Tally}
-use Rattle.ncp_player.specs.Streams.{SaidSoFar, SaysText, SaysBeginning}
+use Rattle.ncp_stream.specs.Streams.{SaidSoFar, SaysText, SaysBeginning}
 use Rattle.ncp_player.specs.Checked.{tally_of, tally_line, is_sound, Checked}
 use Rattle.ncp_player.specs.Tallies.{TalliesFile}
 

@@ -13,7 +13,7 @@ use Rattle.ncp_bits.specs.declared.bits.BitsFault.TheVariants as bits
 use Rattle.ncp_bits.proofs.Bytes.{read_bytes-append}
 use Rattle.ncp_player.specs.declared.file.FileFault.TheVariants.{Truncated, TooLong}
 use Rattle.ncp_player.specs.File.{direction_of, next_record, record_of, fault_of_bits}
-use Rattle.ncp_player.specs.Streams.{Ahead}
+use Rattle.ncp_stream.specs.Streams.{Ahead}
 use Rattle.ncp_player.specs.Steps.{CutOff, ReadsRecord}
 
 -- ---- the bytes ahead

@@ -1,5 +1,4 @@
 pub mod Decimal
-pub mod Streaming
 pub mod Checks
 pub mod Counting
 pub mod Choosing
@@ -8,7 +7,6 @@ pub mod Contents
 pub mod Progress
 pub mod Files
 pub mod Outcomes
-pub mod Saying
 pub mod Windows
 pub mod Pieces
 pub mod Written

@@ -7,7 +7,7 @@ use Rattle.ncp_player.specs.declared.file.FileFault.TheVariants.{BadHeader, Trun
 use Rattle.ncp_player.specs.File.{direction_of, next_record, ending, Holds, IsCut}
 use Rattle.ncp_player.specs.Lines.{record_lines, lines_from, number_after}
 use Rattle.ncp_player.specs.Results.{is_write_failed}
-use Rattle.ncp_player.specs.Streams.{SaidSoFar, SaysText, SaysBeginning}
+use Rattle.ncp_stream.specs.Streams.{SaidSoFar, SaysText, SaysBeginning}
 use Rattle.ncp_player.specs.Shown.{ShownAs, ShowsAll, ShowsBeginning, Shown}
 use Rattle.ncp_player.specs.Steps.{IsInside, ReadsHeader, ReadsRecord, ShowsNext, SaysLines, ShowsFrom, SaysFile, ShowsFile}
 use Rattle.ncp_player.proofs.Files.{direction_of-short, direction_of-take, direction_of-append}

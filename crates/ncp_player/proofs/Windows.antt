@@ -2,8 +2,8 @@
 use Rattle.std.proofs.Common.{◌≡◌, ℕ, ◌+◌, ◌-◌, ◌≤◌, List, ◌++◌, length, take, drop, slice_range, Option, Some, None, sym, ap, ◌∙◌, arith, refl}
 use Rattle.std.proofs.lemmas.List.{length-take, drop-drop, drop-take, append_assoc}
 use Rattle.std.specs.Io.KnownBytes.{Consumes, Keeps}
-use Rattle.ncp_player.proofs.Streaming.{front_more}
-use Rattle.ncp_player.specs.Streams.{Moves}
+use Rattle.ncp_stream.proofs.Streaming.{front_more}
+use Rattle.ncp_stream.specs.Streams.{Moves}
 
 pub skipped : (bytes window : List ℕ) (from to count : ℕ) → slice_range bytes from to ≡ window → from ≤ to → count ≤ length window → slice_range bytes (from + count) to ≡ drop count window
 skipped bytes window from to count e h k =

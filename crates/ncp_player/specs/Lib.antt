@@ -1,6 +1,4 @@
-pub mod Memory
-pub mod Pieces
-pub mod Streams
+pub mod Windows
 pub mod File
 pub mod Reasons
 pub mod Results

@@ -6,7 +6,7 @@ use Rattle.ncp_player.specs.declared.file.FileFault.TheVariants.{BadHeader, Trun
 use Rattle.ncp_player.specs.Results.{MatchFault}
 use Rattle.ncp_player.specs.File.{direction_of, next_record, ending, Holds, IsCut}
 use Rattle.ncp_player.specs.Lines.{record_lines, lines_from}
-use Rattle.ncp_player.specs.Streams.{Ahead, SaidSoFar}
+use Rattle.ncp_stream.specs.Streams.{Ahead, SaidSoFar}
 use Rattle.ncp_player.specs.Shown.{ShownAs}
 
 -- a read failed inside the header: no byte is lost

@@ -1,18 +1,17 @@
 //! `check`: whether a message file is sound.
 ghost use Rattle.std.specs.Prelude.{◌≡◌, ℕ, ◌+◌, ◌<◌, ◌≤◌, ◌||◌, List, Some, true, false, length};
-ghost use Rattle.ncp_player.specs.Pieces.{reads_for, reads_beyond};
+ghost use Rattle.ncp_stream.specs.Pieces.{reads_for, reads_beyond};
 ghost use Rattle.ncp_player.specs.Results.{is_read_failed, is_write_failed};
-ghost use Rattle.ncp_player.specs.Streams.{Ahead};
+ghost use Rattle.ncp_stream.specs.Streams.{Ahead};
 ghost use Rattle.ncp_player.specs.Tallies.{no_messages, TalliesFrom, TalliesFile};
 ghost use Rattle.ncp_player.specs.Checked.{Checked};
 
 use crate::file::{FileFault, read_header, read_record};
 use crate::page::Page;
-use crate::sink::Sink;
-use crate::source::Source;
 use crate::tally::{Tally, push_tally};
 use crate::window::Window;
 use ncp_bits::Bits;
+use ncp_stream::{Sink, Source};
 
 // Counts the messages behind the header.
 fn tally_records<S: Source>(window: &mut Window, source: &mut S) -> Result<Tally, FileFault>

@@ -1,15 +1,16 @@
 //! A message file: its header, its records and its faults.
 ghost use Rattle.std.specs.Prelude.{◌≡◌, ℕ, ◌+◌, ◌<◌, ◌≤◌, ◌||◌, List, true, false, length, IfOk, OnOk};
 ghost use Rattle.ncp_player.specs.File.{direction_of, name_of_fault, fault_of_bits};
-ghost use Rattle.ncp_player.specs.Pieces.{reads_beyond};
+ghost use Rattle.ncp_stream.specs.Pieces.{reads_beyond};
 ghost use Rattle.ncp_player.specs.Results.{is_read_failed, is_write_failed};
 ghost use Rattle.ncp_player.specs.Steps.{ReadsHeader, ReadsRecord};
-ghost use Rattle.ncp_player.specs.Streams.{Ahead, effort};
+ghost use Rattle.ncp_player.specs.Windows.{effort};
+ghost use Rattle.ncp_stream.specs.Streams.{Ahead};
 
-use crate::source::{Failed, Source};
 use crate::window::Window;
 use byteorder::{BigEndian, ByteOrder};
 use ncp_bits::{Bits, BitsFault, MAX_BITS};
+use ncp_stream::{Failed, Source};
 use thiserror::Error;
 
 /// Which way the messages of a file go.

@@ -6,7 +6,6 @@ ghost use Rattle.ncp_player.specs.Checked.{FileHolds};
 
 use crate::file::{Direction, FileFault};
 use crate::orders::Order;
-use crate::source::Failed;
 use ncp_bits::MAX_BITS;
 
 /// The bytes behind a header hold records, and then end or have a fault, in exactly one way.
@@ -58,13 +57,6 @@ pub fn same_direction(one: Direction, other: Direction) -> bool
 
 /// Two orders compare as equal exactly where they are the same.
 pub fn same_order(one: Order, other: Order) -> bool
-    ensures { IsTrue result ↔ one ≡ other }
-{
-    one == other
-}
-
-/// Two failures compare as equal, as there is one.
-pub fn same_failure(one: Failed, other: Failed) -> bool
     ensures { IsTrue result ↔ one ≡ other }
 {
     one == other

@@ -8,21 +8,18 @@ mod detail;
 mod file;
 pub mod laws;
 mod line;
-mod memory;
 mod orders;
 mod page;
 mod record;
 mod showing;
-mod sink;
-mod source;
 mod tally;
 mod window;
 
 pub use checking::check;
 pub use command_line::{order, status};
 pub use file::{Direction, FileFault};
-pub use memory::{MemorySink, MemorySource};
+pub use ncp_stream::{
+    Failed, FromRead, LEAST_PIECE, MemorySink, MemorySource, Sink, Source, ToWrite,
+};
 pub use orders::Order;
 pub use showing::show;
-pub use sink::{Sink, ToWrite};
-pub use source::{Failed, FromRead, LEAST_PIECE, Source};

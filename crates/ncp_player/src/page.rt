@@ -2,12 +2,11 @@
 ghost use Rattle.std.specs.Prelude.{◌≡◌, ℕ, ◌+◌, ◌*◌, ◌<◌, ◌≤◌, ◌||◌, true, [], ◌∷◌, ◌++◌, min, length, take, decimal, is_err, OnOk, OnErr};
 ghost use Rattle.std.specs.Io.KnownBytes.{Appends};
 ghost use Rattle.ncp_player.specs.Lines.{hex_digit, hex_of};
-ghost use Rattle.ncp_player.specs.Pieces.{bytes_and_writes, lost_pieces};
-ghost use Rattle.ncp_player.specs.Streams.{SaysText, SaysBeginning};
+ghost use Rattle.ncp_stream.specs.Pieces.{bytes_and_writes, lost_pieces};
+ghost use Rattle.ncp_stream.specs.Streams.{SaysText, SaysBeginning};
 
-use crate::sink::Sink;
-use crate::source::{Failed, LEAST_PIECE};
 use arrayvec::ArrayVec;
+use ncp_stream::{Failed, LEAST_PIECE, Sink};
 use std::marker::Model;
 
 /// How many bytes a page has room for.

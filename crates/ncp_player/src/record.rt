@@ -1,17 +1,16 @@
 //! The lines of a record.
 ghost use Rattle.std.specs.Prelude.{◌≡◌, ◌+◌, ◌≤◌, ◌||◌, ◌++◌, decimal, is_err};
 ghost use Rattle.ncp_player.specs.Lines.{summary, is_regular, record_lines};
-ghost use Rattle.ncp_player.specs.Pieces.{bytes_and_writes, lost_pieces};
-ghost use Rattle.ncp_player.specs.Streams.{SaysTextOrBeginning};
+ghost use Rattle.ncp_stream.specs.Pieces.{bytes_and_writes, lost_pieces};
+ghost use Rattle.ncp_stream.specs.Streams.{SaysTextOrBeginning};
 
 use crate::detail::say_details;
 use crate::file::Direction;
 use crate::line::{LONGEST_LINE, REGULAR, push_first_line};
 use crate::page::Page;
-use crate::sink::Sink;
-use crate::source::Failed;
 use ncp_bits::Bits;
 use ncp_leader::{Leader, Short, read_leader};
+use ncp_stream::{Failed, Sink};
 
 // Says the first line of a record.
 fn say_first_line<W: Sink>(

@@ -1,18 +1,18 @@
 //! `show`: what a message file holds, line by line.
 ghost use Rattle.std.specs.Prelude.{◌≡◌, ℕ, ◌+◌, ◌-◌, ◌/◌, ◌<◌, ◌≤◌, ◌||◌, [], List, Some, true, false, length, IfOk};
-ghost use Rattle.ncp_player.specs.Pieces.{reads_for, reads_beyond, bytes_and_writes, lost_pieces};
+ghost use Rattle.ncp_stream.specs.Pieces.{reads_for, reads_beyond, bytes_and_writes, lost_pieces};
 ghost use Rattle.ncp_player.specs.Results.{is_read_failed, is_write_failed};
-ghost use Rattle.ncp_player.specs.Streams.{Ahead, SaidSoFar, effort};
+ghost use Rattle.ncp_stream.specs.Streams.{Ahead, SaidSoFar};
+ghost use Rattle.ncp_player.specs.Windows.{effort};
 ghost use Rattle.ncp_player.specs.Steps.{ShowsNext, ShowsFrom, ShowsFile};
 ghost use Rattle.ncp_player.specs.Shown.{Shown};
 
 use crate::file::{Direction, FileFault, read_header, read_record};
 use crate::page::Page;
 use crate::record::say_record;
-use crate::sink::Sink;
-use crate::source::{LEAST_PIECE, Source};
 use crate::window::Window;
 use ncp_bits::Bits;
+use ncp_stream::{LEAST_PIECE, Sink, Source};
 
 // Reads the next record into `message` and shows it, and answers whether there was one.
 fn show_next<S: Source, W: Sink>(

@@ -1,10 +1,11 @@
 //! `Window`: the bytes of a source, read ahead in pieces.
 ghost use Rattle.std.specs.Prelude.{◌≡◌, ℕ, List, ◌++◌, ◌+◌, ◌-◌, ◌<◌, ◌≤◌, ◌||◌, true, false, [], length, take, drop, slice_range, is_err, IfOk, OnOk, OnErr};
 ghost use Rattle.std.specs.Io.KnownBytes.{IsAtEnd};
-ghost use Rattle.ncp_player.specs.Pieces.{reads_beyond};
-ghost use Rattle.ncp_player.specs.Streams.{Moves, effort};
+ghost use Rattle.ncp_stream.specs.Pieces.{reads_beyond};
+ghost use Rattle.ncp_stream.specs.Streams.{Moves};
+ghost use Rattle.ncp_player.specs.Windows.{effort};
 
-use crate::source::{Failed, LEAST_PIECE, Source};
+use ncp_stream::{Failed, LEAST_PIECE, Source};
 use std::marker::Model;
 
 /// How many bytes a window has room for.

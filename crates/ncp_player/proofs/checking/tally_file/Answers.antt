@@ -1,6 +1,6 @@
 use Rattle.std.proofs.Common.{◌++◌, List, ℕ, drop, ap}
 use Rattle.std.proofs.lemmas.Result.{err_from_is_err_and}
-use Rattle.ncp_player.specs.Streams.{Ahead}
+use Rattle.ncp_stream.specs.Streams.{Ahead}
 use Rattle.ncp_player.proofs.Counting.{file_no_header, file_counted}
 use Rattle.ncp_player.proofs.checking.tally_file.Goals as goal
 

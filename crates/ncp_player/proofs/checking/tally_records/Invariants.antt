@@ -1,8 +1,9 @@
 use Rattle.std.proofs.Common.{◌≡◌, ◌≤◌, ℕ, List, Option, Result}
 use Rattle.ncp_player.specs.declared.file.FileFault.{FileFault}
 use Rattle.ncp_player.specs.declared.tally.Tally.{Tally}
-use Rattle.ncp_player.specs.Pieces.{reads_beyond}
-use Rattle.ncp_player.specs.Streams.{Ahead, effort}
+use Rattle.ncp_stream.specs.Pieces.{reads_beyond}
+use Rattle.ncp_stream.specs.Streams.{Ahead}
+use Rattle.ncp_player.specs.Windows.{effort}
 use Rattle.ncp_player.specs.Tallies.{no_messages, TalliesFrom}
 use Rattle.ncp_player.proofs.checking.tally_records.Given as goal
 

@@ -1,6 +1,6 @@
 use Rattle.std.proofs.Common.{◌++◌, ℕ, ap, ◌∙◌, codes, length}
 use Rattle.ncp_player.specs.Lines.{field, text_word}
-use Rattle.ncp_player.proofs.Saying.{three_pushed}
+use Rattle.ncp_stream.proofs.Saying.{three_pushed}
 use Rattle.ncp_player.proofs.detail.push_text_line.Goals as goal
 
 pub returns : goal.returns

@@ -4,9 +4,9 @@ use Rattle.std.proofs.Math.Bool.{or-false}
 use Rattle.std.proofs.lemmas.List.{append_assoc}
 use Rattle.ncp_player.specs.Lines.{item_line, control_lines}
 use Rattle.ncp_bits.specs.Bits.{bytes_of}
-use Rattle.ncp_player.specs.Streams.{SaysText, SaysBeginning}
-use Rattle.ncp_player.proofs.Saying.{answers_broken}
-use Rattle.ncp_player.proofs.Saying.{says_none, says_item, says_items, says_items_broken}
+use Rattle.ncp_stream.specs.Streams.{SaysText, SaysBeginning}
+use Rattle.ncp_stream.proofs.Saying.{answers_broken}
+use Rattle.ncp_stream.proofs.Saying.{says_none, says_item, says_items, says_items_broken}
 use Rattle.ncp_player.proofs.detail.say_commands.Goals as goal
 
 pub loop-item-init : goal.loop-item-init

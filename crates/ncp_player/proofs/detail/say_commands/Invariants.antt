@@ -1,8 +1,8 @@
 use Rattle.std.proofs.Common.{◌≡◌, ◌≤◌, ◌++◌}
 use Rattle.std.specs.List.{flat_map}
 use Rattle.ncp_player.specs.Lines.{item_line}
-use Rattle.ncp_player.specs.Pieces.{bytes_and_writes}
-use Rattle.ncp_player.specs.Streams.{SaysText}
+use Rattle.ncp_stream.specs.Pieces.{bytes_and_writes}
+use Rattle.ncp_stream.specs.Streams.{SaysText}
 use Rattle.ncp_player.proofs.detail.say_commands.Given as goal
 
 abbrev pub invariant-loop-item : goal.invariant-loop-item

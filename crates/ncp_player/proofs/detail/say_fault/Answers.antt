@@ -1,5 +1,5 @@
 use Rattle.ncp_player.specs.Lines.{fault_line}
-use Rattle.ncp_player.proofs.Saying.{says_line, answers_no_room}
+use Rattle.ncp_stream.proofs.Saying.{says_line, answers_no_room}
 use Rattle.ncp_player.proofs.detail.say_fault.Goals as goal
 
 pub returns-in_err-make_room-clause-told : goal.returns-in_err-make_room-clause-told

@@ -1,9 +1,9 @@
 use Rattle.std.proofs.Common.{◌≡◌, ◌∙◌, ap, sym, subst}
 use Rattle.ncp_bits.specs.Bits.{bytes_of}
 use Rattle.ncp_player.specs.Lines.{size_line, text_lines, text_line, control_lines}
-use Rattle.ncp_player.specs.Streams.{SaysTextOrBeginning}
+use Rattle.ncp_stream.specs.Streams.{SaysTextOrBeginning}
 use Rattle.ncp_player.proofs.Choosing.{lines_of_control, lines_of_text}
-use Rattle.ncp_player.proofs.Saying.{answers_after, answers_broken, says_beginning_longer}
+use Rattle.ncp_stream.proofs.Saying.{answers_after, answers_broken, says_beginning_longer}
 use Rattle.ncp_player.proofs.detail.say_message.Goals as goal
 
 pub returns-in_err-say_size-clause-told : goal.returns-in_err-say_size-clause-told

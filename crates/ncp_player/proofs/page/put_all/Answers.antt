@@ -3,7 +3,7 @@ use Rattle.std.proofs.Math.Bool.{or-false}
 use Rattle.std.proofs.lemmas.List.{take_rest, length-drop}
 use Rattle.std.specs.Io.KnownBytes.{Appends}
 use Rattle.ncp_player.proofs.Pieces.{written_once}
-use Rattle.ncp_player.proofs.Streaming.{appends_more, take_on}
+use Rattle.ncp_stream.proofs.Streaming.{appends_more, take_on}
 use Rattle.ncp_player.proofs.page.put_all.Goals as goal
 
 pub loop-done-preserved : goal.loop-done-preserved

@@ -1,6 +1,6 @@
 use Rattle.std.proofs.Common.{◌++◌, decimal}
 use Rattle.ncp_player.specs.Lines.{summary}
-use Rattle.ncp_player.proofs.Saying.{says_line, answers_no_room}
+use Rattle.ncp_stream.proofs.Saying.{says_line, answers_no_room}
 use Rattle.ncp_player.proofs.record.say_first_line.Goals as goal
 
 pub returns-in_err-make_room-clause-told : goal.returns-in_err-make_room-clause-told

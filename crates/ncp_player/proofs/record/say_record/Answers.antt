@@ -2,9 +2,9 @@ use Rattle.std.proofs.Common.{◌≡◌, ◌∙◌, ◌++◌, [], decimal, ap, s
 use Rattle.std.proofs.lemmas.List.{append-nil}
 use Rattle.ncp_leader.specs.Message.{message_in}
 use Rattle.ncp_player.specs.Lines.{summary, first_line, details, message_lines}
-use Rattle.ncp_player.specs.Streams.{SaysText, SaysBeginning, SaysTextOrBeginning}
+use Rattle.ncp_stream.specs.Streams.{SaysText, SaysBeginning, SaysTextOrBeginning}
 use Rattle.ncp_player.proofs.Choosing.{details_of_regular, details_of_other}
-use Rattle.ncp_player.proofs.Saying.{answers_after, answers_broken, says_beginning_longer}
+use Rattle.ncp_stream.proofs.Saying.{answers_after, answers_broken, says_beginning_longer}
 use Rattle.ncp_player.proofs.record.say_record.Goals as goal
 
 pub returns-in_err-say_first_line-clause-told : goal.returns-in_err-say_first_line-clause-told

@@ -1,7 +1,7 @@
 use Rattle.std.proofs.Common.{◌++◌, ◌∙◌, List, [], ℕ, Some, drop, sym, ap}
 use Rattle.std.proofs.lemmas.List.{append-nil}
 use Rattle.std.proofs.lemmas.Result.{err_from_is_err_and}
-use Rattle.ncp_player.specs.Streams.{Ahead, SaidSoFar}
+use Rattle.ncp_stream.specs.Streams.{Ahead, SaidSoFar}
 use Rattle.ncp_player.proofs.Progress.{file_ends, file_shown}
 use Rattle.ncp_player.proofs.showing.show_file.Goals as goal
 

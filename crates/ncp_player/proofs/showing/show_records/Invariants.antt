@@ -1,7 +1,8 @@
 use Rattle.std.proofs.Common.{◌≡◌, ◌≤◌, ℕ, List, Option, Result}
 use Rattle.ncp_player.specs.declared.file.FileFault.{FileFault}
-use Rattle.ncp_player.specs.Pieces.{reads_beyond, bytes_and_writes}
-use Rattle.ncp_player.specs.Streams.{Ahead, SaidSoFar, effort}
+use Rattle.ncp_stream.specs.Pieces.{reads_beyond, bytes_and_writes}
+use Rattle.ncp_stream.specs.Streams.{Ahead, SaidSoFar}
+use Rattle.ncp_player.specs.Windows.{effort}
 use Rattle.ncp_player.specs.Steps.{ShowsFrom}
 use Rattle.ncp_player.proofs.showing.show_records.Given as goal
 

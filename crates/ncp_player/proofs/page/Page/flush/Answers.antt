@@ -2,7 +2,7 @@ use Rattle.std.proofs.Common.{◌≡◌, ◌∙◌, ◌++◌, List, [], ℕ, tak
 use Rattle.std.proofs.lemmas.List.{append-nil}
 use Rattle.std.specs.Io.KnownBytes.{Appends}
 use Rattle.ncp_player.proofs.Outcomes.{on_err_always}
-use Rattle.ncp_player.proofs.Saying.{says_flushed, says_flushed_front}
+use Rattle.ncp_stream.proofs.Saying.{says_flushed, says_flushed_front}
 use Rattle.ncp_player.proofs.page.Page.flush.Goals as goal
 
 pub returns-in_err-put_all-clause-err : goal.returns-in_err-put_all-clause-err

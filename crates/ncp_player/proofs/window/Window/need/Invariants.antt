@@ -1,6 +1,7 @@
 use Rattle.std.proofs.Common.{◌≡◌, ℕ, List, ◌++◌, ◌≤◌, ◌-◌, length}
-use Rattle.ncp_player.specs.Pieces.{reads_beyond}
-use Rattle.ncp_player.specs.Streams.{Moves, effort}
+use Rattle.ncp_stream.specs.Pieces.{reads_beyond}
+use Rattle.ncp_stream.specs.Streams.{Moves}
+use Rattle.ncp_player.specs.Windows.{effort}
 use Rattle.ncp_player.proofs.window.Window.need.Given as goal
 
 abbrev pub invariant-loop-self : goal.invariant-loop-self

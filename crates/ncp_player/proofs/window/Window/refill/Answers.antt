@@ -1,5 +1,5 @@
 use Rattle.std.proofs.Common.{◌≡◌, ◌++◌, ◌-◌, List, ℕ, take, subst, sym, ap, ◌∙◌, arith}
-use Rattle.ncp_player.specs.Streams.{Moves}
+use Rattle.ncp_stream.specs.Streams.{Moves}
 use Rattle.ncp_player.proofs.Windows.{moves_read, refilled}
 use Rattle.ncp_player.proofs.window.Window.refill.Goals as goal
 

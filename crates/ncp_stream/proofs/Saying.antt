@@ -4,8 +4,8 @@ use Rattle.std.proofs.lemmas.List.{append_assoc, append-nil, take-append-drop}
 use Rattle.std.proofs.lemmas.List.Concat.{flat_map-append}
 use Rattle.std.specs.List.{flat_map}
 use Rattle.std.specs.Io.KnownBytes.{Appends}
-use Rattle.ncp_player.specs.Streams.{SaysText, SaysBeginning, SaysTextOrBeginning}
-use Rattle.ncp_player.specs.declared.source.Failed.{Failed}
+use Rattle.ncp_stream.specs.Streams.{SaysText, SaysBeginning, SaysTextOrBeginning}
+use Rattle.ncp_stream.specs.declared.source.Failed.{Failed}
 use Rattle.std.specs.Result.{IsErr}
 
 -- what stands on a page was written

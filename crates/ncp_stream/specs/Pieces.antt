@@ -1,7 +1,7 @@
 -- How many reads and writes bytes take.
 use Rattle.std.specs.Prelude.{ℕ, ◌+◌, ◌-◌, ◌*◌, Bool, true, false, List, length, Option, Some, None}
 use Rattle.std.specs.Int.{div_ceil}
-use Rattle.ncp_player.specs.declared.source.TheConstants.{LEAST_PIECE}
+use Rattle.ncp_stream.specs.declared.source.TheConstants.{LEAST_PIECE}
 
 -- how many reads so many bytes take at most: a read for each byte, and where each read gives all that it can, for each piece
 abbrev pub reads_for : Bool → ℕ → ℕ

@@ -1,7 +1,7 @@
 //! `MemorySource` and `MemorySink`: bytes in memory, with a call that can be made to fail.
 ghost use Rattle.std.specs.Prelude.{◌≡◌, ◌+◌, ◌-◌, ◌<◌, ◌≤◌, ◌||◌, ◌↔◌, min, IfOk, IsErr, MatchResult, Some, is_err, length, drop, [], true, false};
 ghost use Rattle.std.specs.Io.KnownBytes.{ReadConsumes, WriteAppends};
-ghost use Rattle.ncp_player.specs.Memory.{ReadFails, WriteFails, write_number};
+ghost use Rattle.ncp_stream.specs.Memory.{ReadFails, WriteFails, write_number};
 
 use crate::sink::Sink;
 use crate::source::{Failed, Source};
@@ -19,7 +19,7 @@ pub struct MemorySource<'a> {
 }
 
 impl<'a> Model for MemorySource<'a> {
-    ghost use Rattle.ncp_player.specs.Memory.{Reading};
+    ghost use Rattle.ncp_stream.specs.Memory.{Reading};
 
     ghost Value = { Reading };
 
@@ -113,7 +113,7 @@ pub struct MemorySink {
 
 impl Model for MemorySink {
     ghost use Rattle.std.specs.Prelude.{◌-◌, ◌≤◌, vec_len, vec_capacity};
-    ghost use Rattle.ncp_player.specs.Memory.{Writing};
+    ghost use Rattle.ncp_stream.specs.Memory.{Writing};
 
     ghost Value = { Writing };
 
@@ -158,7 +158,7 @@ impl MemorySink {
 
 impl Sink for MemorySink {
     ghost use Rattle.std.specs.Prelude.{Some, true};
-    ghost use Rattle.ncp_player.specs.Memory.{writes_left};
+    ghost use Rattle.ncp_stream.specs.Memory.{writes_left};
 
     ghost written = { λ sink. Some sink.written };
 

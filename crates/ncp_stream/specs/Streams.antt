@@ -1,7 +1,6 @@
 -- Bytes on their way: from a source through a window, and through a page into a sink.
-use Rattle.std.specs.Prelude.{◌≡◌, ℕ, ◌+◌, ◌*◌, List, ◌++◌, length, Option, Some, Result, Ok, Err}
-use Rattle.ncp_player.specs.declared.source.Failed.{Failed}
-use Rattle.ncp_player.specs.declared.window.TheConstants.{WINDOW_SIZE}
+use Rattle.std.specs.Prelude.{◌≡◌, ℕ, List, ◌++◌, Option, Some, Result, Ok, Err}
+use Rattle.ncp_stream.specs.declared.source.Failed.{Failed}
 
 -- the bytes that are to come: those in the window, then those that the source has left
 abbrev pub Ahead : List ℕ → Option (List ℕ) → List ℕ → Type 0
@@ -28,7 +27,3 @@ SaysBeginning page written text written' = (lost : List ℕ) × SaysText page wr
 abbrev pub SaysTextOrBeginning : List ℕ → Option (List ℕ) → List ℕ → Result Unit Failed → List ℕ → Option (List ℕ) → Type 0
 SaysTextOrBeginning page written text (Ok done) page' written' = SaysText page written text page' written'
 SaysTextOrBeginning page written text (Err failed) page' written' = SaysBeginning page written text written'
-
--- what is left to be done by one who reads on: reads, and bytes in the window
-abbrev pub effort : ℕ → List ℕ → ℕ
-effort reads window = reads * (WINDOW_SIZE + 1) + length window
