@@ -1,10 +1,1 @@
-pub mod Windows
-pub mod File
-pub mod Reasons
-pub mod Results
-pub mod Lines
-pub mod Shown
-pub mod Steps
-pub mod Checked
-pub mod Tallies
 pub mod CommandLine

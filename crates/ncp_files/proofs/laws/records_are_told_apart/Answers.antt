@@ -1,0 +1,11 @@
+use Rattle.ncp_files.proofs.Written.{record_exactly, record_ends, record_judged}
+use Rattle.ncp_files.proofs.laws.records_are_told_apart.Goals as goal
+
+pub returns-clause-record : goal.returns-clause-record
+returns-clause-record c = record_exactly
+
+pub returns-clause-end : goal.returns-clause-end
+returns-clause-end c = record_ends
+
+pub returns-clause-fault : goal.returns-clause-fault
+returns-clause-fault c = record_judged

@@ -1,0 +1,75 @@
+//! `check`: whether a message file is sound.
+ghost use Rattle.std.specs.Prelude.{◌≡◌, ℕ, ◌+◌, ◌<◌, ◌≤◌, ◌||◌, List, Some, true, false, length};
+ghost use Rattle.ncp_stream.specs.Pieces.{reads_for, reads_beyond};
+ghost use Rattle.ncp_files.specs.Results.{is_read_failed, is_write_failed};
+ghost use Rattle.ncp_stream.specs.Streams.{Ahead};
+ghost use Rattle.ncp_files.specs.Tallies.{no_messages, TalliesFrom, TalliesFile};
+ghost use Rattle.ncp_files.specs.Checked.{Checked};
+
+use crate::file::{FileFault, read_header, read_record};
+use crate::page::Page;
+use crate::tally::{Tally, push_tally};
+use crate::window::Window;
+use ncp_bits::Bits;
+use ncp_stream::{Sink, Source};
+
+// Counts the messages behind the header.
+fn tally_records<S: Source>(window: &mut Window, source: &mut S) -> Result<Tally, FileFault>
+    ensures told { (bytes : List ℕ) → Ahead window.old (S.left source.old) bytes → TalliesFrom bytes no_messages result (S.left source.new) }
+    ensures mark { S.has_failed source.new ≡ (S.has_failed source.old || is_read_failed result) }
+    ensures other { is_write_failed result ≡ false }
+    ensures reads { reads_beyond S.gives_all (S.reads source.old) (S.left source.old) ≤ reads_beyond S.gives_all (S.reads source.new) (S.left source.new) + 1 }
+{
+    let mut message = Bits::new();
+    let mut tally = Tally::new();
+    while read_record(window, source, &mut message)? {
+        tally = tally.count(&message);
+    }
+    Ok(tally)
+}
+
+// Counts the messages of a file.
+fn tally_file<S: Source>(source: &mut S) -> Result<Tally, FileFault>
+    ensures told { (bytes : List ℕ) → S.left source.old ≡ Some bytes → TalliesFile bytes result (S.left source.new) }
+    ensures mark { S.has_failed source.new ≡ (S.has_failed source.old || is_read_failed result) }
+    ensures other { is_write_failed result ≡ false }
+    ensures reads { reads_beyond S.gives_all (S.reads source.old) (S.left source.old) ≤ reads_beyond S.gives_all (S.reads source.new) (S.left source.new) + 1 }
+{
+    let mut window = Window::new();
+    let _direction = read_header(&mut window, source)?;
+    tally_records(&mut window, source)
+}
+
+/// Reads a message file to its end, writes one line that counts its messages, and answers whether
+/// none of them is short or faulty. After a fault of the file, or a failed read, nothing is written.
+///
+/// It allocates nothing, reads in pieces of at least 4 KiB, and writes the line as one piece.
+pub fn check<S: Source, W: Sink>(source: &mut S, sink: &mut W) -> Result<bool, FileFault>
+    requires source_clean { S.has_failed source.old ≡ false }
+    requires sink_clean { W.has_failed sink.old ≡ false }
+
+    // Of bytes that are told, the line of the counts is written, and nothing else.
+    ensures told { (bytes : List ℕ) (was : List ℕ)
+        → S.left source.old ≡ Some bytes → W.written sink.old ≡ Some was
+        → Checked bytes was (S.left source.new) (W.written sink.new) result }
+
+    // Reading and writing are blamed exactly where they failed.
+    ensures read_failed { S.has_failed source.new ≡ is_read_failed result }
+    ensures write_failed { W.has_failed sink.new ≡ is_write_failed result }
+
+    // A source that gives all that it can is read no more than once for each 4 KiB, and once more;
+    // any source no more than once for each byte, and once more.
+    ensures reads { (bytes : List ℕ) → S.left source.old ≡ Some bytes
+        → S.reads source.old ≤ S.reads source.new + reads_for S.gives_all (length bytes) + 1 }
+
+    // A sink that takes all that it can is written to once, and where it was full once more.
+    ensures writes { W.takes_all ≡ true → W.writes sink.old ≤ W.writes sink.new + 2 }
+{
+    let tally = tally_file(source)?;
+    let mut page = Page::new();
+    push_tally(&mut page, &tally);
+    match page.flush(sink) {
+        Ok(()) => Ok(tally.is_sound()),
+        Err(_) => Err(FileFault::WriteFailed),
+    }
+}

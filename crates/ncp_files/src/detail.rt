@@ -1,0 +1,280 @@
+//! The detail lines of a regular message.
+ghost use Rattle.std.specs.Prelude.{◌≡◌, ◌+◌, ◌≤◌, ◌||◌, ◌++◌, ◌/◌, ◌%◌, length, codes, is_err};
+ghost use Rattle.ncp_bits.specs.Bits.{bytes_of};
+ghost use Rattle.ncp_leader.specs.Message.{message_in};
+ghost use Rattle.ncp_files.specs.Lines.{field, hex_of, command_words, bad_words, item_line, control_lines, text_word, text_line, size_line, fault_line, text_lines, message_lines};
+ghost use Rattle.ncp_stream.specs.Pieces.{bytes_and_writes, lost_pieces};
+ghost use Rattle.ncp_stream.specs.Streams.{SaysTextOrBeginning};
+
+use crate::control::is_of_control;
+use crate::line::{LONGEST_LINE, push_field};
+use crate::page::{PAGE_SIZE, Page};
+use ncp_bits::{Bits, MAX_BITS, Part};
+use ncp_control::{Command, CommandFault, Commands, ERROR_DATA};
+use ncp_leader::{MessageFault, Regular, read_regular};
+use ncp_stream::{Failed, Sink};
+
+// How many bytes the words of a command have at most.
+const LONGEST_WORDS: usize = 100;
+
+// How many bytes the line of a text has at most.
+const LONGEST_TEXT_LINE: usize = LONGEST_LINE + MAX_BITS / 4;
+
+// A field: its name and its number.
+type Field<'a> = (&'a [u8], u32);
+
+// How many bytes the name of a field has at most.
+const LONGEST_NAME: usize = 10;
+
+// Appends a command's name and field.
+fn push_one(page: &mut Page, name: &[u8; 3], one: Field<'_>)
+    requires one { length one.0.now ≤ LONGEST_NAME }
+    requires room { length page.old + LONGEST_WORDS ≤ PAGE_SIZE }
+    ensures bytes { page.new ≡ page.old ++ (name.now ++ field one.entry.0.now one.entry.1) }
+    ensures len { length page.new ≤ length page.old + LONGEST_WORDS }
+{
+    page.push_text(name);
+    push_field(page, one.0, one.1);
+}
+
+// Appends a command's name and two fields.
+fn push_two(page: &mut Page, name: &[u8; 3], one: Field<'_>, two: Field<'_>)
+    requires one { length one.0.now ≤ LONGEST_NAME }
+    requires two { length two.0.now ≤ LONGEST_NAME }
+    requires room { length page.old + LONGEST_WORDS ≤ PAGE_SIZE }
+    ensures bytes { page.new ≡ page.old ++ (name.now ++ field one.entry.0.now one.entry.1 ++ field two.entry.0.now two.entry.1) }
+    ensures len { length page.new ≤ length page.old + LONGEST_WORDS }
+{
+    page.push_text(name);
+    push_field(page, one.0, one.1);
+    push_field(page, two.0, two.1);
+}
+
+// Appends a command's name and three fields.
+fn push_three(page: &mut Page, name: &[u8; 3], one: Field<'_>, two: Field<'_>, three: Field<'_>)
+    requires one { length one.0.now ≤ LONGEST_NAME }
+    requires two { length two.0.now ≤ LONGEST_NAME }
+    requires three { length three.0.now ≤ LONGEST_NAME }
+    requires room { length page.old + LONGEST_WORDS ≤ PAGE_SIZE }
+    ensures bytes { page.new ≡ page.old ++ (name.now ++ field one.entry.0.now one.entry.1 ++ field two.entry.0.now two.entry.1 ++ field three.entry.0.now three.entry.1) }
+    ensures len { length page.new ≤ length page.old + LONGEST_WORDS }
+{
+    page.push_text(name);
+    push_field(page, one.0, one.1);
+    push_field(page, two.0, two.1);
+    push_field(page, three.0, three.1);
+}
+
+// Appends a name of three letters, a code and data.
+fn push_error(page: &mut Page, name: &[u8; 3], code: u8, bytes: &[u8; ERROR_DATA])
+    requires { length page.old + LONGEST_WORDS ≤ PAGE_SIZE }
+    ensures bytes { page.new ≡ page.old ++ (name.now ++ field (codes " code=") code ++ codes " data=" ++ hex_of bytes.now) }
+    ensures len { length page.new ≤ length page.old + LONGEST_WORDS }
+{
+    page.push_text(name);
+    push_field(page, b" code=", u32::from(code));
+    page.push_text(b" data=");
+    page.push_hex(bytes);
+}
+
+// Appends a command's name and fields.
+fn push_command(page: &mut Page, command: &Command)
+    requires { length page.old + LONGEST_WORDS ≤ PAGE_SIZE }
+    ensures bytes { page.new ≡ page.old ++ command_words command.now }
+    ensures len { length page.new ≤ length page.old + LONGEST_WORDS }
+{
+    match *command {
+        Command::Nop => page.push_text(b"NOP"),
+        Command::Rts {
+            receive,
+            send,
+            link,
+        } => push_three(
+            page,
+            b"RTS",
+            (b" receive=", receive),
+            (b" send=", send),
+            (b" link=", u32::from(link)),
+        ),
+        Command::Str {
+            send,
+            receive,
+            size,
+        } => push_three(
+            page,
+            b"STR",
+            (b" send=", send),
+            (b" receive=", receive),
+            (b" size=", u32::from(size)),
+        ),
+        Command::Cls { my, your } => push_two(page, b"CLS", (b" my=", my), (b" your=", your)),
+        Command::All {
+            link,
+            messages,
+            bits,
+        } => push_three(
+            page,
+            b"ALL",
+            (b" link=", u32::from(link)),
+            (b" messages=", u32::from(messages)),
+            (b" bits=", bits),
+        ),
+        Command::Gvb { link, fm, fb } => push_three(
+            page,
+            b"GVB",
+            (b" link=", u32::from(link)),
+            (b" fm=", u32::from(fm)),
+            (b" fb=", u32::from(fb)),
+        ),
+        Command::Ret {
+            link,
+            messages,
+            bits,
+        } => push_three(
+            page,
+            b"RET",
+            (b" link=", u32::from(link)),
+            (b" messages=", u32::from(messages)),
+            (b" bits=", bits),
+        ),
+        Command::Inr { link } => push_one(page, b"INR", (b" link=", u32::from(link))),
+        Command::Ins { link } => push_one(page, b"INS", (b" link=", u32::from(link))),
+        Command::Eco { byte } => push_one(page, b"ECO", (b" data=", u32::from(byte))),
+        Command::Erp { byte } => push_one(page, b"ERP", (b" data=", u32::from(byte))),
+        Command::Err { code, bytes } => push_error(page, b"ERR", code, &bytes),
+        Command::Rst => page.push_text(b"RST"),
+        Command::Rrp => page.push_text(b"RRP"),
+    }
+}
+
+// Appends the line of a command, or of the fault behind the last one.
+fn push_item(page: &mut Page, item: &Result<Command, CommandFault>)
+    requires { length page.old + LONGEST_LINE ≤ PAGE_SIZE }
+    ensures { page.new ≡ page.old ++ item_line item.now }
+{
+    page.push_text(b"  ");
+    match item {
+        Ok(command) => push_command(page, command),
+        Err(fault) => push_error(page, b"bad", fault.code, &fault.bytes),
+    }
+    page.push(b'\n');
+}
+
+// Says a line for each command of a control text, and one for its fault.
+fn say_commands<W: Sink>(page: &mut Page, sink: &mut W, text: Part<'_>) -> Result<(), Failed>
+    requires { length text % 8 ≡ 0 }
+    ensures told { SaysTextOrBeginning page.old (W.written sink.old) (control_lines (bytes_of text.entry)) result page.new (W.written sink.new) }
+    ensures writes { bytes_and_writes W.takes_all (W.writes sink.old) (W.written sink.old) ≤ bytes_and_writes W.takes_all (W.writes sink.new) (W.written sink.new) + lost_pieces (is_err result) }
+    ensures mark { W.has_failed sink.new ≡ (W.has_failed sink.old || is_err result) }
+{
+    for item in Commands::new(text) {
+        page.make_room(sink, LONGEST_LINE)?;
+        push_item(page, &item);
+    }
+    Ok(())
+}
+
+// Appends a text in hexadecimal, if it has a bit.
+fn push_text_word(page: &mut Page, text: &Part<'_>)
+    requires { length page.old + 1 + MAX_BITS / 4 ≤ PAGE_SIZE }
+    ensures bytes { page.new ≡ page.old ++ text_word text.now }
+    ensures len { length page.new ≤ length page.old + 1 + MAX_BITS / 4 }
+{
+    if text.is_empty() {
+        return;
+    }
+    let mut bytes = [0u8; MAX_BITS / 8];
+    let used = &mut bytes[..text.len().div_ceil(8)];
+    text.to_bytes(used);
+    page.push(b' ');
+    page.push_hex(used);
+}
+
+// Appends the line of a text.
+fn push_text_line(page: &mut Page, text: &Part<'_>)
+    requires { length page.old + LONGEST_TEXT_LINE ≤ PAGE_SIZE }
+    ensures { page.new ≡ page.old ++ text_line text.now }
+{
+    push_field(page, b"  text bits=", text.len() as u32);
+    push_text_word(page, text);
+    page.push(b'\n');
+}
+
+// Appends the line of a message's size and count.
+fn push_size(page: &mut Page, message: &Regular<'_>)
+    requires { length page.old + LONGEST_LINE ≤ PAGE_SIZE }
+    ensures { page.new ≡ page.old ++ size_line message.now }
+{
+    push_field(page, b"  size=", u32::from(message.size()));
+    push_field(page, b" count=", u32::from(message.count()));
+    page.push(b'\n');
+}
+
+// Appends the line of a message's fault.
+fn push_fault(page: &mut Page, fault: MessageFault)
+    requires { length page.old + LONGEST_LINE ≤ PAGE_SIZE }
+    ensures { page.new ≡ page.old ++ fault_line fault }
+{
+    page.push_text(b"  fault ");
+    page.push_text(fault.name().as_bytes());
+    page.push(b'\n');
+}
+
+// Says the line of a text.
+fn say_text<W: Sink>(page: &mut Page, sink: &mut W, text: &Part<'_>) -> Result<(), Failed>
+    ensures told { SaysTextOrBeginning page.old (W.written sink.old) (text_line text.now) result page.new (W.written sink.new) }
+    ensures writes { bytes_and_writes W.takes_all (W.writes sink.old) (W.written sink.old) ≤ bytes_and_writes W.takes_all (W.writes sink.new) (W.written sink.new) + lost_pieces (is_err result) }
+    ensures mark { W.has_failed sink.new ≡ (W.has_failed sink.old || is_err result) }
+{
+    page.make_room(sink, LONGEST_TEXT_LINE)?;
+    push_text_line(page, text);
+    Ok(())
+}
+
+// Says the line of a message's size and count.
+fn say_size<W: Sink>(page: &mut Page, sink: &mut W, message: &Regular<'_>) -> Result<(), Failed>
+    ensures told { SaysTextOrBeginning page.old (W.written sink.old) (size_line message.now) result page.new (W.written sink.new) }
+    ensures writes { bytes_and_writes W.takes_all (W.writes sink.old) (W.written sink.old) ≤ bytes_and_writes W.takes_all (W.writes sink.new) (W.written sink.new) + lost_pieces (is_err result) }
+    ensures mark { W.has_failed sink.new ≡ (W.has_failed sink.old || is_err result) }
+{
+    page.make_room(sink, LONGEST_LINE)?;
+    push_size(page, message);
+    Ok(())
+}
+
+// Says the line of a message's fault.
+fn say_fault<W: Sink>(page: &mut Page, sink: &mut W, fault: MessageFault) -> Result<(), Failed>
+    ensures told { SaysTextOrBeginning page.old (W.written sink.old) (fault_line fault) result page.new (W.written sink.new) }
+    ensures writes { bytes_and_writes W.takes_all (W.writes sink.old) (W.written sink.old) ≤ bytes_and_writes W.takes_all (W.writes sink.new) (W.written sink.new) + lost_pieces (is_err result) }
+    ensures mark { W.has_failed sink.new ≡ (W.has_failed sink.old || is_err result) }
+{
+    page.make_room(sink, LONGEST_LINE)?;
+    push_fault(page, fault);
+    Ok(())
+}
+
+// Says the lines of a message that has no fault.
+fn say_message<W: Sink>(page: &mut Page, sink: &mut W, message: &Regular<'_>) -> Result<(), Failed>
+    ensures told { SaysTextOrBeginning page.old (W.written sink.old) (size_line message.now ++ text_lines message.now) result page.new (W.written sink.new) }
+    ensures writes { bytes_and_writes W.takes_all (W.writes sink.old) (W.written sink.old) ≤ bytes_and_writes W.takes_all (W.writes sink.new) (W.written sink.new) + lost_pieces (is_err result) }
+    ensures mark { W.has_failed sink.new ≡ (W.has_failed sink.old || is_err result) }
+{
+    say_size(page, sink, message)?;
+    if is_of_control(message) {
+        say_commands(page, sink, message.text())
+    } else {
+        say_text(page, sink, &message.text())
+    }
+}
+
+/// Says the detail lines of a regular message.
+pub(crate) fn say_details<W: Sink>(page: &mut Page, sink: &mut W, bits: &Bits) -> Result<(), Failed>
+    ensures told { SaysTextOrBeginning page.old (W.written sink.old) (message_lines (message_in bits.now)) result page.new (W.written sink.new) }
+    ensures writes { bytes_and_writes W.takes_all (W.writes sink.old) (W.written sink.old) ≤ bytes_and_writes W.takes_all (W.writes sink.new) (W.written sink.new) + lost_pieces (is_err result) }
+    ensures mark { W.has_failed sink.new ≡ (W.has_failed sink.old || is_err result) }
+{
+    match read_regular(bits) {
+        Ok(message) => say_message(page, sink, &message),
+        Err(fault) => say_fault(page, sink, fault),
+    }
+}

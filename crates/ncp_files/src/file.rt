@@ -1,0 +1,156 @@
+//! A message file: its header, its records and its faults.
+ghost use Rattle.std.specs.Prelude.{◌≡◌, ℕ, ◌+◌, ◌<◌, ◌≤◌, ◌||◌, List, true, false, length, IfOk, OnOk};
+ghost use Rattle.ncp_files.specs.File.{direction_of, name_of_fault, fault_of_bits};
+ghost use Rattle.ncp_stream.specs.Pieces.{reads_beyond};
+ghost use Rattle.ncp_files.specs.Results.{is_read_failed, is_write_failed};
+ghost use Rattle.ncp_files.specs.Steps.{ReadsHeader, ReadsRecord};
+ghost use Rattle.ncp_files.specs.Windows.{effort};
+ghost use Rattle.ncp_stream.specs.Streams.{Ahead};
+
+use crate::window::Window;
+use byteorder::{BigEndian, ByteOrder};
+use ncp_bits::{Bits, BitsFault, MAX_BITS};
+use ncp_stream::{Failed, Source};
+use thiserror::Error;
+
+/// Which way the messages of a file go.
+#[derive(Clone, Copy, Debug, Drop, PartialEq, Eq)]
+pub enum Direction {
+    /// From a host to its IMP.
+    ToImp,
+    /// From an IMP to its host.
+    FromImp,
+}
+
+/// Why bytes are no message file, or could not be read or written.
+#[derive(Clone, Copy, Debug, Drop, PartialEq, Eq, Error)]
+pub enum FileFault {
+    #[error("not the header of a message file")]
+    BadHeader = 1,
+    #[error("the file ends inside a record")]
+    Truncated = 2,
+    #[error("a record of more than {MAX_BITS} bits")]
+    TooLong = 3,
+    #[error("a spare bit behind a message is set")]
+    SpareNotZero = 4,
+    #[error("a read failed")]
+    ReadFailed = 5,
+    #[error("a write failed")]
+    WriteFailed = 6,
+}
+
+impl FileFault {
+    /// The name that a program prints.
+    pub fn name(self) -> &'static str
+        ensures { result.now ≡ name_of_fault self }
+    {
+        match self {
+            FileFault::BadHeader => "BadHeader",
+            FileFault::Truncated => "Truncated",
+            FileFault::TooLong => "TooLong",
+            FileFault::SpareNotZero => "SpareNotZero",
+            FileFault::ReadFailed => "ReadFailed",
+            FileFault::WriteFailed => "WriteFailed",
+        }
+    }
+}
+
+impl From<Failed> for FileFault {
+    ghost use Rattle.ncp_files.specs.declared.file.FileFault.TheVariants.{ReadFailed};
+
+    ghost from_gives = { λ _ fault. fault ≡ ReadFailed };
+
+    // Only a failed read is passed on by `?`; a failed write is named where it happens.
+    fn from(_failed: Failed) -> Self {
+        FileFault::ReadFailed
+    }
+}
+
+// How many bytes a header has.
+const HEADER: usize = 4;
+
+// How many bytes the length of a record has.
+const LENGTH: usize = 2;
+
+// The direction that a header names.
+fn direction_in(head: &[u8]) -> Option<Direction>
+    requires { length head.now ≡ HEADER }
+    ensures { result ≡ direction_of head.now }
+{
+    if head == b"NCPH".as_slice() {
+        Some(Direction::ToImp)
+    } else if head == b"NCPI".as_slice() {
+        Some(Direction::FromImp)
+    } else {
+        None
+    }
+}
+
+/// Reads the header of a file.
+pub(crate) fn read_header<S: Source>(
+    window: &mut Window,
+    source: &mut S,
+) -> Result<Direction, FileFault>
+    ensures told { (bytes : List ℕ) → Ahead window.old (S.left source.old) bytes → ReadsHeader bytes result window.new (S.left source.new) }
+    ensures mark { S.has_failed source.new ≡ (S.has_failed source.old || is_read_failed result) }
+    ensures other { is_write_failed result ≡ false }
+    ensures reads { reads_beyond S.gives_all (S.reads source.old) (S.left source.old) ≤ reads_beyond S.gives_all (S.reads source.new) (S.left source.new) + 1 }
+    ensures taken { OnOk result (reads_beyond S.gives_all (S.reads source.old) (S.left source.old) ≤ reads_beyond S.gives_all (S.reads source.new) (S.left source.new)) }
+{
+    if !window.need(source, HEADER)? {
+        return Err(FileFault::BadHeader);
+    }
+    let Some(direction) = direction_in(&window.unread()[..HEADER]) else {
+        return Err(FileFault::BadHeader);
+    };
+    window.skip(HEADER);
+    Ok(direction)
+}
+
+// A fault of bits, as a fault of a file.
+fn fault_of(fault: BitsFault) -> FileFault
+    ensures { result ≡ fault_of_bits fault }
+{
+    match fault {
+        BitsFault::TooLong => FileFault::TooLong,
+        BitsFault::ShortBytes => FileFault::Truncated,
+        BitsFault::SpareNotZero => FileFault::SpareNotZero,
+    }
+}
+
+/// Reads the next record into `message`, and answers whether there was one.
+pub(crate) fn read_record<S: Source>(
+    window: &mut Window,
+    source: &mut S,
+    message: &mut Bits,
+) -> Result<bool, FileFault>
+    ensures told { (bytes : List ℕ) → Ahead window.old (S.left source.old) bytes → ReadsRecord bytes result message.new window.new (S.left source.new) }
+    ensures mark { S.has_failed source.new ≡ (S.has_failed source.old || is_read_failed result) }
+    ensures other { is_write_failed result ≡ false }
+    ensures reads { reads_beyond S.gives_all (S.reads source.old) (S.left source.old) ≤ reads_beyond S.gives_all (S.reads source.new) (S.left source.new) + 1 }
+    ensures taken { IfOk result (λ found. found ≡ true → reads_beyond S.gives_all (S.reads source.old) (S.left source.old) ≤ reads_beyond S.gives_all (S.reads source.new) (S.left source.new)) }
+    ensures effort { IfOk result (λ found. found ≡ true → effort (S.reads source.new) window.new < effort (S.reads source.old) window.old) }
+{
+    if !window.need(source, LENGTH)? {
+        return if window.unread().is_empty() {
+            Ok(false)
+        } else {
+            Err(FileFault::Truncated)
+        };
+    }
+    let len = usize::from(BigEndian::read_u16(window.unread()));
+    if len > MAX_BITS {
+        return Err(FileFault::TooLong);
+    }
+    let used = LENGTH + len.div_ceil(8);
+    if !window.need(source, used)? {
+        return Err(FileFault::Truncated);
+    }
+    match message.copy_from_bytes(&window.unread()[LENGTH..used], len) {
+        Ok(()) => {
+            window.skip(used);
+            Ok(true)
+        }
+        Err(fault) => Err(fault_of(fault)),
+    }
+}

@@ -1,0 +1,160 @@
+//! `Tally`: how many messages of which kinds there are.
+ghost use Rattle.std.specs.Prelude.{◌≡◌, ℕ, ◌+◌, ◌≤◌, ◌%◌, ◌++◌, length, is_some};
+ghost use Rattle.ncp_bits.specs.Bits.{bytes_of};
+ghost use Rattle.ncp_leader.specs.Message.{message_in};
+ghost use Rattle.ncp_control.specs.Reading.{fault_in};
+ghost use Rattle.ncp_files.specs.Checked.{is_bad_text, verdict_of_message, verdict_of, is_sound, tally_line};
+ghost use Rattle.ncp_files.specs.Tallies.{no_messages, tally_with, one_more};
+
+use crate::control::{is_of_control, is_on_control_link};
+use crate::line::{LONGEST_LINE, REGULAR, push_field};
+use crate::page::{PAGE_SIZE, Page};
+use ncp_bits::{Bits, Part};
+use ncp_control::Commands;
+use ncp_leader::{Regular, read_leader, read_regular};
+
+/// What is found of a message.
+#[derive(Clone, Copy, Debug, Drop, PartialEq, Eq)]
+pub(crate) enum Verdict {
+    /// It is too short for a leader.
+    Short,
+    /// It is of another type than 0.
+    Other,
+    /// It is of type 0, and nothing is wrong.
+    Sound,
+    /// It is of type 0, and has a fault.
+    Faulty,
+    /// It is of type 0 and on the control link, and its size or its text is wrong.
+    Bad,
+}
+
+/// How many messages there are, and how many of each kind. A count stays at the largest number.
+#[derive(Clone, Copy, Debug, Drop, PartialEq, Eq)]
+pub(crate) struct Tally {
+    pub messages: u32,
+    pub short: u32,
+    pub regular: u32,
+    pub faults: u32,
+    pub bad: u32,
+}
+
+// Whether a control text has a fault.
+fn has_fault(text: Part<'_>) -> bool
+    requires { length text % 8 ≡ 0 }
+    ensures { result ≡ is_some (fault_in (bytes_of text.entry)) }
+{
+    for item in Commands::new(text) {
+        if let Err(_) = item {
+            return true;
+        }
+    }
+    false
+}
+
+// Whether something is wrong with a message of the control link.
+fn is_bad(message: &Regular<'_>) -> bool
+    ensures { result ≡ is_bad_text message.now }
+{
+    if !is_on_control_link(message) {
+        return false;
+    }
+    if !is_of_control(message) {
+        return true;
+    }
+    has_fault(message.text())
+}
+
+// What is found of a message of type 0.
+fn judge_regular(bits: &Bits) -> Verdict
+    ensures { result ≡ verdict_of_message (message_in bits.now) }
+{
+    match read_regular(bits) {
+        Err(_) => Verdict::Faulty,
+        Ok(message) => {
+            if is_bad(&message) {
+                Verdict::Bad
+            } else {
+                Verdict::Sound
+            }
+        }
+    }
+}
+
+// What is found of a message.
+fn judge(bits: &Bits) -> Verdict
+    ensures { result ≡ verdict_of bits.now }
+{
+    match read_leader(bits) {
+        Err(_) => Verdict::Short,
+        Ok(leader) => {
+            if leader.kind == REGULAR {
+                judge_regular(bits)
+            } else {
+                Verdict::Other
+            }
+        }
+    }
+}
+
+// One more, where a test passes.
+fn count_if(number: u32, passes: bool) -> u32
+    ensures { result ≡ one_more passes number }
+{
+    if passes {
+        number.saturating_add(1)
+    } else {
+        number
+    }
+}
+
+impl Tally {
+    /// Nothing is counted.
+    pub(crate) fn new() -> Self
+        ensures { result ≡ no_messages }
+    {
+        Tally {
+            messages: 0,
+            short: 0,
+            regular: 0,
+            faults: 0,
+            bad: 0,
+        }
+    }
+
+    /// Counts a message.
+    pub(crate) fn count(&self, bits: &Bits) -> Tally
+        ensures { result ≡ tally_with self.now (verdict_of bits.now) }
+    {
+        let verdict = judge(bits);
+        Tally {
+            messages: self.messages.saturating_add(1),
+            short: count_if(self.short, verdict == Verdict::Short),
+            regular: count_if(
+                self.regular,
+                matches!(verdict, Verdict::Sound | Verdict::Faulty | Verdict::Bad),
+            ),
+            faults: count_if(self.faults, verdict == Verdict::Faulty),
+            bad: count_if(self.bad, verdict == Verdict::Bad),
+        }
+    }
+
+    /// Whether no message is short or faulty.
+    pub(crate) fn is_sound(&self) -> bool
+        ensures { result ≡ is_sound self.now }
+    {
+        self.short == 0 && self.faults == 0 && self.bad == 0
+    }
+}
+
+/// Appends the line of the counts.
+pub(crate) fn push_tally(page: &mut Page, tally: &Tally)
+    requires { length page.old + LONGEST_LINE ≤ PAGE_SIZE }
+    ensures { page.new ≡ page.old ++ tally_line tally.now }
+{
+    push_field(page, b"messages=", tally.messages);
+    push_field(page, b" short=", tally.short);
+    push_field(page, b" regular=", tally.regular);
+    push_field(page, b" faults=", tally.faults);
+    push_field(page, b" bad=", tally.bad);
+    page.push(b'\n');
+}
