@@ -147,8 +147,9 @@ fn push_command(page: &mut Page, command: &Command)
     }
 }
 
-// Appends the line of a command, or of the fault behind the last one.
-fn push_item(page: &mut Page, item: &Result<Command, CommandFault>)
+/// Appends the line of a command, or of the fault behind the last one. There has to be room for
+/// [`LONGEST_LINE`].
+pub fn push_item(page: &mut Page, item: &Result<Command, CommandFault>)
     requires { length page.old + LONGEST_LINE ≤ PAGE_SIZE }
     ensures { page.new ≡ page.old ++ item_line item.now }
 {
@@ -174,8 +175,9 @@ fn say_commands<W: Sink>(page: &mut Page, sink: &mut W, text: Part<'_>) -> Resul
     Ok(())
 }
 
-// Appends a text in hexadecimal, if it has a bit.
-fn push_text_word(page: &mut Page, text: &Part<'_>)
+/// Appends a space and a text in hexadecimal, if it has a bit. There has to be room for those of the
+/// longest text: a space, and a digit for each four of [`MAX_BITS`].
+pub fn push_text_word(page: &mut Page, text: &Part<'_>)
     requires { length page.old + 1 + MAX_BITS / 4 ≤ PAGE_SIZE }
     ensures bytes { page.new ≡ page.old ++ text_word text.now }
     ensures len { length page.new ≤ length page.old + 1 + MAX_BITS / 4 }
@@ -267,8 +269,9 @@ fn say_message<W: Sink>(page: &mut Page, sink: &mut W, message: &Regular<'_>) ->
     }
 }
 
-/// Says the detail lines of a regular message.
-pub(crate) fn say_details<W: Sink>(page: &mut Page, sink: &mut W, bits: &Bits) -> Result<(), Failed>
+/// Says the detail lines of a regular message: appends them to the page, and writes it where they do
+/// not fit.
+pub fn say_details<W: Sink>(page: &mut Page, sink: &mut W, bits: &Bits) -> Result<(), Failed>
     ensures told { SaysTextOrBeginning page.old (W.written sink.old) (message_lines (message_in bits.now)) result page.new (W.written sink.new) }
     ensures writes { bytes_and_writes W.takes_all (W.writes sink.old) (W.written sink.old) ≤ bytes_and_writes W.takes_all (W.writes sink.new) (W.written sink.new) + lost_pieces (is_err result) }
     ensures mark { W.has_failed sink.new ≡ (W.has_failed sink.old || is_err result) }

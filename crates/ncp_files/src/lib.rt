@@ -1,4 +1,5 @@
-//! Message files: what is shown of them, and whether they are sound.
+//! Message files: what is shown of them, and whether they are sound; and the page on which lines are
+//! said.
 #![tactic(auto)]
 
 mod checking;
@@ -14,5 +15,8 @@ mod tally;
 mod window;
 
 pub use checking::check;
+pub use detail::{push_item, push_text_word, say_details};
 pub use file::{Direction, FileFault};
+pub use line::{LONGEST_LINE, push_field};
+pub use page::{LONGEST_NUMBER, PAGE_SIZE, Page};
 pub use showing::show;

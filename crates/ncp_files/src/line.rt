@@ -7,7 +7,7 @@ use crate::page::{LONGEST_NUMBER, PAGE_SIZE, Page};
 use ncp_leader::{Leader, Short};
 
 /// How many bytes a line has at most, but for a text in hexadecimal.
-pub(crate) const LONGEST_LINE: usize = 128;
+pub const LONGEST_LINE: usize = 128;
 
 /// The type of a regular message.
 pub(crate) const REGULAR: u8 = 0;
@@ -21,8 +21,8 @@ const LONGEST_KIND: usize = 15;
 // How many bytes the longest flags and low field have.
 const LONGEST_EXTRAS: usize = 32;
 
-/// Appends a number behind its name.
-pub(crate) fn push_field(page: &mut Page, name: &[u8], number: u32)
+/// Appends a number behind its name. There has to be room for the name and the longest number.
+pub fn push_field(page: &mut Page, name: &[u8], number: u32)
     requires { length page.old + length name.now + LONGEST_NUMBER ≤ PAGE_SIZE }
     ensures bytes { page.new ≡ page.old ++ field name.now number }
     ensures len { length page.new ≤ length page.old + length name.now + LONGEST_NUMBER }

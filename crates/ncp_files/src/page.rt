@@ -10,14 +10,15 @@ use ncp_stream::{Failed, LEAST_PIECE, Sink};
 use std::marker::Model;
 
 /// How many bytes a page has room for.
-pub(crate) const PAGE_SIZE: usize = 16384;
+pub const PAGE_SIZE: usize = 16384;
 
 /// How many digits the longest number has.
-pub(crate) const LONGEST_NUMBER: usize = 10;
+pub const LONGEST_NUMBER: usize = 10;
 
-/// A page of bytes that are not yet written.
+/// A page of bytes that are not yet written. What is appended has to find room: [`Page::make_room`]
+/// makes it.
 #[derive(Drop)]
-pub(crate) struct Page {
+pub struct Page {
     bytes: ArrayVec<u8, PAGE_SIZE>,
 }
 
@@ -83,7 +84,7 @@ fn push_hex_digits(page: &mut ArrayVec<u8, PAGE_SIZE>, bytes: &[u8])
 
 impl Page {
     /// An empty page.
-    pub(crate) fn new() -> Self
+    pub fn new() -> Self
         ensures { result ≡ [] }
     {
         Page {
@@ -92,7 +93,7 @@ impl Page {
     }
 
     /// Writes the page, which is empty then.
-    pub(crate) fn flush<W: Sink>(&mut self, sink: &mut W) -> Result<(), Failed>
+    pub fn flush<W: Sink>(&mut self, sink: &mut W) -> Result<(), Failed>
         ensures ok { OnOk result ((self.new ≡ []) × SaysText self.old (W.written sink.old) [] self.new (W.written sink.new)) }
         ensures err { OnErr result (SaysBeginning self.old (W.written sink.old) [] (W.written sink.new)) }
         ensures whole { LEAST_PIECE ≤ length self.old → bytes_and_writes W.takes_all (W.writes sink.old) (W.written sink.old) ≤ bytes_and_writes W.takes_all (W.writes sink.new) (W.written sink.new) + lost_pieces (is_err result) }
@@ -105,8 +106,9 @@ impl Page {
         Ok(())
     }
 
-    /// Makes room for `count` bytes: where they do not fit, the page is written.
-    pub(crate) fn make_room<W: Sink>(&mut self, sink: &mut W, count: usize) -> Result<(), Failed>
+    /// Makes room for `count` bytes: where they do not fit, the page is written. There is room for no
+    /// more than [`PAGE_SIZE`] less [`LEAST_PIECE`].
+    pub fn make_room<W: Sink>(&mut self, sink: &mut W, count: usize) -> Result<(), Failed>
         requires { count + LEAST_PIECE ≤ PAGE_SIZE }
         ensures room { OnOk result (length self.new + count ≤ PAGE_SIZE) }
         ensures ok { OnOk result (SaysText self.old (W.written sink.old) [] self.new (W.written sink.new)) }
@@ -120,8 +122,8 @@ impl Page {
         Ok(())
     }
 
-    /// Appends a byte.
-    pub(crate) fn push(&mut self, byte: u8)
+    /// Appends a byte, for which there has to be room.
+    pub fn push(&mut self, byte: u8)
         requires { length self.old + 1 ≤ PAGE_SIZE }
         ensures bytes { self.new ≡ self.old ++ byte ∷ [] }
         ensures len { length self.new ≡ length self.old + 1 }
@@ -129,8 +131,8 @@ impl Page {
         self.bytes.push(byte);
     }
 
-    /// Appends the digits of a number in decimal.
-    pub(crate) fn push_decimal(&mut self, number: u32)
+    /// Appends the digits of a number in decimal. There has to be room for the longest number.
+    pub fn push_decimal(&mut self, number: u32)
         requires { length self.old + LONGEST_NUMBER ≤ PAGE_SIZE }
         ensures bytes { self.new ≡ self.old ++ decimal number }
         ensures len { length self.new ≤ length self.old + LONGEST_NUMBER }
@@ -138,8 +140,8 @@ impl Page {
         push_digits(&mut self.bytes, number);
     }
 
-    /// Appends bytes in hexadecimal.
-    pub(crate) fn push_hex(&mut self, bytes: &[u8])
+    /// Appends bytes in hexadecimal, for which there has to be room: two digits for each byte.
+    pub fn push_hex(&mut self, bytes: &[u8])
         requires { length self.old + 2 * length bytes.now ≤ PAGE_SIZE }
         ensures bytes { self.new ≡ self.old ++ hex_of bytes.now }
         ensures len { length self.new ≡ length self.old + 2 * length bytes.now }
@@ -147,8 +149,8 @@ impl Page {
         push_hex_digits(&mut self.bytes, bytes);
     }
 
-    /// Appends a text.
-    pub(crate) fn push_text(&mut self, text: &[u8])
+    /// Appends a text, for which there has to be room.
+    pub fn push_text(&mut self, text: &[u8])
         requires { length self.old + length text.now ≤ PAGE_SIZE }
         ensures bytes { self.new ≡ self.old ++ text.now }
         ensures len { length self.new ≡ length self.old + length text.now }
