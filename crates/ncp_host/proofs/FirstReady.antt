@@ -29,6 +29,7 @@ use Rattle.ncp_host.specs.Running.{Step, Calls, Resets, Echoes, Wakes, Receives,
 use Rattle.ncp_host.proofs.Steady.{is_busy}
 use Rattle.ncp_host.proofs.Agreeing.{Agree, IsOut, hears}
 use Rattle.ncp_host.proofs.Sound.{IsSound, sound-calls, sound-echo, sound-reset, sound-wakes, sound-bits, sound-output, sound-new}
+use Rattle.ncp_host.proofs.Short.{IsFit, some_go, fit-calls, fit-echo, fit-reset, fit-bits, fit-output, fit-new}
 use Rattle.ncp_host.proofs.Outputs.{first_none, first_more}
 use Rattle.ncp_host.proofs.Turns.{message_cons, message_nil, after_cons, after_nil}
 
@@ -118,13 +119,17 @@ says : (number : ℕ) (cs : List Command) → goes (control_message number cs) �
 says number [] = refl
 says number (c ∷ cs) = grind arith
 
+-- what is out is in its slot, and what waits can go out
+abbrev pub IsWell : PeerState → Type 0
+IsWell s = IsSound s × IsFit s
+
 -- a message goes out on a link where the link is ready
-pub goes_where_ready : (number on : ℕ) (s : PeerState) → IsSound s → goes (output_on number on s) ≡ is_ready on s
+pub goes_where_ready : (number on : ℕ) (s : PeerState) → IsWell s → goes (output_on number on s) ≡ is_ready on s
 goes_where_ready number on s h = go (slot_at s.slots on) refl
   where
-    new : (b : Bool) → is_empty (slot_at s.slots on) ≡ true → goes (if b then control_message number (next_commands s.peer.phase.waiting) else text_message number on (answer (cut_in on s.peer.ends))) ≡ (if b then nat_lt 0 (length (next_commands s.peer.phase.waiting)) else any (has_text on) s.peer.ends)
-    new true e = says number (next_commands s.peer.phase.waiting)
-    new false e = cut_goes number on s h.ends e
+    new : (b : Bool) → is_empty (slot_at s.slots on) ≡ true → goes (if b then control_message number (next_commands s.peer.phase.waiting) else text_message number on (answer (cut_in on s.peer.ends))) ≡ (if b then nat_lt 0 (length s.peer.phase.waiting) else any (has_text on) s.peer.ends)
+    new true e = says number (next_commands s.peer.phase.waiting) ∙ some_go s.peer.phase.waiting h.1
+    new false e = cut_goes number on s h.0.ends e
 
     go : (slot : LinkSlot) → slot_at s.slots on ≡ slot → goes (output_by slot number on s.peer) ≡ is_ready_by slot on s.peer
     go Empty e = new (on == control_link) (ap is_empty e)
@@ -134,7 +139,7 @@ goes_where_ready number on s h = go (slot_at s.slots on) refl
 
 -- The links in their order.
 
-module _ (number : ℕ) (s : PeerState) (h : IsSound s) where
+module _ (number : ℕ) (s : PeerState) (h : IsWell s) where
   silent : (on : ℕ) → output_on number on s ≡ None → is_ready on s ≡ false
   silent on e = sym (goes_where_ready number on s h) ∙ ap goes e
 
@@ -210,11 +215,11 @@ module _ (number : ℕ) (s : PeerState) (h : IsSound s) where
 
 -- The peers in their order.
 
-abbrev pub AreSound : List (ℕ × PeerState) → Type 0
-AreSound [] = Unit {0}
-AreSound (p ∷ ps) = IsSound p.1 × AreSound ps
+abbrev pub AreWell : List (ℕ × PeerState) → Type 0
+AreWell [] = Unit {0}
+AreWell (p ∷ ps) = IsWell p.1 × AreWell ps
 
-pub is_next : (ps : List (ℕ × PeerState)) → AreSound ps → IsNext (message_in_turn ps) ps
+pub is_next : (ps : List (ℕ × PeerState)) → AreWell ps → IsNext (message_in_turn ps) ps
 is_next [] h = subst (λ (o : Option (List Bool)). IsNext o []) (sym message_nil) tt
 is_next (p ∷ ps) h = subst (λ (o : Option (List Bool)). IsNext o (p ∷ ps)) (sym (message_cons p ps)) (go (next_of p.0 p.1) (next_to p.0 p.1 h.0) (message_in_turn ps) (is_next ps h.1))
   where
@@ -225,46 +230,46 @@ is_next (p ∷ ps) h = subst (λ (o : Option (List Bool)). IsNext o (p ∷ ps)) 
 
 -- Whatever a host lives through.
 
-changed-sound : (ps : List (ℕ × PeerState)) (number : ℕ) (f : PeerState → PeerState) → ((s : PeerState) → IsSound s → IsSound (f s)) → AreSound ps → AreSound (at_peer number f ps)
-changed-sound [] number f k h = tt
-changed-sound (p ∷ ps) number f k h = go (p.0 == number) (changed-sound ps number f k h.1)
+changed-well : (ps : List (ℕ × PeerState)) (number : ℕ) (f : PeerState → PeerState) → ((s : PeerState) → IsWell s → IsWell (f s)) → AreWell ps → AreWell (at_peer number f ps)
+changed-well [] number f k h = tt
+changed-well (p ∷ ps) number f k h = go (p.0 == number) (changed-well ps number f k h.1)
   where
-    go : (b : Bool) → AreSound (at_peer number f ps) → AreSound (if b then (p.0, f p.1) ∷ ps else p ∷ at_peer number f ps)
+    go : (b : Bool) → AreWell (at_peer number f ps) → AreWell (if b then (p.0, f p.1) ∷ ps else p ∷ at_peer number f ps)
     go true r = (k p.1 h.0, h.1)
     go false r = (h.0, r)
 
-turn-sound : (ps : List (ℕ × PeerState)) → AreSound ps → AreSound (after_turn ps)
-turn-sound [] h = subst AreSound (sym after_nil) tt
-turn-sound (p ∷ ps) h = subst AreSound (sym (after_cons p ps)) (go (next_of p.0 p.1) (turn-sound ps h.1))
+turn-well : (ps : List (ℕ × PeerState)) → AreWell ps → AreWell (after_turn ps)
+turn-well [] h = subst AreWell (sym after_nil) tt
+turn-well (p ∷ ps) h = subst AreWell (sym (after_cons p ps)) (go (next_of p.0 p.1) (turn-well ps h.1))
   where
-    go : (o : Option (ℕ × List Bool)) → AreSound (after_turn ps) → AreSound (first_goes o p ps (after_turn ps))
+    go : (o : Option (ℕ × List Bool)) → AreWell (after_turn ps) → AreWell (first_goes o p ps (after_turn ps))
     go None r = (h.0, r)
-    go (Some out) r = (sound-output out.0 out.1 p.1 h.0, h.1)
+    go (Some out) r = ((sound-output out.0 out.1 p.1 h.0.0, fit-output out.0 out.1 p.1 h.0.1), h.1)
 
-received-sound : (leader : Result Leader Short) (bits : List Bool) (h : Host) → AreSound h.peers → AreSound (after_with leader bits h).peers
-received-sound (Err short) bits h s = s
-received-sound (Ok leader) bits h s = go (is_kind leader.kind) (state_of h leader.host)
+received-well : (leader : Result Leader Short) (bits : List Bool) (h : Host) → AreWell h.peers → AreWell (after_with leader bits h).peers
+received-well (Err short) bits h s = s
+received-well (Ok leader) bits h s = go (is_kind leader.kind) (state_of h leader.host)
   where
-    go : (b : Bool) (o : Option PeerState) → AreSound (if b then after_from o leader bits h else one_other h).peers
+    go : (b : Bool) (o : Option PeerState) → AreWell (if b then after_from o leader bits h else one_other h).peers
     go true None = s
-    go true (Some x) = changed-sound h.peers leader.host (after_bits leader bits) (λ x k. sound-bits leader bits x k) s
+    go true (Some x) = changed-well h.peers leader.host (after_bits leader bits) (λ x k. (sound-bits leader bits x k.0, fit-bits leader bits x k.1)) s
     go false o = s
 
-step-sound : (step : Step) (h : Host) → AreSound h.peers → AreSound (after_step step h).peers
-step-sound (Calls number pair call) h s = changed-sound h.peers number (calls pair call) (λ x k. sound-calls pair call x.peer x.slots k) s
-step-sound (Resets number) h s = changed-sound h.peers number calls_reset (λ x k. sound-reset _ x.peer x.slots k) s
-step-sound (Echoes number byte) h s = changed-sound h.peers number (calls_echo byte) (λ x k. sound-echo byte x.peer x.slots k) s
-step-sound (Wakes number) h s = changed-sound h.peers number calls_wake (λ x k. sound-wakes x k) s
-step-sound (Receives bits) h s = received-sound (leader_in bits) bits h s
-step-sound Sends h s = turn-sound h.peers s
+step-well : (step : Step) (h : Host) → AreWell h.peers → AreWell (after_step step h).peers
+step-well (Calls number pair call) h s = changed-well h.peers number (calls pair call) (λ x k. (sound-calls pair call x.peer x.slots k.0, fit-calls pair call x.peer k.1)) s
+step-well (Resets number) h s = changed-well h.peers number calls_reset (λ x k. (sound-reset _ x.peer x.slots k.0, fit-reset _ x.peer k.1)) s
+step-well (Echoes number byte) h s = changed-well h.peers number (calls_echo byte) (λ x k. (sound-echo byte x.peer x.slots k.0, fit-echo byte x.peer k.1)) s
+step-well (Wakes number) h s = changed-well h.peers number calls_wake (λ x k. (sound-wakes x k.0, k.1)) s
+step-well (Receives bits) h s = received-well (leader_in bits) bits h s
+step-well Sends h s = turn-well h.peers s
 
-steps-sound : (steps : List Step) (h : Host) → AreSound h.peers → AreSound (after_steps steps h).peers
-steps-sound [] h s = s
-steps-sound (step ∷ steps) h s = steps-sound steps (after_step step h) (step-sound step h s)
+steps-well : (steps : List Step) (h : Host) → AreWell h.peers → AreWell (after_steps steps h).peers
+steps-well [] h s = s
+steps-well (step ∷ steps) h s = steps-well steps (after_step step h) (step-well step h s)
 
-new-sound : (ns : List ℕ) → AreSound (map (λ n. (n, new_state)) ns)
-new-sound [] = tt
-new-sound (n ∷ ns) = (sound-new, new-sound ns)
+new-well : (ns : List ℕ) → AreWell (map (λ n. (n, new_state)) ns)
+new-well [] = tt
+new-well (n ∷ ns) = ((sound-new, fit-new), new-well ns)
 
 pub lived-next : (h : Host) → HasLived h → IsNext (next_output h) h.peers
-lived-next h l = is_next h.peers (subst (λ (x : Host). AreSound x.peers) (sym l.3) (steps-sound l.2 (new_host l.0 l.1) (new-sound l.1)))
+lived-next h l = is_next h.peers (subst (λ (x : Host). AreWell x.peers) (sym l.3) (steps-well l.2 (new_host l.0 l.1) (new-well l.1)))

@@ -8,7 +8,6 @@ use Rattle.ncp_model.specs.declared.pair.Pair.{Pair}
 use Rattle.ncp_model.specs.End.{End, is_open}
 use Rattle.ncp_model.specs.Texts.{bytes_to_send}
 use Rattle.ncp_model.specs.Ends.{any, hears_link}
-use Rattle.ncp_model.specs.Sending.{next_commands}
 use Rattle.ncp_model.specs.Peers.{Peer}
 use Rattle.ncp_host.specs.PeerState.{PeerState, control_link}
 use Rattle.ncp_host.specs.Output.{output_on}
@@ -17,9 +16,9 @@ use Rattle.ncp_host.specs.Output.{output_on}
 abbrev pub has_text : ℕ → Pair × End → Bool
 has_text on p = hears_link on p && is_open p.1 && nat_le 1 (bytes_to_send p.1) && nat_le 1 p.1.messages
 
--- on link 0 commands wait, of which a control message takes one at least, on a data link a connection has text
+-- on link 0 commands wait, on a data link a connection has text
 abbrev pub has_new : ℕ → Peer → Bool
-has_new on p = if on == control_link then nat_lt 0 (length (next_commands p.phase.waiting)) else any (has_text on) p.ends
+has_new on p = if on == control_link then nat_lt 0 (length p.phase.waiting) else any (has_text on) p.ends
 
 -- a message is to go out again; or nothing is out on the link, and there is something new
 abbrev pub is_ready_by : LinkSlot → ℕ → Peer → Bool
