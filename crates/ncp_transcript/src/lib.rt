@@ -26,6 +26,3 @@ pub use message::Message;
 pub use note::{HostNote, NOTE_BYTES};
 pub use output::send;
 pub use room::Room;
-
-#[cfg(test)]
-mod tests;

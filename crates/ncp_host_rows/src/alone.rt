@@ -1,0 +1,305 @@
+//! What no clause says: that steps of a host with its transcript succeed, and that notes are what the
+//! worked examples say. An example is a list of steps, and runs over both stores.
+//!
+//! Where an allocation is made to fail, an example goes on as if it had not: what was refused left all
+//! as it was, and is done again.
+mod noted;
+mod tried;
+
+use ncp_bits::{Bits, PackedStore, PlainStore};
+use ncp_control::Command;
+use ncp_host::{CallFault, Counts, End, Flags, Ignored, Pair, Received, Record, Took};
+use ncp_slot::Answer;
+use ncp_transcript::{Call, Input, Message};
+use noted::{Step, Want};
+use std::alloc::Global;
+use std::process::Abort;
+use std::test::Fail;
+use tried::Tried;
+
+/// The host of the examples, and its peer.
+const ME: u8 = 1;
+
+const PEER: u8 = 2;
+
+/// A connection on which the host sends, and one on which it receives, both on this link.
+const OUTWARD: Pair = Pair {
+    local: 3,
+    remote: 2,
+};
+
+const INWARD: Pair = Pair {
+    local: 4,
+    remote: 5,
+};
+
+const LINK: u8 = 2;
+
+/// No flag is set: the host is up with the peer.
+const UP: Flags = Flags {
+    down: false,
+    want: false,
+    owe: false,
+    wait: false,
+};
+
+fn bits_of(rt: &impl Abort, bytes: &[u8]) -> Bits {
+    Bits::from_bytes(bytes, bytes.len().saturating_mul(8)).expect(rt, "room")
+}
+
+/// A call, and what is noted of it.
+fn call(call: Call, want: Want<'_>) -> Step<'_> {
+    Step {
+        input: Input::Call(call),
+        want,
+    }
+}
+
+/// Bytes that come, and what is noted of them.
+fn comes<'a>(rt: &impl Abort, bytes: &[u8], want: Want<'a>) -> Step<'a> {
+    Step {
+        input: Input::In(bits_of(rt, bytes)),
+        want,
+    }
+}
+
+/// Output is asked for, and what is noted of it.
+fn output(want: Want<'_>) -> Step<'_> {
+    Step {
+        input: Input::Out,
+        want,
+    }
+}
+
+/// A new host with one peer goes through these steps, over either store.
+fn goes(rt: &impl Abort, alloc: Global, steps: &[Step<'_>]) -> Result<(), Fail> {
+    Tried::<PlainStore>::new(alloc, ME, PEER)?.goes(rt, steps);
+    Tried::<PackedStore>::new(alloc, ME, PEER)?.goes(rt, steps);
+    Ok(())
+}
+
+/// So does one whose connections are open, and whose sender may send.
+fn goes_open(rt: &impl Abort, alloc: Global, steps: &[Step<'_>]) -> Result<(), Fail> {
+    let peer = PEER;
+    let opening = [
+        call(Call::Reset { peer }, Want::Done),
+        comes(
+            rt,
+            &[0, 2, 0, 0, 0, 8, 0, 2, 0, 12, 13],
+            Want::In(Received::Control(2)),
+        ),
+        call(
+            Call::AskSend {
+                peer,
+                pair: OUTWARD,
+                size: 8,
+                room: 1024,
+            },
+            Want::Done,
+        ),
+        call(
+            Call::AskReceive {
+                peer,
+                pair: INWARD,
+                room: 1024,
+            },
+            Want::Done,
+        ),
+        comes(
+            rt,
+            &[0, 2, 0, 0, 0, 8, 0, 10, 0, 1, 0, 0, 0, 2, 0, 0, 0, 3, 2],
+            Want::In(Received::Control(1)),
+        ),
+        comes(
+            rt,
+            &[0, 2, 0, 0, 0, 8, 0, 10, 0, 2, 0, 0, 0, 5, 0, 0, 0, 4, 8],
+            Want::In(Received::Control(1)),
+        ),
+        comes(
+            rt,
+            &[0, 2, 0, 0, 0, 8, 0, 8, 0, 4, 2, 0, 2, 0, 0, 0, 16],
+            Want::In(Received::Control(1)),
+        ),
+    ];
+    let mut plain = Tried::<PlainStore>::new(alloc, ME, PEER)?;
+    plain.goes(rt, &opening);
+    plain.goes(rt, steps);
+    let mut packed = Tried::<PackedStore>::new(alloc, ME, PEER)?;
+    packed.goes(rt, &opening);
+    packed.goes(rt, steps);
+    Ok(())
+}
+
+// An echo before the host is up, a stray answer, and a second echo before the first is answered.
+#[test]
+fn a_stray_answer_and_an_echo_are_noted(rt: HostRuntime) -> Result<(), Fail> {
+    let peer = PEER;
+    let down = Flags { down: true, ..UP };
+    let counts = Counts {
+        stray: 1,
+        faults: 0,
+        wrong_link: 0,
+        wrong_size: 0,
+        not_up: 0,
+        late: 0,
+        over: 0,
+    };
+    let replies = [0, 2, 0, 0, 0, 8, 0, 3, 0, 13, 9, 65];
+    goes(
+        &rt,
+        rt.alloc(),
+        &[
+            call(Call::Phase { peer }, Want::Phase(down)),
+            call(
+                Call::Echo { peer, byte: 64 },
+                Want::Refused(CallFault::NotUp),
+            ),
+            comes(
+                &rt,
+                &[5, 2, 0, 0],
+                Want::Answered(0, Answer::Rfnm, Received::Stray),
+            ),
+            call(Call::Counts { peer }, Want::Counts(counts)),
+            comes(
+                &rt,
+                &[0, 2, 0, 0, 0, 8, 0, 1, 0, 12],
+                Want::In(Received::Control(1)),
+            ),
+            call(Call::Phase { peer }, Want::Phase(UP)),
+            call(Call::Echo { peer, byte: 65 }, Want::Done),
+            call(
+                Call::Echo { peer, byte: 66 },
+                Want::Refused(CallFault::Busy),
+            ),
+            output(Want::Out(&replies)),
+            output(Want::Nothing),
+        ],
+    )
+}
+
+// Each call that changes something, once it can be done.
+#[test]
+fn calls_are_noted(rt: HostRuntime) -> Result<(), Fail> {
+    let peer = PEER;
+    let pair = INWARD;
+    let text = Message::from_bits(rt.alloc(), &bits_of(&rt, &[0x61, 0x62, 0x63]))?;
+    let give = Call::Give {
+        peer,
+        pair: OUTWARD,
+        text,
+    };
+    let allocate = Call::Allocate {
+        peer,
+        pair,
+        messages: 2,
+        bits: 24,
+    };
+    // RST, RRP, STR, RTS, ALL, GVB, INR and CLS, as they were made.
+    let control = [
+        0, 2, 0, 0, 0, 8, 0, 45, 0, 12, 13, 2, 0, 0, 0, 3, 0, 0, 0, 2, 8, 1, 0, 0, 0, 4, 0, 0, 0,
+        5, 2, 4, 2, 0, 2, 0, 0, 0, 24, 5, 2, 128, 0, 7, 2, 3, 0, 0, 0, 4, 0, 0, 0, 5,
+    ];
+    let take = Call::Take {
+        peer,
+        pair,
+        bytes: 100,
+    };
+    let call_back = Call::CallBack {
+        peer,
+        pair,
+        fm: 128,
+        fb: 0,
+    };
+    goes_open(
+        &rt,
+        rt.alloc(),
+        &[
+            call(give, Want::Done),
+            call(allocate, Want::Done),
+            comes(
+                &rt,
+                &[0, 2, 2, 0, 0, 8, 0, 2, 0, 0x68, 0x69],
+                Want::In(Received::Text(Took::Admitted)),
+            ),
+            call(take, Want::Took(&[0x68, 0x69])),
+            call(call_back, Want::Done),
+            call(Call::Interrupt { peer, pair }, Want::Done),
+            call(Call::Close { peer, pair }, Want::Done),
+            call(Call::Wake { peer }, Want::Done),
+            output(Want::Out(&control)),
+            output(Want::Out(&[0, 2, 2, 0, 0, 8, 0, 2, 0, 0x61, 0x62])),
+            output(Want::Nothing),
+        ],
+    )
+}
+
+// What is read, of a connection and of the peer.
+#[test]
+fn what_is_read_is_noted(rt: HostRuntime) -> Result<(), Fail> {
+    let peer = PEER;
+    let sender = Record {
+        end: End::Send,
+        asked: true,
+        heard: true,
+        opened: true,
+        leaving: false,
+        left: false,
+        cls: false,
+        link: LINK,
+        size: 8,
+        messages: 2,
+        bits: 16,
+        stored: 0,
+        busy: false,
+        recall: false,
+        interrupts: 0,
+    };
+    let counts = Counts {
+        stray: 0,
+        faults: 0,
+        wrong_link: 0,
+        wrong_size: 0,
+        not_up: 0,
+        late: 0,
+        over: 0,
+    };
+    let ignored = Ignored {
+        short: 1,
+        other: 0,
+        unknown: 0,
+    };
+    let state = Call::State {
+        peer,
+        pair: OUTWARD,
+    };
+    goes_open(
+        &rt,
+        rt.alloc(),
+        &[
+            comes(&rt, &[5], Want::In(Received::Short)),
+            comes(
+                &rt,
+                &[
+                    0, 2, 0, 0, 0, 8, 0, 12, 0, 11, 1, 14, 0, 0, 0, 0, 0, 0, 0, 0, 0,
+                ],
+                Want::In(Received::Control(1)),
+            ),
+            call(Call::Echo { peer, byte: 65 }, Want::Done),
+            comes(
+                &rt,
+                &[0, 2, 0, 0, 0, 8, 0, 2, 0, 10, 65],
+                Want::In(Received::Control(1)),
+            ),
+            call(state, Want::State(sender)),
+            call(Call::Echoed { peer }, Want::Echoed(Some(65))),
+            call(Call::Errors { peer }, Want::Errors(1)),
+            call(Call::Counts { peer }, Want::Counts(counts)),
+            call(
+                Call::Waiting { peer, place: 0 },
+                Want::Waiting(Some(Command::Rst)),
+            ),
+            call(Call::Kept { peer, link: LINK }, Want::Kept(None)),
+            call(Call::Ignored, Want::Ignored(ignored)),
+        ],
+    )
+}

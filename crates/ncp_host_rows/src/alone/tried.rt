@@ -1,0 +1,101 @@
+//! A host with its transcript that goes through the steps of an example.
+use super::noted::{Step, says};
+use super::{INWARD, LINK, OUTWARD};
+use ncp_bits::BitStore;
+use ncp_control::Command;
+use ncp_host::{CallFault, Counts, Flags, HostFault, Ignored, Record};
+use ncp_transcript::{Alone, HostNote, Input};
+use std::alloc::Global;
+use std::process::Abort;
+
+/// What the readers of a host answer, of its peer and of the connections of the examples.
+#[derive(Clone, Copy, Drop, PartialEq)]
+struct Reading {
+    flags: Result<Flags, CallFault>,
+    outward: Result<Record, CallFault>,
+    inward: Result<Record, CallFault>,
+    counts: Result<Counts, CallFault>,
+    echoed: Result<Option<u8>, CallFault>,
+    waiting: [Option<Command>; 2],
+    keeps: [bool; 2],
+    ignored: Ignored,
+}
+
+/// A host with its transcript under test. What its calls do is found by running them: no function here
+/// has a clause, so the prover need not follow a host through an example.
+#[derive(Drop)]
+pub(super) struct Tried<S: BitStore> {
+    alone: Alone<S>,
+    peer: u8,
+}
+
+impl<S: BitStore> Tried<S> {
+    /// A new host with one peer.
+    pub(super) fn new(alloc: Global, me: u8, peer: u8) -> Result<Self, HostFault> {
+        let alone = match Alone::new(alloc, me, &[peer]) {
+            Err(HostFault::OutOfMemory) => Alone::new(alloc, me, &[peer])?,
+            first => first?,
+        };
+        Ok(Tried { alone, peer })
+    }
+
+    /// Goes through all steps.
+    pub(super) fn goes(&mut self, rt: &impl Abort, steps: &[Step<'_>]) {
+        for (place, step) in steps.iter().enumerate() {
+            assert!(rt; self.does(rt, step), "at step {place}");
+        }
+    }
+
+    fn does(&mut self, rt: &impl Abort, step: &Step<'_>) -> bool {
+        if !self.is_done(&step.input) {
+            return false;
+        }
+        match self.alone.transcript().last() {
+            Some(note) => says(rt, note, &step.want),
+            None => false,
+        }
+    }
+
+    // Whether an input is done and noted once, be it after a want of memory that left all as it was, but
+    // that the refusal of a call is noted.
+    fn is_done(&mut self, input: &Input) -> bool {
+        let many = self.alone.transcript().len();
+        let before = self.read();
+        let noted = match self.alone.step(input) {
+            Err(_) => many,
+            Ok(()) if self.has_no_memory() => many.saturating_add(1),
+            Ok(()) => return self.alone.transcript().len() == many.saturating_add(1),
+        };
+        self.alone.transcript().len() == noted
+            && self.read() == before
+            && self.alone.step(input).is_ok()
+    }
+
+    // Whether the last note says that a call was refused for want of memory.
+    fn has_no_memory(&self) -> bool {
+        matches!(
+            self.alone.transcript().last(),
+            Some(HostNote::Refused {
+                fault: CallFault::OutOfMemory,
+                ..
+            })
+        )
+    }
+
+    fn read(&self) -> Reading {
+        let host = self.alone.host();
+        Reading {
+            flags: host.phase(self.peer),
+            outward: host.state(self.peer, OUTWARD),
+            inward: host.state(self.peer, INWARD),
+            counts: host.counts(self.peer),
+            echoed: host.echoed(self.peer),
+            waiting: [host.waiting(self.peer, 0), host.waiting(self.peer, 1)],
+            keeps: [
+                host.kept(self.peer, 0).is_some(),
+                host.kept(self.peer, LINK).is_some(),
+            ],
+            ignored: host.ignored(),
+        }
+    }
+}

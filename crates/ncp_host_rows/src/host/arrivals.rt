@@ -1,0 +1,228 @@
+//! Any bits that come.
+use super::steps::{Call, Step};
+use super::{
+    DEAD, INCOMPLETE, INWARD, LINK, ME, NO_COUNTS, OTHER, OUTWARD, PEER, RECEIVER, RFNM, ROOM, RTS,
+    SENDER, STR, Tried, UP, bits_of, goes,
+};
+use ncp_bits::{BitStore, PackedStore, PlainStore};
+use ncp_host::{CallFault, Counts, Flags, Ignored, Received, Record, Took};
+use ncp_leader::MessageFault;
+use std::alloc::Global;
+use std::process::Abort;
+use std::test::Fail;
+
+// A host that is up gets the message of the RTS, cut to its first so many bits.
+fn judges_a_cut_message<S: BitStore>(rt: &impl Abort, alloc: Global) -> Result<(), Fail> {
+    let mut host = Tried::<S>::new(alloc, ME, &[PEER])?;
+    host.goes(rt, &[Step::ComesUp]);
+    let whole = bits_of(
+        rt,
+        &[0, 2, 0, 0, 0, 8, 0, 10, 0, 1, 0, 0, 0, 2, 0, 0, 0, 3, 2],
+    );
+    for len in 0..153usize {
+        let want = if len < 32 {
+            Received::Short
+        } else if len < 72 {
+            Received::Fault(MessageFault::ShortPrefix)
+        } else if len < 152 {
+            Received::Fault(MessageFault::TextMissing)
+        } else {
+            Received::Control(1)
+        };
+        assert!(rt; host.receives_cut(&whole, len, want), "at {len}");
+    }
+    let ignored = Ignored {
+        short: 32,
+        other: 0,
+        unknown: 0,
+    };
+    let counts = Counts {
+        faults: 120,
+        ..NO_COUNTS
+    };
+    host.goes(rt, &[Step::HasIgnored(ignored), Step::HasCounts(counts)]);
+    Ok(())
+}
+
+#[test]
+fn cut_messages_are_judged(rt: HostRuntime) -> Result<(), Fail> {
+    judges_a_cut_message::<PlainStore>(&rt, rt.alloc())?;
+    judges_a_cut_message::<PackedStore>(&rt, rt.alloc())
+}
+
+// The RTS with count and text cut to so many bytes.
+#[test]
+fn cut_texts_are_judged(rt: HostRuntime) -> Result<(), Fail> {
+    for len in 1..10usize {
+        let mut reply = [11, 2, 0, 0, 0, 0, 0, 0, 0, 0, 0, 0];
+        reply[2..2 + len].copy_from_slice(&RTS[..len]);
+        goes(
+            &rt,
+            rt.alloc(),
+            &[PEER],
+            &[
+                Step::ComesUp,
+                Step::Hears(&RTS[..len], 0),
+                Step::Says(&reply),
+                Step::IsSilent,
+            ],
+        )?;
+    }
+    let heard = Record {
+        asked: false,
+        opened: false,
+        size: 0,
+        messages: 0,
+        bits: 0,
+        ..SENDER
+    };
+    goes(
+        &rt,
+        rt.alloc(),
+        &[PEER],
+        &[
+            Step::ComesUp,
+            Step::Hears(&[], 0),
+            Step::Hears(&RTS, 1),
+            Step::IsSilent,
+            Step::Knows(OUTWARD, heard),
+        ],
+    )
+}
+
+// Links that carry nothing, and bytes that have not 8 bits; another peer stays as it was.
+#[test]
+fn links_and_sizes_are_judged(rt: HostRuntime) -> Result<(), Fail> {
+    let counts = Counts {
+        wrong_link: 2,
+        wrong_size: 1,
+        not_up: 1,
+        ..NO_COUNTS
+    };
+    goes(
+        &rt,
+        rt.alloc(),
+        &[PEER, OTHER],
+        &[
+            Step::Of(OTHER),
+            Step::ComesUp,
+            Step::OpensReceiver,
+            Step::Of(PEER),
+            Step::Text(1, &[], Received::WrongLink),
+            Step::Text(72, &[], Received::WrongLink),
+            Step::Comes(&[0, 2, 0, 0, 0, 7, 0, 0, 0], Received::WrongSize),
+            Step::Text(LINK, &[0x61], Received::NotUp),
+            Step::HasCounts(counts),
+            Step::Of(OTHER),
+            Step::HasCounts(NO_COUNTS),
+            Step::Knows(INWARD, RECEIVER),
+            Step::Wait(0),
+        ],
+    )
+}
+
+// Each outcome of a text but that it comes late.
+#[test]
+fn texts_are_judged(rt: HostRuntime) -> Result<(), Fail> {
+    let held = Record {
+        messages: 1,
+        bits: 8,
+        stored: 8,
+        ..RECEIVER
+    };
+    let counts = Counts {
+        over: 1,
+        wrong_size: 1,
+        ..NO_COUNTS
+    };
+    goes(
+        &rt,
+        rt.alloc(),
+        &[PEER],
+        &[
+            Step::ComesUp,
+            Step::OpensReceiver,
+            Step::Text(LINK, &[0x61], Received::Text(Took::Over)),
+            Step::Does(Call::Allocate(INWARD, 2, 16)),
+            Step::Text(LINK, &[0x61], Received::Text(Took::Admitted)),
+            Step::Comes(
+                &[0, 2, 2, 0, 0, 7, 0, 0, 0],
+                Received::Text(Took::WrongSize),
+            ),
+            Step::Knows(INWARD, held),
+            Step::Says(&[4, 2, 0, 2, 0, 0, 0, 16]),
+            Step::Text(9, &[0x61], Received::Text(Took::NotOpen)),
+            Step::Says(&[11, 5, 0, 2, 9, 0, 0, 8, 0, 1, 0, 0x61]),
+            Step::HasCounts(counts),
+        ],
+    )
+}
+
+// A text that is lost goes out again; one whose destination is dead is held until the user asks.
+#[test]
+fn texts_go_out_again(rt: HostRuntime) -> Result<(), Fail> {
+    let left = Record {
+        messages: 1,
+        bits: 0,
+        stored: 8,
+        ..SENDER
+    };
+    goes(
+        &rt,
+        rt.alloc(),
+        &[PEER],
+        &[
+            Step::ComesUp,
+            Step::OpensSender,
+            Step::Does(Call::Give(OUTWARD, &[0x61, 0x62, 0x63])),
+            Step::Sends(LINK, &[0x61, 0x62]),
+            Step::Answered(INCOMPLETE, LINK, Received::Answered),
+            Step::Sends(LINK, &[0x61, 0x62]),
+            Step::Answered(DEAD, LINK, Received::Answered),
+            Step::IsSilent,
+            Step::Knows(OUTWARD, Record { busy: true, ..left }),
+            Step::Keeps(LINK, &[0x61, 0x62]),
+            Step::Answered(RFNM, LINK, Received::Stray),
+            Step::Does(Call::Wake),
+            Step::Sends(LINK, &[0x61, 0x62]),
+            Step::Answered(RFNM, LINK, Received::Answered),
+            Step::Knows(OUTWARD, left),
+            Step::KeepsNone(LINK),
+            Step::Of(OTHER),
+            Step::KeepsNone(LINK),
+        ],
+    )
+}
+
+// A reset while a text is out waits until the text is answered.
+#[test]
+fn resets_wait_until_links_are_quiet(rt: HostRuntime) -> Result<(), Fail> {
+    let due = Flags {
+        want: true,
+        owe: true,
+        ..UP
+    };
+    goes(
+        &rt,
+        rt.alloc(),
+        &[PEER],
+        &[
+            Step::ComesUp,
+            Step::OpensSender,
+            Step::Does(Call::Give(OUTWARD, &[0x61])),
+            Step::Sends(LINK, &[0x61]),
+            Step::Does(Call::Reset),
+            Step::IsSilent,
+            Step::Hears(&[12], 1),
+            Step::HasFlags(due),
+            Step::Answered(RFNM, LINK, Received::Answered),
+            Step::Says(&[13, 12]),
+            Step::Refuses(Call::AskSend(OUTWARD, 8, ROOM), CallFault::NotUp),
+            Step::Hears(&[13], 1),
+            Step::Does(Call::AskReceive(INWARD, ROOM)),
+            Step::Says(&RTS),
+            Step::Hears(&STR, 1),
+            Step::Knows(INWARD, RECEIVER),
+        ],
+    )
+}

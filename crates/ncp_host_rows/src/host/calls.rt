@@ -1,0 +1,114 @@
+//! The calls of a user, each once where it is good, and what is made of it.
+use super::steps::{Call, Step};
+use super::{
+    INWARD, LINK, NO_COUNTS, OUTWARD, PEER, RECEIVER, RECEIVER_CLS, ROOM, RTS, SENDER, STR, goes,
+};
+use ncp_host::{CallFault, Counts, Received, Record, Took};
+use ncp_model::MAX_CALLED;
+use std::test::Fail;
+
+#[test]
+fn a_receiver_is_served(rt: HostRuntime) -> Result<(), Fail> {
+    let calling_back = Record {
+        messages: 2,
+        bits: 16,
+        recall: true,
+        ..RECEIVER
+    };
+    let left = Record {
+        messages: 1,
+        bits: 0,
+        left: true,
+        ..calling_back
+    };
+    goes(
+        &rt,
+        rt.alloc(),
+        &[PEER],
+        &[
+            Step::ComesUp,
+            Step::Does(Call::AskReceive(INWARD, ROOM)),
+            Step::Hears(&STR, 1),
+            Step::Says(&RTS),
+            Step::Does(Call::Allocate(INWARD, 2, 16)),
+            Step::Does(Call::CallBack(INWARD, 64, 1)),
+            Step::Refuses(Call::CallBack(INWARD, 64, 1), CallFault::Busy),
+            Step::Does(Call::Interrupt(INWARD)),
+            Step::Knows(INWARD, calling_back),
+            Step::Says(&[4, 2, 0, 2, 0, 0, 0, 16, 5, 2, 64, 1, 7, 2]),
+            Step::Text(LINK, &[0x61, 0x62], Received::Text(Took::Admitted)),
+            Step::Takes(INWARD, 100, &[0x61, 0x62]),
+            Step::Does(Call::Close(INWARD)),
+            Step::Says(&RECEIVER_CLS),
+            Step::Knows(INWARD, left),
+        ],
+    )
+}
+
+#[test]
+fn a_sender_is_served(rt: HostRuntime) -> Result<(), Fail> {
+    let interrupted = Record {
+        interrupts: 1,
+        ..SENDER
+    };
+    goes(
+        &rt,
+        rt.alloc(),
+        &[PEER],
+        &[
+            Step::ComesUp,
+            Step::Does(Call::AskSend(OUTWARD, 8, ROOM)),
+            Step::Says(&STR),
+            Step::Hears(&RTS, 1),
+            Step::Hears(&[4, 2, 0, 2, 0, 0, 0, 16], 1),
+            Step::Does(Call::Interrupt(OUTWARD)),
+            Step::Says(&[8, 2]),
+            Step::Hears(&[7, 2], 1),
+            Step::Knows(OUTWARD, interrupted),
+        ],
+    )
+}
+
+// One echo at a time: Busy is judged before QueueFull. An ERP that answers none is stray.
+#[test]
+fn echoes_are_answered(rt: HostRuntime) -> Result<(), Fail> {
+    let counts = Counts {
+        stray: 1,
+        ..NO_COUNTS
+    };
+    goes(
+        &rt,
+        rt.alloc(),
+        &[PEER],
+        &[
+            Step::ComesUp,
+            Step::OpensReceiver,
+            Step::Does(Call::Echo(65)),
+            Step::Repeats(Call::Interrupt(INWARD), MAX_CALLED - 1),
+            Step::Refuses(Call::Echo(66), CallFault::Busy),
+            Step::HasEchoed(None),
+            Step::Hears(&[10, 65, 10, 66], 2),
+            Step::HasEchoed(Some(65)),
+            Step::HasCounts(counts),
+            Step::Refuses(Call::Echo(66), CallFault::QueueFull),
+        ],
+    )
+}
+
+// What is known of a peer and of a connection before anything came.
+#[test]
+fn nothing_is_known_at_first(rt: HostRuntime) -> Result<(), Fail> {
+    goes(
+        &rt,
+        rt.alloc(),
+        &[PEER],
+        &[
+            Step::Refuses(Call::State(INWARD), CallFault::NoEntry),
+            Step::HasEchoed(None),
+            Step::HasCounts(NO_COUNTS),
+            Step::Does(Call::Errors),
+            Step::Wait(0),
+            Step::IsSilent,
+        ],
+    )
+}

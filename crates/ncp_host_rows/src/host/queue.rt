@@ -1,0 +1,153 @@
+//! The commands that wait, and what goes out of them.
+use super::steps::{Call, Step};
+use super::{
+    CONTROL, DOWN, INWARD, LINK, ME, NO_COUNTS, OTHER, PEER, RECEIVER, RFNM, Tried, UP, goes,
+};
+use ncp_bits::{BitStore, PackedStore, PlainStore};
+use ncp_control::{Command, ERROR_DATA, SOCKET_NOT_CONNECTED};
+use ncp_host::{CallFault, Counts, Received, Record};
+use std::alloc::Global;
+use std::process::Abort;
+use std::test::Fail;
+
+// A user may fill 256 places; the next output has 15 ALLs.
+#[test]
+fn a_user_fills_256_places(rt: HostRuntime) -> Result<(), Fail> {
+    let mut text = [0u8; 120];
+    for place in 0..15usize {
+        text[8 * place] = 4;
+        text[8 * place + 1] = LINK;
+        text[8 * place + 3] = 1;
+    }
+    goes(
+        &rt,
+        rt.alloc(),
+        &[PEER],
+        &[
+            Step::ComesUp,
+            Step::OpensReceiver,
+            Step::Repeats(Call::Allocate(INWARD, 1, 0), 256),
+            Step::Refuses(Call::Allocate(INWARD, 1, 0), CallFault::QueueFull),
+            Step::Wait(256),
+            Step::Says(&text),
+            Step::Wait(241),
+        ],
+    )
+}
+
+// RETs on a link that is not connected are answered by ERRs: as many as have a place leave the host up.
+#[test]
+fn replies_fill_512_places(rt: HostRuntime) -> Result<(), Fail> {
+    goes(
+        &rt,
+        rt.alloc(),
+        &[PEER],
+        &[
+            Step::ComesUp,
+            Step::FillsPlaces,
+            Step::Wait(512),
+            Step::HasFlags(UP),
+            Step::HearsReturns(1),
+            Step::Wait(0),
+            Step::HasFlags(DOWN),
+        ],
+    )
+}
+
+// The 513th command that would wait makes the host go down. What it has for another peer stays.
+#[test]
+fn a_flood_takes_one_peer_down(rt: HostRuntime) -> Result<(), Fail> {
+    let mut bytes = [0; ERROR_DATA];
+    bytes[0] = 6;
+    bytes[1] = 9;
+    let error = Command::Err {
+        code: SOCKET_NOT_CONNECTED,
+        bytes,
+    };
+    let outstanding = Record {
+        messages: 2,
+        bits: 16,
+        ..RECEIVER
+    };
+    let all = Command::All {
+        link: LINK,
+        messages: 2,
+        bits: 16,
+    };
+    goes(
+        &rt,
+        rt.alloc(),
+        &[PEER, OTHER],
+        &[
+            Step::ComesUp,
+            Step::Of(OTHER),
+            Step::ComesUp,
+            Step::OpensReceiver,
+            Step::Does(Call::Allocate(INWARD, 2, 16)),
+            Step::Of(PEER),
+            Step::HearsReturns(100),
+            Step::HearsReturns(100),
+            Step::HearsReturns(100),
+            Step::HearsReturns(100),
+            Step::Waits(0, error),
+            Step::Waits(399, error),
+            Step::Wait(400),
+            Step::HearsReturns(113),
+            Step::HasFlags(DOWN),
+            Step::Wait(0),
+            Step::Of(OTHER),
+            Step::Knows(INWARD, outstanding),
+            Step::Waits(0, all),
+            Step::Wait(1),
+            Step::HasFlags(UP),
+            Step::HasCounts(NO_COUNTS),
+        ],
+    )
+}
+
+// Of 17 ERRs the last 16 are kept, oldest first. None is answered.
+fn keeps_the_last_errors<S: BitStore>(rt: &impl Abort, alloc: Global) -> Result<(), Fail> {
+    let mut host = Tried::<S>::new(alloc, ME, &[PEER])?;
+    host.goes(rt, &[Step::ComesUp]);
+    for code in 0..17u8 {
+        let error = [11, code, 0, 0, 0, 0, 0, 0, 0, 0, 0, code];
+        assert!(rt; host.does(rt, &Step::Hears(&error, 1)));
+    }
+    assert!(rt; host.has_errors(1, 16) && host.does(rt, &Step::IsSilent));
+    Ok(())
+}
+
+#[test]
+fn the_last_16_errors_are_kept(rt: HostRuntime) -> Result<(), Fail> {
+    keeps_the_last_errors::<PlainStore>(&rt, rt.alloc())?;
+    keeps_the_last_errors::<PackedStore>(&rt, rt.alloc())
+}
+
+// NOP, ECO 41 and a bad opcode: ERP 41 and then ERR 1, in the order in which they were made. A command
+// that ends early: ERR 2. An RFNM that answers nothing is counted, and nothing else changes.
+#[test]
+fn replies_go_out_in_order(rt: HostRuntime) -> Result<(), Fail> {
+    let counts = Counts {
+        stray: 1,
+        ..NO_COUNTS
+    };
+    goes(
+        &rt,
+        rt.alloc(),
+        &[PEER],
+        &[
+            Step::ComesUp,
+            Step::Hears(&[0, 9, 0x41, 0x0e], 2),
+            Step::Says(&[10, 0x41, 11, 1, 0x0e, 0, 0, 0, 0, 0, 0, 0, 0, 0]),
+            Step::Hears(&[0x0e, 0], 0),
+            Step::Says(&[11, 1, 0x0e, 0, 0, 0, 0, 0, 0, 0, 0, 0]),
+            Step::Hears(&[4, 2, 0], 0),
+            Step::Says(&[11, 2, 4, 2, 0, 0, 0, 0, 0, 0, 0, 0]),
+            Step::HasCounts(NO_COUNTS),
+            Step::Answered(RFNM, CONTROL, Received::Stray),
+            Step::HasCounts(counts),
+            Step::HasFlags(UP),
+            Step::IsSilent,
+        ],
+    )
+}

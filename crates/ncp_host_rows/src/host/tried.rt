@@ -1,0 +1,296 @@
+//! A host that goes through the steps of an example.
+use super::steps::{Call, Step};
+use super::{CONTROL, INWARD, OUTWARD, REGULAR, RFNM, ROOM, RTS, STR, UP, bits_of};
+use ncp_bits::{BitStore, Bits};
+use ncp_host::{CallFault, Host, HostFault, Pair, Received};
+use std::alloc::Global;
+use std::process::Abort;
+
+/// A host under test, and the peer that a step is about. What its calls answer is found by running
+/// them: no function here has a clause, so the prover need not follow a host through an example, but
+/// only see that each step is safe and ends.
+#[derive(Drop)]
+pub(super) struct Tried<S: BitStore> {
+    host: Host<S>,
+    peer: u8,
+}
+
+// The leader and the prefix of a regular message of so many bytes of 8 bits, of or for a host.
+fn prefix(rt: &impl Abort, host: u8, link: u8, count: u16) -> Bits {
+    let mut bits = bits_of(rt, &[REGULAR, host, link, 0, 0, 8]);
+    bits.push_number(u64::from(count), 16).expect(rt, "room");
+    bits.push_number(0, 8).expect(rt, "room");
+    bits
+}
+
+// A regular message of bytes of 8 bits.
+fn message(rt: &impl Abort, host: u8, link: u8, text: &[u8]) -> Bits {
+    let count = u16::try_from(text.len()).expect(rt, "a text");
+    let mut bits = prefix(rt, host, link, count);
+    for byte in text {
+        bits.push_number(u64::from(*byte), 8).expect(rt, "room");
+    }
+    bits
+}
+
+// A control message with RET so many times, for link 9, 0 messages and 0 bits.
+fn returns(rt: &impl Abort, host: u8, count: u8) -> Bits {
+    let mut bits = prefix(rt, host, CONTROL, 8 * u16::from(count));
+    for _command in 0..count {
+        for byte in [6, 9, 0, 0, 0, 0, 0, 0] {
+            bits.push_number(byte, 8).expect(rt, "room");
+        }
+    }
+    bits
+}
+
+// So many bits.
+fn zeros(rt: &impl Abort, len: usize) -> Bits {
+    let mut bits = Bits::new();
+    for _bit in 0..len {
+        bits.push_number(0, 1).expect(rt, "room");
+    }
+    bits
+}
+
+impl<S: BitStore> Tried<S> {
+    /// A new host. The first steps are about its first peer.
+    pub(super) fn new(alloc: Global, me: u8, peers: &[u8]) -> Result<Self, HostFault> {
+        Ok(Tried {
+            host: Host::new(alloc, me, peers)?,
+            peer: peers.first().copied().unwrap_or(me),
+        })
+    }
+
+    /// Goes through all steps.
+    pub(super) fn goes(&mut self, rt: &impl Abort, steps: &[Step<'_>]) {
+        for (place, step) in steps.iter().enumerate() {
+            assert!(rt; self.does(rt, step), "at step {place}");
+        }
+    }
+
+    /// Whether the first so many bits of a message come and this becomes of them.
+    pub(super) fn receives_cut(&mut self, message: &Bits, len: usize, want: Received) -> bool {
+        if len > message.len() {
+            return false;
+        }
+        self.host.receive(&message.slice(0, len).to_bits()) == want
+    }
+
+    /// Whether the errors have these codes, rising by 1, and each code as its tenth byte.
+    pub(super) fn has_errors(&self, first: u8, last: u8) -> bool {
+        let Ok(errors) = self.host.errors(self.peer) else {
+            return false;
+        };
+        let mut next = first;
+        for error in errors {
+            if error.code != next || error.bytes[9] != next {
+                return false;
+            }
+            next = next.saturating_add(1);
+        }
+        next == last.saturating_add(1)
+    }
+
+    /// Whether a step has the answer that is wanted.
+    pub(super) fn does(&mut self, rt: &impl Abort, step: &Step<'_>) -> bool {
+        match step {
+            Step::Of(peer) => {
+                self.peer = *peer;
+                true
+            }
+            Step::ComesUp => self.comes_up(rt),
+            Step::OpensReceiver => self.opens_receiver(rt),
+            Step::OpensSender => self.opens_sender(rt),
+            Step::Does(call) => self.call(rt, call).is_ok(),
+            Step::Repeats(call, times) => self.repeats(rt, call, *times),
+            Step::AsksOften(times) => self.asks_often(*times),
+            Step::Refuses(call, fault) => self.call(rt, call) == Err(*fault),
+            Step::Takes(pair, bytes, want) => self.takes(rt, *pair, *bytes, want),
+            _ => self.hears_or_says(rt, step),
+        }
+    }
+
+    fn hears_or_says(&mut self, rt: &impl Abort, step: &Step<'_>) -> bool {
+        match step {
+            Step::Comes(bytes, want) => self.host.receive(&bits_of(rt, bytes)) == *want,
+            Step::Text(link, text, want) => {
+                self.host.receive(&message(rt, self.peer, *link, text)) == *want
+            }
+            Step::Hears(text, commands) => self.hears(rt, text, *commands),
+            Step::HearsReturns(count) => self.hears_returns(rt, *count),
+            Step::FillsPlaces => {
+                for _message in 0..4 {
+                    if !self.hears_returns(rt, 112) {
+                        return false;
+                    }
+                }
+                self.hears_returns(rt, 64)
+            }
+            Step::HearsRequests(count) => self.hears_requests(rt, *count),
+            Step::Answered(kind, link, want) => self.answered(rt, *kind, *link, *want),
+            Step::Puts(bytes) => self.host.next_output() == Some(bits_of(rt, bytes)),
+            Step::Sends(link, text) => self.sends(rt, *link, text),
+            Step::Says(text) => self.says(rt, text),
+            Step::IsSilent => self.host.next_output().is_none(),
+            _ => self.tells(rt, step),
+        }
+    }
+
+    fn tells(&self, rt: &impl Abort, step: &Step<'_>) -> bool {
+        match step {
+            Step::Knows(pair, want) => self.host.state(self.peer, *pair) == Ok(*want),
+            Step::HasFlags(want) => self.host.phase(self.peer) == Ok(*want),
+            Step::HasEchoed(want) => self.host.echoed(self.peer) == Ok(*want),
+            Step::HasCounts(want) => self.host.counts(self.peer) == Ok(*want),
+            Step::HasIgnored(want) => self.host.ignored() == *want,
+            Step::Waits(place, want) => self.host.waiting(self.peer, *place) == Some(*want),
+            Step::Wait(count) => self.wait(*count),
+            Step::Keeps(link, text) => self.keeps(rt, *link, text),
+            Step::KeepsNone(link) => self.host.kept(self.peer, *link).is_none(),
+            _ => false,
+        }
+    }
+
+    fn call(&mut self, rt: &impl Abort, call: &Call<'_>) -> Result<(), CallFault> {
+        match call {
+            Call::Reset => self.host.reset(self.peer),
+            Call::AskSend(pair, size, room) => self.host.ask_send(self.peer, *pair, *size, *room),
+            Call::AskReceive(pair, room) => self.host.ask_receive(self.peer, *pair, *room),
+            Call::Give(pair, text) => self.host.give(self.peer, *pair, &bits_of(rt, text)),
+            Call::GiveBits(pair, len) => self.host.give(self.peer, *pair, &zeros(rt, *len)),
+            Call::Take(pair, bytes) => match self.host.take(self.peer, *pair, *bytes) {
+                Ok(_) => Ok(()),
+                Err(fault) => Err(fault),
+            },
+            Call::Allocate(pair, messages, bits) => {
+                self.host.allocate(self.peer, *pair, *messages, *bits)
+            }
+            Call::CallBack(pair, fm, fb) => self.host.call_back(self.peer, *pair, *fm, *fb),
+            Call::Interrupt(pair) => self.host.interrupt(self.peer, *pair),
+            Call::Echo(byte) => self.host.echo(self.peer, *byte),
+            Call::Close(pair) => self.host.close(self.peer, *pair),
+            Call::Wake => self.host.wake(self.peer),
+            _ => self.read(call),
+        }
+    }
+
+    fn read(&self, call: &Call<'_>) -> Result<(), CallFault> {
+        match call {
+            Call::State(pair) => {
+                self.host.state(self.peer, *pair)?;
+            }
+            Call::Phase => {
+                self.host.phase(self.peer)?;
+            }
+            Call::Echoed => {
+                self.host.echoed(self.peer)?;
+            }
+            Call::Errors => {
+                self.host.errors(self.peer)?;
+            }
+            Call::Counts => {
+                self.host.counts(self.peer)?;
+            }
+            _ => {}
+        }
+        Ok(())
+    }
+
+    fn repeats(&mut self, rt: &impl Abort, call: &Call<'_>, times: usize) -> bool {
+        for _time in 0..times {
+            if self.call(rt, call).is_err() {
+                return false;
+            }
+        }
+        true
+    }
+
+    fn asks_often(&mut self, times: u8) -> bool {
+        for place in 0..times {
+            let pair = Pair {
+                local: 5 + 2 * u32::from(place),
+                remote: 2,
+            };
+            if self.host.ask_send(self.peer, pair, 8, 1).is_err() {
+                return false;
+            }
+        }
+        true
+    }
+
+    fn takes(&mut self, rt: &impl Abort, pair: Pair, bytes: u32, want: &[u8]) -> bool {
+        match self.host.take(self.peer, pair, bytes) {
+            Ok(taken) => taken == bits_of(rt, want),
+            Err(_) => false,
+        }
+    }
+
+    fn hears(&mut self, rt: &impl Abort, text: &[u8], commands: u32) -> bool {
+        let message = message(rt, self.peer, CONTROL, text);
+        self.host.receive(&message) == Received::Control(commands)
+    }
+
+    fn hears_returns(&mut self, rt: &impl Abort, count: u8) -> bool {
+        let message = returns(rt, self.peer, count);
+        self.host.receive(&message) == Received::Control(u32::from(count))
+    }
+
+    fn hears_requests(&mut self, rt: &impl Abort, count: u8) -> bool {
+        for place in 0..count {
+            let mut request = STR;
+            request[4] = place.saturating_mul(2).saturating_add(1);
+            if !self.hears(rt, &request, 1) {
+                return false;
+            }
+        }
+        true
+    }
+
+    fn answered(&mut self, rt: &impl Abort, kind: u8, link: u8, want: Received) -> bool {
+        self.host.receive(&bits_of(rt, &[kind, self.peer, link, 0])) == want
+    }
+
+    fn sends(&mut self, rt: &impl Abort, link: u8, text: &[u8]) -> bool {
+        self.host.next_output() == Some(message(rt, self.peer, link, text))
+    }
+
+    fn says(&mut self, rt: &impl Abort, text: &[u8]) -> bool {
+        self.sends(rt, CONTROL, text) && self.answered(rt, RFNM, CONTROL, Received::Answered)
+    }
+
+    fn wait(&self, count: u32) -> bool {
+        let is_last = match count.checked_sub(1) {
+            Some(last) => self.host.waiting(self.peer, last).is_some(),
+            None => true,
+        };
+        is_last && self.host.waiting(self.peer, count).is_none()
+    }
+
+    fn keeps(&self, rt: &impl Abort, link: u8, text: &[u8]) -> bool {
+        match self.host.kept(self.peer, link) {
+            Some(kept) => *kept == message(rt, self.peer, link, text),
+            None => false,
+        }
+    }
+
+    fn comes_up(&mut self, rt: &impl Abort) -> bool {
+        self.call(rt, &Call::Reset).is_ok()
+            && self.hears(rt, &[12, 13], 2)
+            && self.says(rt, &[12, 13])
+            && self.host.phase(self.peer) == Ok(UP)
+    }
+
+    fn opens_receiver(&mut self, rt: &impl Abort) -> bool {
+        self.call(rt, &Call::AskReceive(INWARD, ROOM)).is_ok()
+            && self.hears(rt, &STR, 1)
+            && self.says(rt, &RTS)
+    }
+
+    fn opens_sender(&mut self, rt: &impl Abort) -> bool {
+        self.call(rt, &Call::AskSend(OUTWARD, 8, ROOM)).is_ok()
+            && self.says(rt, &STR)
+            && self.hears(rt, &RTS, 1)
+            && self.hears(rt, &[4, 2, 0, 2, 0, 0, 0, 16], 1)
+    }
+}
