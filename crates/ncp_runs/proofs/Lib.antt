@@ -15,5 +15,6 @@ pub mod Taken
 pub mod Given
 pub mod MadeOfRuns
 pub mod InOrder
+pub mod Settled
 pub mod Got
 pub mod Begun

@@ -1,13 +1,15 @@
 //! The commands that are made for a peer, and the order in which they go out.
 ghost use Rattle.std.specs.Prelude.{◌≡◌, ℕ, Bool, true, false, not, List, [], ◌∷◌, ◌++◌, map, length, Some};
+ghost use Rattle.std.specs.List.{list_all};
 ghost use Rattle.ncp_control.specs.declared.command.Command.{Command as Order};
+ghost use Rattle.ncp_slot.specs.Slots.{data_links};
 ghost use Rattle.ncp_model.specs.Phase.{up, up_phase};
 ghost use Rattle.ncp_host.specs.PeerState.{PeerState, control_link};
-ghost use Rattle.ncp_host.specs.Host.{state_of, new_host};
+ghost use Rattle.ncp_host.specs.Host.{state_of, is_one_of, new_host};
 ghost use Rattle.ncp_transcript.specs.declared.note.HostNote.{HostNote as Note};
 ghost use Rattle.ncp_transcript.specs.After.{after_notes};
 ghost use Rattle.ncp_runs.specs.Peers.{FromBeginning, notes_of};
-ghost use Rattle.ncp_runs.specs.Links.{told_on, fresh_on};
+ghost use Rattle.ncp_runs.specs.Links.{is_quiet_told, told_on, fresh_on};
 ghost use Rattle.ncp_runs.specs.Making.{is_up_told, made_in, struck, sent, settling_made, nothing_made, made_of, message_of, joined};
 ghost use Rattle.ncp_runs.specs.Examples.{message_on_0, message_on_2, lost, held, stray, woken, taken};
 
@@ -29,6 +31,13 @@ pub fn flags_are_what_was_made_and_came()
     ensures owe { (me : ℕ) (ns : List ℕ) (all : List Note) (n : ℕ) (s : PeerState) → FromBeginning me ns all → state_of (after_notes all (new_host me ns)) n ≡ Some s → s.peer.phase.owe ≡ not (made_of (notes_of n all)).gave_answer }
     ensures wait { (me : ℕ) (ns : List ℕ) (all : List Note) (n : ℕ) (s : PeerState) → FromBeginning me ns all → state_of (after_notes all (new_host me ns)) n ≡ Some s → s.peer.phase.wait ≡ not (made_of (notes_of n all)).got_answer }
     ensures up { (me : ℕ) (ns : List ℕ) (all : List Note) (n : ℕ) (s : PeerState) → FromBeginning me ns all → state_of (after_notes all (new_host me ns)) n ≡ Some s → up s.peer.phase ≡ is_up_told (made_of (notes_of n all)) }
+{}
+
+/// Where the data links to a peer are quiet no RRP is owed and no RST is wanted: since the last RST that came
+/// an RRP was made, and since the last reset that was accepted an RST. So each of the two is made at the first
+/// step after which they are quiet.
+pub fn what_is_owed_waits_for_quiet()
+    ensures { (me : ℕ) (ns : List ℕ) (all : List Note) (n : ℕ) → FromBeginning me ns all → is_one_of n ns ≡ true → list_all (λ on. is_quiet_told (told_on on (notes_of n all))) data_links ≡ true → ((made_of (notes_of n all)).gave_answer ≡ true) × ((made_of (notes_of n all)).did_reset ≡ true) }
 {}
 
 /// That this speaks of something: a command that is made stands last; a clearing strikes what has not gone
