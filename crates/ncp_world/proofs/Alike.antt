@@ -1,7 +1,7 @@
 -- The moves of a world do to the subnet what the subnet's calls do.
-use Rattle.std.proofs.Common.{◌≡◌, ℕ, ◌∙◌, sym}
+use Rattle.std.proofs.Common.{◌≡◌, ℕ}
 use Rattle.ncp_subnet.specs.Transit as transit
-use Rattle.ncp_world.specs.Subnet.{Holds, Free, Accepted, Delivered, Lost, Dead, set_at}
+use Rattle.ncp_world.specs.Subnet.{Holds, Free, Accepted, Delivered, Lost, Dead}
 use Rattle.ncp_world.specs.World.{World, delivers, loses, dies, answers_for}
 use Rattle.ncp_world.proofs.Links.{set_at-same}
 

@@ -17,3 +17,6 @@ pub mod Flights
 pub mod Carried
 pub mod Underway
 pub mod Alike
+pub mod Accepting
+pub mod Growing
+pub mod OnePeer

@@ -1,4 +1,4 @@
-use Rattle.std.proofs.Common.{◌≡◌, ℕ, ◌==◌, Bool, true, if◌then◌else◌, List, Option, None, Some, Result, Ok, refl, sym, ap, ◌∙◌, ◌∷◌, []}
+use Rattle.std.proofs.Common.{◌≡◌, ℕ, ◌==◌, Bool, true, if◌then◌else◌, List, None, Some, Result, Ok, sym, ap, ◌∙◌, ◌∷◌, []}
 use Rattle.std.proofs.lemmas.Bool.{eq-eqb}
 use Rattle.ncp_leader.specs.declared.leader.Leader.{Leader}
 use Rattle.ncp_host.specs.declared.counts.Ignored.{Ignored}
@@ -8,9 +8,8 @@ use Rattle.ncp_leader.specs.Leader.{leader_in}
 use Rattle.ncp_host.specs.Hearing.{is_kind, after_bits}
 use Rattle.ncp_host.specs.Host.{Host, state_of}
 use Rattle.ncp_host.specs.Arrivals as arrivals
-use Rattle.ncp_host.specs.Turns.{next_output, first_message, message_in_turn}
-use Rattle.ncp_host.specs.Output.{next_of, message_on}
 use Rattle.ncp_world.specs.OnePeer.{one_peer}
+use Rattle.ncp_world.proofs.OnePeer.{turn-message}
 use Rattle.ncp_world.specs.World as worlds
 use Rattle.ncp_world.proofs.laws.one_peer_is_its_state.Goals as goal
 
@@ -25,16 +24,8 @@ after me number i s bits l e k n =
     ∙ ap (λ (b : Bool). (let x : Host = record h { peers = if b then (number, after_bits l bits s) ∷ [] else (number, s) ∷ [] } in x)) same
     ∙ ap (λ (r : Result Leader Short). one_peer me number i (worlds.after_with r bits s)) (sym e)
 
-out : (me number : ℕ) (i : Ignored) (s : PeerState) → next_output (one_peer me number i s) ≡ message_on (next_of number s)
-unfolding message_in_turn
-out me number i s = go (next_of number s)
-  where
-    go : (o : Option (ℕ × List Bool)) → first_message o None ≡ message_on o
-    go None = refl
-    go (Some x) = refl
-
 pub returns-clause-after : goal.returns-clause-after
 returns-clause-after c = after
 
 pub returns-clause-out : goal.returns-clause-out
-returns-clause-out c = out
+returns-clause-out c = λ me number i s. turn-message number s

@@ -1,0 +1,11 @@
+use Rattle.std.proofs.Common.{Bool, List, sym, ap, ◌∙◌}
+use Rattle.ncp_transcript.specs.declared.note.HostNote.{HostNote}
+use Rattle.ncp_world.specs.Between.{taken, after_out}
+use Rattle.ncp_world.proofs.Accepting.{accepting}
+use Rattle.ncp_world.proofs.hosts.pass_on.Goals as goal
+
+pub returns-in-Out : goal.returns-in-Out
+returns-in-Out c =
+    accepting c.args.subnet.now c.accept-taken.new.self c.args.from c.to_bits.result c.accept-taken.result c.accept-taken.ensures.variant c.accept-taken.ensures.ok c.accept-taken.ensures.err
+    ∙ ap (λ (m : List Bool). taken c.args.from m c.args.subnet.now) c.to_bits.ensures
+    ∙ ap (λ (n : HostNote). after_out c.args.from n c.args.subnet.now) (sym c.in-Out.is)

@@ -1,0 +1,9 @@
+use Rattle.std.proofs.Common.{◌<◌, ◌^◌, arith}
+use Rattle.ncp_world.proofs.Growing.{transcript_new}
+use Rattle.ncp_world.proofs.world.World.new.Goals as goal
+
+pub invariant_of-result : goal.invariant_of-result
+invariant_of-result g c =
+    let fits_a : c.args.a < 2 ^ 8 = omega arith in
+    let fits_b : c.args.b < 2 ^ 8 = omega arith in
+    rw c.new-2.ensures.items (transcript_new c.args.a c.args.b c.in_ok-hosts.hosts c.requires fits_a fits_b c.in_ok-hosts.ensures)

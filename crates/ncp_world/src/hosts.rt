@@ -1,0 +1,229 @@
+//! `Hosts`: two hosts and the subnet between them.
+ghost use Rattle.std.specs.Prelude.{◌≡◌, ◌≢◌, Ok, IfOk, OnErr};
+ghost use Rattle.ncp_world.specs.Between.{new_hosts, other, number_of, after_out, after_note};
+ghost use Rattle.ncp_world.specs.Happening.{IsCalled, note_of_out, note_of_delivery, note_of_loss, note_of_death, note_of_answer, Noted};
+
+use crate::event::Event;
+use crate::note::{Move, Note};
+use crate::side::Side;
+use ncp_bits::BitStore;
+use ncp_host::{Host, HostFault};
+use ncp_subnet::Subnet;
+use ncp_transcript::{Call, HostNote, Room, hear_in_room, perform, send};
+use std::alloc::{AllocError, Global};
+use std::marker::Model;
+
+/// Two hosts, each with the other as its peer, and the subnet between them.
+#[derive(Drop)]
+pub(crate) struct Hosts<S: BitStore> {
+    number_a: u8,
+    number_b: u8,
+    pub(crate) a: Host<S>,
+    pub(crate) b: Host<S>,
+    subnet: Subnet,
+}
+
+impl<S: BitStore> Model for Hosts<S> {
+    ghost use Rattle.std.specs.Coded.{codes};
+    ghost use Rattle.ncp_slot.specs.Slots.{coded_slots};
+    ghost use Rattle.ncp_host.specs.Codes.{coded_ends};
+    ghost use Rattle.ncp_subnet.specs.Codes.{coded_in_transit};
+    ghost use Rattle.ncp_world.specs.Between.{Hosts as Seen};
+
+    ghost Value = { Seen };
+
+    ghost coded = { Prim.hlevel (codes, coded_ends, coded_slots, coded_in_transit) };
+
+    ghost view = { λ w. record { number_a = w.number_a; number_b = w.number_b; a = w.a; b = w.b; subnet = w.subnet } };
+}
+
+/// The other side.
+fn other(side: Side) -> Side
+    ensures { result ≡ other side }
+{
+    match side {
+        Side::A => Side::B,
+        Side::B => Side::A,
+    }
+}
+
+// What was made, if there was memory.
+fn made_in_memory<S: BitStore>(made: Result<Host<S>, HostFault>) -> Result<Host<S>, AllocError>
+    ensures { IfOk result (λ host. made ≡ Ok host) }
+{
+    match made {
+        Ok(it) => Ok(it),
+        Err(_) => Err(AllocError),
+    }
+}
+
+// The subnet takes what a host noted that goes out.
+#[tactic(auto, using(crate::proofs::Accepting::accepting))]
+fn pass_on(subnet: &mut Subnet, from: u8, note: &HostNote)
+    ensures { subnet.new ≡ after_out from note.now subnet.old }
+{
+    if let HostNote::Out { message } = note {
+        let _taken = subnet.accept(from, &message.to_bits());
+    }
+}
+
+impl<S: BitStore> Hosts<S> {
+    pub(crate) fn new(alloc: Global, a: u8, b: u8) -> Result<Hosts<S>, AllocError>
+        requires { a ≢ b }
+        ensures { IfOk result (λ hosts. hosts ≡ new_hosts a b) }
+    {
+        Ok(Hosts {
+            number_a: a,
+            number_b: b,
+            a: made_in_memory(Host::new(alloc, a, &[b]))?,
+            b: made_in_memory(Host::new(alloc, b, &[a]))?,
+            subnet: Subnet::new(alloc, a, b)?,
+        })
+    }
+
+    /// The number for which a side is a name.
+    fn number(&self, side: Side) -> u8
+        ensures { result ≡ number_of side self.now }
+    {
+        match side {
+            Side::A => self.number_a,
+            Side::B => self.number_b,
+        }
+    }
+
+    /// A user of a host calls.
+    pub(crate) fn call(
+        &mut self,
+        alloc: Global,
+        side: Side,
+        call: &Call,
+    ) -> Result<Note, AllocError>
+        ensures note { IfOk result (λ note. IsCalled side call.now note self.old) }
+        ensures hosts { IfOk result (λ note. self.new ≡ after_note note self.old) }
+        ensures err { OnErr result (self.new ≡ self.old) }
+    {
+        let note = match side {
+            Side::A => perform(alloc, &mut self.a, call)?,
+            Side::B => perform(alloc, &mut self.b, call)?,
+        };
+        Ok(Note::Called { side, note })
+    }
+
+    /// A host is asked for its next message, which the subnet takes.
+    pub(crate) fn out(&mut self, alloc: Global, side: Side) -> Result<Note, AllocError>
+        ensures note { IfOk result (λ note. note ≡ note_of_out side self.old) }
+        ensures hosts { IfOk result (λ note. self.new ≡ after_note note self.old) }
+        ensures err { OnErr result (self.new ≡ self.old) }
+    {
+        let note = match side {
+            Side::A => send(alloc, &mut self.a)?,
+            Side::B => send(alloc, &mut self.b)?,
+        };
+        let from = self.number(side);
+        pass_on(&mut self.subnet, from, &note);
+        Ok(Note::Out { side, note })
+    }
+
+    /// The subnet gives out a message at its destination.
+    pub(crate) fn deliver(
+        &mut self,
+        alloc: Global,
+        side: Side,
+        link: u8,
+    ) -> Result<Note, AllocError>
+        ensures note { IfOk result (λ note. note ≡ note_of_delivery side link self.old) }
+        ensures hosts { IfOk result (λ note. self.new ≡ after_note note self.old) }
+        ensures err { OnErr result (self.new ≡ self.old) }
+    {
+        let room = Room::new(alloc)?;
+        let from = self.number(side);
+        let to = self.number(other(side));
+        let Some(bits) = self.subnet.deliver(from, to, link) else {
+            return Ok(Note::Nothing {
+                side,
+                link,
+                wanted: Move::Deliver,
+            });
+        };
+        let note = match side {
+            Side::A => hear_in_room(room, &mut self.b, &bits),
+            Side::B => hear_in_room(room, &mut self.a, &bits),
+        };
+        Ok(Note::Came { side, link, note })
+    }
+
+    /// The subnet loses a message.
+    pub(crate) fn lose(&mut self, side: Side, link: u8) -> Note
+        ensures note { result ≡ note_of_loss side link self.old }
+        ensures hosts { self.new ≡ after_note result self.old }
+    {
+        let from = self.number(side);
+        let to = self.number(other(side));
+        if self.subnet.lose(from, to, link) {
+            Note::Lost { side, link }
+        } else {
+            Note::Nothing {
+                side,
+                link,
+                wanted: Move::Lose,
+            }
+        }
+    }
+
+    /// The subnet finds the destination of a message dead.
+    pub(crate) fn dead(&mut self, side: Side, link: u8) -> Note
+        ensures note { result ≡ note_of_death side link self.old }
+        ensures hosts { self.new ≡ after_note result self.old }
+    {
+        let from = self.number(side);
+        let to = self.number(other(side));
+        if self.subnet.dead(from, to, link) {
+            Note::FoundDead { side, link }
+        } else {
+            Note::Nothing {
+                side,
+                link,
+                wanted: Move::Dead,
+            }
+        }
+    }
+
+    /// The subnet answers the sender of a message.
+    pub(crate) fn answer(&mut self, alloc: Global, side: Side, link: u8) -> Result<Note, AllocError>
+        ensures note { IfOk result (λ note. note ≡ note_of_answer side link self.old) }
+        ensures hosts { IfOk result (λ note. self.new ≡ after_note note self.old) }
+        ensures err { OnErr result (self.new ≡ self.old) }
+    {
+        let room = Room::new(alloc)?;
+        let from = self.number(side);
+        let to = self.number(other(side));
+        let Some(bits) = self.subnet.answer(from, to, link) else {
+            return Ok(Note::Nothing {
+                side,
+                link,
+                wanted: Move::Answer,
+            });
+        };
+        let note = match side {
+            Side::A => hear_in_room(room, &mut self.a, &bits),
+            Side::B => hear_in_room(room, &mut self.b, &bits),
+        };
+        Ok(Note::Answered { side, link, note })
+    }
+
+    /// What happens, and its note.
+    pub(crate) fn happen(&mut self, alloc: Global, event: &Event) -> Result<Note, AllocError>
+        ensures note { IfOk result (λ note. Noted event.now note self.old) }
+        ensures hosts { IfOk result (λ note. self.new ≡ after_note note self.old) }
+        ensures err { OnErr result (self.new ≡ self.old) }
+    {
+        match event {
+            Event::Call { side, call } => self.call(alloc, *side, call),
+            Event::Out { side } => self.out(alloc, *side),
+            Event::Deliver { side, link } => self.deliver(alloc, *side, *link),
+            Event::Lose { side, link } => Ok(self.lose(*side, *link)),
+            Event::Dead { side, link } => Ok(self.dead(*side, *link)),
+            Event::Answer { side, link } => self.answer(alloc, *side, *link),
+        }
+    }
+}
