@@ -1,0 +1,5 @@
+pub mod Names
+pub mod Results
+pub mod Arrived
+pub mod NoteLines
+pub mod Examples

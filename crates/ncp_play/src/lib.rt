@@ -1,0 +1,12 @@
+//! The players of scripts: what is written of each note.
+#![tactic(auto)]
+
+mod arrived;
+mod heading;
+pub mod laws;
+mod naming;
+mod note_lines;
+mod results;
+
+pub use heading::{Heading, Speaker};
+pub use note_lines::say_note;
