@@ -46,26 +46,16 @@ fronts_all (Rst ∷ u) r p = absurd (omega arith)
 fronts_all (Rrp ∷ u) r p = absurd (omega arith)
 fronts_all (c ∷ u) r p = ap (λ (l : List Command). c ∷ l) (fronts_all u (omega arith) (omega arith))
 
--- what has not come of the text on a link
-count_not_come : (on : ℕ) (slot : Slot TextOut) (subnet : Subnet TextOut) → text_messages (text_on on slot subnet) ≡ how_many (not_come slot subnet)
-count_not_come on Empty s = refl
-count_not_come on (Ready t) s = refl
-count_not_come on (Held t) s = refl
-count_not_come on (Travelling t) Free = refl
-count_not_come on (Travelling t) (Accepted u) = refl
-count_not_come on (Travelling t) Delivered = refl
-count_not_come on (Travelling t) Lost = refl
-count_not_come on (Travelling t) Dead = refl
-
-bits_not_come : (on : ℕ) (slot : Slot TextOut) (subnet : Subnet TextOut) → text_bits (text_on on slot subnet) ≡ bits_of (not_come slot subnet)
-bits_not_come on Empty s = refl
-bits_not_come on (Ready t) s = refl
-bits_not_come on (Held t) s = refl
-bits_not_come on (Travelling t) Free = refl
-bits_not_come on (Travelling t) (Accepted u) = refl
-bits_not_come on (Travelling t) Delivered = refl
-bits_not_come on (Travelling t) Lost = refl
-bits_not_come on (Travelling t) Dead = refl
+-- what has not come of the text on a link, its messages and its bits
+text-not-come : (on : ℕ) (slot : Slot TextOut) (subnet : Subnet TextOut) → (text_messages (text_on on slot subnet) ≡ how_many (not_come slot subnet)) × (text_bits (text_on on slot subnet) ≡ bits_of (not_come slot subnet))
+text-not-come on Empty s = (refl, refl)
+text-not-come on (Ready t) s = (refl, refl)
+text-not-come on (Held t) s = (refl, refl)
+text-not-come on (Travelling t) Free = (refl, refl)
+text-not-come on (Travelling t) (Accepted u) = (refl, refl)
+text-not-come on (Travelling t) Delivered = (refl, refl)
+text-not-come on (Travelling t) Lost = (refl, refl)
+text-not-come on (Travelling t) Dead = (refl, refl)
 
 -- an end that is open is there, and holds its link
 
@@ -165,10 +155,10 @@ module _ (own own' : Owners) (w : World) (k : Holds own own' w) (b : BothStand w
             subst (λ (r : Pair). g.text r ≡ text_on its_link (w.this.texts its_link).slot (w.this.texts its_link).subnet) same l.text
 
     messages_out : text_messages (g.text p) ≡ how_many (text_underway p w)
-    messages_out = ap text_messages text_is ∙ count_not_come its_link (w.this.texts its_link).slot (w.this.texts its_link).subnet
+    messages_out = ap text_messages text_is ∙ (text-not-come its_link (w.this.texts its_link).slot (w.this.texts its_link).subnet).0
 
     bits_out : text_bits (g.text p) ≡ bits_of (text_underway p w)
-    bits_out = ap text_bits text_is ∙ bits_not_come its_link (w.this.texts its_link).slot (w.this.texts its_link).subnet
+    bits_out = ap text_bits text_is ∙ (text-not-come its_link (w.this.texts its_link).slot (w.this.texts its_link).subnet).1
 
   module _ (both : BothOpen p w) where
     here_up : is_up w.this.host ≡ true

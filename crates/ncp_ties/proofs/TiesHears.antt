@@ -454,29 +454,13 @@ module _ (a b : Bool) (own own' : Owners) (n m : Node) (u v : List Command) wher
     not-to-sender h s = no-alien t.g (turned q) c (turn_all rest) t.reached g_sends s e' (alien c h)
       where
         alien : (c : Command) → command_comes 0 c ≡ None → to_sender_kind c ≡ Alien
-        alien (commands.Rts x y z) h = absurd (cc h)
-        alien (commands.Str x y z) h = absurd (cc h)
-        alien (commands.Cls x y) h = absurd (cc h)
-        alien (commands.All x y z) h = absurd (cc h)
-        alien (commands.Gvb x y z) h = absurd (cc h)
-        alien (commands.Ret x y z) h = absurd (cc h)
-        alien (commands.Inr x) h = absurd (cc h)
-        alien (commands.Ins x) h = absurd (cc h)
-        alien c h = refl
+        alien c h = grind arith
 
     not-to-receiver : command_comes 0 c ≡ None → sends q ≡ true → ⊥
     not-to-receiver h s = no-alien-too t.back q c rest t.reached_back back_receives s e (alien c h)
       where
         alien : (c : Command) → command_comes 0 c ≡ None → to_receiver_kind c ≡ Alien
-        alien (commands.Rts x y z) h = absurd (cc h)
-        alien (commands.Str x y z) h = absurd (cc h)
-        alien (commands.Cls x y) h = absurd (cc h)
-        alien (commands.All x y z) h = absurd (cc h)
-        alien (commands.Gvb x y z) h = absurd (cc h)
-        alien (commands.Ret x y z) h = absurd (cc h)
-        alien (commands.Inr x) h = absurd (cc h)
-        alien (commands.Ins x) h = absurd (cc h)
-        alien c h = refl
+        alien c h = grind arith
 
     to-any : Hears a b own own' n m u v c
     to-any = go (command_comes 0 c) refl (sends q) refl (sends (turned q)) refl
