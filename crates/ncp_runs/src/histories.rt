@@ -57,10 +57,12 @@ pub fn what_is_admitted_is_got()
 {}
 
 /// That these laws speak of something: a connection opens, and nothing is left of the one before; a text
-/// of two bytes comes to its receiver; and one is taken. All that says nothing of another pair.
+/// of two bytes comes to its receiver; one is taken; and a RET gives back. All that says nothing of another
+/// pair.
 pub fn two_bytes_come_and_one_is_taken()
     ensures opened { past_then (Some asked_receive) (all.Str_comes 8 0) (happens inward (all.Str_comes 8 0) (Some asked_receive)) (record no_past { got = ones 8; taken = ones 8 }) ≡ no_past }
     ensures got { past_then (Some (counting 2 16)) (all.Text_comes [] 8 (ones 16)) (happens inward (all.Text_comes [] 8 (ones 16)) (Some (counting 2 16))) no_past ≡ record no_past { got = ones 16; used_messages = 1 } }
+    ensures returned { past_then (Some (counting 2 16)) (all.Ret_comes 2 1 8) (happens inward (all.Ret_comes 2 1 8) (Some (counting 2 16))) no_past ≡ record no_past { returned_messages = 1; returned_bits = 8 } }
     ensures taken { past_then (Some (storing (ones 16))) (all.Takes 1) (happens inward (all.Takes 1) (Some (storing (ones 16)))) (record no_past { got = ones 16 }) ≡ record no_past { got = ones 16; taken = ones 8 } }
     ensures another { (m : Ends) (what : all.Happening) → past_at outward (Some inward) (Some what) m no_past ≡ no_past }
 {}

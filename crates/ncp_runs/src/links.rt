@@ -13,9 +13,10 @@ ghost use Rattle.ncp_slot.specs.declared.slot.Answer.{Answer as How};
 ghost use Rattle.ncp_transcript.specs.declared.note.HostNote.{HostNote as Note};
 ghost use Rattle.ncp_transcript.specs.After.{after_notes};
 ghost use Rattle.ncp_runs.specs.Peers.{FromBeginning, notes_of, notes_for};
-ghost use Rattle.ncp_runs.specs.Links.{is_fresh, told_on, is_quiet_told, slot_told, received_told, ready_told};
+ghost use Rattle.ncp_runs.specs.Links.{is_fresh, told_on, came_on, is_quiet_told, slot_told, received_told, ready_told};
 ghost use Rattle.ncp_runs.specs.Examples.{message_on_0, message_on_2, lost, held, stray, woken, taken};
 
+use ncp_host::Received;
 use ncp_slot::Answer;
 use ncp_transcript::HostNote;
 
@@ -59,11 +60,12 @@ pub fn nothing_goes_out_where_none_is_ready()
 {}
 
 /// That these laws speak of something: a message that is lost, then held, since its destination is dead,
-/// while another answer is stray and another link goes on, and woken, and taken.
+/// while another answer is stray and another link goes on, and woken, and taken; and one that comes.
 pub fn one_message_on_its_link()
     ensures lost { slot_told (told_on 0 lost) ≡ Ready message_on_0 }
     ensures held { slot_told (told_on 0 held) ≡ Held message_on_0 }
     ensures stray { (told_on 0 (held ++ stray) ≡ told_on 0 held) × ((told_on 0 held).unanswered ≡ false) × (slot_told (told_on 2 (held ++ stray)) ≡ Travelling message_on_2) }
     ensures woken { (slot_told (told_on 0 (held ++ stray ++ woken)) ≡ Ready message_on_0) × (is_fresh (told_on 0 (held ++ stray ++ woken)) ≡ false) }
     ensures taken { (slot_told (told_on 0 (held ++ stray ++ woken ++ taken)) ≡ Empty) × (is_fresh (told_on 0 (held ++ stray ++ woken ++ taken)) ≡ true) }
+    ensures came { came_on 2 (held ++ HostNote.In message_on_2 Received.NotUp ∷ stray) ≡ message_on_2 ∷ [] }
 {}

@@ -21,3 +21,7 @@ returns-clause-woken c = (refl, refl)
 pub returns-clause-taken : goal.returns-clause-taken
 unfolding number_of
 returns-clause-taken c = (refl, refl)
+
+pub returns-clause-came : goal.returns-clause-came
+unfolding number_of
+returns-clause-came c = refl
