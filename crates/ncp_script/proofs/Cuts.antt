@@ -14,7 +14,7 @@ is_found : (there : Bool) (at place : ℕ) → Some place ≡ cond there (Some a
 is_found true at place found = (refl, cc)
 is_found false at place found = absurd (cc)
 
-is_not_found : (there : Bool) (at : ℕ) → None ≡ cond there (Some at) None → there ≡ false
+pub is_not_found : (there : Bool) (at : ℕ) → None ≡ cond there (Some at) None → there ≡ false
 is_not_found true at found = absurd (cc)
 is_not_found false at found = refl
 
@@ -27,7 +27,7 @@ cut_some line place found =
     rw (whole, at.1) first
 
 -- no space at the front, and none behind it
-tail_uncut : (space : Bool) (at len : ℕ) → nat_lt (cond (not space) (1 + at) 0) (suc len) ≡ false → (space ≡ false) × (nat_lt at len ≡ false)
+pub tail_uncut : (space : Bool) (at len : ℕ) → nat_lt (cond (not space) (1 + at) 0) (suc len) ≡ false → (space ≡ false) × (nat_lt at len ≡ false)
 tail_uncut true at len none = absurd (grind (arith, nat_tests))
 tail_uncut false at len none = (refl, grind (arith, nat_tests))
 

@@ -3,3 +3,4 @@ pub mod Cuts
 pub mod HexDigits
 pub mod Kept
 pub mod Peers
+pub mod ScriptLines

@@ -6,3 +6,5 @@ pub mod Arguments
 pub mod Calls
 pub mod HostLines
 pub mod FirstLines
+pub mod Scripts
+pub mod HostScripts

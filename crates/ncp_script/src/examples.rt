@@ -7,6 +7,8 @@ ghost use Rattle.ncp_script.specs.Words.{words_of};
 ghost use Rattle.ncp_script.specs.Calls.{call_of};
 ghost use Rattle.ncp_script.specs.HostLines.{host_line_of};
 ghost use Rattle.ncp_script.specs.FirstLines.{first_of_host, hosts_named};
+ghost use Rattle.ncp_script.specs.Scripts.{Over, Fed, Faulty, BadLine, LineTooLong, BadHosts, NoHosts, Plays};
+ghost use Rattle.ncp_script.specs.HostScripts.{host_script};
 
 /// A text that is given: its number of bits, and their bytes.
 #[tactic(auto, unfolding(ncp_bits::specs::Bits::byte_bits, ncp_bits::specs::Numbers::bits_of))]
@@ -96,4 +98,17 @@ pub fn first_lines_of_two_are_read_so()
     ensures three { hosts_named (words_of (codes "hosts 3 4 5")) ≡ None }
     ensures large { hosts_named (words_of (codes "hosts 3 256")) ≡ None }
     ensures word { hosts_named (words_of (codes "host 3 4")) ≡ None }
+{}
+
+/// What the bytes of a script of one host ask for.
+#[tactic(auto, unfolding(ncp_bits::specs::Bits::byte_bits, ncp_bits::specs::Numbers::bits_of))]
+pub fn scripts_are_read_so()
+    ensures whole { host_script (codes "# one\n\nhost 9 3 4\r\nphase 3\nin 4 a0\nout") ≡ Plays (record { me = 9; peers = 3 ∷ 4 ∷ [] }) (record { events = inputs.Call (calls.Phase 3) ∷ inputs.In (true ∷ false ∷ true ∷ false ∷ []) ∷ inputs.Out ∷ []; ending = Over }) }
+    ensures nothing { host_script (codes "host 9 3") ≡ Plays (record { me = 9; peers = 3 ∷ [] }) (record { events = []; ending = Over }) }
+    ensures feed { host_script (codes "host 9 3\nout\nfeed\nNCPI\nout\n") ≡ Plays (record { me = 9; peers = 3 ∷ [] }) (record { events = inputs.Out ∷ []; ending = Fed (codes "NCPI\nout\n") }) }
+    ensures feed_without_lf { host_script (codes "host 9 3\nout\nfeed") ≡ Plays (record { me = 9; peers = 3 ∷ [] }) (record { events = inputs.Out ∷ []; ending = Faulty (BadLine 3) }) }
+    ensures bad_line { host_script (codes "host 9 3\n#\n\nout\nout \nout\n") ≡ Plays (record { me = 9; peers = 3 ∷ [] }) (record { events = inputs.Out ∷ []; ending = Faulty (BadLine 5) }) }
+    ensures no_line { host_script [] ≡ NoHosts BadHosts }
+    ensures no_hosts { host_script (codes "#\n\n") ≡ NoHosts BadHosts }
+    ensures other_hosts { host_script (codes "out\nhost 9 3\n") ≡ NoHosts BadHosts }
 {}

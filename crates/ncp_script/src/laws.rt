@@ -1,6 +1,10 @@
 //! Laws about lines, each the contract of a function that does nothing.
-ghost use Rattle.std.specs.Prelude.{◌≡◌, ℕ, Bool, List, ◌++◌, take, Some};
-ghost use Rattle.ncp_script.specs.Lines.{text_of, kind_of};
+ghost use Rattle.std.specs.Prelude.{◌≡◌, ℕ, Bool, true, false, List, [], ◌∷◌, ◌++◌, take, position, Option, None, Some};
+ghost use Rattle.ncp_transcript.specs.declared.input.Input.{Input};
+ghost use Rattle.ncp_script.specs.declared.line_buffer.TheConstants.{LF};
+ghost use Rattle.ncp_script.specs.Lines.{is_lf, text_of, kind_of};
+ghost use Rattle.ncp_script.specs.FirstLines.{Named};
+ghost use Rattle.ncp_script.specs.Scripts.{Line, lines_of, said, Asked, course_from, script_from, ends, Faulty, LineTooLong, NoHosts};
 ghost use Rattle.ncp_script.specs.Verbs.{word_of, verb_of};
 
 use crate::line_buffer::{LineKind, MAX_KEPT};
@@ -18,4 +22,18 @@ pub fn kept_lines_tell_all()
 pub fn words_name_calls()
     ensures each { (verb : Verb) → verb_of (word_of verb) ≡ Some verb }
     ensures only { (word : List ℕ) (verb : Verb) → verb_of word ≡ Some verb → word ≡ word_of verb }
+{}
+
+/// Where the lines of bytes end: each at its LF, and behind it the others begin; a last line that has
+/// no LF is all that is left.
+pub fn an_lf_ends_a_line()
+    ensures ended { (text behind : List ℕ) → position is_lf text ≡ None → lines_of (text ++ LF ∷ behind) ≡ record { bytes = text; ended = true; behind = behind } ∷ lines_of behind }
+    ensures last { (byte : ℕ) (text : List ℕ) → position is_lf (byte ∷ text) ≡ None → lines_of (byte ∷ text) ≡ record { bytes = byte ∷ text; ended = false; behind = [] } ∷ [] }
+    ensures none { lines_of [] ≡ [] }
+{}
+
+/// A line that is too long is that fault, whatever its words are, the first line too.
+pub fn long_lines_are_judged_first()
+    ensures first { (hosts : List (List ℕ) → Option Named) (asked : Named → List (List ℕ) → Option (Asked Input)) (number : ℕ) (line : Line) (lines : List Line) → kind_of (said line) ≡ LineKind.TooLong → script_from hosts asked number (line ∷ lines) ≡ NoHosts (LineTooLong number) }
+    ensures other { (asked : List (List ℕ) → Option (Asked Input)) (number : ℕ) (line : Line) (lines : List Line) → kind_of (said line) ≡ LineKind.TooLong → course_from asked number (line ∷ lines) ≡ ends (Faulty (LineTooLong number)) }
 {}
