@@ -1,5 +1,5 @@
 //! What no clause says: that the calls succeed, and that the definitions mean what the worked
-//! examples mean. An example is a list of steps, and runs over either store.
+//! examples mean. An example is a list of steps, and runs over both stores.
 mod arrivals;
 mod calls;
 mod endings;
@@ -120,7 +120,7 @@ fn bits_of(rt: &impl Abort, bytes: &[u8]) -> Bits {
     Bits::from_bytes(bytes, bytes.len().saturating_mul(8)).expect(rt, "room")
 }
 
-/// A new host with these peers goes through these steps, over either store.
+/// A new host with these peers goes through these steps, over both stores.
 fn goes(rt: &impl Abort, alloc: Global, peers: &[u8], steps: &[Step<'_>]) -> Result<(), Fail> {
     Tried::<PlainStore>::new(alloc, ME, peers)?.goes(rt, steps);
     Tried::<PackedStore>::new(alloc, ME, peers)?.goes(rt, steps);

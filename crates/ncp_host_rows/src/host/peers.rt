@@ -65,7 +65,9 @@ fn a_host_comes_up(rt: HostRuntime) -> Result<(), Fail> {
             Step::HasFlags(UP),
             Step::HasCounts(counts),
         ],
-    )
+    )?;
+    assert!(rt; UP.up() && !DOWN.up());
+    Ok(())
 }
 
 // With the most peers the last is found, and none beside them.
