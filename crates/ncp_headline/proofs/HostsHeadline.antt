@@ -12,7 +12,7 @@ use Rattle.ncp_model.specs.End.{End, or_new, is_open, is_live}
 use Rattle.ncp_model.specs.Ends.{Ends, no_ends, hears_link, uses_link}
 use Rattle.ncp_model.specs.Leading.{passes}
 use Rattle.ncp_watch.specs.Histories.{Watched, IsBeginning}
-use Rattle.ncp_resets.specs.Delivery.{Slot, Empty, Ready, Travelling, Held, Subnet, Free, Accepted, Delivered, Lost, Dead, Link}
+use Rattle.ncp_resets.specs.Delivery.{Slot, Subnet, Accepted, Link}
 use Rattle.ncp_watch.specs.Books.{BooksAt}
 use Rattle.ncp_connections.specs.Connections.{Text, No_text, Away, Here}
 use Rattle.ncp_connections.specs.Ledger.{sum_of, text_messages, text_bits, is_out}
@@ -48,14 +48,7 @@ fronts_all (c ∷ u) r p = ap (λ (l : List Command). c ∷ l) (fronts_all u (om
 
 -- what has not come of the text on a link, its messages and its bits
 text-not-come : (on : ℕ) (slot : Slot TextOut) (subnet : Subnet TextOut) → (text_messages (text_on on slot subnet) ≡ how_many (not_come slot subnet)) × (text_bits (text_on on slot subnet) ≡ bits_of (not_come slot subnet))
-text-not-come on Empty s = (refl, refl)
-text-not-come on (Ready t) s = (refl, refl)
-text-not-come on (Held t) s = (refl, refl)
-text-not-come on (Travelling t) Free = (refl, refl)
-text-not-come on (Travelling t) (Accepted u) = (refl, refl)
-text-not-come on (Travelling t) Delivered = (refl, refl)
-text-not-come on (Travelling t) Lost = (refl, refl)
-text-not-come on (Travelling t) Dead = (refl, refl)
+text-not-come on slot subnet = (grind arith, grind arith)
 
 -- an end that is open is there, and holds its link
 
@@ -224,13 +217,7 @@ module _ (own own' : Owners) (w : World) (k : Holds own own' w) (b : BothStand w
 -- No pair opens on a link while a text is out on it.
 
 carried_out : (on : ℕ) (slot : Slot TextOut) (subnet : Subnet TextOut) → Carried slot subnet → is_out (text_on on slot subnet) ≡ true
-carried_out on (Ready t) Free c = refl
-carried_out on (Held t) Free c = refl
-carried_out on (Travelling t) (Accepted u) c = refl
-carried_out on (Travelling t) Delivered c = refl
-carried_out on (Travelling t) Lost c = refl
-carried_out on (Travelling t) Dead c = refl
-carried_out on slot subnet c = absurd c
+carried_out on slot subnet c = grind arith
 
 -- the owner of a link whose text is out is live, and has the link, at each host that is up
 module _ (own own' : Owners) (n m : Node) (x y : List Command) (k : Joined own own' n m x y) (on : ℕ) (p : Pair) (e : own on ≡ Some p) where

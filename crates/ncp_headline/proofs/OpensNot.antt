@@ -14,7 +14,7 @@ use Rattle.ncp_model.specs.Happenings as all
 use Rattle.ncp_model.specs.Leading.{passes}
 use Rattle.ncp_model.specs.Sending.{is_full}
 use Rattle.ncp_resets.specs.Resets.{Host, is_up, host_makes_all, Side, This, That}
-use Rattle.ncp_hosts.specs.Hosts.{Node, Call, Ask_to_send, Ask_to_receive, Close, Give, Take, Allocate, Call_back, Interrupt, called, happens_at, hears, World, swap, Step, Calls, steps, at}
+use Rattle.ncp_hosts.specs.Hosts.{Node, Call, called, happens_at, hears, World, swap, Step, Calls, steps, at}
 use Rattle.ncp_hosts.proofs.EndsGood.{Changes, same_or, put-changes}
 use Rattle.ncp_hosts.proofs.HostsBase.{either, other-keeps}
 use Rattle.ncp_hosts.proofs.Standing.{asks, ByLinks, StandsIn, command-stands, step-keeps}
@@ -73,14 +73,7 @@ unopened-after pair all.Is_cleared before a u = (refl, refl)
 
 -- one call where no end is: the peer's request is not there, so nothing opens
 called-unopened : (pair : Pair) (call : Call) (full : Bool) (m : Ends) → is_live (happens pair (called call full m) None).after ≡ false
-called-unopened pair (Ask_to_send of_size with_room) full m = grind arith
-called-unopened pair (Ask_to_receive with_room) full m = grind arith
-called-unopened pair Close full m = refl
-called-unopened pair (Give text) full m = refl
-called-unopened pair (Take bytes) full m = refl
-called-unopened pair (Allocate of_messages of_bits) full m = refl
-called-unopened pair (Call_back of_messages of_bits) full m = refl
-called-unopened pair Interrupt full m = refl
+called-unopened pair call full m = grind arith
 
 -- one end is changed, and by no own request
 by_links : (m k : Ends) (pair : Pair) (what : Happening) → ByLinks m pair what → Changes m k pair what → NoneOpen m → NoneOpen k

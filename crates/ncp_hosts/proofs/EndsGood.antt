@@ -18,7 +18,7 @@ use Rattle.ncp_model.specs.Happenings as all
 use Rattle.ncp_model.specs.Leading.{suits, passes, comes}
 use Rattle.ncp_watch.specs.Limits.{InLimitsAt}
 use Rattle.ncp_watch.specs.Sound.{SoundAt}
-use Rattle.ncp_hosts.specs.Hosts.{Call, Ask_to_send, Ask_to_receive, Close, Give, Take, Allocate, Call_back, Interrupt, called}
+use Rattle.ncp_hosts.specs.Hosts.{Call, Ask_to_receive, called}
 use Rattle.ncp_model.proofs.PairOrder.{pairs_exact, pairs_total}
 use Rattle.ncp_model.proofs.EndsAfter.{after-at, after-elsewhere}
 use Rattle.ncp_model.proofs.FreeLinks.{free-free, free-room}
@@ -146,14 +146,7 @@ act-changes m pair what act e = record { there = after-at m pair act ∙ sym e; 
 -- What happens suits its pair, and brings no link that another end has.
 
 pub called-suits : (pair : Pair) (call : Call) (full : Bool) (m : Ends) → suits pair (called call full m) ≡ true
-called-suits pair (Ask_to_send of_size with_room) full m = refl
-called-suits pair (Ask_to_receive with_room) full m = refl
-called-suits pair Close full m = refl
-called-suits pair (Give text) full m = refl
-called-suits pair (Take bytes) full m = refl
-called-suits pair (Allocate of_messages of_bits) full m = refl
-called-suits pair (Call_back of_messages of_bits) full m = refl
-called-suits pair Interrupt full m = refl
+called-suits pair call full m = grind arith
 
 pub none-fresh : (m : Ends) (what : Happening) → ((l : ℕ) → brings_link l what ≡ false) → ((l : ℕ) → takes_link l what ≡ false) → Fresh m what
 none-fresh m what b t = record { heard = λ l h. absurd (cc (h, b l)); asked = λ l h. absurd (cc (h, t l)) }

@@ -185,11 +185,7 @@ stepping Falls w = one resets.Falls (base w) (base (steps Falls w)) refl
 stepping (Sends n) w = one (resets.Sends n) (base w) (base (steps (Sends n) w)) (sends_alone w.this.control.slot w.this.host.phase.waiting n (base w))
   where
     sends_alone : (slot : Slot (List Command)) (q : List Command) (n : ℕ) (a : resets.World) → resets.sends slot q n a ≡ record (resets.sends slot q n a) { that = a.that; coming = a.coming }
-    sends_alone (Ready m) q n a = refl
-    sends_alone (Travelling m) q n a = refl
-    sends_alone (Held m) q n a = refl
-    sends_alone Empty [] n a = refl
-    sends_alone Empty (c ∷ cs) n a = refl
+    sends_alone slot q n a = grind arith
 stepping (Sends_text on) w = sending w on (w.this.texts on).slot
 stepping Hears w = hearing w w.that.control.subnet refl
 stepping (Hears_text on head) w = hearing_text w on head (w.that.texts on).subnet

@@ -110,26 +110,10 @@ comes_listed (Ins on) es = Some (all.Ins_comes on)
 comes_listed c es = None
 
 leads-low : (c : Command) (m : Ends) → leads_to c m ≡ leads_listed c (entries m)
-leads-low (Rts a b d) m = refl
-leads-low (Str a b d) m = refl
-leads-low (Cls a b) m = refl
-leads-low (All a b d) m = refl
-leads-low (Gvb a b d) m = refl
-leads-low (Ret a b d) m = refl
-leads-low (Inr a) m = refl
-leads-low (Ins a) m = refl
-leads-low c m = refl
+leads-low c m = grind arith
 
 comes-low : (c : Command) (m : Ends) → comes c m ≡ comes_listed c (entries m)
-comes-low (Rts a b d) m = refl
-comes-low (Str a b d) m = refl
-comes-low (Cls a b) m = refl
-comes-low (All a b d) m = refl
-comes-low (Gvb a b d) m = refl
-comes-low (Ret a b d) m = refl
-comes-low (Inr a) m = refl
-comes-low (Ins a) m = refl
-comes-low c m = refl
+comes-low c m = grind arith
 
 hear-low : (c : Command) (m : Ends) → hear c m ≡ hear_listed c (entries m)
 hear-low (Rts a b d) m = ap (hear_rts (record { local = b; remote = a }) d (nat_lt 0 (count_by (hears_link d) (entries m))) (count_by is_by_peer (entries m))) (get-entries m (record { local = b; remote = a }))
@@ -229,14 +213,7 @@ low_called (Call_back a b) full es = all.Calls_back a b full
 low_called Interrupt full es = all.Interrupts full
 
 called-low : (call : Call) (full : Bool) (m : Ends) → called call full m ≡ low_called call full (entries m)
-called-low (Ask_to_send a b) full m = refl
-called-low (Ask_to_receive a) full m = refl
-called-low Close full m = refl
-called-low (Give text) full m = refl
-called-low (Take bytes) full m = refl
-called-low (Allocate a b) full m = refl
-called-low (Call_back a b) full m = refl
-called-low Interrupt full m = refl
+called-low call full m = grind arith
 
 abbrev pub low_happens : Pair → Happening → Low → Low
 low_happens pair what n =

@@ -1,7 +1,7 @@
 -- Meant for other crates too: they cite what is public here.
 --
 -- The links of a host move as slots do, and nothing else changes a link.
-use Rattle.std.proofs.Common.{◌≡◌, ℕ, ◌+◌, ◌==◌, take, Bool, true, false, if◌then◌else◌, List, [], ◌∷◌, Option, None, Some, refl, sym, ap, ◌∙◌}
+use Rattle.std.proofs.Common.{◌≡◌, ℕ, ◌+◌, ◌==◌, take, Bool, true, false, if◌then◌else◌, List, [], ◌∷◌, Option, None, Some, refl, sym, ap, ◌∙◌, arith}
 use Rattle.std.proofs.lemmas.Bool.{eqb-true}
 use Rattle.ncp_control.specs.declared.command.Command.{Command}
 use Rattle.ncp_model.specs.Act.{answer}
@@ -53,26 +53,7 @@ sending Empty [] n a e f = ap (λ (s : Slot (List Command)). (let k : Link (List
 sending Empty (c ∷ cs) n a e f = ap (λ (cs : List Command). out (take (n + 1) cs)) f
 
 answering : {M : Type 0} (slot : Slot M) (subnet : Subnet M) → answered slot subnet ≡ answered_by slot subnet
-answering Empty Free = refl
-answering Empty (Accepted c) = refl
-answering Empty Delivered = refl
-answering Empty Lost = refl
-answering Empty Dead = refl
-answering (Ready m) Free = refl
-answering (Ready m) (Accepted c) = refl
-answering (Ready m) Delivered = refl
-answering (Ready m) Lost = refl
-answering (Ready m) Dead = refl
-answering (Travelling m) Free = refl
-answering (Travelling m) (Accepted c) = refl
-answering (Travelling m) Delivered = refl
-answering (Travelling m) Lost = refl
-answering (Travelling m) Dead = refl
-answering (Held m) Free = refl
-answering (Held m) (Accepted c) = refl
-answering (Held m) Delivered = refl
-answering (Held m) Lost = refl
-answering (Held m) Dead = refl
+answering slot subnet = grind arith
 
 control-answering : (slot : Slot (List Command)) (subnet : Subnet (List Command)) (n : Node) → (control_answered slot subnet n).control ≡ answered_by slot subnet
 control-answering (Travelling m) Delivered n = refl
@@ -190,18 +171,10 @@ texts_move Wakes w on = refl
 -- The other's links.
 
 come : (subnet : Subnet (List Command)) (w : World) → w.that.control.subnet ≡ subnet → (message_comes subnet w).that.control ≡ record w.that.control { subnet = delivered subnet }
-come (Accepted m) w e = refl
-come Free w e = ap (λ (b : Subnet (List Command)). (let k : Link (List Command) = record { slot = w.that.control.slot; subnet = b } in k)) e
-come Delivered w e = ap (λ (b : Subnet (List Command)). (let k : Link (List Command) = record { slot = w.that.control.slot; subnet = b } in k)) e
-come Lost w e = ap (λ (b : Subnet (List Command)). (let k : Link (List Command) = record { slot = w.that.control.slot; subnet = b } in k)) e
-come Dead w e = ap (λ (b : Subnet (List Command)). (let k : Link (List Command) = record { slot = w.that.control.slot; subnet = b } in k)) e
+come subnet w e = grind arith
 
 text_come : (subnet : Subnet TextOut) (link : ℕ) (head : List Bool) (w : World) → (text_comes link head subnet w).that.control ≡ w.that.control
-text_come (Accepted t) link head w = refl
-text_come Free link head w = refl
-text_come Delivered link head w = refl
-text_come Lost link head w = refl
-text_come Dead link head w = refl
+text_come subnet link head w = grind arith
 
 pub control_is_heard : ControlIsHeard
 control_is_heard Hears w = come w.that.control.subnet w refl
@@ -222,11 +195,7 @@ coming_on Lost link on head w e = nowhere w.that.texts link on comes_on (ap (λ 
 coming_on Dead link on head w e = nowhere w.that.texts link on comes_on (ap (λ (b : Subnet TextOut). with_subnet (w.that.texts link) (delivered b)) e ∙ ap (with_subnet (w.that.texts link)) (sym e))
 
 messages_come : (subnet : Subnet (List Command)) (w : World) (on : ℕ) → (message_comes subnet w).that.texts on ≡ w.that.texts on
-messages_come (Accepted m) w on = refl
-messages_come Free w on = refl
-messages_come Delivered w on = refl
-messages_come Lost w on = refl
-messages_come Dead w on = refl
+messages_come subnet w on = grind arith
 
 pub texts_are_heard : TextsAreHeard
 texts_are_heard Hears w on = messages_come w.that.control.subnet w on

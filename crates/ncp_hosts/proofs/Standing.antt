@@ -77,11 +77,7 @@ settled_up true h e = go (is_up h) refl
 settled_up false h e = e
 
 sent_up : (slot : Slot (List Command)) (q : List Command) (n : ℕ) (a : resets.World) → is_up (resets.sends slot q n a).this ≡ is_up a.this
-sent_up (Ready m) q n a = refl
-sent_up (Travelling m) q n a = refl
-sent_up (Held m) q n a = refl
-sent_up Empty [] n a = refl
-sent_up Empty (c ∷ cs) n a = refl
+sent_up slot q n a = grind arith
 
 module _ (P : Ends → Type 0) (of_none : P no_ends) (by_links : (m k : Ends) (pair : Pair) (what : Happening) → ByLinks m pair what → Changes m k pair what → P m → P k) where
   pub none-stand : (b : Bool) → Stand P b no_ends

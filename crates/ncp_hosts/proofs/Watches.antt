@@ -161,11 +161,7 @@ answer_seen on (Travelling t) Delivered n = freed_seen on n
 answer_seen on slot subnet n = refl
 
 sent_seen : (slot : Slot (List Command)) (q : List Command) (n : ℕ) (w : World) → watch_of (moved (resets.sends slot q n (base w)) w.this) ≡ watch_of w.this
-sent_seen (Ready m) q n w = refl
-sent_seen (Travelling m) q n w = refl
-sent_seen (Held m) q n w = refl
-sent_seen Empty [] n w = refl
-sent_seen Empty (c ∷ cs) n w = refl
+sent_seen slot q n w = grind arith
 
 cut_seen : (on : ℕ) (o : Option (ℕ × List Bool)) (n : Node) → watch_of (cuts on o n) ≡ watch_of n
 cut_seen on None n = refl
