@@ -8,7 +8,7 @@ use std::alloc::Global;
 /// Makes the stores of own requests.
 ///
 /// It has the one allocator that a table keeps, out of reach outside this file, and `make` is in reach
-/// of the calls that ask alone. So no other call of a table takes memory.
+/// of the calls that ask alone. So after `new` a table takes memory only where it asks.
 #[derive(Clone, Copy, Drop)]
 pub(crate) struct Stores {
     alloc: Global,
