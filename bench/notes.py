@@ -46,8 +46,9 @@ def resident(program, kind, count):
         notes = count + (kind == "again")  # one of the RST that comes first
         if running.stdout.readline() != f"{notes}\n":
             sys.exit(f"{kind} {count}: not so many notes")
-        with open(f"/proc/{running.pid}/status") as file:
-            kib = int(re.search(r"VmRSS:\s+(\d+)", file.read())[1])
+        # the count of its pages: that of `status` may be wrong by some hundred
+        with open(f"/proc/{running.pid}/smaps_rollup") as file:
+            kib = int(re.search(r"Rss:\s+(\d+)", file.read())[1])
         running.stdin.close()
     return 1024 * kib
 
