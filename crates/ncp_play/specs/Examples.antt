@@ -14,10 +14,13 @@ use Rattle.ncp_host.specs.declared.received.Received.TheVariants as received
 use Rattle.ncp_transcript.specs.declared.call.Call.TheVariants as calls
 use Rattle.ncp_transcript.specs.declared.note.HostNote.{HostNote}
 use Rattle.ncp_transcript.specs.declared.note.HostNote.TheVariants as notes
+use Rattle.ncp_files.specs.declared.file.FileFault.TheVariants.{BadHeader}
+use Rattle.ncp_play.specs.declared.fault.PlayFault.{PlayFault}
+use Rattle.ncp_play.specs.declared.fault.PlayFault.TheVariants as faults
 use Rattle.ncp_play.specs.declared.heading.Speaker.TheVariants.{Host, Side}
 use Rattle.ncp_play.specs.declared.heading.Heading.{Heading}
 
--- the first line of a host, and of side b
+-- the headings of the first note of a host, and of side b
 abbrev pub of_host : Heading
 of_host = record { number = 1; speaker = Host }
 
@@ -124,3 +127,8 @@ of_a_side =
     ∷ notes.Out (bits_of_bytes (0 ∷ 1 ∷ 2 ∷ 0 ∷ 0 ∷ 8 ∷ 0 ∷ 2 ∷ 0 ∷ 97 ∷ 98 ∷ []))
     ∷ notes.Nothing
     ∷ []
+
+-- ---- faults
+
+abbrev pub each_fault : List PlayFault
+each_fault = faults.BadLine 3 ∷ faults.LineTooLong 12 ∷ faults.BadHosts ∷ faults.Feed BadHeader ∷ faults.ReadFailed ∷ faults.WriteFailed ∷ faults.OutOfMemory ∷ []

@@ -82,7 +82,16 @@ lines_behind other = []
 abbrev pub note_lines : Heading → HostNote → List ℕ
 note_lines heading note = first_line heading note ++ lines_behind note
 
--- the lines of notes from this number on
+-- the next note has the next number
+abbrev pub next_heading : Heading → Heading
+next_heading heading = record heading { number = number_after heading.number }
+
+-- the lines of notes, the first under this heading
 abbrev pub lines_from : Heading → List HostNote → List ℕ
 lines_from heading [] = []
-lines_from heading (note ∷ notes) = note_lines heading note ++ lines_from (record heading { number = number_after heading.number }) notes
+lines_from heading (note ∷ notes) = note_lines heading note ++ lines_from (next_heading heading) notes
+
+-- the heading of the note behind these
+abbrev pub heading_after : Heading → List HostNote → Heading
+heading_after heading [] = heading
+heading_after heading (note ∷ notes) = heading_after (next_heading heading) notes

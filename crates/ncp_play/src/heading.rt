@@ -1,6 +1,6 @@
 //! How a line begins: `Speaker` and `Heading`.
 ghost use Rattle.std.specs.Prelude.{◌≡◌, ◌+◌, ◌≤◌, ◌++◌, length};
-ghost use Rattle.ncp_play.specs.NoteLines.{side_word, peer_word, front, named};
+ghost use Rattle.ncp_play.specs.NoteLines.{side_word, peer_word, front, named, next_heading};
 ghost use Rattle.ncp_script.specs.Verbs.{word_of};
 
 use ncp_files::{LONGEST_NUMBER, PAGE_SIZE, Page, push_field};
@@ -21,6 +21,18 @@ pub struct Heading {
     /// The number of what was played.
     pub number: u32,
     pub speaker: Speaker,
+}
+
+impl Heading {
+    /// What the lines of the next note begin with. The number stays at the largest.
+    pub fn next(self) -> Heading
+        ensures { result ≡ next_heading self }
+    {
+        Heading {
+            number: self.number.saturating_add(1),
+            speaker: self.speaker,
+        }
+    }
 }
 
 // How many bytes a line has at most in front of its first word.

@@ -1,7 +1,9 @@
 //! Worked lines, each computed from the definitions: they say what the definitions mean.
-ghost use Rattle.std.specs.Prelude.{◌≡◌, codes};
+ghost use Rattle.std.specs.Prelude.{◌≡◌, ◌∷◌, [], map, codes};
+ghost use Rattle.std.specs.List.{flat_map};
+ghost use Rattle.ncp_play.specs.Faults.{number_of, fault_line};
 ghost use Rattle.ncp_play.specs.NoteLines.{lines_from};
-ghost use Rattle.ncp_play.specs.Examples.{of_host, of_side_b, first_host_script, each_result, each_that_came, of_a_side};
+ghost use Rattle.ncp_play.specs.Examples.{of_host, of_side_b, first_host_script, each_result, each_that_came, of_a_side, each_fault};
 
 /// The lines of the first script of one host.
 pub fn first_host_script()
@@ -21,4 +23,10 @@ pub fn bits_that_came()
 /// The lines of a side of two hosts name it, and not the peer.
 pub fn a_side()
     ensures { lines_from of_side_b of_a_side ≡ codes "1 b ask-receive ok\n2 b out host=1 link=2 bits=88\n  size=8 count=2\n  text bits=16 6162\n3 b out nothing\n" }
+{}
+
+/// The numbers of the faults, and what is printed of them.
+pub fn faults()
+    ensures numbers { map number_of each_fault ≡ 1 ∷ 2 ∷ 3 ∷ 4 ∷ 5 ∷ 6 ∷ 7 ∷ [] }
+    ensures lines { flat_map fault_line each_fault ≡ codes "ncp: line 3: BadLine\nncp: line 12: LineTooLong\nncp: BadHosts\nncp: BadHeader\nncp: ReadFailed\nncp: WriteFailed\nncp: OutOfMemory\n" }
 {}

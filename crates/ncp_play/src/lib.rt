@@ -2,11 +2,13 @@
 #![tactic(auto)]
 
 mod arrived;
+mod fault;
 mod heading;
 pub mod laws;
 mod naming;
 mod note_lines;
 mod results;
 
+pub use fault::PlayFault;
 pub use heading::{Heading, Speaker};
 pub use note_lines::say_note;
