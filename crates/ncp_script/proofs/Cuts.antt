@@ -10,7 +10,7 @@ abbrev is_space : ℕ → Bool
 is_space byte = byte == 32
 
 -- a place was found, or none
-is_found : (there : Bool) (at place : ℕ) → Some place ≡ cond there (Some at) None → (there ≡ true) × (place ≡ at)
+pub is_found : (there : Bool) (at place : ℕ) → Some place ≡ cond there (Some at) None → (there ≡ true) × (place ≡ at)
 is_found true at place found = (refl, cc)
 is_found false at place found = absurd (cc)
 

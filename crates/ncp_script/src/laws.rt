@@ -1,5 +1,6 @@
 //! Laws about lines, each the contract of a function that does nothing.
-ghost use Rattle.std.specs.Prelude.{◌≡◌, ℕ, Bool, true, false, List, [], ◌∷◌, ◌++◌, take, position, Option, None, Some};
+ghost use Rattle.std.specs.Prelude.{◌≡◌, ℕ, Bool, true, false, List, [], ◌∷◌, ◌++◌, ◌+◌, take, drop, position, Option, None, Some};
+ghost use Rattle.std.specs.List.{before_first};
 ghost use Rattle.ncp_transcript.specs.declared.input.Input.{Input};
 ghost use Rattle.ncp_script.specs.declared.line_buffer.TheConstants.{LF};
 ghost use Rattle.ncp_script.specs.Lines.{is_lf, text_of, kind_of};
@@ -30,6 +31,13 @@ pub fn an_lf_ends_a_line()
     ensures ended { (text behind : List ℕ) → position is_lf text ≡ None → lines_of (text ++ LF ∷ behind) ≡ record { bytes = text; ended = true; behind = behind } ∷ lines_of behind }
     ensures last { (byte : ℕ) (text : List ℕ) → position is_lf (byte ∷ text) ≡ None → lines_of (byte ∷ text) ≡ record { bytes = byte ∷ text; ended = false; behind = [] } ∷ [] }
     ensures none { lines_of [] ≡ [] }
+{}
+
+/// A line that comes in pieces: a piece with an LF ends it, and the next begins behind that LF; one
+/// without goes on with it.
+pub fn pieces_make_lines()
+    ensures ends { (line piece rest : List ℕ) (place : ℕ) → position is_lf line ≡ None → position is_lf piece ≡ Some place → lines_of (line ++ (piece ++ rest)) ≡ record { bytes = line ++ before_first is_lf piece; ended = true; behind = drop (place + 1) piece ++ rest } ∷ lines_of (drop (place + 1) piece ++ rest) }
+    ensures goes_on { (line piece : List ℕ) → position is_lf line ≡ None → position is_lf piece ≡ None → position is_lf (line ++ piece) ≡ None }
 {}
 
 /// A line that is too long is that fault, whatever its words are, the first line too.
