@@ -14,8 +14,6 @@ pub mod laws;
 mod line_buffer;
 mod line_words;
 mod numbers;
-#[cfg(test)]
-mod tests;
 mod verbs;
 
 pub use calls::call;
