@@ -3,7 +3,7 @@
 use Rattle.std.proofs.Common.{◌≡◌, ℕ, ◌+◌, ◌==◌, Bool, true, false, cond, if◌then◌else◌, List, [], ◌∷◌, Option, Some, refl, sym, ap, ◌∙◌, subst, arith}
 use Rattle.std.proofs.lemmas.Bool.{both_ways, eqb-true, eq-eqb}
 use Rattle.ncp_control.specs.declared.command.Command.{Command}
-use Rattle.ncp_control.specs.declared.command.Command.TheVariants.{Rts, Str, Cls, All, Gvb, Ret, Inr, Ins}
+use Rattle.ncp_control.specs.declared.command.Command.TheVariants.{All, Ret}
 use Rattle.ncp_model.specs.declared.pair.Pair.{Pair}
 use Rattle.ncp_model.specs.Pairs.{sends, is_proper, turned, same}
 use Rattle.ncp_model.specs.End.{End, or_new}
@@ -44,35 +44,11 @@ record Counted (there back : Command → Kind) (b : Bool) (c : Command) : Type 0
 
 all-counted : (c : Command) → is_all c ≡ true → Counted to_sender_kind to_receiver_kind true c
 all-counted (All on m b) e = record { on = on; link = refl; kind = refl; alien = refl; leads = refl }
-all-counted (Gvb on m b) e = absurd (both_ways false refl e)
-all-counted (Ret on m b) e = absurd (both_ways false refl e)
-all-counted (Inr on) e = absurd (both_ways false refl e)
-all-counted (Ins on) e = absurd (both_ways false refl e)
-all-counted (Rts i j on) e = absurd (both_ways false refl e)
-all-counted (Str i j n) e = absurd (both_ways false refl e)
-all-counted (Cls i j) e = absurd (both_ways false refl e)
-all-counted Command.Nop e = absurd (both_ways false refl e)
-all-counted (Command.Eco b) e = absurd (both_ways false refl e)
-all-counted (Command.Erp b) e = absurd (both_ways false refl e)
-all-counted (Command.Err b d) e = absurd (both_ways false refl e)
-all-counted Command.Rst e = absurd (both_ways false refl e)
-all-counted Command.Rrp e = absurd (both_ways false refl e)
+all-counted c e = absurd (cc e)
 
 ret-counted : (c : Command) → is_ret c ≡ true → Counted to_receiver_kind to_sender_kind false c
 ret-counted (Ret on m b) e = record { on = on; link = refl; kind = refl; alien = refl; leads = refl }
-ret-counted (All on m b) e = absurd (both_ways false refl e)
-ret-counted (Gvb on m b) e = absurd (both_ways false refl e)
-ret-counted (Inr on) e = absurd (both_ways false refl e)
-ret-counted (Ins on) e = absurd (both_ways false refl e)
-ret-counted (Rts i j on) e = absurd (both_ways false refl e)
-ret-counted (Str i j n) e = absurd (both_ways false refl e)
-ret-counted (Cls i j) e = absurd (both_ways false refl e)
-ret-counted Command.Nop e = absurd (both_ways false refl e)
-ret-counted (Command.Eco b) e = absurd (both_ways false refl e)
-ret-counted (Command.Erp b) e = absurd (both_ways false refl e)
-ret-counted (Command.Err b d) e = absurd (both_ways false refl e)
-ret-counted Command.Rst e = absurd (both_ways false refl e)
-ret-counted Command.Rrp e = absurd (both_ways false refl e)
+ret-counted c e = absurd (cc e)
 
 -- The sums agree where each command that is counted names the link exactly where it is tagged p.
 

@@ -15,7 +15,7 @@ use Rattle.ncp_model.specs.Leading.{passes}
 use Rattle.ncp_model.specs.Sending.{is_full}
 use Rattle.ncp_resets.specs.Resets.{Host, is_up, host_makes_all, Side, This, That}
 use Rattle.ncp_hosts.specs.Hosts.{Node, Call, called, happens_at, hears, World, swap, Step, Calls, steps, at}
-use Rattle.ncp_hosts.proofs.EndsGood.{Changes, same_or, put-changes}
+use Rattle.ncp_hosts.proofs.EndsGood.{Changes, same_or, changed-each, put-changes}
 use Rattle.ncp_hosts.proofs.HostsBase.{either, other-keeps}
 use Rattle.ncp_hosts.proofs.Standing.{asks, ByLinks, StandsIn, command-stands, step-keeps}
 
@@ -77,11 +77,7 @@ called-unopened pair call full m = grind arith
 
 -- one end is changed, and by no own request
 by_links : (m k : Ends) (pair : Pair) (what : Happening) → ByLinks m pair what → Changes m k pair what → NoneOpen m → NoneOpen k
-by_links m k pair what b c u q = go (same_or q pair)
-  where
-    go : (q ≡ pair) ⊎ ((q ≡ pair) → ⊥) → Unopened q (get k q)
-    go (inl e) = subst (λ r. Unopened r (get k r)) (sym e) (subst (Unopened pair) (sym c.there) (unopened-after pair what (get m pair) b.unasked (u pair)))
-    go (inr d) = subst (Unopened q) (sym (c.elsewhere q d)) (u q)
+by_links m k pair what b c u = changed-each Unopened m k pair what c (unopened-after pair what (get m pair) b.unasked) u
 
 none-stand : (n : Node) → n.ends ≡ no_ends → StandsIn NoneOpen n
 none-stand n e = record { none = λ _. e; good = subst NoneOpen (sym e) none-open }

@@ -63,6 +63,19 @@ same_or q pair = go (eq_by_cmp pair_cmp q pair) refl
     go true t = inl (tells_apart pairs_exact q pair t)
     go false t = inr (λ e. let k = ap (eq_by_cmp pair_cmp q) e in absurd (cc (t, k, itself q)))
 
+-- what holds of each end, and after this happened at one, holds of each
+pub changed-each : (P : Pair → Option End → Type 0) (m n : Ends) (pair : Pair) (what : Happening) → Changes m n pair what
+    → (P pair (get m pair) → P pair (happens pair what (get m pair)).after) → ((q : Pair) → P q (get m q)) → (q : Pair) → P q (get n q)
+changed-each P m n pair what c after each q = go (same_or q pair)
+  where
+    go : (q ≡ pair) ⊎ ((q ≡ pair) → ⊥) → P q (get n q)
+    go (inl e) = subst (λ r. P r (get n r)) (sym e) (subst (P pair) (sym c.there) (after (each pair)))
+    go (inr d) = subst (P q) (sym (c.elsewhere q d)) (each q)
+
+else_by : {A B C : Type 0} → (B → C) → A ⊎ B → A ⊎ C
+else_by f (inl a) = inl a
+else_by f (inr b) = inr (f b)
+
 or_parts : (a b : Bool) → (a || b) ≡ true → (a ≡ true) ⊎ (b ≡ true)
 or_parts true b h = inl refl
 or_parts false b h = inr h
@@ -92,33 +105,17 @@ apart test m n pair same here only p q h k = go (same_or p pair) (same_or q pair
 
 pub good-after : (m n : Ends) (pair : Pair) (what : Happening) → suits pair what ≡ true → Changes m n pair what → Fresh m what → Good m → Good n
 good-after m n pair what s c f g = record {
-  sound = λ q. sound_at q (same_or q pair);
-  limits = λ q. limits_at q (same_or q pair);
+  sound = changed-each SoundAt m n pair what c (sound-after pair what (get m pair)) g.sound;
+  limits = changed-each InLimitsAt m n pair what c (limits-after pair what (get m pair) s (g.sound pair)) g.limits;
   heard = λ l. apart (hears_link l) m n pair c.elsewhere (heard_here l) (g.heard l);
   asked = λ l. apart (uses_link l) m n pair c.elsewhere (asked_here l) (g.asked l);
 }
   where
-    sound_at : (q : Pair) → (q ≡ pair) ⊎ ((q ≡ pair) → ⊥) → SoundAt q (get n q)
-    sound_at q (inl e) = subst (λ r. SoundAt r (get n r)) (sym e) (subst (SoundAt pair) (sym c.there) (sound-after pair what (get m pair) (g.sound pair)))
-    sound_at q (inr d) = subst (SoundAt q) (sym (c.elsewhere q d)) (g.sound q)
-
-    limits_at : (q : Pair) → (q ≡ pair) ⊎ ((q ≡ pair) → ⊥) → InLimitsAt q (get n q)
-    limits_at q (inl e) = subst (λ r. InLimitsAt r (get n r)) (sym e) (subst (InLimitsAt pair) (sym c.there) (limits-after pair what (get m pair) s (g.sound pair) (g.limits pair)))
-    limits_at q (inr d) = subst (InLimitsAt q) (sym (c.elsewhere q d)) (g.limits q)
-
     heard_here : (l : ℕ) → passes (hears_link l) pair (get n pair) ≡ true → (passes (hears_link l) pair (get m pair) ≡ true) ⊎ (any (hears_link l) m ≡ false)
-    heard_here l h = by_cause (or_parts (passes (hears_link l) pair (get m pair)) (brings_link l what) (heard-by l pair what (get m pair) (g.sound pair) (ap (passes (hears_link l) pair) (sym c.there) ∙ h)))
-      where
-        by_cause : (passes (hears_link l) pair (get m pair) ≡ true) ⊎ (brings_link l what ≡ true) → (passes (hears_link l) pair (get m pair) ≡ true) ⊎ (any (hears_link l) m ≡ false)
-        by_cause (inl o) = inl o
-        by_cause (inr b) = inr (f.heard l b)
+    heard_here l h = else_by (f.heard l) (or_parts (passes (hears_link l) pair (get m pair)) (brings_link l what) (heard-by l pair what (get m pair) (g.sound pair) (ap (passes (hears_link l) pair) (sym c.there) ∙ h)))
 
     asked_here : (l : ℕ) → passes (uses_link l) pair (get n pair) ≡ true → (passes (uses_link l) pair (get m pair) ≡ true) ⊎ (any (uses_link l) m ≡ false)
-    asked_here l h = by_cause (or_parts (passes (uses_link l) pair (get m pair)) (takes_link l what) (asked-by l pair what (get m pair) (g.sound pair) (ap (passes (uses_link l) pair) (sym c.there) ∙ h)))
-      where
-        by_cause : (passes (uses_link l) pair (get m pair) ≡ true) ⊎ (takes_link l what ≡ true) → (passes (uses_link l) pair (get m pair) ≡ true) ⊎ (any (uses_link l) m ≡ false)
-        by_cause (inl o) = inl o
-        by_cause (inr b) = inr (f.asked l b)
+    asked_here l h = else_by (f.asked l) (or_parts (passes (uses_link l) pair (get m pair)) (takes_link l what) (asked-by l pair what (get m pair) (g.sound pair) (ap (passes (uses_link l) pair) (sym c.there) ∙ h)))
 
 -- How the ends are changed.
 
