@@ -1,8 +1,7 @@
 //! Reads and writes that fail, each in turn, and sources and sinks that move a byte at a time.
 
-ghost use Rattle.std.specs.Prelude.{◌≡◌, ◌<◌, false, IfOk};
-
-use ncp_player::{Failed, FileFault, MemorySink, MemorySource, Sink, Source, check, show};
+use crate::shown::{checked, shown};
+use ncp_player::{Failed, FileFault, MemorySink, MemorySource, Sink, Source};
 use std::alloc::Global;
 use std::process::Abort;
 use std::test::Fail;
@@ -65,17 +64,13 @@ impl Sink for Piecemeal {
     }
 }
 
-fn read_bytewise(fails_at: Option<u32>) -> Bytewise<'static>
-    ensures { result.source.failed ≡ false }
-{
+fn read_bytewise(fails_at: Option<u32>) -> Bytewise<'static> {
     Bytewise {
         source: MemorySource::new(FILE, fails_at),
     }
 }
 
-fn write_piecemeal(alloc: Global, fails_at: Option<u32>) -> Result<Piecemeal, Fail>
-    ensures { IfOk result (λ slow. slow.sink.failed ≡ false) }
-{
+fn write_piecemeal(alloc: Global, fails_at: Option<u32>) -> Result<Piecemeal, Fail> {
     Ok(Piecemeal {
         sink: MemorySink::new(alloc, ROOM, fails_at)?,
     })
@@ -98,74 +93,91 @@ fn lines_of_front(len: usize) -> usize {
 #[test]
 fn reads_and_writes_bytewise(rt: HostRuntime) -> Result<(), Fail> {
     let mut sink = write_piecemeal(rt.alloc(), None)?;
-    assert!(rt; show(&mut read_bytewise(None), &mut sink).is_ok());
+    assert!(rt; shown(&mut read_bytewise(None), &mut sink) == Some(Ok(())));
     assert!(rt; sink.sink.bytes() == LINES);
     Ok(())
 }
 
-#[test]
-fn show_tells_each_failed_read(rt: HostRuntime) -> Result<(), Fail> {
-    for count in 1..14u32 {
-        let mut source = read_bytewise(Some(count));
-        let mut sink = MemorySink::new(rt.alloc(), ROOM, None)?;
-        assert!(rt; show(&mut source, &mut sink) == Err(FileFault::ReadFailed));
-        assert!(rt; source.failed() && !sink.failed());
-        assert!(rt; is_front(sink.bytes(), lines_of_front(count as usize - 1), LINES));
-    }
-    Ok(())
+// Shows the file from a source whose n-th read fails, and compares what was written.
+fn is_shown_until_read(alloc: Global, count: u32) -> Result<bool, Fail> {
+    let mut source = read_bytewise(Some(count));
+    let mut sink = MemorySink::new(alloc, ROOM, None)?;
+    let answer = shown(&mut source, &mut sink);
+    let len = lines_of_front((count as usize).saturating_sub(1));
+    Ok(
+        answer == Some(Err(FileFault::ReadFailed))
+            && source.failed()
+            && !sink.failed()
+            && is_front(sink.bytes(), len, LINES),
+    )
+}
+
+// Checks the file so.
+fn is_checked_until_read(alloc: Global, count: u32) -> Result<bool, Fail> {
+    let mut source = read_bytewise(Some(count));
+    let mut sink = MemorySink::new(alloc, ROOM, None)?;
+    let answer = checked(&mut source, &mut sink);
+    Ok(
+        answer == Some(Err(FileFault::ReadFailed))
+            && source.failed()
+            && !sink.failed()
+            && sink.bytes().is_empty(),
+    )
 }
 
 #[test]
-fn check_tells_each_failed_read(rt: HostRuntime) -> Result<(), Fail> {
+fn each_failed_read_is_told(rt: HostRuntime) -> Result<(), Fail> {
     for count in 1..14u32 {
-        let mut source = read_bytewise(Some(count));
-        let mut sink = MemorySink::new(rt.alloc(), ROOM, None)?;
-        assert!(rt; check(&mut source, &mut sink) == Err(FileFault::ReadFailed));
-        assert!(rt; source.failed() && !sink.failed());
-        assert!(rt; sink.bytes().is_empty());
+        assert!(rt; is_shown_until_read(rt.alloc(), count)?, "at {count}");
+        assert!(rt; is_checked_until_read(rt.alloc(), count)?, "at {count}");
     }
     Ok(())
 }
 
 // Shows the file into a sink whose n-th write fails, and compares what was written.
-fn expect_shown_until(rt: &impl Abort, alloc: Global, count: u32) -> Result<(), Fail>
-    requires { 0 < count }
-{
-    let mut sink = write_piecemeal(alloc, Some(count))?;
+fn is_shown_until_write(alloc: Global, count: u32) -> Result<bool, Fail> {
     let mut source = read_bytewise(None);
-    assert!(rt; show(&mut source, &mut sink) == Err(FileFault::WriteFailed));
-    assert!(rt; sink.failed() && !source.failed());
-    assert!(rt; is_front(sink.sink.bytes(), count as usize - 1, LINES));
-    Ok(())
+    let mut sink = write_piecemeal(alloc, Some(count))?;
+    let answer = shown(&mut source, &mut sink);
+    let len = (count as usize).saturating_sub(1);
+    Ok(
+        answer == Some(Err(FileFault::WriteFailed))
+            && sink.failed()
+            && !source.failed()
+            && is_front(sink.sink.bytes(), len, LINES),
+    )
 }
 
 // Checks the file so.
-fn expect_checked_until(rt: &impl Abort, alloc: Global, count: u32) -> Result<(), Fail>
-    requires { 0 < count }
-{
-    let mut sink = write_piecemeal(alloc, Some(count))?;
+fn is_checked_until_write(alloc: Global, count: u32) -> Result<bool, Fail> {
     let mut source = read_bytewise(None);
-    assert!(rt; check(&mut source, &mut sink) == Err(FileFault::WriteFailed));
-    assert!(rt; sink.failed() && !source.failed());
-    assert!(rt; is_front(sink.sink.bytes(), count as usize - 1, COUNTS));
-    Ok(())
+    let mut sink = write_piecemeal(alloc, Some(count))?;
+    let answer = checked(&mut source, &mut sink);
+    let len = (count as usize).saturating_sub(1);
+    Ok(
+        answer == Some(Err(FileFault::WriteFailed))
+            && sink.failed()
+            && !source.failed()
+            && is_front(sink.sink.bytes(), len, COUNTS),
+    )
 }
 
 #[test]
-fn tells_each_failed_write(rt: HostRuntime) -> Result<(), Fail> {
+fn each_failed_write_is_told(rt: HostRuntime) -> Result<(), Fail> {
     for count in 1..47u32 {
-        expect_shown_until(&rt, rt.alloc(), count)?;
+        assert!(rt; is_shown_until_write(rt.alloc(), count)?, "at {count}");
     }
     for count in 1..45u32 {
-        expect_checked_until(&rt, rt.alloc(), count)?;
+        assert!(rt; is_checked_until_write(rt.alloc(), count)?, "at {count}");
     }
     Ok(())
 }
 
 #[test]
-fn tells_a_sink_that_is_full(rt: HostRuntime) -> Result<(), Fail> {
+fn a_sink_that_is_full_is_told(rt: HostRuntime) -> Result<(), Fail> {
     let mut sink = MemorySink::new(rt.alloc(), 10, None)?;
-    assert!(rt; show(&mut read_bytewise(None), &mut sink) == Err(FileFault::WriteFailed));
+    let answer = shown(&mut read_bytewise(None), &mut sink);
+    assert!(rt; answer == Some(Err(FileFault::WriteFailed)));
     assert!(rt; is_front(sink.bytes(), 10, LINES));
     Ok(())
 }

@@ -14,4 +14,6 @@ mod files;
 #[cfg(test)]
 mod pieces;
 #[cfg(test)]
+mod shown;
+#[cfg(test)]
 mod table;

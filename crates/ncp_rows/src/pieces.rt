@@ -1,8 +1,8 @@
 //! That the adapters to readers and writers pass on each failure once, and move all that they can.
 
+use crate::shown::{checked, shown};
 use ncp_player::{
     Failed, FileFault, FromRead, LEAST_PIECE, MemorySink, MemorySource, Sink, Source, ToWrite,
-    check, show,
 };
 use std::alloc::{AllocError, Global};
 use std::io::{self, ErrorKind, Read, Write};
@@ -93,37 +93,38 @@ fn a_failure_is_failed_once(rt: HostRuntime) {
     }
 }
 
-fn expect_no_read_behind(rt: &impl Abort, alloc: Global, kind: ErrorKind) -> Result<(), Fail> {
+// Whether nothing is read behind a read that fails.
+fn reads_nothing_behind(alloc: Global, kind: ErrorKind) -> Result<bool, Fail> {
     let mut sink = MemorySink::new(alloc, LEAST_PIECE, None)?;
     let mut reader = FailsOnce::new(kind);
-    let shown = show(&mut FromRead::new(&mut reader), &mut sink);
-    assert!(rt; shown == Err(FileFault::ReadFailed));
-    assert_eq!(rt; reader.calls, 1);
+    let answer = shown(&mut FromRead::new(&mut reader), &mut sink);
+    if answer != Some(Err(FileFault::ReadFailed)) || reader.calls != 1 {
+        return Ok(false);
+    }
     let mut reader = FailsOnce::new(kind);
-    let checked = check(&mut FromRead::new(&mut reader), &mut sink);
-    assert!(rt; checked == Err(FileFault::ReadFailed));
-    assert_eq!(rt; reader.calls, 1);
-    Ok(())
+    let answer = checked(&mut FromRead::new(&mut reader), &mut sink);
+    Ok(answer == Some(Err(FileFault::ReadFailed)) && reader.calls == 1)
 }
 
-fn expect_no_write_behind(rt: &impl Abort, kind: ErrorKind) {
+// Whether nothing is written behind a write that fails.
+fn writes_nothing_behind(kind: ErrorKind) -> bool {
     let mut source = MemorySource::new(ANSWER, None);
     let mut writer = FailsOnce::new(kind);
-    let shown = show(&mut source, &mut ToWrite::new(&mut writer));
-    assert!(rt; shown == Err(FileFault::WriteFailed));
-    assert_eq!(rt; writer.calls, 1);
+    let answer = shown(&mut source, &mut ToWrite::new(&mut writer));
+    if answer != Some(Err(FileFault::WriteFailed)) || writer.calls != 1 {
+        return false;
+    }
     let mut source = MemorySource::new(ANSWER, None);
     let mut writer = FailsOnce::new(kind);
-    let checked = check(&mut source, &mut ToWrite::new(&mut writer));
-    assert!(rt; checked == Err(FileFault::WriteFailed));
-    assert_eq!(rt; writer.calls, 1);
+    let answer = checked(&mut source, &mut ToWrite::new(&mut writer));
+    answer == Some(Err(FileFault::WriteFailed)) && writer.calls == 1
 }
 
 #[test]
 fn nothing_happens_behind_a_failure(rt: HostRuntime) -> Result<(), Fail> {
     for kind in KINDS {
-        expect_no_read_behind(&rt, rt.alloc(), kind)?;
-        expect_no_write_behind(&rt, kind);
+        assert!(rt; reads_nothing_behind(rt.alloc(), kind)?);
+        assert!(rt; writes_nothing_behind(kind));
     }
     Ok(())
 }
@@ -191,11 +192,11 @@ fn show_moves_whole_pieces(rt: HostRuntime) -> Result<(), Fail> {
         calls: 0,
     };
     let mut writer = Counting { bytes: 0, calls: 0 };
-    let shown = show(
+    let answer = shown(
         &mut FromRead::new(&mut reader),
         &mut ToWrite::new(&mut writer),
     );
-    assert!(rt; shown.is_ok());
+    assert!(rt; answer == Some(Ok(())));
     assert!(rt; reader.calls <= READS);
     assert!(rt; writer.bytes > MEBIBYTE);
     assert!(rt; writer.calls.saturating_sub(2) <= writer.bytes / LEAST_PIECE);
@@ -210,11 +211,11 @@ fn check_moves_whole_pieces(rt: HostRuntime) -> Result<(), Fail> {
         calls: 0,
     };
     let mut writer = Counting { bytes: 0, calls: 0 };
-    let checked = check(
+    let answer = checked(
         &mut FromRead::new(&mut reader),
         &mut ToWrite::new(&mut writer),
     );
-    assert!(rt; checked == Ok(true));
+    assert!(rt; answer == Some(Ok(true)));
     assert!(rt; reader.calls <= READS);
     assert_eq!(rt; writer.calls, 1);
     Ok(())

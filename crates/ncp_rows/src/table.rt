@@ -1,19 +1,21 @@
 //! What no clause says: that the definitions mean what the worked examples mean, and that memory is
-//! asked for where it is needed. Each test runs over either store (`stores`).
+//! asked for where it is needed. An example is a list of steps, and runs over both stores.
 mod allocation;
 mod closing;
 mod connection;
+mod memory;
 mod requests;
-mod stores;
+mod steps;
 mod texts;
 mod tried;
 
-use ncp_bits::{BitStore, Bits};
-use ncp_conn::{CallFault, Heard, Pair, Record};
+use ncp_bits::{PackedStore, PlainStore};
+use ncp_conn::{End, Heard, Pair, Record};
 use ncp_control::{Command, ERROR_DATA};
 use std::alloc::Global;
 use std::process::Abort;
 use std::test::Fail;
+use steps::Step;
 use tried::Tried;
 
 /// Sockets 3 and 2, as the sender's host names them, and as the receiver's does.
@@ -27,12 +29,51 @@ const INWARD: Pair = Pair {
     remote: 3,
 };
 
+/// The first link that a connection has.
+const LINK: u8 = 2;
+
 /// How many bits each end can store in the tests that do not say otherwise.
 const ROOM: u32 = 1024;
 
-fn new_table<S: BitStore>(alloc: Global) -> Result<Tried<S>, Fail> {
-    Ok(Tried::new(alloc)?)
-}
+/// An open receiver of bytes of 8 bits on link 2: nothing is outstanding and nothing held.
+const RECEIVER: Record = Record {
+    end: End::Receive,
+    asked: true,
+    heard: true,
+    opened: true,
+    leaving: false,
+    left: false,
+    cls: false,
+    link: LINK,
+    size: 8,
+    messages: 0,
+    bits: 0,
+    stored: 0,
+    busy: false,
+    recall: false,
+    interrupts: 0,
+};
+
+/// An open sender of such bytes on link 2, which may send nothing and has nothing to send.
+const SENDER: Record = Record {
+    end: End::Send,
+    ..RECEIVER
+};
+
+/// A sender whose request alone was made, and a receiver so.
+const ASKED_TO_SEND: Record = Record {
+    heard: false,
+    opened: false,
+    link: 0,
+    ..SENDER
+};
+
+const ASKED_TO_RECEIVE: Record = Record {
+    heard: false,
+    opened: false,
+    size: 0,
+    ..RECEIVER
+};
 
 /// The reply ERR with a code and these first bytes of data.
 fn err(code: u8, front: &[u8]) -> Heard {
@@ -43,6 +84,7 @@ fn err(code: u8, front: &[u8]) -> Heard {
     Heard::Reply(Command::Err { code, bytes })
 }
 
+/// What the peer of a pair makes.
 fn str_for(pair: Pair, size: u8) -> Command {
     Command::Str {
         send: pair.remote,
@@ -66,6 +108,23 @@ fn cls_for(pair: Pair) -> Command {
     }
 }
 
+/// What is made here for a pair.
+fn str_of(pair: Pair, size: u8) -> Command {
+    Command::Str {
+        send: pair.local,
+        receive: pair.remote,
+        size,
+    }
+}
+
+fn rts_of(pair: Pair, link: u8) -> Command {
+    Command::Rts {
+        receive: pair.local,
+        send: pair.remote,
+        link,
+    }
+}
+
 fn cls_of(pair: Pair) -> Command {
     Command::Cls {
         my: pair.local,
@@ -73,52 +132,30 @@ fn cls_of(pair: Pair) -> Command {
     }
 }
 
-/// A table with one open sender, on link 2.
-fn sender<S: BitStore>(alloc: Global, size: u8, room: u32) -> Result<Tried<S>, Fail> {
-    let mut table = new_table(alloc)?;
-    table.ask_send(OUTWARD, size, room, false)?;
-    let _ = table.hear(&rts_for(OUTWARD, 2));
-    Ok(table)
-}
-
-/// A table with one open receiver, on link 2.
-fn receiver<S: BitStore>(alloc: Global, size: u8, room: u32) -> Result<Tried<S>, Fail> {
-    let mut table = new_table(alloc)?;
-    table.ask_receive(INWARD, room, false)?;
-    let _ = table.hear(&str_for(INWARD, size));
-    Ok(table)
-}
-
-/// So many bits, of which every third is a one.
-fn text(len: usize) -> Result<Bits, Fail> {
-    let mut bits = Bits::new();
-    for place in 0..len {
-        bits.push_number(u64::from(place % 3 == 0), 1)?;
+/// What a receiver makes on link 2, and a sender.
+fn all(messages: u16, bits: u32) -> Command {
+    Command::All {
+        link: LINK,
+        messages,
+        bits,
     }
-    Ok(bits)
 }
 
-fn are_same(a: &Bits, b: &Bits) -> bool {
-    if a.len() != b.len() {
-        return false;
+fn gvb(fm: u8, fb: u8) -> Command {
+    Command::Gvb { link: LINK, fm, fb }
+}
+
+fn ret(messages: u16, bits: u32) -> Command {
+    Command::Ret {
+        link: LINK,
+        messages,
+        bits,
     }
-    for place in 0..a.len() {
-        if place >= b.len() || a.bit(place) != b.bit(place) {
-            return false;
-        }
-    }
-    true
 }
 
-/// Whether two commands are the same, or neither is there.
-fn are_one(one: Option<Command>, other: Option<Command>) -> bool {
-    one == other
-}
-
-fn known<S: BitStore>(rt: &impl Abort, table: &Tried<S>, pair: Pair) -> Record {
-    table.record(pair).expect(rt, "a connection")
-}
-
-fn refusal<A: Drop>(answer: Result<A, CallFault>) -> Option<CallFault> {
-    answer.err()
+/// A new table goes through these steps, over both stores.
+fn goes(rt: &impl Abort, alloc: Global, steps: &[Step]) -> Result<(), Fail> {
+    Tried::<PlainStore>::new(alloc)?.goes(rt, steps);
+    Tried::<PackedStore>::new(alloc)?.goes(rt, steps);
+    Ok(())
 }

@@ -1,69 +1,43 @@
 //! Allocation.
+use super::steps::{Call, Step};
 use super::{
-    INWARD, OUTWARD, ROOM, are_one, err, known, new_table, receiver, refusal, sender, text,
+    INWARD, LINK, OUTWARD, RECEIVER, ROOM, SENDER, all, cls_of, err, goes, gvb, ret, rts_of,
 };
-use ncp_bits::BitStore;
-use ncp_conn::{CallFault, Heard, Took};
+use ncp_conn::{CallFault, Heard, Record, Took};
 use ncp_control::Command;
 use ncp_model::{MAX_AMOUNT, MAX_MESSAGES};
-use std::alloc::Global;
-use std::process::Abort;
 use std::test::Fail;
 
-pub(super) fn gives_parts_back<S: BitStore>(rt: &impl Abort, alloc: Global) -> Result<(), Fail> {
-    let mut table = sender::<S>(alloc, 8, ROOM)?;
-    assert!(rt;
-        table.hears(
-            &Command::All {
-                link: 2,
-                messages: 5,
-                bits: 1000
-            },
-            Heard::Nothing
-        )
-    );
-    let first = Command::Ret {
-        link: 2,
-        messages: 3,
-        bits: 8,
-    };
-    assert!(rt;
-        table.hears(
-            &Command::Gvb {
-                link: 2,
-                fm: 64,
-                fb: 1
-            },
-            Heard::Reply(first)
-        )
-    );
-    let left = known(rt, &table, OUTWARD);
-    assert!(rt; left.messages == 2 && left.bits == 992);
-    let second = Command::Ret {
-        link: 2,
+#[test]
+fn parts_are_given_back(rt: HostRuntime) -> Result<(), Fail> {
+    let left = Record {
         messages: 2,
-        bits: 0,
+        bits: 992,
+        ..SENDER
     };
-    assert!(rt;
-        table.hears(
-            &Command::Gvb {
-                link: 2,
-                fm: 200,
-                fb: 0
-            },
-            Heard::Reply(second)
-        )
-    );
-    let left = known(rt, &table, OUTWARD);
-    assert!(rt; left.messages == 0 && left.bits == 992);
-    Ok(())
+    goes(
+        &rt,
+        rt.alloc(),
+        &[
+            Step::IsSender(8, ROOM),
+            Step::Hears(all(5, 1000), Heard::Nothing),
+            Step::Hears(gvb(64, 1), Heard::Reply(ret(3, 8))),
+            Step::Knows(OUTWARD, left),
+            Step::Hears(gvb(200, 0), Heard::Reply(ret(2, 0))),
+            Step::Knows(
+                OUTWARD,
+                Record {
+                    messages: 0,
+                    ..left
+                },
+            ),
+        ],
+    )
 }
 
 // How much of a counter of bits is given back, and how much of one of messages.
-pub(super) fn rounds_up_what_is_given_back<S: BitStore>(
-    rt: &impl Abort,
-    alloc: Global,
-) -> Result<(), Fail> {
+#[test]
+fn what_is_given_back_is_rounded_up(rt: HostRuntime) -> Result<(), Fail> {
     for (counter, fraction, back) in [
         (1000, 0, 0),
         (1000, 1, 8),
@@ -72,284 +46,192 @@ pub(super) fn rounds_up_what_is_given_back<S: BitStore>(
         (MAX_AMOUNT, 1, 33_554_432),
         (MAX_AMOUNT, 255, MAX_AMOUNT),
     ] {
-        let mut table = sender::<S>(alloc, 8, ROOM)?;
-        assert!(rt;
-            table.hears(
-                &Command::All {
-                    link: 2,
-                    messages: 0,
-                    bits: counter
-                },
-                Heard::Nothing
-            )
-        );
-        let reply = Command::Ret {
-            link: 2,
-            messages: 0,
-            bits: back,
-        };
-        let gvb = Command::Gvb {
-            link: 2,
-            fm: 255,
-            fb: fraction,
-        };
-        assert!(rt; table.hears(&gvb, Heard::Reply(reply)));
+        goes(
+            &rt,
+            rt.alloc(),
+            &[
+                Step::IsSender(8, ROOM),
+                Step::Hears(all(0, counter), Heard::Nothing),
+                Step::Hears(gvb(255, fraction), Heard::Reply(ret(0, back))),
+            ],
+        )?;
     }
     for (counter, fraction, back) in [(1000, 1, 8), (5, 255, 5), (MAX_MESSAGES, 64, 32_768)] {
-        let mut table = sender::<S>(alloc, 8, ROOM)?;
-        assert!(rt;
-            table.hears(
-                &Command::All {
-                    link: 2,
-                    messages: counter,
-                    bits: 0
-                },
-                Heard::Nothing
-            )
-        );
-        let reply = Command::Ret {
-            link: 2,
-            messages: back,
-            bits: 0,
-        };
-        let gvb = Command::Gvb {
-            link: 2,
-            fm: fraction,
-            fb: 255,
-        };
-        assert!(rt; table.hears(&gvb, Heard::Reply(reply)));
+        goes(
+            &rt,
+            rt.alloc(),
+            &[
+                Step::IsSender(8, ROOM),
+                Step::Hears(all(counter, 0), Heard::Nothing),
+                Step::Hears(gvb(fraction, 255), Heard::Reply(ret(back, 0))),
+            ],
+        )?;
     }
     Ok(())
 }
 
 // Counters go up to their limits, and where one would pass it neither rises.
-pub(super) fn keeps_counters_within_limits<S: BitStore>(
-    rt: &impl Abort,
-    alloc: Global,
-) -> Result<(), Fail> {
-    let mut table = sender::<S>(alloc, 8, ROOM)?;
-    let most = Command::All {
-        link: 2,
+#[test]
+fn counters_stay_within_limits(rt: HostRuntime) -> Result<(), Fail> {
+    let full = Record {
         messages: MAX_MESSAGES,
-        bits: MAX_AMOUNT - 1,
+        bits: MAX_AMOUNT,
+        ..SENDER
     };
-    assert!(rt; table.hears(&most, Heard::Nothing));
-    assert!(rt;
-        table.hears(
-            &Command::All {
-                link: 2,
-                messages: 1,
-                bits: 0
-            },
-            err(3, &[4, 2, 0, 1, 0, 0, 0, 0])
-        )
-    );
-    assert!(rt;
-        table.hears(
-            &Command::All {
-                link: 2,
-                messages: 0,
-                bits: 2
-            },
-            err(3, &[4, 2, 0, 0, 0, 0, 0, 2])
-        )
-    );
-    assert!(rt;
-        table.hears(
-            &Command::All {
-                link: 2,
-                messages: 0,
-                bits: 1
-            },
-            Heard::Nothing
-        )
-    );
-    let full = known(rt, &table, OUTWARD);
-    assert!(rt; full.messages == MAX_MESSAGES && full.bits == MAX_AMOUNT);
-    Ok(())
+    goes(
+        &rt,
+        rt.alloc(),
+        &[
+            Step::IsSender(8, ROOM),
+            Step::Hears(all(MAX_MESSAGES, MAX_AMOUNT - 1), Heard::Nothing),
+            Step::Hears(all(1, 0), err(3, &[4, 2, 0, 1, 0, 0, 0, 0])),
+            Step::Hears(all(0, 2), err(3, &[4, 2, 0, 0, 0, 0, 0, 2])),
+            Step::Hears(all(0, 1), Heard::Nothing),
+            Step::Knows(OUTWARD, full),
+        ],
+    )
 }
 
-pub(super) fn allocates_at_open_receivers_only<S: BitStore>(
-    rt: &impl Abort,
-    alloc: Global,
-) -> Result<(), Fail> {
-    let mut table = new_table::<S>(alloc)?;
-    assert!(rt; refusal(table.allocate(INWARD, 1, 1, true)) == Some(CallFault::NoEntry));
-    table.ask_receive(INWARD, ROOM, false)?;
-    assert!(rt; refusal(table.allocate(INWARD, 1, ROOM + 1, true)) == Some(CallFault::NotOpen));
-    table.close(INWARD, false)?;
-    assert!(rt; refusal(table.allocate(INWARD, 1, ROOM + 1, true)) == Some(CallFault::Closing));
-    let mut table = sender::<S>(alloc, 8, ROOM)?;
-    assert!(rt; refusal(table.allocate(OUTWARD, 1, ROOM + 1, true)) == Some(CallFault::WrongEnd));
-    Ok(())
+// Which of two reasons comes first where an end cannot allocate or call back.
+#[test]
+fn open_receivers_alone_allocate(rt: HostRuntime) -> Result<(), Fail> {
+    let allocate = Call::Allocate(INWARD, 1, ROOM + 1);
+    let call_back = Call::CallBack(INWARD, 1, 1);
+    goes(
+        &rt,
+        rt.alloc(),
+        &[
+            Step::RefusesFull(allocate, CallFault::NoEntry),
+            Step::RefusesFull(call_back, CallFault::NoEntry),
+            Step::Makes(Call::AskReceive(INWARD, ROOM), rts_of(INWARD, LINK)),
+            Step::RefusesFull(allocate, CallFault::NotOpen),
+            Step::RefusesFull(call_back, CallFault::NotOpen),
+            Step::Makes(Call::Close(INWARD), cls_of(INWARD)),
+            Step::RefusesFull(allocate, CallFault::Closing),
+            Step::RefusesFull(call_back, CallFault::Closing),
+            Step::IsSender(8, ROOM),
+            Step::RefusesFull(Call::Allocate(OUTWARD, 1, ROOM + 1), CallFault::WrongEnd),
+            Step::RefusesFull(Call::CallBack(OUTWARD, 1, 1), CallFault::WrongEnd),
+        ],
+    )
 }
 
-pub(super) fn allocates_no_more_than_fits<S: BitStore>(
-    rt: &impl Abort,
-    alloc: Global,
-) -> Result<(), Fail> {
-    let mut table = receiver::<S>(alloc, 8, ROOM)?;
-    assert!(rt; refusal(table.allocate(INWARD, 1, ROOM + 1, true)) == Some(CallFault::TooMuch));
-    assert!(rt; refusal(table.allocate(INWARD, 1, ROOM, true)) == Some(CallFault::QueueFull));
-    let all = table.allocate(INWARD, MAX_MESSAGES, ROOM, false)?;
-    let made = Command::All {
-        link: 2,
-        messages: MAX_MESSAGES,
-        bits: ROOM,
-    };
-    assert!(rt; are_one(Some(all), Some(made)));
-    assert!(rt; refusal(table.allocate(INWARD, 1, 0, false)) == Some(CallFault::TooMuch));
-    assert!(rt; refusal(table.allocate(INWARD, 0, 1, false)) == Some(CallFault::TooMuch));
-    Ok(())
+#[test]
+fn no_more_is_allocated_than_fits(rt: HostRuntime) -> Result<(), Fail> {
+    goes(
+        &rt,
+        rt.alloc(),
+        &[
+            Step::IsReceiver(8, ROOM),
+            Step::RefusesFull(Call::Allocate(INWARD, 1, ROOM + 1), CallFault::TooMuch),
+            Step::RefusesFull(Call::Allocate(INWARD, 1, ROOM), CallFault::QueueFull),
+            Step::Makes(
+                Call::Allocate(INWARD, MAX_MESSAGES, ROOM),
+                all(MAX_MESSAGES, ROOM),
+            ),
+            Step::Refuses(Call::Allocate(INWARD, 1, 0), CallFault::TooMuch),
+            Step::Refuses(Call::Allocate(INWARD, 0, 1), CallFault::TooMuch),
+        ],
+    )
 }
 
 // What is held takes room too.
-pub(super) fn counts_held_bits<S: BitStore>(rt: &impl Abort, alloc: Global) -> Result<(), Fail> {
-    let mut table = receiver::<S>(alloc, 8, 16)?;
-    table.allocate(INWARD, 2, 16, false)?;
-    assert!(rt; table.text(2, 8, text(8)?.whole()) == Took::Admitted);
-    assert!(rt; refusal(table.allocate(INWARD, 1, 8, false)) == Some(CallFault::TooMuch));
-    let (taken, _) = table.take(INWARD, 1)?;
-    assert!(rt; taken.len() == 8);
-    table.allocate(INWARD, 1, 8, false)?;
-    let outstanding = known(rt, &table, INWARD);
-    assert!(rt; outstanding.messages == 2 && outstanding.bits == 16);
-    Ok(())
+#[test]
+fn held_bits_are_counted(rt: HostRuntime) -> Result<(), Fail> {
+    let outstanding = Record {
+        messages: 2,
+        bits: 16,
+        ..RECEIVER
+    };
+    goes(
+        &rt,
+        rt.alloc(),
+        &[
+            Step::IsReceiver(8, 16),
+            Step::Makes(Call::Allocate(INWARD, 2, 16), all(2, 16)),
+            Step::Text(LINK, 8, 8, Took::Admitted),
+            Step::Refuses(Call::Allocate(INWARD, 1, 8), CallFault::TooMuch),
+            Step::Takes(INWARD, 1, 0, 8),
+            Step::Makes(Call::Allocate(INWARD, 1, 8), all(1, 8)),
+            Step::Knows(INWARD, outstanding),
+        ],
+    )
 }
 
-pub(super) fn calls_back_at_open_receivers_only<S: BitStore>(
-    rt: &impl Abort,
-    alloc: Global,
-) -> Result<(), Fail> {
-    let mut table = new_table::<S>(alloc)?;
-    assert!(rt; refusal(table.call_back(INWARD, 1, 1, true)) == Some(CallFault::NoEntry));
-    table.ask_receive(INWARD, ROOM, false)?;
-    assert!(rt; refusal(table.call_back(INWARD, 1, 1, true)) == Some(CallFault::NotOpen));
-    table.close(INWARD, false)?;
-    assert!(rt; refusal(table.call_back(INWARD, 1, 1, true)) == Some(CallFault::Closing));
-    let mut table = sender::<S>(alloc, 8, ROOM)?;
-    assert!(rt; refusal(table.call_back(OUTWARD, 1, 1, true)) == Some(CallFault::WrongEnd));
-    Ok(())
-}
-
-pub(super) fn calls_back_once_at_a_time<S: BitStore>(
-    rt: &impl Abort,
-    alloc: Global,
-) -> Result<(), Fail> {
-    let mut table = receiver::<S>(alloc, 8, ROOM)?;
-    assert!(rt; refusal(table.call_back(INWARD, 64, 1, true)) == Some(CallFault::QueueFull));
-    let gvb = table.call_back(INWARD, 64, 1, false)?;
-    assert!(rt;
-        are_one(
-            Some(gvb),
-            Some(Command::Gvb {
-                link: 2,
-                fm: 64,
-                fb: 1
-            })
-        )
-    );
-    assert!(rt; refusal(table.call_back(INWARD, 64, 1, true)) == Some(CallFault::Busy));
-    assert!(rt;
-        table.hears(
-            &Command::Ret {
-                link: 2,
-                messages: 0,
-                bits: 0
-            },
-            Heard::Nothing
-        )
-    );
-    table.call_back(INWARD, 200, 0, false)?;
-    Ok(())
+#[test]
+fn one_call_back_is_out_at_a_time(rt: HostRuntime) -> Result<(), Fail> {
+    goes(
+        &rt,
+        rt.alloc(),
+        &[
+            Step::IsReceiver(8, ROOM),
+            Step::RefusesFull(Call::CallBack(INWARD, 64, 1), CallFault::QueueFull),
+            Step::Makes(Call::CallBack(INWARD, 64, 1), gvb(64, 1)),
+            Step::RefusesFull(Call::CallBack(INWARD, 64, 1), CallFault::Busy),
+            Step::Hears(ret(0, 0), Heard::Nothing),
+            Step::Makes(Call::CallBack(INWARD, 200, 0), gvb(200, 0)),
+        ],
+    )
 }
 
 // A RET of more than is outstanding answers nothing, and one that comes late neither.
-pub(super) fn takes_back_what_is_outstanding<S: BitStore>(
-    rt: &impl Abort,
-    alloc: Global,
-) -> Result<(), Fail> {
-    let mut table = receiver::<S>(alloc, 8, ROOM)?;
-    table.allocate(INWARD, 5, 1000, false)?;
-    table.call_back(INWARD, 64, 1, false)?;
-    let too_much = Command::Ret {
-        link: 2,
-        messages: 6,
-        bits: 0,
+#[test]
+fn what_is_outstanding_is_taken_back(rt: HostRuntime) -> Result<(), Fail> {
+    let calling = Record {
+        messages: 5,
+        bits: 1000,
+        recall: true,
+        ..RECEIVER
     };
-    assert!(rt; table.hears(&too_much, err(3, &[6, 2, 0, 6, 0, 0, 0, 0])));
-    assert!(rt; known(rt, &table, INWARD).recall);
-    assert!(rt;
-        table.hears(
-            &Command::Ret {
-                link: 2,
-                messages: 3,
-                bits: 8
-            },
-            Heard::Nothing
-        )
-    );
-    let outstanding = known(rt, &table, INWARD);
-    assert!(rt; outstanding.messages == 2 && outstanding.bits == 992 && !outstanding.recall);
-    table.close(INWARD, false)?;
-    assert!(rt;
-        table.hears(
-            &Command::Ret {
-                link: 2,
-                messages: 2,
-                bits: 0
-            },
-            Heard::Late
-        )
-    );
-    Ok(())
+    let called = Record {
+        messages: 2,
+        bits: 992,
+        recall: false,
+        ..calling
+    };
+    goes(
+        &rt,
+        rt.alloc(),
+        &[
+            Step::IsReceiver(8, ROOM),
+            Step::Makes(Call::Allocate(INWARD, 5, 1000), all(5, 1000)),
+            Step::Makes(Call::CallBack(INWARD, 64, 1), gvb(64, 1)),
+            Step::Hears(ret(6, 0), err(3, &[6, 2, 0, 6, 0, 0, 0, 0])),
+            Step::Knows(INWARD, calling),
+            Step::Hears(ret(3, 8), Heard::Nothing),
+            Step::Knows(INWARD, called),
+            Step::Makes(Call::Close(INWARD), cls_of(INWARD)),
+            Step::Hears(ret(2, 0), Heard::Late),
+        ],
+    )
 }
 
 // Where a link leads nowhere, or to a connection that is not open.
-pub(super) fn answers_on_links_not_connected<S: BitStore>(
-    rt: &impl Abort,
-    alloc: Global,
-) -> Result<(), Fail> {
-    let mut table = new_table::<S>(alloc)?;
-    table.ask_receive(INWARD, ROOM, false)?;
-    let commands = [
-        (
-            Command::All {
-                link: 9,
-                messages: 1,
-                bits: 2,
-            },
-            [4, 9, 0, 1, 0, 0, 0, 2],
-        ),
-        (
-            Command::Gvb {
-                link: 9,
-                fm: 1,
-                fb: 2,
-            },
-            [5, 9, 1, 2, 0, 0, 0, 0],
-        ),
-        (
-            Command::Ret {
-                link: 9,
-                messages: 0,
-                bits: 0,
-            },
-            [6, 9, 0, 0, 0, 0, 0, 0],
-        ),
-        (
-            Command::Ret {
-                link: 2,
-                messages: 0,
-                bits: 0,
-            },
-            [6, 2, 0, 0, 0, 0, 0, 0],
-        ),
-        (Command::Inr { link: 9 }, [7, 9, 0, 0, 0, 0, 0, 0]),
-        (Command::Ins { link: 9 }, [8, 9, 0, 0, 0, 0, 0, 0]),
-    ];
-    for (command, data) in commands {
-        assert!(rt; table.hears(&command, err(5, &data)));
-    }
-    Ok(())
+#[test]
+fn links_not_connected_are_answered(rt: HostRuntime) -> Result<(), Fail> {
+    let link = 9;
+    let nine_all = Command::All {
+        link,
+        messages: 1,
+        bits: 2,
+    };
+    let nine_gvb = Command::Gvb { link, fm: 1, fb: 2 };
+    let nine_ret = Command::Ret {
+        link,
+        messages: 0,
+        bits: 0,
+    };
+    goes(
+        &rt,
+        rt.alloc(),
+        &[
+            Step::Makes(Call::AskReceive(INWARD, ROOM), rts_of(INWARD, LINK)),
+            Step::Hears(nine_all, err(5, &[4, 9, 0, 1, 0, 0, 0, 2])),
+            Step::Hears(nine_gvb, err(5, &[5, 9, 1, 2])),
+            Step::Hears(nine_ret, err(5, &[6, 9])),
+            Step::Hears(ret(0, 0), err(5, &[6, 2])),
+            Step::Hears(Command::Inr { link }, err(5, &[7, 9])),
+            Step::Hears(Command::Ins { link }, err(5, &[8, 9])),
+        ],
+    )
 }

@@ -1,80 +1,58 @@
 //! A whole connection, from the requests of either side to the CLS of either side.
-use super::tried::Tried;
-use super::{INWARD, OUTWARD, ROOM, are_same, cls_of, known, new_table, text};
-use ncp_bits::BitStore;
+use super::steps::{Call, Step};
+use super::{
+    INWARD, LINK, OUTWARD, RECEIVER, ROOM, SENDER, all, cls_for, cls_of, goes, rts_for, rts_of,
+    str_for, str_of,
+};
 use ncp_conn::{End, FIRST_LINK, Heard, Took, equality};
-use std::alloc::Global;
-use std::process::Abort;
 use std::test::Fail;
 
-/// Bits a byte, and how many bits go over.
-const SIZE: u8 = 8;
-
-const BITS: u32 = 16;
-
-// Both sides ask: the request of each is heard by the other.
-fn opens<S: BitStore>(
-    rt: &impl Abort,
-    sender: &mut Tried<S>,
-    receiver: &mut Tried<S>,
-) -> Result<(), Fail> {
-    let str = sender.ask_send(OUTWARD, SIZE, ROOM, false)?;
-    let rts = receiver.ask_receive(INWARD, ROOM, false)?;
-    assert!(rt; receiver.hears(&str, Heard::Nothing));
-    assert!(rt; sender.hears(&rts, Heard::Nothing));
-    Ok(())
+// At the sender's host: which link sends next is asked between the calls, and which pairs there are.
+#[test]
+fn a_sender_opens_sends_and_closes(rt: HostRuntime) -> Result<(), Fail> {
+    goes(
+        &rt,
+        rt.alloc(),
+        &[
+            Step::HasPair(None),
+            Step::Makes(Call::AskSend(OUTWARD, 8, ROOM), str_of(OUTWARD, 8)),
+            Step::Hears(rts_for(OUTWARD, LINK), Heard::Nothing),
+            Step::HasPair(Some(OUTWARD)),
+            Step::Hears(all(1, 16), Heard::Nothing),
+            Step::NextCut(FIRST_LINK, None),
+            Step::Does(Call::Give(OUTWARD, 16)),
+            Step::NextCut(FIRST_LINK, Some(LINK)),
+            Step::NextCut(3, None),
+            Step::Cuts(LINK, 8, 0, 16),
+            Step::Answered(LINK, None),
+            Step::Makes(Call::Close(OUTWARD), cls_of(OUTWARD)),
+            Step::Hears(cls_for(OUTWARD), Heard::Nothing),
+            Step::KnowsNone(OUTWARD),
+        ],
+    )
 }
 
-// A text is allowed, given, sent, admitted, taken and answered.
-fn carries<S: BitStore>(
-    rt: &impl Abort,
-    sender: &mut Tried<S>,
-    receiver: &mut Tried<S>,
-) -> Result<(), Fail> {
-    let all = receiver.allocate(INWARD, 1, BITS, false)?;
-    assert!(rt; sender.hears(&all, Heard::Nothing));
-    let given = text(BITS as usize)?;
-    sender.give(OUTWARD, &given)?;
-    let (size, out) = sender.cut(2).ok_or("a text")?;
-    assert!(rt; receiver.text(2, size, out.whole()) == Took::Admitted);
-    assert!(rt; sender.answered(2).is_none());
-    let (taken, command) = receiver.take(INWARD, BITS)?;
-    assert!(rt; are_same(&taken, &given) && command.is_none());
-    Ok(())
+#[test]
+fn a_receiver_opens_takes_and_closes(rt: HostRuntime) -> Result<(), Fail> {
+    goes(
+        &rt,
+        rt.alloc(),
+        &[
+            Step::Hears(str_for(INWARD, 8), Heard::Nothing),
+            Step::Makes(Call::AskReceive(INWARD, ROOM), rts_of(INWARD, LINK)),
+            Step::Knows(INWARD, RECEIVER),
+            Step::Makes(Call::Allocate(INWARD, 1, 16), all(1, 16)),
+            Step::Text(LINK, 8, 16, Took::Admitted),
+            Step::Takes(INWARD, 16, 0, 16),
+            Step::Hears(cls_for(INWARD), Heard::Reply(cls_of(INWARD))),
+            Step::KnowsNone(INWARD),
+        ],
+    )
 }
 
-pub(super) fn opens_carries_and_closes<S: BitStore>(
-    rt: &impl Abort,
-    alloc: Global,
-) -> Result<(), Fail> {
-    let mut sender = new_table::<S>(alloc)?;
-    let mut receiver = new_table::<S>(alloc)?;
-    opens(rt, &mut sender, &mut receiver)?;
-    carries(rt, &mut sender, &mut receiver)?;
-    let cls = sender.close(OUTWARD, false)?.ok_or("a CLS")?;
-    assert!(rt; receiver.hears(&cls, Heard::Reply(cls_of(INWARD))));
-    assert!(rt; sender.hears(&cls_of(INWARD), Heard::Nothing));
-    assert!(rt; sender.record(OUTWARD).is_none() && receiver.record(INWARD).is_none());
-    Ok(())
-}
-
-// What a host asks a table between calls: which connections there are, and which link sends next.
-pub(super) fn tells_pairs_and_links<S: BitStore>(
-    rt: &impl Abort,
-    alloc: Global,
-) -> Result<(), Fail> {
-    let mut sender = new_table::<S>(alloc)?;
-    let mut receiver = new_table::<S>(alloc)?;
-    assert!(rt; sender.some_pair().is_none());
-    opens(rt, &mut sender, &mut receiver)?;
-    assert!(rt; sender.some_pair() == Some(OUTWARD));
-    let all = receiver.allocate(INWARD, 1, BITS, false)?;
-    assert!(rt; sender.hears(&all, Heard::Nothing) && sender.next_cut(FIRST_LINK).is_none());
-    sender.give(OUTWARD, &text(BITS as usize)?)?;
-    assert!(rt; sender.next_cut(FIRST_LINK) == Some(2) && sender.next_cut(3).is_none());
-    let here = known(rt, &sender, OUTWARD);
-    let there = known(rt, &receiver, INWARD);
-    assert!(rt; equality::equal_records(&here, &here) && !equality::equal_records(&here, &there));
-    assert!(rt; equality::equal_ends(here.end, End::Send));
-    Ok(())
+#[test]
+fn records_and_ends_are_compared(rt: HostRuntime) {
+    assert!(rt; equality::equal_records(&SENDER, &SENDER));
+    assert!(rt; !equality::equal_records(&SENDER, &RECEIVER));
+    assert!(rt; equality::equal_ends(SENDER.end, End::Send));
 }

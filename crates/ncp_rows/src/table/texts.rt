@@ -1,271 +1,315 @@
 //! Text.
+use super::steps::{Call, Step};
 use super::{
-    INWARD, OUTWARD, ROOM, are_one, are_same, known, new_table, receiver, refusal, rts_for, sender,
-    text,
+    INWARD, LINK, OUTWARD, RECEIVER, ROOM, SENDER, all, cls_of, goes, rts_for, rts_of, str_of,
 };
-use ncp_bits::{BitStore, Bits};
-use ncp_conn::{CallFault, Heard, Took};
+use ncp_conn::{CallFault, Heard, Record, Took};
 use ncp_control::Command;
 use ncp_model::{MAX_MESSAGES, MAX_ROOM};
-use std::alloc::Global;
-use std::process::Abort;
 use std::test::Fail;
 
-// A text of one size goes from a table to another, and comes out as it went in.
-fn carries<S: BitStore>(rt: &impl Abort, alloc: Global, size: u8, len: usize) -> Result<(), Fail> {
-    let mut from = sender::<S>(alloc, size, MAX_ROOM)?;
-    let mut to = receiver::<S>(alloc, size, MAX_ROOM)?;
-    let all = to.allocate(INWARD, 1, MAX_ROOM, false)?;
-    assert!(rt; from.hears(&all, Heard::Nothing));
-    let given = text(len)?;
-    from.give(OUTWARD, &given)?;
-    let (cut_size, out) = from.cut(2).ok_or("a text")?;
-    assert!(rt; cut_size == size && are_same(&out, &given));
-    assert!(rt; to.text(2, cut_size, out.whole()) == Took::Admitted);
-    let (taken, command) = to.take(INWARD, u32::from(MAX_MESSAGES))?;
-    assert!(rt; are_same(&taken, &given) && command.is_none());
-    let spent = known(rt, &from, OUTWARD);
-    let used = known(rt, &to, INWARD);
-    assert!(rt; spent.messages == 0 && used.messages == 0 && used.bits == spent.bits);
-    Ok(())
-}
-
-pub(super) fn carries_texts_of_each_size<S: BitStore>(
-    rt: &impl Abort,
-    alloc: Global,
-) -> Result<(), Fail> {
-    carries::<S>(rt, alloc, 1, 1)?;
-    carries::<S>(rt, alloc, 1, 100)?;
-    carries::<S>(rt, alloc, 8, 24)?;
-    carries::<S>(rt, alloc, 36, 36)?;
-    carries::<S>(rt, alloc, 36, 108)?;
+// Texts of each size go out as they were given, and are taken as they came.
+#[test]
+fn texts_of_each_size_are_carried(rt: HostRuntime) -> Result<(), Fail> {
     // Thirty-one bytes of 255 bits fill one message.
-    carries::<S>(rt, alloc, 255, 7905)
+    for (size, len) in [(1, 1), (1, 100), (8, 24), (36, 36), (36, 108), (255, 7905)] {
+        let left = MAX_ROOM - len as u32;
+        goes(
+            &rt,
+            rt.alloc(),
+            &[
+                Step::IsSender(size, MAX_ROOM),
+                Step::Hears(all(1, MAX_ROOM), Heard::Nothing),
+                Step::Does(Call::Give(OUTWARD, len)),
+                Step::Cuts(LINK, size, 0, len),
+                Step::Knows(
+                    OUTWARD,
+                    Record {
+                        size,
+                        bits: left,
+                        busy: true,
+                        ..SENDER
+                    },
+                ),
+                Step::Answered(LINK, None),
+            ],
+        )?;
+        goes(
+            &rt,
+            rt.alloc(),
+            &[
+                Step::IsReceiver(size, MAX_ROOM),
+                Step::Makes(Call::Allocate(INWARD, 1, MAX_ROOM), all(1, MAX_ROOM)),
+                Step::Text(LINK, size, len, Took::Admitted),
+                Step::Takes(INWARD, u32::from(MAX_MESSAGES), 0, len),
+                Step::Knows(
+                    INWARD,
+                    Record {
+                        size,
+                        bits: left,
+                        ..RECEIVER
+                    },
+                ),
+            ],
+        )?;
+    }
+    Ok(())
 }
 
 // A thousand bytes of eight bits take two messages, of 991 bytes and of 9.
-pub(super) fn cuts_what_fits_one_message<S: BitStore>(
-    rt: &impl Abort,
-    alloc: Global,
-) -> Result<(), Fail> {
-    let mut table = sender::<S>(alloc, 8, MAX_ROOM)?;
-    assert!(rt;
-        table.hears(
-            &Command::All {
-                link: 2,
-                messages: 9,
-                bits: MAX_ROOM
-            },
-            Heard::Nothing
-        )
-    );
-    assert!(rt; table.cut(2).is_none());
-    table.give(OUTWARD, &text(8000)?)?;
-    let (_, first) = table.cut(2).ok_or("a text")?;
-    assert!(rt; first.len() == 7928);
-    assert!(rt; table.cut(2).is_none());
-    assert!(rt; table.answered(2).is_none());
-    let (_, second) = table.cut(2).ok_or("the rest")?;
-    assert!(rt; second.len() == 72);
-    let spent = known(rt, &table, OUTWARD);
-    assert!(rt; spent.messages == 7 && spent.bits == MAX_ROOM - 8000);
-    Ok(())
+#[test]
+fn what_fits_one_message_is_cut(rt: HostRuntime) -> Result<(), Fail> {
+    let spent = Record {
+        messages: 7,
+        bits: MAX_ROOM - 8000,
+        busy: true,
+        ..SENDER
+    };
+    goes(
+        &rt,
+        rt.alloc(),
+        &[
+            Step::IsSender(8, MAX_ROOM),
+            Step::Hears(all(9, MAX_ROOM), Heard::Nothing),
+            Step::CutsNone(LINK),
+            Step::Does(Call::Give(OUTWARD, 8000)),
+            Step::Cuts(LINK, 8, 0, 7928),
+            Step::CutsNone(LINK),
+            Step::Answered(LINK, None),
+            Step::Cuts(LINK, 8, 7928, 72),
+            Step::Knows(OUTWARD, spent),
+        ],
+    )
 }
 
 // What goes out stays within both counters.
-pub(super) fn cuts_what_is_allocated<S: BitStore>(
-    rt: &impl Abort,
-    alloc: Global,
-) -> Result<(), Fail> {
-    let mut table = sender::<S>(alloc, 8, ROOM)?;
-    table.give(OUTWARD, &text(24)?)?;
-    assert!(rt; table.cut(2).is_none());
-    assert!(rt;
-        table.hears(
-            &Command::All {
-                link: 2,
-                messages: 0,
-                bits: 23
-            },
-            Heard::Nothing
-        )
-    );
-    assert!(rt; table.cut(2).is_none());
-    assert!(rt;
-        table.hears(
-            &Command::All {
-                link: 2,
-                messages: 1,
-                bits: 0
-            },
-            Heard::Nothing
-        )
-    );
-    let (_, out) = table.cut(2).ok_or("a text")?;
-    assert!(rt; out.len() == 16);
-    let spent = known(rt, &table, OUTWARD);
-    assert!(rt; spent.messages == 0 && spent.bits == 7 && spent.stored == 8 && spent.busy);
-    assert!(rt; table.cut(9).is_none());
-    assert!(rt; table.answered(9).is_none());
-    Ok(())
+#[test]
+fn what_is_allocated_is_cut(rt: HostRuntime) -> Result<(), Fail> {
+    let spent = Record {
+        bits: 7,
+        stored: 8,
+        busy: true,
+        ..SENDER
+    };
+    goes(
+        &rt,
+        rt.alloc(),
+        &[
+            Step::IsSender(8, ROOM),
+            Step::Does(Call::Give(OUTWARD, 24)),
+            Step::CutsNone(LINK),
+            Step::Hears(all(0, 23), Heard::Nothing),
+            Step::CutsNone(LINK),
+            Step::Hears(all(1, 0), Heard::Nothing),
+            Step::Cuts(LINK, 8, 0, 16),
+            Step::Knows(OUTWARD, spent),
+            Step::CutsNone(9),
+            Step::Answered(9, None),
+        ],
+    )
 }
 
-pub(super) fn gives_to_open_senders_only<S: BitStore>(
-    rt: &impl Abort,
-    alloc: Global,
-) -> Result<(), Fail> {
-    let odd = text(12)?;
-    let mut table = new_table::<S>(alloc)?;
-    assert!(rt; refusal(table.give(OUTWARD, &odd)) == Some(CallFault::NoEntry));
-    table.ask_send(OUTWARD, 8, 8, false)?;
-    assert!(rt; refusal(table.give(OUTWARD, &odd)) == Some(CallFault::NotOpen));
-    table.close(OUTWARD, false)?;
-    assert!(rt; refusal(table.give(OUTWARD, &odd)) == Some(CallFault::Closing));
-    let mut table = receiver::<S>(alloc, 8, 8)?;
-    assert!(rt; refusal(table.give(INWARD, &odd)) == Some(CallFault::WrongEnd));
-    Ok(())
+// Which of two reasons comes first where an end is not given bits, and gives none.
+#[test]
+fn open_ends_alone_give_and_take(rt: HostRuntime) -> Result<(), Fail> {
+    goes(
+        &rt,
+        rt.alloc(),
+        &[
+            Step::Refuses(Call::Give(OUTWARD, 12), CallFault::NoEntry),
+            Step::Refuses(Call::Take(INWARD, 1), CallFault::NoEntry),
+            Step::Makes(Call::AskSend(OUTWARD, 8, 8), str_of(OUTWARD, 8)),
+            Step::Refuses(Call::Give(OUTWARD, 12), CallFault::NotOpen),
+            Step::Refuses(Call::Take(OUTWARD, 1), CallFault::NotOpen),
+            Step::Makes(Call::Close(OUTWARD), cls_of(OUTWARD)),
+            Step::Refuses(Call::Give(OUTWARD, 12), CallFault::Closing),
+            Step::IsReceiver(8, 8),
+            Step::Refuses(Call::Give(INWARD, 12), CallFault::WrongEnd),
+            Step::Takes(INWARD, 1, 0, 0),
+            Step::Makes(Call::Close(INWARD), cls_of(INWARD)),
+            Step::Refuses(Call::Take(INWARD, 1), CallFault::Closing),
+        ],
+    )
 }
 
-pub(super) fn gives_whole_bytes_that_fit<S: BitStore>(
-    rt: &impl Abort,
-    alloc: Global,
-) -> Result<(), Fail> {
-    let odd = text(12)?;
-    let mut table = sender::<S>(alloc, 8, 8)?;
-    assert!(rt; refusal(table.give(OUTWARD, &odd)) == Some(CallFault::NotWhole));
-    assert!(rt; refusal(table.give(OUTWARD, &text(16)?)) == Some(CallFault::NoRoom));
-    table.give(OUTWARD, &text(8)?)?;
-    assert!(rt; refusal(table.give(OUTWARD, &text(8)?)) == Some(CallFault::NoRoom));
-    table.give(OUTWARD, &Bits::new())?;
-    assert!(rt; known(rt, &table, OUTWARD).stored == 8);
-    Ok(())
-}
-
-pub(super) fn takes_what_was_opened<S: BitStore>(
-    rt: &impl Abort,
-    alloc: Global,
-) -> Result<(), Fail> {
-    let mut table = new_table::<S>(alloc)?;
-    assert!(rt; refusal(table.take(INWARD, 1)) == Some(CallFault::NoEntry));
-    table.ask_send(OUTWARD, 8, ROOM, false)?;
-    assert!(rt; refusal(table.take(OUTWARD, 1)) == Some(CallFault::NotOpen));
-    Ok(())
-}
-
-pub(super) fn takes_at_receivers_only<S: BitStore>(
-    rt: &impl Abort,
-    alloc: Global,
-) -> Result<(), Fail> {
-    let mut table = sender::<S>(alloc, 8, ROOM)?;
-    assert!(rt; refusal(table.take(OUTWARD, 1)) == Some(CallFault::WrongEnd));
-    let mut table = receiver::<S>(alloc, 8, ROOM)?;
-    let (nothing, command) = table.take(INWARD, 1)?;
-    assert!(rt; nothing.is_empty() && command.is_none());
-    table.close(INWARD, false)?;
-    assert!(rt; refusal(table.take(INWARD, 1)) == Some(CallFault::Closing));
-    Ok(())
+#[test]
+fn whole_bytes_that_fit_are_given(rt: HostRuntime) -> Result<(), Fail> {
+    let full = Record {
+        stored: 8,
+        ..SENDER
+    };
+    goes(
+        &rt,
+        rt.alloc(),
+        &[
+            Step::IsSender(8, 8),
+            Step::Refuses(Call::Take(OUTWARD, 1), CallFault::WrongEnd),
+            Step::Refuses(Call::Give(OUTWARD, 12), CallFault::NotWhole),
+            Step::Refuses(Call::Give(OUTWARD, 16), CallFault::NoRoom),
+            Step::Does(Call::Give(OUTWARD, 8)),
+            Step::Refuses(Call::Give(OUTWARD, 8), CallFault::NoRoom),
+            Step::Does(Call::Give(OUTWARD, 0)),
+            Step::Knows(OUTWARD, full),
+        ],
+    )
 }
 
 // An end that is left and never opened takes texts as late, too.
-pub(super) fn takes_texts_at_open_receivers_only<S: BitStore>(
-    rt: &impl Abort,
-    alloc: Global,
-) -> Result<(), Fail> {
-    let byte = text(8)?;
-    let mut table = new_table::<S>(alloc)?;
-    assert!(rt; table.text(2, 8, byte.whole()) == Took::NotOpen);
-    table.ask_receive(INWARD, ROOM, false)?;
-    assert!(rt; table.text(2, 8, byte.whole()) == Took::NotOpen);
-    table.close(INWARD, false)?;
-    assert!(rt; table.text(2, 8, byte.whole()) == Took::Late);
-    Ok(())
+#[test]
+fn texts_are_for_open_receivers(rt: HostRuntime) -> Result<(), Fail> {
+    goes(
+        &rt,
+        rt.alloc(),
+        &[
+            Step::Text(LINK, 8, 8, Took::NotOpen),
+            Step::Makes(Call::AskReceive(INWARD, ROOM), rts_of(INWARD, LINK)),
+            Step::Text(LINK, 8, 8, Took::NotOpen),
+            Step::Makes(Call::Close(INWARD), cls_of(INWARD)),
+            Step::Text(LINK, 8, 8, Took::Late),
+        ],
+    )
 }
 
 // Which of two reasons a text is not held for comes first.
-pub(super) fn admits_what_is_allocated<S: BitStore>(
-    rt: &impl Abort,
-    alloc: Global,
-) -> Result<(), Fail> {
-    let byte = text(8)?;
-    let mut table = receiver::<S>(alloc, 8, ROOM)?;
-    assert!(rt; table.text(2, 4, byte.whole()) == Took::WrongSize);
-    assert!(rt; table.text(2, 8, byte.whole()) == Took::Over);
-    assert!(rt; table.text(3, 8, byte.whole()) == Took::NotOpen);
-    table.allocate(INWARD, 1, 7, false)?;
-    assert!(rt; table.text(2, 8, byte.whole()) == Took::Over);
-    table.allocate(INWARD, 0, 1, false)?;
-    assert!(rt; table.text(2, 8, byte.whole()) == Took::Admitted);
-    table.close(INWARD, false)?;
-    assert!(rt; table.text(2, 4, byte.whole()) == Took::Late);
-    Ok(())
+#[test]
+fn what_is_allocated_is_admitted(rt: HostRuntime) -> Result<(), Fail> {
+    goes(
+        &rt,
+        rt.alloc(),
+        &[
+            Step::IsReceiver(8, ROOM),
+            Step::Text(LINK, 4, 8, Took::WrongSize),
+            Step::Text(LINK, 8, 8, Took::Over),
+            Step::Text(3, 8, 8, Took::NotOpen),
+            Step::Makes(Call::Allocate(INWARD, 1, 7), all(1, 7)),
+            Step::Text(LINK, 8, 8, Took::Over),
+            Step::Makes(Call::Allocate(INWARD, 0, 1), all(0, 1)),
+            Step::Text(LINK, 8, 8, Took::Admitted),
+            Step::Makes(Call::Close(INWARD), cls_of(INWARD)),
+            Step::Text(LINK, 4, 8, Took::Late),
+        ],
+    )
 }
 
 // A text of no bytes takes one message of what is outstanding.
-pub(super) fn admits_a_text_of_no_bytes<S: BitStore>(
-    rt: &impl Abort,
-    alloc: Global,
-) -> Result<(), Fail> {
-    let mut table = receiver::<S>(alloc, 8, ROOM)?;
-    table.allocate(INWARD, 2, 16, false)?;
-    assert!(rt; table.text(2, 8, Bits::new().whole()) == Took::Admitted);
-    let outstanding = known(rt, &table, INWARD);
-    assert!(rt; outstanding.messages == 1 && outstanding.bits == 16 && outstanding.stored == 0);
-    Ok(())
+#[test]
+fn a_text_of_no_bytes_is_admitted(rt: HostRuntime) -> Result<(), Fail> {
+    let outstanding = Record {
+        messages: 1,
+        bits: 16,
+        ..RECEIVER
+    };
+    goes(
+        &rt,
+        rt.alloc(),
+        &[
+            Step::IsReceiver(8, ROOM),
+            Step::Makes(Call::Allocate(INWARD, 2, 16), all(2, 16)),
+            Step::Text(LINK, 8, 0, Took::Admitted),
+            Step::Knows(INWARD, outstanding),
+        ],
+    )
 }
 
-pub(super) fn stores_one_bit<S: BitStore>(rt: &impl Abort, alloc: Global) -> Result<(), Fail> {
-    let mut from = sender::<S>(alloc, 1, 1)?;
-    from.give(OUTWARD, &text(1)?)?;
-    assert!(rt; refusal(from.give(OUTWARD, &text(1)?)) == Some(CallFault::NoRoom));
-    let mut to = receiver::<S>(alloc, 1, 1)?;
-    assert!(rt; refusal(to.allocate(INWARD, 1, 2, false)) == Some(CallFault::TooMuch));
-    to.allocate(INWARD, 2, 1, false)?;
-    assert!(rt; to.text(2, 1, text(1)?.whole()) == Took::Admitted);
-    assert!(rt; to.text(2, 1, text(1)?.whole()) == Took::Over);
-    assert!(rt; known(rt, &to, INWARD).stored == 1);
-    Ok(())
+#[test]
+fn one_bit_is_stored(rt: HostRuntime) -> Result<(), Fail> {
+    let held = Record {
+        size: 1,
+        messages: 1,
+        stored: 1,
+        ..RECEIVER
+    };
+    goes(
+        &rt,
+        rt.alloc(),
+        &[
+            Step::IsSender(1, 1),
+            Step::Does(Call::Give(OUTWARD, 1)),
+            Step::Refuses(Call::Give(OUTWARD, 1), CallFault::NoRoom),
+            Step::IsReceiver(1, 1),
+            Step::Refuses(Call::Allocate(INWARD, 1, 2), CallFault::TooMuch),
+            Step::Makes(Call::Allocate(INWARD, 2, 1), all(2, 1)),
+            Step::Text(LINK, 1, 1, Took::Admitted),
+            Step::Text(LINK, 1, 1, Took::Over),
+            Step::Knows(INWARD, held),
+        ],
+    )
 }
 
-pub(super) fn stores_65_536_bits<S: BitStore>(rt: &impl Abort, alloc: Global) -> Result<(), Fail> {
-    let mut table = sender::<S>(alloc, 8, MAX_ROOM)?;
-    let piece = text(8192)?;
-    for _ in 0..8 {
-        table.give(OUTWARD, &piece)?;
-    }
-    assert!(rt; known(rt, &table, OUTWARD).stored == MAX_ROOM);
-    assert!(rt; refusal(table.give(OUTWARD, &text(8)?)) == Some(CallFault::NoRoom));
-    Ok(())
+#[test]
+fn stores_have_65_536_bits(rt: HostRuntime) -> Result<(), Fail> {
+    let full = Record {
+        stored: MAX_ROOM,
+        ..SENDER
+    };
+    let piece = Call::Give(OUTWARD, 8192);
+    goes(
+        &rt,
+        rt.alloc(),
+        &[
+            Step::IsSender(8, MAX_ROOM),
+            Step::Does(piece),
+            Step::Does(piece),
+            Step::Does(piece),
+            Step::Does(piece),
+            Step::Does(piece),
+            Step::Does(piece),
+            Step::Does(piece),
+            Step::Does(piece),
+            Step::Knows(OUTWARD, full),
+            Step::Refuses(Call::Give(OUTWARD, 8), CallFault::NoRoom),
+        ],
+    )
 }
 
-pub(super) fn interrupts<S: BitStore>(rt: &impl Abort, alloc: Global) -> Result<(), Fail> {
-    let mut from = sender::<S>(alloc, 8, ROOM)?;
-    let mut to = receiver::<S>(alloc, 8, ROOM)?;
-    let ins = from.interrupt(OUTWARD, false)?;
-    assert!(rt;
-        are_one(Some(ins), Some(Command::Ins { link: 2 })) && to.hears(&ins, Heard::Nothing)
-    );
-    let inr = to.interrupt(INWARD, false)?;
-    assert!(rt;
-        are_one(Some(inr), Some(Command::Inr { link: 2 })) && from.hears(&inr, Heard::Nothing)
-    );
-    assert!(rt; from.hears(&inr, Heard::Nothing));
-    assert!(rt; known(rt, &from, OUTWARD).interrupts == 2);
-    assert!(rt; known(rt, &to, INWARD).interrupts == 1);
-    Ok(())
+#[test]
+fn interrupts_are_counted(rt: HostRuntime) -> Result<(), Fail> {
+    let ins = Command::Ins { link: LINK };
+    let inr = Command::Inr { link: LINK };
+    goes(
+        &rt,
+        rt.alloc(),
+        &[
+            Step::IsSender(8, ROOM),
+            Step::IsReceiver(8, ROOM),
+            Step::Makes(Call::Interrupt(OUTWARD), ins),
+            Step::Makes(Call::Interrupt(INWARD), inr),
+            Step::Hears(inr, Heard::Nothing),
+            Step::Hears(inr, Heard::Nothing),
+            Step::Hears(ins, Heard::Nothing),
+            Step::Knows(
+                OUTWARD,
+                Record {
+                    interrupts: 2,
+                    ..SENDER
+                },
+            ),
+            Step::Knows(
+                INWARD,
+                Record {
+                    interrupts: 1,
+                    ..RECEIVER
+                },
+            ),
+        ],
+    )
 }
 
-pub(super) fn interrupts_open_connections_only<S: BitStore>(
-    rt: &impl Abort,
-    alloc: Global,
-) -> Result<(), Fail> {
-    let mut table = new_table::<S>(alloc)?;
-    assert!(rt; refusal(table.interrupt(OUTWARD, true)) == Some(CallFault::NoEntry));
-    table.ask_send(OUTWARD, 8, ROOM, false)?;
-    assert!(rt; refusal(table.interrupt(OUTWARD, true)) == Some(CallFault::NotOpen));
-    let _ = table.hear(&rts_for(OUTWARD, 2));
-    assert!(rt; refusal(table.interrupt(OUTWARD, true)) == Some(CallFault::QueueFull));
-    table.close(OUTWARD, false)?;
-    assert!(rt; refusal(table.interrupt(OUTWARD, true)) == Some(CallFault::Closing));
-    assert!(rt; table.hears(&Command::Inr { link: 2 }, Heard::Late));
-    Ok(())
+#[test]
+fn open_connections_alone_interrupt(rt: HostRuntime) -> Result<(), Fail> {
+    let interrupt = Call::Interrupt(OUTWARD);
+    goes(
+        &rt,
+        rt.alloc(),
+        &[
+            Step::RefusesFull(interrupt, CallFault::NoEntry),
+            Step::Makes(Call::AskSend(OUTWARD, 8, ROOM), str_of(OUTWARD, 8)),
+            Step::RefusesFull(interrupt, CallFault::NotOpen),
+            Step::Hears(rts_for(OUTWARD, LINK), Heard::Nothing),
+            Step::RefusesFull(interrupt, CallFault::QueueFull),
+            Step::Makes(Call::Close(OUTWARD), cls_of(OUTWARD)),
+            Step::RefusesFull(interrupt, CallFault::Closing),
+            Step::Hears(Command::Inr { link: LINK }, Heard::Late),
+        ],
+    )
 }

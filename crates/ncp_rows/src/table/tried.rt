@@ -1,14 +1,28 @@
-//! A table whose calls tell the prover nothing.
-use ncp_bits::{BitStore, Bits, Part};
-use ncp_conn::{CallFault, Heard, Pair, Record, Table, Took};
+//! A table that goes through the steps of an example.
+use super::steps::{Call, Step};
+use super::{INWARD, LINK, OUTWARD, cls_for, rts_for, str_for};
+use ncp_bits::{BitStore, Bits};
+use ncp_conn::{CallFault, Heard, Pair, Table};
 use ncp_control::Command;
 use std::alloc::{AllocError, Global};
+use std::process::Abort;
 
-/// A table under test. Its calls have no clauses: what they answer is found by running them, so the
-/// prover need not follow a table through a long test, but only see that the test is safe and ends.
+/// A table under test. What its calls answer is found by running them: no function here has a clause,
+/// so the prover need not follow a table through an example, but only see that each step is safe and
+/// ends.
 #[derive(Drop)]
 pub(super) struct Tried<S: BitStore> {
     table: Table<S>,
+}
+
+/// So many bits from a place of a text of which every third bit is a one, from the first on.
+fn text(rt: &impl Abort, at: usize, len: usize) -> Bits {
+    let mut bits = Bits::new();
+    for place in 0..len {
+        let bit = u64::from((at % 3 + place % 3) % 3 == 0);
+        bits.push_number(bit, 1).expect(rt, "room");
+    }
+    bits
 }
 
 impl<S: BitStore> Tried<S> {
@@ -18,100 +32,111 @@ impl<S: BitStore> Tried<S> {
         })
     }
 
-    pub(super) fn ask_send(
+    /// Goes through all steps.
+    pub(super) fn goes(&mut self, rt: &impl Abort, steps: &[Step]) {
+        for (place, step) in steps.iter().enumerate() {
+            assert!(rt; self.does(rt, step), "at step {place}");
+        }
+    }
+
+    /// What a call is answered: a command that it makes, or why it is refused. `full`: no command has a
+    /// place.
+    pub(super) fn call(
         &mut self,
-        pair: Pair,
-        size: u8,
-        room: u32,
+        rt: &impl Abort,
+        call: &Call,
         full: bool,
-    ) -> Result<Command, CallFault> {
-        self.table.ask_send(pair, size, room, full)
+    ) -> Result<Option<Command>, CallFault> {
+        match call {
+            Call::AskSend(pair, size, room) => {
+                Ok(Some(self.table.ask_send(*pair, *size, *room, full)?))
+            }
+            Call::AskReceive(pair, room) => Ok(Some(self.table.ask_receive(*pair, *room, full)?)),
+            Call::Close(pair) => self.table.close(*pair, full),
+            Call::Give(pair, len) => {
+                self.table.give(*pair, &text(rt, 0, *len))?;
+                Ok(None)
+            }
+            Call::Take(pair, bytes) => {
+                let (_, command) = self.table.take(*pair, *bytes)?;
+                Ok(command)
+            }
+            Call::Allocate(pair, messages, bits) => {
+                Ok(Some(self.table.allocate(*pair, *messages, *bits, full)?))
+            }
+            Call::CallBack(pair, fm, fb) => {
+                Ok(Some(self.table.call_back(*pair, *fm, *fb, full)?))
+            }
+            Call::Interrupt(pair) => Ok(Some(self.table.interrupt(*pair, full)?)),
+        }
     }
 
-    pub(super) fn ask_receive(
-        &mut self,
-        pair: Pair,
-        room: u32,
-        full: bool,
-    ) -> Result<Command, CallFault> {
-        self.table.ask_receive(pair, room, full)
+    /// Whether there is no such connection.
+    pub(super) fn knows_none(&self, pair: Pair) -> bool {
+        self.table.record(pair).is_none()
     }
 
-    pub(super) fn close(&mut self, pair: Pair, full: bool) -> Result<Option<Command>, CallFault> {
-        self.table.close(pair, full)
+    fn does(&mut self, rt: &impl Abort, step: &Step) -> bool {
+        match step {
+            Step::IsSender(size, room) => self.is_sender(rt, *size, *room),
+            Step::IsReceiver(size, room) => self.is_receiver(rt, *size, *room),
+            Step::Makes(call, want) => self.call(rt, call, false) == Ok(Some(*want)),
+            Step::Does(call) => self.call(rt, call, false) == Ok(None),
+            Step::Refuses(call, fault) => self.call(rt, call, false) == Err(*fault),
+            Step::RefusesFull(call, fault) => self.call(rt, call, true) == Err(*fault),
+            Step::Takes(pair, bytes, at, len) => self.takes(
+                *pair,
+                *bytes,
+                &text(rt, *at, *len),
+                None,
+            ),
+            Step::TakesLast(pair, bytes, at, len, command) => {
+                self.takes(*pair, *bytes, &text(rt, *at, *len), Some(*command))
+            }
+            _ => self.hears_or_tells(rt, step),
+        }
     }
 
-    pub(super) fn give(&mut self, pair: Pair, text: &Bits) -> Result<(), CallFault> {
-        self.table.give(pair, text)
+    fn hears_or_tells(&mut self, rt: &impl Abort, step: &Step) -> bool {
+        match step {
+            Step::Hears(command, want) => self.table.hear(command) == *want,
+            Step::Text(link, size, len, want) => {
+                self.table.text(*link, *size, text(rt, 0, *len).whole()) == *want
+            }
+            Step::Cuts(link, size, at, len) => match self.table.cut(*link) {
+                Some((out_size, out)) => out_size == *size && out == text(rt, *at, *len),
+                None => false,
+            },
+            Step::CutsNone(link) => self.table.cut(*link).is_none(),
+            Step::NextCut(from, want) => self.table.next_cut(*from) == *want,
+            Step::Answered(link, want) => self.table.answered(*link) == *want,
+            Step::Purges => {
+                self.table.purge();
+                true
+            }
+            Step::Knows(pair, want) => self.table.record(*pair) == Some(*want),
+            Step::KnowsNone(pair) => self.knows_none(*pair),
+            Step::HasPair(want) => self.table.pairs().next() == *want,
+            _ => false,
+        }
     }
 
-    pub(super) fn take(
-        &mut self,
-        pair: Pair,
-        bytes: u32,
-    ) -> Result<(Bits, Option<Command>), CallFault> {
-        self.table.take(pair, bytes)
+    fn takes(&mut self, pair: Pair, bytes: u32, want: &Bits, made: Option<Command>) -> bool {
+        match self.table.take(pair, bytes) {
+            Ok((taken, command)) => taken == *want && command == made,
+            Err(_) => false,
+        }
     }
 
-    pub(super) fn allocate(
-        &mut self,
-        pair: Pair,
-        messages: u16,
-        bits: u32,
-        full: bool,
-    ) -> Result<Command, CallFault> {
-        self.table.allocate(pair, messages, bits, full)
+    fn is_sender(&mut self, rt: &impl Abort, size: u8, room: u32) -> bool {
+        self.call(rt, &Call::AskSend(OUTWARD, size, room), false)
+            .is_ok()
+            && self.table.hear(&rts_for(OUTWARD, LINK)) == Heard::Nothing
     }
 
-    pub(super) fn call_back(
-        &mut self,
-        pair: Pair,
-        fm: u8,
-        fb: u8,
-        full: bool,
-    ) -> Result<Command, CallFault> {
-        self.table.call_back(pair, fm, fb, full)
-    }
-
-    pub(super) fn interrupt(&mut self, pair: Pair, full: bool) -> Result<Command, CallFault> {
-        self.table.interrupt(pair, full)
-    }
-
-    pub(super) fn hear(&mut self, command: &Command) -> Heard {
-        self.table.hear(command)
-    }
-
-    /// Whether a command that comes has this answer.
-    pub(super) fn hears(&mut self, command: &Command, answer: Heard) -> bool {
-        self.table.hear(command) == answer
-    }
-
-    pub(super) fn text(&mut self, link: u8, size: u8, text: Part<'_>) -> Took {
-        self.table.text(link, size, text)
-    }
-
-    pub(super) fn cut(&mut self, link: u8) -> Option<(u8, Bits)> {
-        self.table.cut(link)
-    }
-
-    pub(super) fn next_cut(&self, from: u8) -> Option<u8> {
-        self.table.next_cut(from)
-    }
-
-    pub(super) fn answered(&mut self, link: u8) -> Option<Command> {
-        self.table.answered(link)
-    }
-
-    pub(super) fn purge(&mut self) {
-        self.table.purge();
-    }
-
-    pub(super) fn record(&self, pair: Pair) -> Option<Record> {
-        self.table.record(pair)
-    }
-
-    /// A pair of the table, if it has one.
-    pub(super) fn some_pair(&self) -> Option<Pair> {
-        self.table.pairs().next()
+    fn is_receiver(&mut self, rt: &impl Abort, size: u8, room: u32) -> bool {
+        self.call(rt, &Call::AskReceive(INWARD, room), false)
+            .is_ok()
+            && self.table.hear(&str_for(INWARD, size)) == Heard::Nothing
     }
 }
