@@ -1,0 +1,89 @@
+//! Says a note. Nothing is promised of it, so that the prover does not follow a page through a long
+//! test.
+use ncp_bits::{Bits, PackedStore};
+use ncp_files::Page;
+use ncp_play::{Heading, PlayFault, Speaker, say_note};
+use ncp_stream::MemorySink;
+use ncp_transcript::{Alone, HostNote, Input, Message};
+use std::alloc::Global;
+use std::process::Abort;
+use std::test::Fail;
+
+/// Room for the lines of a note.
+const ROOM: usize = 16384;
+
+/// The host of the runs, and its peer.
+const ME: u8 = 1;
+
+const PEER: u8 = 2;
+
+/// These bytes as bits.
+pub(crate) fn bits(bytes: &[u8]) -> Result<Bits, Fail> {
+    let mut bits = Bits::new();
+    for byte in bytes {
+        bits.push_number(u64::from(*byte), 8)?;
+    }
+    Ok(bits)
+}
+
+/// A message of these bytes.
+pub(crate) fn message(alloc: Global, bytes: &[u8]) -> Result<Message, Fail> {
+    Ok(Message::from_bits(alloc, &bits(bytes)?)?)
+}
+
+/// Compares the lines of the note that is the n-th.
+pub(crate) fn expect(
+    rt: &impl Abort,
+    alloc: Global,
+    speaker: Speaker,
+    number: u32,
+    note: &HostNote,
+    lines: &[u8],
+) -> Result<(), Fail> {
+    let mut page = Page::new();
+    let mut sink = MemorySink::new(alloc, ROOM, None)?;
+    say_note(&mut page, &mut sink, Heading { number, speaker }, note)?;
+    page.flush(&mut sink)?;
+    assert!(rt; sink.bytes() == lines);
+    Ok(())
+}
+
+/// Does these inputs to a host, and compares the lines of its notes.
+pub(crate) fn expect_run(
+    rt: &impl Abort,
+    alloc: Global,
+    inputs: &[Input],
+    lines: &[u8],
+) -> Result<(), Fail> {
+    let mut alone = Alone::<PackedStore>::new(alloc, ME, &[PEER])?;
+    for input in inputs {
+        alone.step(input)?;
+    }
+    let mut page = Page::new();
+    let mut sink = MemorySink::new(alloc, ROOM, None)?;
+    let mut heading = Heading {
+        number: 1,
+        speaker: Speaker::Host,
+    };
+    for note in alone.transcript() {
+        say_note(&mut page, &mut sink, heading, note)?;
+        heading = heading.next();
+    }
+    page.flush(&mut sink)?;
+    assert!(rt; sink.bytes() == lines);
+    Ok(())
+}
+
+/// Compares a fault's number, and what is printed of it.
+pub(crate) fn expect_told(
+    rt: &impl Abort,
+    alloc: Global,
+    fault: PlayFault,
+    number: u8,
+    line: &[u8],
+) -> Result<(), Fail> {
+    let mut sink = MemorySink::new(alloc, ROOM, None)?;
+    fault.tell(&mut sink)?;
+    assert!(rt; fault.number() == number && sink.bytes() == line);
+    Ok(())
+}
