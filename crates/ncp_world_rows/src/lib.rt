@@ -1,0 +1,12 @@
+//! Worked runs of two hosts and a subnet, as tests of the public calls. They stand in a crate of their
+//! own, since a crate with tests is proved twice.
+#![tactic(auto)]
+
+#[cfg(test)]
+mod scripts;
+#[cfg(test)]
+mod states;
+#[cfg(test)]
+mod tried;
+#[cfg(test)]
+mod wanted;

@@ -1,0 +1,53 @@
+//! A world whose calls tell the prover nothing.
+use ncp_bits::BitStore;
+use ncp_world::{Event, Note, Side, World, run};
+use std::alloc::{AllocError, Global};
+use std::process::Abort;
+
+/// The hosts of the examples, on side A and on side B.
+pub(super) const A: u8 = 1;
+
+pub(super) const B: u8 = 2;
+
+/// A world under test. Its calls have no clauses: what they note is found by running them, so the
+/// prover need not follow a world through a long test, but only see that the test is safe and ends.
+#[derive(Drop)]
+pub(super) struct Tried<S: BitStore> {
+    world: World<S>,
+}
+
+impl<S: BitStore> Tried<S> {
+    pub(super) fn new(alloc: Global) -> Result<Self, AllocError> {
+        Ok(Tried {
+            world: World::new(alloc, A, B)?,
+        })
+    }
+
+    /// A world after these events, by one call.
+    pub(super) fn run(alloc: Global, events: &[Event]) -> Result<Self, AllocError> {
+        Ok(Tried {
+            world: run(alloc, A, B, events)?,
+        })
+    }
+
+    pub(super) fn notes(&self) -> &[Note] {
+        self.world.transcript()
+    }
+
+    /// Whether a host is up with the other.
+    pub(super) fn is_up(&self, side: Side, other: u8) -> bool {
+        match self.world.host(side).phase(other) {
+            Ok(flags) => !flags.down && !flags.wait,
+            Err(_) => false,
+        }
+    }
+
+    /// Steps once. Where memory is refused nothing has happened, and the same event is given again.
+    pub(super) fn does(&mut self, rt: &impl Abort, event: &Event) {
+        let many = self.notes().len();
+        if self.world.step(event).is_err() {
+            assert!(rt; self.notes().len() == many);
+            assert!(rt; self.world.step(event).is_ok());
+        }
+    }
+}
