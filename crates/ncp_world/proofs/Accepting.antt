@@ -17,7 +17,7 @@ use Rattle.ncp_world.specs.Between.{is_regular, is_taken, taken}
 le_of : (a b : ℕ) → nat_le a b ≡ true → a ≤ b
 le_of a b h = grind (arith, nat_tests)
 
-of_le : (a b : ℕ) → a ≤ b → nat_le a b ≡ true
+pub of_le : (a b : ℕ) → a ≤ b → nat_le a b ≡ true
 of_le a b h = grind (arith, nat_tests)
 
 regular : (m : List Bool) → is_regular m ≡ true → IsRegular m
@@ -30,7 +30,7 @@ free Delivered h = cc
 free Lost h = cc
 free Dead h = cc
 
-both : (a b : Bool) → a ≡ true → b ≡ true → (a && b) ≡ true
+pub both : (a b : Bool) → a ≡ true → b ≡ true → (a && b) ≡ true
 both true true h k = refl
 both true false h k = cc
 both false b h k = cc
@@ -64,11 +64,11 @@ a_refusal s from m h none = by_regular (is_regular m) refl
     by_regular true r = by_way (has_way s from (host_in m)) refl r
     by_regular false r = none.0 (not_regular m r)
 
-taken_yes : (s : Subnet) (from : ℕ) (m : List Bool) → is_taken s from m ≡ true → taken from m s ≡ with_transit s from (host_in m) (link_in m) (Accepted m)
+pub taken_yes : (s : Subnet) (from : ℕ) (m : List Bool) → is_taken s from m ≡ true → taken from m s ≡ with_transit s from (host_in m) (link_in m) (Accepted m)
 unfolding taken
 taken_yes s from m t = rw t refl
 
-taken_no : (s : Subnet) (from : ℕ) (m : List Bool) → is_taken s from m ≡ false → taken from m s ≡ s
+pub taken_no : (s : Subnet) (from : ℕ) (m : List Bool) → is_taken s from m ≡ false → taken from m s ≡ s
 unfolding taken
 taken_no s from m t = rw t refl
 

@@ -81,10 +81,10 @@ either number on k d f g others this = go (on == k) refl
 
 -- what is out is in its slot, on a link that fits
 
-record IsOut (on : ℕ) (s : LinkSlot) : Type 0 where
-  message : List Bool
-  in_slot : s ≡ slots.Travelling message
-  fits : on < 2 ^ 8
+pub record IsOut (on : ℕ) (s : LinkSlot) : Type 0 where
+  pub message : List Bool
+  pub in_slot : s ≡ slots.Travelling message
+  pub fits : on < 2 ^ 8
 
 accepted-out : (on : ℕ) (w : hosts.World) (v : World) (m : List Bool) → Tied w v → v.going on ≡ Accepted m → slot_at v.this.slots on ≡ slots.Travelling m
 accepted-out on w v m t e = go (on == 0) refl
@@ -95,7 +95,7 @@ accepted-out on w v m t e = go (on == 0) refl
         ap (slot_at v.this.slots) zero ∙ (away (control_bits v.there) AreCommands w.this.control (slot_at v.this.slots 0) (v.going 0) m t.this.control (ap v.going (sym zero) ∙ e)).2
     go false z = (away (text_bits v.there on) (IsTextOn on) (w.this.texts on) (slot_at v.this.slots on) (v.going on) m (t.this.texts on z) e).2
 
-delivered-out : (on : ℕ) (w : hosts.World) (v : World) → Tied w v → v.going on ≡ Delivered → IsOut on (slot_at v.this.slots on)
+pub delivered-out : (on : ℕ) (w : hosts.World) (v : World) → Tied w v → v.going on ≡ Delivered → IsOut on (slot_at v.this.slots on)
 delivered-out on w v t e = go (on == 0) refl
   where
     go : (b : Bool) → (on == 0) ≡ b → IsOut on (slot_at v.this.slots on)
@@ -107,7 +107,7 @@ delivered-out on w v t e = go (on == 0) refl
         let a : Answers (text_bits v.there on) (IsTextOn on) Came (w.this.texts on) (slot_at v.this.slots on) = taken (text_bits v.there on) (IsTextOn on) (w.this.texts on) (slot_at v.this.slots on) (v.going on) (t.this.texts on z) e in
         record { message = text_bits v.there on a.what; in_slot = a.written; fits = small on a.fits.0 }
 
-lost-out : (on : ℕ) (w : hosts.World) (v : World) → Tied w v → v.going on ≡ Lost → IsOut on (slot_at v.this.slots on)
+pub lost-out : (on : ℕ) (w : hosts.World) (v : World) → Tied w v → v.going on ≡ Lost → IsOut on (slot_at v.this.slots on)
 lost-out on w v t e = go (on == 0) refl
   where
     go : (b : Bool) → (on == 0) ≡ b → IsOut on (slot_at v.this.slots on)
@@ -119,7 +119,7 @@ lost-out on w v t e = go (on == 0) refl
         let a : Answers (text_bits v.there on) (IsTextOn on) Failed (w.this.texts on) (slot_at v.this.slots on) = refused (text_bits v.there on) (IsTextOn on) (w.this.texts on) (slot_at v.this.slots on) (v.going on) (t.this.texts on z) e in
         record { message = text_bits v.there on a.what; in_slot = a.written; fits = small on a.fits.0 }
 
-dead-out : (on : ℕ) (w : hosts.World) (v : World) → Tied w v → v.going on ≡ Dead → IsOut on (slot_at v.this.slots on)
+pub dead-out : (on : ℕ) (w : hosts.World) (v : World) → Tied w v → v.going on ≡ Dead → IsOut on (slot_at v.this.slots on)
 dead-out on w v t e = go (on == 0) refl
   where
     go : (b : Bool) → (on == 0) ≡ b → IsOut on (slot_at v.this.slots on)
@@ -309,7 +309,7 @@ ready-link on w v r f t s = go (on == 0) refl
         let a : Again (text_bits v.there on) (IsTextOn on) (w.this.texts on) r = again (text_bits v.there on) (IsTextOn on) (w.this.texts on) (slot_at v.this.slots on) (v.going on) r (t.this.texts on z) s in
         ap link_in a.written ∙ link-of v.there on a.what.of_size a.what.bits (small on f)
 
-out-link : (on : ℕ) (w : hosts.World) (v : World) (m : List Bool) (s : LinkSlot) → is_wrong_link on ≡ false → Tied w v → slot_at v.this.slots on ≡ s → output_by s v.there on v.this.peer ≡ Some m → link_in m ≡ on
+pub out-link : (on : ℕ) (w : hosts.World) (v : World) (m : List Bool) (s : LinkSlot) → is_wrong_link on ≡ false → Tied w v → slot_at v.this.slots on ≡ s → output_by s v.there on v.this.peer ≡ Some m → link_in m ≡ on
 out-link on w v m slots.Empty f t s e = made-link v.there on v.this.peer m (small on f) e
 out-link on w v m (slots.Ready r) f t s e = let x : r ≡ m = cc e in ap link_in (sym x) ∙ ready-link on w v r f t s
 out-link on w v m (slots.Travelling r) f t s e = absurd (cc e)

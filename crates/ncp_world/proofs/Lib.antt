@@ -20,3 +20,7 @@ pub mod Alike
 pub mod Accepting
 pub mod Growing
 pub mod OnePeer
+pub mod SeenSteps
+pub mod SeenMoves
+pub mod SeenRuns
+pub mod Headlines

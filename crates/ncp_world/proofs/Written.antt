@@ -60,10 +60,10 @@ comes-received number on size text s n o t =
 
 -- the answers
 
-abbrev answer_leader : ℕ → ℕ → ℕ → Leader
+abbrev pub answer_leader : ℕ → ℕ → ℕ → Leader
 answer_leader kind number on = record { flags = 0; kind = kind; host = number; link = on; low = 0 }
 
-answer-led : (kind number on : ℕ) → IsLeader (answer_leader kind number on) → leader_in (answer_bits kind number on) ≡ Ok (answer_leader kind number on)
+pub answer-led : (kind number on : ℕ) → IsLeader (answer_leader kind number on) → leader_in (answer_bits kind number on) ≡ Ok (answer_leader kind number on)
 unfolding answer_bits
 answer-led kind number on fits = ap leader_in (sym (append-nil (leader_bits (answer_leader kind number on)))) ∙ leader_in-bits (answer_leader kind number on) [] fits
 

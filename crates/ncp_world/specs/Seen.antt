@@ -12,6 +12,7 @@ use Rattle.ncp_transcript.specs.declared.note.HostNote.{HostNote}
 use Rattle.ncp_transcript.specs.declared.note.HostNote.TheVariants as of_host
 use Rattle.ncp_world.specs.World.{World, Asked, Asks, Asks_echo, Asks_reset, Asks_wake, Replied, Told, Called, Out, In, Went_lost, Went_dead, Answered, Nothing}
 use Rattle.ncp_world.specs.World as worlds
+use Rattle.ncp_world.specs.Tie.{IsAsked}
 use Rattle.ncp_world.specs.Watch.{Both}
 use Rattle.ncp_world.specs.Watch as watch
 use Rattle.ncp_world.specs.declared.side.Side.{Side}
@@ -116,3 +117,12 @@ watched side (Some told) v p = watch.after_note side told v p
 abbrev pub histories : List Note → Hosts → Both → Both
 histories [] w p = p
 histories (note ∷ rest) w p = histories rest (after_note note w) (watched (as_rules (side_of note)) (told_of note) (seen w) p)
+
+-- the numbers of a call that was done have their places in commands
+abbrev pub Fits : Option Told → Type 0
+Fits (Some (Called asked reply)) = IsAsked asked
+Fits other = Unit {0}
+
+abbrev pub CallsFit : List Note → Type 0
+CallsFit [] = Unit {0}
+CallsFit (note ∷ rest) = Fits (told_of note) × CallsFit rest
