@@ -14,7 +14,7 @@ use Rattle.ncp_world.specs.Tie.{IsNewWorld}
 use Rattle.ncp_world.specs.declared.note.Note.{Note}
 use Rattle.ncp_world.specs.Between.{Hosts}
 use Rattle.ncp_world.specs.Transcript.{began, IsTranscript}
-use Rattle.ncp_world.specs.Seen.{state_or_new, seen, told, CallsFit}
+use Rattle.ncp_world.specs.Seen.{state_or_new, seen, told}
 use Rattle.ncp_world.specs.OfRules.{histories_of, IsOfRules}
 use Rattle.ncp_world.proofs.Runs.{OfModelWith, run-watched, new-watched, new-ties}
 use Rattle.ncp_world.proofs.Refusals.{none-refused}
@@ -38,7 +38,7 @@ back a b differ =
 new-state : (n : ℕ) → state_or_new (if n == n then Some new_state else None) ≡ new_state
 new-state n = ap (λ (b : Bool). state_or_new (if b then Some new_state else None)) (eq-eqb n n refl)
 
-module _ (ns : List Note) (w : Hosts) (t : IsTranscript ns w) (fit : CallsFit ns) where
+module _ (ns : List Note) (w : Hosts) (t : IsTranscript ns w) where
   abbrev first : World
   first = seen (began w)
 
@@ -64,7 +64,7 @@ module _ (ns : List Note) (w : Hosts) (t : IsTranscript ns w) (fit : CallsFit ns
   }
 
   f : Follows ns (began w) first
-  f = follows ns (began w) t.run fit stands (new-ties first new)
+  f = follows ns (began w) t.run stands (new-ties first new)
 
   last : run_from f.events first ≡ seen w
   last = f.state ∙ ap seen (sym t.state)

@@ -24,3 +24,4 @@ pub mod SeenSteps
 pub mod SeenMoves
 pub mod SeenRuns
 pub mod Headlines
+pub mod Fitting

@@ -24,10 +24,11 @@ use Rattle.ncp_world.specs.declared.note.Note.TheVariants as notes
 use Rattle.ncp_world.specs.Between.{Hosts, taken, is_taken, after_out, host_notes_it, sent_out, after_note, after_notes}
 use Rattle.ncp_world.specs.Happening.{came, answered, Noted}
 use Rattle.ncp_world.specs.Transcript.{IsRun}
-use Rattle.ncp_world.specs.Seen.{seen, as_rules, told_call, told_in, told_answer, told_of, side_of, notes_of, told, watched, histories, Fits, CallsFit}
+use Rattle.ncp_world.specs.Seen.{seen, as_rules, told_call, told_in, told_answer, told_of, side_of, notes_of, told, watched, histories}
 use Rattle.ncp_world.proofs.Accepting.{taken_yes, taken_no}
 use Rattle.ncp_world.proofs.Ties.{tied-swapped}
 use Rattle.ncp_world.proofs.Runs.{step-ties}
+use Rattle.ncp_world.proofs.Fitting.{note-fits}
 use Rattle.ncp_world.proofs.SeenSteps.{Stand, Does, call-does}
 use Rattle.ncp_world.proofs.SeenMoves.{out-does, deliver-does, lose-does, die-does, answer-does}
 
@@ -150,19 +151,19 @@ module _ (w : Hosts) (k : Stand w) (x : hosts.World) (t : Tied x (seen w)) where
   b-dead link true d = on-that (told_of (notes.FoundDead B link)) (seen w) (seen (after_note (notes.FoundDead B link) w)) d
   b-dead link false d = on-that (Some Nothing) (seen w) (seen w) d
 
-  event-does : (event : happens.Event) (note : Note) → Noted event note w → Fits (told_of note) → Following note
-  event-does (events.Call A call) note n fits = subst (λ (m : Note). Fits (told_of m) → Following m) (sym n.said) (λ f. on-this (told_call n.of_host) (seen w) _ (call-does w k call n.of_host n.noted f)) fits
-  event-does (events.Call B call) note n fits = subst (λ (m : Note). Fits (told_of m) → Following m) (sym n.said) (λ f. on-that (told_call n.of_host) (seen w) (seen (host_notes_it B n.of_host w)) (call-does (turned w) k' call n.of_host n.noted f)) fits
-  event-does (events.Out A) note n fits = subst Following (sym n) (out-does w k x t)
-  event-does (events.Out B) note n fits = subst Following (sym n) (on-that (told_of (notes.Out B (note_of_output w.b))) (seen w) (seen (sent_out B (note_of_output w.b) w)) (out-does (turned w) k' (hosts.swap x) t'))
-  event-does (events.Deliver A link) note n fits = subst Following (sym n) (a-came link (arriving w.number_a ((seen w).going link)) (deliver-does w k x t link ((seen w).going link) refl))
-  event-does (events.Deliver B link) note n fits = subst Following (sym n) (b-came link (arriving w.number_b ((seen w).coming link)) (deliver-does (turned w) k' (hosts.swap x) t' link ((seen w).coming link) refl))
-  event-does (events.Lose A link) note n fits = subst Following (sym n) (a-lost link (is_accepted ((seen w).going link)) (lose-does w k x t link ((seen w).going link) refl))
-  event-does (events.Lose B link) note n fits = subst Following (sym n) (b-lost link (is_accepted ((seen w).coming link)) (lose-does (turned w) k' (hosts.swap x) t' link ((seen w).coming link) refl))
-  event-does (events.Dead A link) note n fits = subst Following (sym n) (a-dead link (is_accepted ((seen w).going link)) (die-does w k x t link ((seen w).going link) refl))
-  event-does (events.Dead B link) note n fits = subst Following (sym n) (b-dead link (is_accepted ((seen w).coming link)) (die-does (turned w) k' (hosts.swap x) t' link ((seen w).coming link) refl))
-  event-does (events.Answer A link) note n fits = subst Following (sym n) (a-answered link (answer_about w.number_b link ((seen w).going link)) (answer-does w k x t link ((seen w).going link) refl))
-  event-does (events.Answer B link) note n fits = subst Following (sym n) (b-answered link (answer_about w.number_a link ((seen w).coming link)) (answer-does (turned w) k' (hosts.swap x) t' link ((seen w).coming link) refl))
+  event-does : (event : happens.Event) (note : Note) → Noted event note w → Following note
+  event-does (events.Call A call) note n = subst Following (sym n.said) (on-this (told_call n.of_host) (seen w) _ (call-does w k call n.of_host n.noted (note-fits call n.of_host w.a n.noted n.fits)))
+  event-does (events.Call B call) note n = subst Following (sym n.said) (on-that (told_call n.of_host) (seen w) (seen (host_notes_it B n.of_host w)) (call-does (turned w) k' call n.of_host n.noted (note-fits call n.of_host w.b n.noted n.fits)))
+  event-does (events.Out A) note n = subst Following (sym n) (out-does w k x t)
+  event-does (events.Out B) note n = subst Following (sym n) (on-that (told_of (notes.Out B (note_of_output w.b))) (seen w) (seen (sent_out B (note_of_output w.b) w)) (out-does (turned w) k' (hosts.swap x) t'))
+  event-does (events.Deliver A link) note n = subst Following (sym n) (a-came link (arriving w.number_a ((seen w).going link)) (deliver-does w k x t link ((seen w).going link) refl))
+  event-does (events.Deliver B link) note n = subst Following (sym n) (b-came link (arriving w.number_b ((seen w).coming link)) (deliver-does (turned w) k' (hosts.swap x) t' link ((seen w).coming link) refl))
+  event-does (events.Lose A link) note n = subst Following (sym n) (a-lost link (is_accepted ((seen w).going link)) (lose-does w k x t link ((seen w).going link) refl))
+  event-does (events.Lose B link) note n = subst Following (sym n) (b-lost link (is_accepted ((seen w).coming link)) (lose-does (turned w) k' (hosts.swap x) t' link ((seen w).coming link) refl))
+  event-does (events.Dead A link) note n = subst Following (sym n) (a-dead link (is_accepted ((seen w).going link)) (die-does w k x t link ((seen w).going link) refl))
+  event-does (events.Dead B link) note n = subst Following (sym n) (b-dead link (is_accepted ((seen w).coming link)) (die-does (turned w) k' (hosts.swap x) t' link ((seen w).coming link) refl))
+  event-does (events.Answer A link) note n = subst Following (sym n) (a-answered link (answer_about w.number_b link ((seen w).going link)) (answer-does w k x t link ((seen w).going link) refl))
+  event-does (events.Answer B link) note n = subst Following (sym n) (b-answered link (answer_about w.number_a link ((seen w).coming link)) (answer-does (turned w) k' (hosts.swap x) t' link ((seen w).coming link) refl))
 
 -- One note after the other.
 
@@ -208,11 +209,11 @@ of-model-after : (note : Note) (w : Hosts) (o : Option Told) → DoesOn (as_rule
 of-model-after note w None same m = subst IsOfModel (sym same) m
 of-model-after note w (Some t) (st, ok, is) m = subst IsOfModel (ap (λ (d : World × Told). d.0) is) (step-ties (as_rules (side_of note)) st (seen w) ok m)
 
-pub follows : (ns : List Note) (w : Hosts) → IsRun ns w → CallsFit ns → Stand w → IsOfModel (seen w) → Follows ns w (seen w)
-follows [] w run fit k m = record { events = []; are = tt; state = refl; said = refl; watches = λ p. refl }
-follows (note ∷ ns) w run fit k m =
-    let did : DoesOn (as_rules (side_of note)) (told_of note) (seen w) (seen (after_note note w)) = event-does w k m.0 m.1 run.0.0 note run.0.1 fit.0 in
-    go (told_of note) refl did (follows ns (after_note note w) run.1 fit.1 (stand-after note w k) (of-model-after note w (told_of note) did m))
+pub follows : (ns : List Note) (w : Hosts) → IsRun ns w → Stand w → IsOfModel (seen w) → Follows ns w (seen w)
+follows [] w run k m = record { events = []; are = tt; state = refl; said = refl; watches = λ p. refl }
+follows (note ∷ ns) w run k m =
+    let did : DoesOn (as_rules (side_of note)) (told_of note) (seen w) (seen (after_note note w)) = event-does w k m.0 m.1 run.0.0 note run.0.1 in
+    go (told_of note) refl did (follows ns (after_note note w) run.1 (stand-after note w k) (of-model-after note w (told_of note) did m))
   where
     go : (o : Option Told) → told_of note ≡ o → DoesOn (as_rules (side_of note)) o (seen w) (seen (after_note note w)) → Follows ns (after_note note w) (seen (after_note note w)) → Follows (note ∷ ns) w (seen w)
     go None e d rest = quiet-follows note ns w e d rest

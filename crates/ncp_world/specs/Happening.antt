@@ -11,13 +11,15 @@ use Rattle.ncp_world.specs.declared.event.Event.TheVariants as events
 use Rattle.ncp_world.specs.declared.note.Move.TheVariants as moves
 use Rattle.ncp_world.specs.declared.note.Note.{Note}
 use Rattle.ncp_world.specs.declared.note.Note.TheVariants as notes
+use Rattle.ncp_world.specs.Seen.{CallFits}
 use Rattle.ncp_world.specs.Between.{Hosts, other, number_of, host_of, transit_of}
 
--- a call is noted with what the host notes of it
+-- a call, whose numbers have their places in commands, is noted with what the host notes of it
 pub record IsCalled (side : Side) (call : Call) (note : Note) (w : Hosts) : Type 0 where
   pub of_host : HostNote
   pub said : note ≡ notes.Called side of_host
   pub noted : CallNoted call of_host (host_of side w)
+  pub fits : CallFits call
 
 -- bits come from the subnet, or there are none
 abbrev pub came : Side → ℕ → Option (List Bool) → Hosts → Note

@@ -118,11 +118,10 @@ abbrev pub histories : List Note → Hosts → Both → Both
 histories [] w p = p
 histories (note ∷ rest) w p = histories rest (after_note note w) (watched (as_rules (side_of note)) (told_of note) (seen w) p)
 
--- the numbers of a call that was done have their places in commands
+-- the numbers of a call have their places in commands
 abbrev pub Fits : Option Told → Type 0
 Fits (Some (Called asked reply)) = IsAsked asked
 Fits other = Unit {0}
 
-abbrev pub CallsFit : List Note → Type 0
-CallsFit [] = Unit {0}
-CallsFit (note ∷ rest) = Fits (told_of note) × CallsFit rest
+abbrev pub CallFits : Call → Type 0
+CallFits call = Fits (done (asked_by call))

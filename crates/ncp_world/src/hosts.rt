@@ -1,13 +1,15 @@
 //! `Hosts`: two hosts and the subnet between them.
 ghost use Rattle.std.specs.Prelude.{◌≡◌, ◌≢◌, Ok, IfOk, OnErr};
 ghost use Rattle.ncp_world.specs.Between.{new_hosts, other, number_of, after_out, after_note};
+ghost use Rattle.ncp_world.specs.Tie.{IsPair};
+ghost use Rattle.ncp_world.specs.Seen.{CallFits};
 ghost use Rattle.ncp_world.specs.Happening.{IsCalled, note_of_out, note_of_delivery, note_of_loss, note_of_death, note_of_answer, Noted};
 
 use crate::event::Event;
 use crate::note::{Move, Note};
 use crate::side::Side;
 use ncp_bits::BitStore;
-use ncp_host::{Host, HostFault};
+use ncp_host::{Host, HostFault, Pair};
 use ncp_subnet::Subnet;
 use ncp_transcript::{Call, HostNote, Room, hear_in_room, perform, send};
 use std::alloc::{AllocError, Global};
@@ -57,6 +59,50 @@ fn made_in_memory<S: BitStore>(made: Result<Host<S>, HostFault>) -> Result<Host<
     }
 }
 
+// The numbers of a pair have their places in commands, since their types say how large they are.
+fn pair_fits(pair: &Pair)
+    ensures { IsPair pair.now }
+{
+    let _local = pair.local;
+    let _remote = pair.remote;
+}
+
+// So have those of a call.
+fn numbers_fit(call: &Call)
+    ensures { CallFits call.now }
+{
+    match call {
+        Call::AskSend { pair, size, .. } => {
+            pair_fits(pair);
+            let _size = *size;
+        }
+        Call::Allocate {
+            pair,
+            messages,
+            bits,
+            ..
+        } => {
+            pair_fits(pair);
+            let _messages = *messages;
+            let _bits = *bits;
+        }
+        Call::CallBack { pair, fm, fb, .. } => {
+            pair_fits(pair);
+            let _messages = *fm;
+            let _bits = *fb;
+        }
+        Call::AskReceive { pair, .. } => pair_fits(pair),
+        Call::Give { pair, .. } => pair_fits(pair),
+        Call::Take { pair, .. } => pair_fits(pair),
+        Call::Interrupt { pair, .. } => pair_fits(pair),
+        Call::Close { pair, .. } => pair_fits(pair),
+        Call::Echo { byte, .. } => {
+            let _byte = *byte;
+        }
+        _ => {}
+    }
+}
+
 // The subnet takes what a host noted that goes out.
 #[tactic(auto, using(crate::proofs::Accepting::accepting))]
 fn pass_on(subnet: &mut Subnet, from: u8, note: &HostNote)
@@ -102,6 +148,7 @@ impl<S: BitStore> Hosts<S> {
         ensures hosts { IfOk result (λ note. self.new ≡ after_note note self.old) }
         ensures err { OnErr result (self.new ≡ self.old) }
     {
+        numbers_fit(call);
         let note = match side {
             Side::A => perform(alloc, &mut self.a, call)?,
             Side::B => perform(alloc, &mut self.b, call)?,

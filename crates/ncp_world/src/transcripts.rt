@@ -13,7 +13,7 @@ ghost use Rattle.ncp_world.specs.declared.event.Event.{Event};
 ghost use Rattle.ncp_world.specs.declared.note.Note.{Note};
 ghost use Rattle.ncp_world.specs.Between.{Hosts};
 ghost use Rattle.ncp_world.specs.Transcript.{IsRun, AreNotes, IsTranscript};
-ghost use Rattle.ncp_world.specs.Seen.{seen, told, CallsFit};
+ghost use Rattle.ncp_world.specs.Seen.{seen, told};
 ghost use Rattle.ncp_world.specs.OfRules.{histories_of, IsOfRules};
 
 /// The notes of events, however many and whatever they are, are one for each, and a run: each says what
@@ -26,7 +26,7 @@ pub fn every_list_of_events_is_a_run()
 /// A transcript is a run of the rules: there are events of theirs that lead to what is seen of the hosts
 /// and the subnet, with what the notes tell, and with the histories of the notes.
 pub fn transcripts_are_of_the_rules()
-    ensures { (notes : List Note) (w : Hosts) → IsTranscript notes w → CallsFit notes → IsOfRules notes w }
+    ensures { (notes : List Note) (w : Hosts) → IsTranscript notes w → IsOfRules notes w }
 {}
 
 /// The headline, of transcripts. For each pair, either way: what a live receiver got is a beginning of what
@@ -34,20 +34,20 @@ pub fn transcripts_are_of_the_rules()
 /// beyond the allocation; and while both ends are open, what is outstanding at the receiver is what the
 /// sender's counters hold and what is underway.
 pub fn transcripts_keep_the_headline()
-    ensures beginning { (notes : List Note) (w : Hosts) (pair : Pair) → IsTranscript notes w → CallsFit notes → sends pair ≡ true → let p = histories_of notes w in GotIsBeginning pair (seen w) p × GotIsBeginning pair (swap (seen w)) (turn p) }
-    ensures held { (notes : List Note) (w : Hosts) (pair : Pair) → IsTranscript notes w → CallsFit notes → sends pair ≡ true → let p = histories_of notes w in GotIsTakenOrHeld pair (seen w) p × GotIsTakenOrHeld pair (swap (seen w)) (turn p) }
-    ensures allocation { (notes : List Note) (w : Hosts) (pair : Pair) → IsTranscript notes w → CallsFit notes → sends pair ≡ true → let p = histories_of notes w in NeverBeyondAllocation pair (seen w) p × NeverBeyondAllocation pair (swap (seen w)) (turn p) }
-    ensures messages { (notes : List Note) (w : Hosts) (pair : Pair) → IsTranscript notes w → CallsFit notes → sends pair ≡ true → let p = histories_of notes w in MessagesAgree pair (seen w) × MessagesAgree pair (swap (seen w)) }
-    ensures bits { (notes : List Note) (w : Hosts) (pair : Pair) → IsTranscript notes w → CallsFit notes → sends pair ≡ true → let p = histories_of notes w in BitsAgree pair (seen w) × BitsAgree pair (swap (seen w)) }
-    ensures parted { (notes : List Note) (w : Hosts) (pair : Pair) → IsTranscript notes w → CallsFit notes → sends pair ≡ true → let p = histories_of notes w in Parted pair (seen w) p × Parted pair (swap (seen w)) (turn p) }
-    ensures resets { (notes : List Note) (w : Hosts) → IsTranscript notes w → CallsFit notes → NoResetUnderway (seen w) × NoResetUnderway (swap (seen w)) }
-    ensures refused { (notes : List Note) (w : Hosts) → IsTranscript notes w → CallsFit notes → any_refused (told notes) ≡ false }
+    ensures beginning { (notes : List Note) (w : Hosts) (pair : Pair) → IsTranscript notes w → sends pair ≡ true → let p = histories_of notes w in GotIsBeginning pair (seen w) p × GotIsBeginning pair (swap (seen w)) (turn p) }
+    ensures held { (notes : List Note) (w : Hosts) (pair : Pair) → IsTranscript notes w → sends pair ≡ true → let p = histories_of notes w in GotIsTakenOrHeld pair (seen w) p × GotIsTakenOrHeld pair (swap (seen w)) (turn p) }
+    ensures allocation { (notes : List Note) (w : Hosts) (pair : Pair) → IsTranscript notes w → sends pair ≡ true → let p = histories_of notes w in NeverBeyondAllocation pair (seen w) p × NeverBeyondAllocation pair (swap (seen w)) (turn p) }
+    ensures messages { (notes : List Note) (w : Hosts) (pair : Pair) → IsTranscript notes w → sends pair ≡ true → let p = histories_of notes w in MessagesAgree pair (seen w) × MessagesAgree pair (swap (seen w)) }
+    ensures bits { (notes : List Note) (w : Hosts) (pair : Pair) → IsTranscript notes w → sends pair ≡ true → let p = histories_of notes w in BitsAgree pair (seen w) × BitsAgree pair (swap (seen w)) }
+    ensures parted { (notes : List Note) (w : Hosts) (pair : Pair) → IsTranscript notes w → sends pair ≡ true → let p = histories_of notes w in Parted pair (seen w) p × Parted pair (swap (seen w)) (turn p) }
+    ensures resets { (notes : List Note) (w : Hosts) → IsTranscript notes w → NoResetUnderway (seen w) × NoResetUnderway (swap (seen w)) }
+    ensures refused { (notes : List Note) (w : Hosts) → IsTranscript notes w → any_refused (told notes) ≡ false }
 {}
 
 /// The subnet of a transcript is honest. On each link, what came is a beginning of what was sent, shorter by
 /// at most one message; and a message that goes out again is the one before.
 pub fn transcripts_are_honest()
-    ensures honest { (notes : List Note) (w : Hosts) → IsTranscript notes w → CallsFit notes → IsHonest w.number_a w.number_b (told notes) }
-    ensures came { (notes : List Note) (w : Hosts) → IsTranscript notes w → CallsFit notes → (side : Side) (on : ℕ) → IsBeginning 1 (came side on (told notes)) (sent (number_of_side w.number_a w.number_b side) side on (told notes)) }
-    ensures again { (notes : List Note) (w : Hosts) → IsTranscript notes w → CallsFit notes → (side : Side) (on : ℕ) → Repeats side on (told notes) }
+    ensures honest { (notes : List Note) (w : Hosts) → IsTranscript notes w → IsHonest w.number_a w.number_b (told notes) }
+    ensures came { (notes : List Note) (w : Hosts) → IsTranscript notes w → (side : Side) (on : ℕ) → IsBeginning 1 (came side on (told notes)) (sent (number_of_side w.number_a w.number_b side) side on (told notes)) }
+    ensures again { (notes : List Note) (w : Hosts) → IsTranscript notes w → (side : Side) (on : ℕ) → Repeats side on (told notes) }
 {}
