@@ -5,7 +5,7 @@ use Rattle.std.proofs.lemmas.Bool.Decides.{nat_tests}
 use Rattle.ncp_bits.specs.Reasons.{NoneHolds}
 use Rattle.ncp_leader.specs.declared.leader.TheConstants.{LEADER_BITS}
 use Rattle.ncp_leader.specs.Leader.{leader_at}
-use Rattle.ncp_subnet.specs.declared.addressed.TheConstants.{REGULAR}
+use Rattle.ncp_leader.specs.declared.kinds.TheConstants.{REGULAR}
 use Rattle.ncp_subnet.specs.declared.fault.SubnetFault.{SubnetFault}
 use Rattle.ncp_subnet.specs.declared.transit.Transit.TheVariants.{Free, Accepted, Delivered, Lost, Dead}
 use Rattle.ncp_subnet.specs.Transit.{is_free}

@@ -24,7 +24,7 @@ use Rattle.ncp_host.specs.Host.{changed}
 use Rattle.ncp_host.specs.Arrivals as arrivals
 use Rattle.ncp_host.specs.Output.{next_of, message_on, leader_to, after_output, after_next, output_by, links}
 use Rattle.ncp_host.specs.Turns.{after_next_output}
-use Rattle.ncp_subnet.specs.declared.addressed.TheConstants.{REGULAR}
+use Rattle.ncp_leader.specs.declared.kinds.TheConstants.{REGULAR}
 use Rattle.ncp_subnet.specs.Messages.{arriving, answer_about, host_in}
 use Rattle.ncp_subnet.specs.Transit.{is_free, is_accepted}
 use Rattle.ncp_subnet.specs.Ways.{OnLink}

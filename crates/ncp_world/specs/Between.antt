@@ -3,7 +3,7 @@
 use Rattle.std.specs.Prelude.{ℕ, Bool, ◌==◌, ◌&&◌, nat_le, if◌then◌else◌, List, [], ◌∷◌, length}
 use Rattle.ncp_leader.specs.declared.leader.TheConstants.{LEADER_BITS}
 use Rattle.ncp_leader.specs.Leader.{leader_at}
-use Rattle.ncp_subnet.specs.declared.addressed.TheConstants.{REGULAR}
+use Rattle.ncp_leader.specs.declared.kinds.TheConstants.{REGULAR}
 use Rattle.ncp_subnet.specs.declared.transit.Transit.TheVariants.{Accepted, Delivered, Lost, Dead, Free}
 use Rattle.ncp_subnet.specs.Transit.{is_free}
 use Rattle.ncp_subnet.specs.Messages.{host_in, link_in}
