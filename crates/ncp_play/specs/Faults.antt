@@ -1,5 +1,5 @@
 -- Why a script is not played to its end: numbers and names, and the line that a program prints (this profile).
-use Rattle.std.specs.Prelude.{◌≡◌, ℕ, List, [], ◌++◌, Option, Some, None, Result, Ok, Err, codes}
+use Rattle.std.specs.Prelude.{◌≡◌, ℕ, Bool, true, false, List, [], ◌++◌, Option, Some, None, Result, Ok, Err, codes}
 use Rattle.ncp_stream.specs.declared.source.Failed.{Failed}
 use Rattle.ncp_files.specs.File.{name_of_fault}
 use Rattle.ncp_files.specs.Lines.{field}
@@ -38,6 +38,15 @@ place_words (Some line) = field (codes "line ") line ++ codes ": "
 -- what is printed: `ncp: line L: NAME`, or `ncp: NAME`
 abbrev pub fault_line : PlayFault → List ℕ
 fault_line fault = codes "ncp: " ++ place_words (line_of fault) ++ name_of fault ++ codes "\n"
+
+-- whether a result says that a write failed
+abbrev pub is_write : PlayFault → Bool
+is_write WriteFailed = true
+is_write other = false
+
+abbrev pub is_write_failed : {X : Type 0} → Result X PlayFault → Bool
+is_write_failed (Ok x) = false
+is_write_failed (Err fault) = is_write fault
 
 -- what was written behind what was there: this text, or where a write failed a beginning of it
 abbrev pub Wrote : List ℕ → List ℕ → Result Unit Failed → Option (List ℕ) → Type 0

@@ -3,4 +3,5 @@ pub mod Names
 pub mod Results
 pub mod Arrived
 pub mod NoteLines
+pub mod Playing
 pub mod Examples

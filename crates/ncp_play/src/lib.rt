@@ -7,8 +7,10 @@ mod heading;
 pub mod laws;
 mod naming;
 mod note_lines;
+mod playing;
 mod results;
 
 pub use fault::PlayFault;
 pub use heading::{Heading, Speaker};
 pub use note_lines::say_note;
+pub use playing::play_input;
