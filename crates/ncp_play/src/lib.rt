@@ -1,4 +1,4 @@
-//! The players of scripts: what is written of each note.
+//! The players of scripts: one input at a time, and the lines that are told of its note.
 #![tactic(auto)]
 
 mod arrived;

@@ -2,7 +2,7 @@
 //! test.
 use ncp_bits::{Bits, PackedStore};
 use ncp_files::Page;
-use ncp_play::{Heading, PlayFault, Speaker, say_note};
+use ncp_play::{Heading, PlayFault, Speaker, play_input, say_note};
 use ncp_stream::MemorySink;
 use ncp_transcript::{Alone, HostNote, Input, Message};
 use std::alloc::Global;
@@ -48,7 +48,7 @@ pub(crate) fn expect(
     Ok(())
 }
 
-/// Does these inputs to a host, and compares the lines of its notes.
+/// Plays these inputs, and compares the lines of their notes.
 pub(crate) fn expect_run(
     rt: &impl Abort,
     alloc: Global,
@@ -56,18 +56,14 @@ pub(crate) fn expect_run(
     lines: &[u8],
 ) -> Result<(), Fail> {
     let mut alone = Alone::<PackedStore>::new(alloc, ME, &[PEER])?;
-    for input in inputs {
-        alone.step(input)?;
-    }
     let mut page = Page::new();
     let mut sink = MemorySink::new(alloc, ROOM, None)?;
     let mut heading = Heading {
         number: 1,
         speaker: Speaker::Host,
     };
-    for note in alone.transcript() {
-        say_note(&mut page, &mut sink, heading, note)?;
-        heading = heading.next();
+    for input in inputs {
+        play_input(&mut alone, input, &mut heading, &mut page, &mut sink)?;
     }
     page.flush(&mut sink)?;
     assert!(rt; sink.bytes() == lines);
