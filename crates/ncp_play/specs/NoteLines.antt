@@ -49,10 +49,11 @@ call_line heading note = line_if_named heading (name_of_note note) (result_words
 
 -- ---- messages
 
+-- bits that came, in a script of one host; in one of two the event that brought them is told, not this
 abbrev pub in_line : Heading → Received → List ℕ
 in_line heading received = front heading ++ codes " in " ++ received_words received ++ codes "\n"
 
--- where a message goes
+-- where a message goes; of one without a leader, which no host sends, that it is short
 abbrev pub toward : Result Leader Short → List ℕ
 toward (Cut_off short) = codes " short"
 toward (Ok leader) = field (codes " host=") leader.host ++ field (codes " link=") leader.link

@@ -10,10 +10,12 @@ use thiserror::Error;
 /// Why a script was not played to its end.
 #[derive(Clone, Copy, Debug, Drop, PartialEq, Eq, Error)]
 pub enum PlayFault {
-    /// This line, counted from 1 with all lines, says nothing that can be played.
+    /// This line, counted from 1 with all lines, says nothing that can be played, or is a `feed` that no
+    /// LF ends.
     #[error("line {0} says nothing that can be played")]
     BadLine(u32),
-    /// This line is too long. It is judged before it is read.
+    /// This line, which is not skipped, has more than [`MAX_LINE`] bytes. It is judged before `BadLine` and
+    /// `BadHosts`.
     #[error("line {0} has more than {MAX_LINE} bytes")]
     LineTooLong(u32),
     /// The first line that is not skipped names no proper hosts, or there is none.

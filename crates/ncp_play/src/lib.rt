@@ -1,4 +1,5 @@
-//! The players of scripts: one input at a time, and the lines that are told of its note.
+//! What players of scripts have in common: one input at a time, the lines that are told of its note,
+//! and why a script is not played on.
 #![tactic(auto)]
 
 mod arrived;

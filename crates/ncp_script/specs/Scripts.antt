@@ -1,10 +1,11 @@
 -- A script as its bytes say it (this profile): its lines, what they ask for up to the first fault, and that
 -- fault. What a line asks for is what tells the scripts of one host from others.
-use Rattle.std.specs.Prelude.{ℕ, ◌+◌, Bool, true, false, List, [], ◌∷◌, Option, Some, None, if◌then◌else◌}
+use Rattle.std.specs.Prelude.{ℕ, ◌+◌, min, Bool, true, false, List, [], ◌∷◌, Option, Some, None, if◌then◌else◌}
 use Rattle.ncp_script.specs.declared.line_buffer.LineKind.{LineKind}
 use Rattle.ncp_script.specs.declared.line_buffer.LineKind.TheVariants.{Skipped, TooLong, Played}
 use Rattle.ncp_script.specs.Lines.{is_lf, text_of, kind_of}
 use Rattle.ncp_script.specs.Words.{words_of}
+use Rattle.ncp_model.specs.declared.limits.TheConstants.{MAX_COUNT}
 
 -- one line: its bytes without its LF, whether an LF ended it, and all bytes behind it
 pub record Line : Type 0 where
@@ -63,10 +64,14 @@ judged number line Skipped asked course = course
 judged number line TooLong asked course = ends (Faulty (LineTooLong number))
 judged number line Played asked course = played number line asked course
 
+-- the number of the next line; numbers stay at the greatest (this profile's rule)
+abbrev pub number_behind : ℕ → ℕ
+number_behind number = min (number + 1) MAX_COUNT
+
 -- what lines ask for, where what one of these words asks for is known; the first has this number
 abbrev pub course_from : {E : Type 0} → (List (List ℕ) → Option (Asked E)) → ℕ → List Line → Course E
 course_from asked number [] = ends Over
-course_from asked number (line ∷ lines) = judged number line (kind_of (said line)) (asked (words_of (said line))) (course_from asked (number + 1) lines)
+course_from asked number (line ∷ lines) = judged number line (kind_of (said line)) (asked (words_of (said line))) (course_from asked (number_behind number) lines)
 
 -- a script: the hosts of its first line and what the lines behind it ask for, or why it has none
 pub data Script (H E : Type 0) : Type 0 where
@@ -86,7 +91,7 @@ first_judged number Played hosts course script = begun hosts course
 abbrev pub script_from : {H E : Type 0} → (List (List ℕ) → Option H) → (H → List (List ℕ) → Option (Asked E)) → ℕ → List Line → Script H E
 script_from hosts asked number [] = NoHosts BadHosts
 script_from hosts asked number (line ∷ lines) =
-    first_judged number (kind_of (said line)) (hosts (words_of (said line))) (λ h. course_from (asked h) (number + 1) lines) (script_from hosts asked (number + 1) lines)
+    first_judged number (kind_of (said line)) (hosts (words_of (said line))) (λ h. course_from (asked h) (number_behind number) lines) (script_from hosts asked (number_behind number) lines)
 
 abbrev pub script_of : {H E : Type 0} → (List (List ℕ) → Option H) → (H → List (List ℕ) → Option (Asked E)) → List ℕ → Script H E
 script_of hosts asked bytes = script_from hosts asked 1 (lines_of bytes)

@@ -7,7 +7,7 @@ ghost use Rattle.ncp_script.specs.Words.{words_of};
 ghost use Rattle.ncp_script.specs.Calls.{call_of};
 ghost use Rattle.ncp_script.specs.HostLines.{host_line_of};
 ghost use Rattle.ncp_script.specs.FirstLines.{first_of_host, hosts_named};
-ghost use Rattle.ncp_script.specs.Scripts.{Over, Fed, Faulty, BadLine, LineTooLong, BadHosts, NoHosts, Plays};
+ghost use Rattle.ncp_script.specs.Scripts.{Over, Fed, Faulty, BadLine, BadHosts, NoHosts, Plays};
 ghost use Rattle.ncp_script.specs.HostScripts.{host_script};
 
 /// A text that is given: its number of bits, and their bytes.

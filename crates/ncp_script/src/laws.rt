@@ -2,7 +2,9 @@
 ghost use Rattle.std.specs.Prelude.{◌≡◌, ℕ, Bool, true, false, List, [], ◌∷◌, ◌++◌, ◌+◌, take, drop, position, Option, None, Some};
 ghost use Rattle.std.specs.List.{before_first};
 ghost use Rattle.ncp_transcript.specs.declared.input.Input.{Input};
-ghost use Rattle.ncp_script.specs.declared.line_buffer.TheConstants.{LF};
+ghost use Rattle.ncp_script.specs.declared.line_buffer.TheConstants.{MAX_LINE, LF, CR, REMARK};
+ghost use Rattle.ncp_script.specs.declared.numbers.TheConstants.{MAX_DIGITS};
+ghost use Rattle.ncp_script.specs.declared.line_words.TheConstants.{SPACE};
 ghost use Rattle.ncp_script.specs.Lines.{is_lf, text_of, kind_of};
 ghost use Rattle.ncp_script.specs.FirstLines.{Named};
 ghost use Rattle.ncp_script.specs.Scripts.{Line, lines_of, said, Asked, course_from, script_from, ends, Faulty, LineTooLong, NoHosts};
@@ -44,4 +46,11 @@ pub fn pieces_make_lines()
 pub fn long_lines_are_judged_first()
     ensures first { (hosts : List (List ℕ) → Option Named) (asked : Named → List (List ℕ) → Option (Asked Input)) (number : ℕ) (line : Line) (lines : List Line) → kind_of (said line) ≡ LineKind.TooLong → script_from hosts asked number (line ∷ lines) ≡ NoHosts (LineTooLong number) }
     ensures other { (asked : List (List ℕ) → Option (Asked Input)) (number : ℕ) (line : Line) (lines : List Line) → kind_of (said line) ≡ LineKind.TooLong → course_from asked number (line ∷ lines) ≡ ends (Faulty (LineTooLong number)) }
+{}
+
+/// The limits of lines and numbers, and the bytes that part lines and words.
+pub fn limits_are_these()
+    ensures line { MAX_LINE ≡ 4096 }
+    ensures digits { MAX_DIGITS ≡ 10 }
+    ensures bytes { (LF ≡ 10) × (CR ≡ 13) × (REMARK ≡ 35) × (SPACE ≡ 32) }
 {}

@@ -1,5 +1,6 @@
-//! Scripts: the lines of bytes that come in pieces, the words of a line, and the numbers, bits
-//! and arguments of calls that they are.
+//! Scripts: the lines of bytes that come in pieces, the words of a line, and the numbers, bits,
+//! calls and hosts that they are; what a line of a script of one host asks for; and, as a definition,
+//! what a whole script does.
 #![tactic(auto)]
 
 mod arguments;

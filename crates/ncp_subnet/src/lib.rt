@@ -1,5 +1,5 @@
 //! The subnet between hosts: it takes regular messages at one host, delivers each whole and once or
-//! not at all, and answers the sender which of the two it was (BBN Report 1822, section 3).
+//! not at all, and answers the sender what became of it (BBN Report 1822, section 3).
 //!
 //! [`Subnet::accept`] takes a message, [`Subnet::deliver`] gives it out at its destination, and
 //! [`Subnet::lose`] and [`Subnet::dead`] say that it will not come; then [`Subnet::answer`] gives

@@ -10,13 +10,15 @@ use Rattle.ncp_world.specs.World as worlds
 use Rattle.ncp_world.specs.Honest.{IsHonest, IsBeginning, Repeats, number_of_side, sent, came, deeds}
 use Rattle.ncp_world.specs.Refused.{any_refused}
 use Rattle.ncp_world.specs.Watch.{Both, no_histories, histories_from}
-use Rattle.ncp_world.specs.Tie.{IsNewWorld}
+use Rattle.ncp_world.specs.Tie.{IsNewWorld, Tied}
 use Rattle.ncp_world.specs.declared.note.Note.{Note}
 use Rattle.ncp_world.specs.Between.{Hosts}
 use Rattle.ncp_world.specs.Transcript.{began, IsTranscript}
 use Rattle.ncp_world.specs.Seen.{state_or_new, seen, told}
-use Rattle.ncp_world.specs.OfRules.{histories_of, IsOfRules}
+use Rattle.ncp_world.specs.OfRules.{histories_of, IsOfRules, IsOfModelsHosts}
 use Rattle.ncp_world.proofs.Runs.{OfModelWith, run-watched, new-watched, new-ties}
+use Rattle.ncp_hosts.specs.Hosts as hosts
+use Rattle.ncp_world.proofs.Reaching.{reached-run}
 use Rattle.ncp_world.proofs.Refusals.{none-refused}
 use Rattle.ncp_world.proofs.Turns.{Flight, Idle, Flies, honest, begins, repeats}
 use Rattle.ncp_world.proofs.Flights.{flies, new-idle}
@@ -76,6 +78,16 @@ module _ (ns : List Note) (w : Hosts) (t : IsTranscript ns w) where
   watched-all =
       subst (λ (p : Both). OfModelWith p (seen w)) (f.watches no_histories)
       (subst (OfModelWith (histories_from f.events first no_histories)) last (run-watched f.events first no_histories f.are (new-watched first new)))
+
+  pub of-model : IsOfModelsHosts ns w
+  of-model =
+      let m = watched-all in
+      let r = reached-run m.1.reached in (
+        r.0,
+        subst (λ (x : hosts.World). Tied x (seen w)) (sym r.1) m.1,
+        ap (λ (x : hosts.World). x.this.pasts) r.1 ∙ ap (λ (b : Both). b.this) m.2,
+        ap (λ (x : hosts.World). x.that.pasts) r.1 ∙ ap (λ (b : Both). b.that) m.2,
+      )
 
   pub none-is-refused : any_refused (told ns) ≡ false
   none-is-refused = subst (λ (ms : List worlds.Note). any_refused ms ≡ false) f.said (none-refused f.events first f.are (new-ties first new))

@@ -25,3 +25,4 @@ pub mod SeenMoves
 pub mod SeenRuns
 pub mod Headlines
 pub mod Fitting
+mod OneSide

@@ -79,7 +79,7 @@ told_in link (of_host.In message received) = Some (In link message received)
 told_in link other = None
 
 abbrev pub told_answer : ℕ → HostNote → Option Told
-told_answer link (of_host.Answered peer on answer received) = Some (Answered link answer received)
+told_answer link (of_host.Answered peer on answer received) = Some (Answered on answer received)
 told_answer link other = None
 
 abbrev pub told_of : Note → Option Told

@@ -1,5 +1,6 @@
 -- Two hosts, each with the other as its peer, and the subnet between them, at the level of bits. Each
 -- step is written once, for "this host", from which the message goes, and "that host".
+-- The code's `World` is seen as `Noted_world` (Transcript); what it is in these words is `seen` (Seen).
 use Rattle.std.specs.Prelude.{ℕ, Bool, List, [], ◌∷◌, Option, None, Some, Result, Ok, Err}
 use Rattle.ncp_leader.specs.declared.leader.Leader.{Leader}
 use Rattle.ncp_leader.specs.declared.leader.Short.{Short}

@@ -56,7 +56,7 @@ pub enum Note {
     },
 }
 
-/// How many bytes a note takes at most, beside those of its message.
+/// How many bytes a note takes at most, beside those of its message or its errors.
 pub const NOTE_BYTES: usize = ncp_transcript::NOTE_BYTES + size_of::<u64>();
 
 const _: () = prove!(size_of::<Note>() <= NOTE_BYTES);

@@ -11,10 +11,13 @@ ghost use Rattle.ncp_world.specs.Streams.{GotIsBeginning, GotIsTakenOrHeld, Neve
 ghost use Rattle.ncp_world.specs.Underway.{MessagesAgree, BitsAgree, Parted, NoResetUnderway};
 ghost use Rattle.ncp_world.specs.declared.event.Event.{Event};
 ghost use Rattle.ncp_world.specs.declared.note.Note.{Note};
-ghost use Rattle.ncp_world.specs.Between.{Hosts};
+ghost use Rattle.ncp_world.specs.Between.{Hosts, host_of};
 ghost use Rattle.ncp_world.specs.Transcript.{IsRun, AreNotes, IsTranscript};
 ghost use Rattle.ncp_world.specs.Seen.{seen, told};
-ghost use Rattle.ncp_world.specs.OfRules.{histories_of, IsOfRules};
+ghost use Rattle.ncp_world.specs.OfRules.{histories_of, IsOfRules, IsOfModelsHosts};
+ghost use Rattle.ncp_world.specs.declared.side.Side as sides;
+ghost use Rattle.ncp_world.specs.Sides.{notes_at};
+ghost use Rattle.ncp_transcript.specs.Runs as runs;
 
 /// The notes of events, however many and whatever they are, are one for each, and a run: each says what
 /// the rules say at the state before it.
@@ -29,10 +32,26 @@ pub fn transcripts_are_of_the_rules()
     ensures { (notes : List Note) (w : Hosts) → IsTranscript notes w → IsOfRules notes w }
 {}
 
+/// A transcript is a run of the model's two hosts: there are events of theirs that lead to hosts with the
+/// histories of the notes, for which what is seen of the hosts and the subnet stands. So what is proved of
+/// these two hosts holds of them.
+pub fn transcripts_are_of_the_model()
+    ensures { (notes : List Note) (w : Hosts) → IsTranscript notes w → IsOfModelsHosts notes w }
+{}
+
+/// Each host of a world is one by itself: its own notes are a run of one host with one peer, and it is what
+/// they leave. So what is proved of every run of one host holds of it.
+pub fn each_host_is_by_itself()
+    ensures { (notes : List Note) (w : Hosts) (side : sides.Side) → IsTranscript notes w → runs.IsTranscript (notes_at side notes) (host_of side w) }
+{}
+
 /// The headline, of transcripts. For each pair, either way: what a live receiver got is a beginning of what
 /// was given since the sender last opened; it was taken or is held until the receiver left; it is never
 /// beyond the allocation; and while both ends are open, what is outstanding at the receiver is what the
-/// sender's counters hold and what is underway.
+/// sender's counters hold and what is underway. Between two hosts that are up no RST or RRP is underway, and
+/// no text is answered as not connected, of the wrong size or beyond the allocation. Of what commands did, and
+/// of ERRs, it says nothing: that commands act once and in order, and that none makes the other host make
+/// an ERR, are laws of the model's two hosts.
 pub fn transcripts_keep_the_headline()
     ensures beginning { (notes : List Note) (w : Hosts) (pair : Pair) → IsTranscript notes w → sends pair ≡ true → let p = histories_of notes w in GotIsBeginning pair (seen w) p × GotIsBeginning pair (swap (seen w)) (turn p) }
     ensures held { (notes : List Note) (w : Hosts) (pair : Pair) → IsTranscript notes w → sends pair ≡ true → let p = histories_of notes w in GotIsTakenOrHeld pair (seen w) p × GotIsTakenOrHeld pair (swap (seen w)) (turn p) }

@@ -14,8 +14,8 @@ use std::marker::Model;
 
 /// Two hosts and the subnet between them, with their transcript: one note for each event, in order.
 ///
-/// A note takes at most [`crate::NOTE_BYTES`] bytes, and one with a message those of the
-/// message beside.
+/// A note takes at most [`crate::NOTE_BYTES`] bytes; beside them one with a message has the message's, and
+/// one of the errors that were read has theirs.
 #[derive(Drop)]
 pub struct World<S: BitStore> {
     alloc: Global,

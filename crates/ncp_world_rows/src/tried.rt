@@ -37,7 +37,7 @@ impl<S: BitStore> Tried<S> {
     /// Whether a host is up with the other.
     pub(super) fn is_up(&self, side: Side, other: u8) -> bool {
         match self.world.host(side).phase(other) {
-            Ok(flags) => !flags.down && !flags.wait,
+            Ok(flags) => flags.up(),
             Err(_) => false,
         }
     }
