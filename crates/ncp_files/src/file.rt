@@ -87,10 +87,7 @@ fn direction_in(head: &[u8]) -> Option<Direction>
 }
 
 /// Reads the header of a file.
-pub(crate) fn read_header<S: Source>(
-    window: &mut Window,
-    source: &mut S,
-) -> Result<Direction, FileFault>
+pub fn read_header<S: Source>(window: &mut Window, source: &mut S) -> Result<Direction, FileFault>
     ensures told { (bytes : List ℕ) → Ahead window.old (S.left source.old) bytes → ReadsHeader bytes result window.new (S.left source.new) }
     ensures mark { S.has_failed source.new ≡ (S.has_failed source.old || is_read_failed result) }
     ensures other { is_write_failed result ≡ false }
@@ -119,7 +116,7 @@ fn fault_of(fault: BitsFault) -> FileFault
 }
 
 /// Reads the next record into `message`, and answers whether there was one.
-pub(crate) fn read_record<S: Source>(
+pub fn read_record<S: Source>(
     window: &mut Window,
     source: &mut S,
     message: &mut Bits,

@@ -16,7 +16,8 @@ mod window;
 
 pub use checking::check;
 pub use detail::{push_item, push_text_word, say_details};
-pub use file::{Direction, FileFault};
+pub use file::{Direction, FileFault, read_header, read_record};
 pub use line::{LONGEST_LINE, push_field};
 pub use page::{LONGEST_NUMBER, PAGE_SIZE, Page};
 pub use showing::show;
+pub use window::{WINDOW_SIZE, Window};

@@ -9,11 +9,11 @@ use ncp_stream::{Failed, LEAST_PIECE, Source};
 use std::marker::Model;
 
 /// How many bytes a window has room for.
-pub(crate) const WINDOW_SIZE: usize = 16384;
+pub const WINDOW_SIZE: usize = 16384;
 
 /// A window on the bytes of a source: those that were read and are not used up.
 #[derive(Drop)]
-pub(crate) struct Window {
+pub struct Window {
     bytes: [u8; WINDOW_SIZE],
     from: usize,
     to: usize,
@@ -41,7 +41,7 @@ fn move_to_front(bytes: &mut [u8], from: usize, to: usize)
 
 impl Window {
     /// A window that no byte has come into.
-    pub(crate) fn new() -> Self
+    pub fn new() -> Self
         ensures { result ≡ [] }
     {
         Window {
@@ -52,15 +52,15 @@ impl Window {
     }
 
     /// The bytes that are not used up.
-    pub(crate) fn unread(&self) -> &[u8]
+    pub fn unread(&self) -> &[u8]
         ensures bytes { result.now ≡ self.now }
         ensures fits { length result.now ≤ WINDOW_SIZE }
     {
         &self.bytes[self.from..self.to]
     }
 
-    /// Uses up the first bytes.
-    pub(crate) fn skip(&mut self, count: usize)
+    /// Uses up the first bytes, of which there have to be so many.
+    pub fn skip(&mut self, count: usize)
         requires { count ≤ length self.old }
         ensures { self.new ≡ drop count self.old }
     {
@@ -88,8 +88,9 @@ impl Window {
         Ok(count > 0)
     }
 
-    /// Reads until the window has `count` bytes, and answers whether it has.
-    pub(crate) fn need<S: Source>(&mut self, source: &mut S, count: usize) -> Result<bool, Failed>
+    /// Reads until the window has `count` bytes, and answers whether it has. It has room for no more
+    /// than [`WINDOW_SIZE`] less [`LEAST_PIECE`].
+    pub fn need<S: Source>(&mut self, source: &mut S, count: usize) -> Result<bool, Failed>
         requires { count + LEAST_PIECE ≤ WINDOW_SIZE }
         ensures moved { Moves self.old (S.left source.old) self.new (S.left source.new) }
         ensures grows { (piece : List ℕ) × (self.new ≡ self.old ++ piece) }

@@ -7,4 +7,6 @@ mod calls;
 #[cfg(test)]
 mod lines;
 #[cfg(test)]
+mod reading;
+#[cfg(test)]
 mod words;
