@@ -2,7 +2,7 @@
 ghost use Rattle.std.specs.Prelude.{◌≡◌, ◌+◌, ◌≤◌, ◌||◌, ◌++◌, ◌/◌, ◌%◌, length, codes, is_err};
 ghost use Rattle.ncp_bits.specs.Bits.{bytes_of};
 ghost use Rattle.ncp_leader.specs.Message.{message_in};
-ghost use Rattle.ncp_files.specs.Lines.{field, hex_of, command_words, bad_words, item_line, control_lines, text_word, text_line, size_line, fault_line, text_lines, message_lines};
+ghost use Rattle.ncp_files.specs.Lines.{field, hex_of, command_words, item_line, control_lines, text_word, text_line, size_line, fault_line, text_lines, message_lines};
 ghost use Rattle.ncp_stream.specs.Pieces.{bytes_and_writes, lost_pieces};
 ghost use Rattle.ncp_stream.specs.Streams.{SaysTextOrBeginning};
 

@@ -4,13 +4,16 @@ ghost use Rattle.ncp_files.specs.Lines.{field, kind_name, extras, summary};
 
 use crate::file::Direction;
 use crate::page::{LONGEST_NUMBER, PAGE_SIZE, Page};
-use ncp_leader::{Leader, Short};
+use ncp_leader::{DESTINATION_DEAD, INCOMPLETE, Leader, REGULAR, RFNM, Short};
 
 /// How many bytes a line has at most, but for a text in hexadecimal.
 pub const LONGEST_LINE: usize = 128;
 
-/// The type of a regular message.
-pub(crate) const REGULAR: u8 = 0;
+// The type of a message by which an IMP says that it is going down (BBN 1822, section 3).
+const GOING_DOWN: u8 = 2;
+
+// The type of a message without effect (BBN 1822, section 3).
+const NOP: u8 = 4;
 
 // How many bytes stand behind the number of a record at most.
 const LONGEST_SUMMARY: usize = LONGEST_LINE - LONGEST_NUMBER;
@@ -38,12 +41,12 @@ fn push_kind(page: &mut Page, direction: Direction, kind: u8)
     ensures len { length page.new ≤ length page.old + LONGEST_KIND }
 {
     match (direction, kind) {
-        (_, 0) => page.push_text(b"regular"),
-        (_, 4) => page.push_text(b"nop"),
-        (Direction::FromImp, 2) => page.push_text(b"going-down"),
-        (Direction::FromImp, 5) => page.push_text(b"rfnm"),
-        (Direction::FromImp, 7) => page.push_text(b"dead"),
-        (Direction::FromImp, 9) => page.push_text(b"incomplete"),
+        (_, REGULAR) => page.push_text(b"regular"),
+        (_, NOP) => page.push_text(b"nop"),
+        (Direction::FromImp, GOING_DOWN) => page.push_text(b"going-down"),
+        (Direction::FromImp, RFNM) => page.push_text(b"rfnm"),
+        (Direction::FromImp, DESTINATION_DEAD) => page.push_text(b"dead"),
+        (Direction::FromImp, INCOMPLETE) => page.push_text(b"incomplete"),
         _ => push_field(page, b"type-", u32::from(kind)),
     }
 }

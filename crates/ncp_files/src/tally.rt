@@ -1,5 +1,5 @@
 //! `Tally`: how many messages of which kinds there are.
-ghost use Rattle.std.specs.Prelude.{◌≡◌, ℕ, ◌+◌, ◌≤◌, ◌%◌, ◌++◌, length, is_some};
+ghost use Rattle.std.specs.Prelude.{◌≡◌, ◌+◌, ◌≤◌, ◌%◌, ◌++◌, length, is_some};
 ghost use Rattle.ncp_bits.specs.Bits.{bytes_of};
 ghost use Rattle.ncp_leader.specs.Message.{message_in};
 ghost use Rattle.ncp_control.specs.Reading.{fault_in};
@@ -7,11 +7,11 @@ ghost use Rattle.ncp_files.specs.Checked.{is_bad_text, verdict_of_message, verdi
 ghost use Rattle.ncp_files.specs.Tallies.{no_messages, tally_with, one_more};
 
 use crate::control::{is_of_control, is_on_control_link};
-use crate::line::{LONGEST_LINE, REGULAR, push_field};
+use crate::line::{LONGEST_LINE, push_field};
 use crate::page::{PAGE_SIZE, Page};
 use ncp_bits::{Bits, Part};
 use ncp_control::Commands;
-use ncp_leader::{Regular, read_leader, read_regular};
+use ncp_leader::{REGULAR, Regular, read_leader, read_regular};
 
 /// What is found of a message.
 #[derive(Clone, Copy, Debug, Drop, PartialEq, Eq)]

@@ -1,5 +1,5 @@
 //! `Window`: the bytes of a source, read ahead in pieces.
-ghost use Rattle.std.specs.Prelude.{◌≡◌, ℕ, List, ◌++◌, ◌+◌, ◌-◌, ◌<◌, ◌≤◌, ◌||◌, true, false, [], length, take, drop, slice_range, is_err, IfOk, OnOk, OnErr};
+ghost use Rattle.std.specs.Prelude.{◌≡◌, ℕ, List, ◌++◌, ◌+◌, ◌-◌, ◌<◌, ◌≤◌, ◌||◌, true, false, [], length, take, drop, slice_range, is_err, IfOk, OnErr};
 ghost use Rattle.std.specs.Io.KnownBytes.{IsAtEnd};
 ghost use Rattle.ncp_stream.specs.Pieces.{reads_beyond};
 ghost use Rattle.ncp_stream.specs.Streams.{Moves};
