@@ -1,6 +1,6 @@
 //! A table that goes through the steps of an example.
 use super::steps::{Call, Step};
-use super::{INWARD, LINK, OUTWARD, cls_for, rts_for, str_for};
+use super::{INWARD, LINK, OUTWARD, rts_for, str_for};
 use ncp_bits::{BitStore, Bits};
 use ncp_conn::{CallFault, Heard, Pair, Table};
 use ncp_control::Command;
