@@ -55,7 +55,7 @@ use Rattle.ncp_runs.specs.Histories.{past_then, past_at, past_called, past_heard
 abbrev pub Kept : Pair → Ends → Past → Type 0
 Kept pair m past = SoundAt pair (get m pair) × (receives pair ≡ true → BooksAt (get m pair) past)
 
-same_pair : (a b : Pair) → same a b ≡ true → a ≡ b
+pub same_pair : (a b : Pair) → same a b ≡ true → a ≡ b
 same_pair a b e =
     let p = and_parts (a.local == b.local) (a.remote == b.remote) e in
     ap (λ (x : ℕ). (let q : Pair = record { local = x; remote = a.remote } in q)) (eqb-true a.local b.local p.0)
@@ -64,7 +64,7 @@ same_pair a b e =
 pub same_itself : (a : Pair) → same a a ≡ true
 same_itself a = grind arith
 
-another : (a b : Pair) → same a b ≡ false → (a ≡ b) → ⊥
+pub another : (a b : Pair) → same a b ≡ false → (a ≡ b) → ⊥
 another a b e i = let yes : same a b ≡ true = ap (same a) (sym i) ∙ same_itself a in absurd (cc (e, yes))
 
 module _ (pair : Pair) where
@@ -96,7 +96,7 @@ module _ (pair : Pair) where
 
   -- A call.
 
-  put_here : (m : Ends) (p : Pair) (o : Option End) → get (put m p o) p ≡ o
+  pub put_here : (m : Ends) (p : Pair) (o : Option End) → get (put m p o) p ≡ o
   put_here m p None = get-remove pairs_total m p p ∙ ap (λ b. cond b None (get m p)) (itself p)
   put_here m p (Some e) = get-insert pairs_total m p e p ∙ ap (λ b. cond b (Some e) (get m p)) (itself p)
 
@@ -107,11 +107,11 @@ module _ (pair : Pair) where
       go true e = absurd (n (tells_apart pairs_exact q p e))
       go false e = e
 
-  put_there : (m : Ends) (p : Pair) (o : Option End) (q : Pair) → (q ≡ p → ⊥) → get (put m p o) q ≡ get m q
+  pub put_there : (m : Ends) (p : Pair) (o : Option End) (q : Pair) → (q ≡ p → ⊥) → get (put m p o) q ≡ get m q
   put_there m p None q n = get-remove pairs_total m p q ∙ ap (λ b. cond b None (get m q)) (apart q p n)
   put_there m p (Some e) q n = get-insert pairs_total m p e q ∙ ap (λ b. cond b (Some e) (get m q)) (apart q p n)
 
-  called-suits : (p : Pair) (call : peers.Call) (full : Bool) (m : Ends) → suits p (called call full m) ≡ true
+  pub called-suits : (p : Pair) (call : peers.Call) (full : Bool) (m : Ends) → suits p (called call full m) ≡ true
   called-suits p (Ask_to_send a b) full m = refl
   called-suits p (Ask_to_receive b) full m = refl
   called-suits p Close full m = refl
@@ -137,7 +137,7 @@ module _ (pair : Pair) where
 
   -- A command that comes.
 
-  comes-led : (c : Command) (m : Ends) (p : Pair) → leads_to c m ≡ Some p → comes c m ≡ None → ⊥
+  pub comes-led : (c : Command) (m : Ends) (p : Pair) → leads_to c m ≡ Some p → comes c m ≡ None → ⊥
   comes-led (commands.Rts receive send on) m p e f = absurd (cc)
   comes-led (commands.Str send receive of_size) m p e f = absurd (cc)
   comes-led (commands.Cls my your) m p e f = absurd (cc)

@@ -18,3 +18,6 @@ pub mod InOrder
 pub mod Settled
 pub mod Got
 pub mod Begun
+pub mod ActsOfRuns
+pub mod MarksKept
+pub mod Recorded

@@ -1,11 +1,15 @@
 -- Notes by which the definitions show what they mean.
 use Rattle.std.specs.Prelude.{Bool, true, false, List, [], ◌∷◌, ◌++◌, replicate}
+use Rattle.ncp_control.specs.declared.command.Command.TheVariants as commands
 use Rattle.ncp_slot.specs.declared.slot.Answer.TheVariants.{Rfnm, Incomplete, Dead}
+use Rattle.ncp_model.specs.Rows.{ones}
+use Rattle.ncp_model.specs.Happenings as all
 use Rattle.ncp_model.specs.declared.call_fault.CallFault.TheVariants.{UnknownPeer}
 use Rattle.ncp_host.specs.declared.received.Received.TheVariants as received
 use Rattle.ncp_transcript.specs.declared.call.Call.TheVariants as calls
 use Rattle.ncp_transcript.specs.declared.note.HostNote.{HostNote}
 use Rattle.ncp_transcript.specs.declared.note.HostNote.TheVariants as notes
+use Rattle.ncp_runs.specs.Acts.{Acted}
 
 -- host 1 has peers 2 and 3: a reset of the first, the flags of the second, a reset of a host that is no
 -- peer, three bits, and what was ignored
@@ -46,3 +50,35 @@ woken = notes.Done (calls.Wake 2) ∷ []
 
 abbrev pub taken : List HostNote
 taken = notes.Out message_on_0 ∷ notes.Answered 2 0 Rfnm received.Answered ∷ []
+
+-- acts on a pair that receives: both requests, an allocation and a text of two bytes; the peer's CLS, which is
+-- not matched while they are held; and a taking that leaves nothing, and makes the own CLS
+
+abbrev pub asks : Acted
+asks = record { what = all.Asks_to_receive 64 2 0 false; outcome = all.Accepted; made = commands.Rts 2 3 2 ∷ [] }
+
+abbrev pub is_asked : Acted
+is_asked = record { what = all.Str_comes 8 0; outcome = all.Accepted; made = [] }
+
+abbrev pub allocates : Acted
+allocates = record { what = all.Allocates 3 32 false; outcome = all.Accepted; made = commands.All 2 3 32 ∷ [] }
+
+abbrev pub gets : Acted
+gets = record { what = all.Text_comes [] 8 (ones 16); outcome = all.Admitted; made = [] }
+
+abbrev pub cls_comes : Acted
+cls_comes = record { what = all.Cls_comes; outcome = all.Accepted; made = [] }
+
+abbrev pub takes : Acted
+takes = record { what = all.Takes 2; outcome = all.Took_out (ones 16); made = commands.Cls 2 3 ∷ [] }
+
+-- a close, which makes its CLS; a request that was refused; and a GVB that is answered, at a sender
+
+abbrev pub closes : Acted
+closes = record { what = all.Closes false; outcome = all.Accepted; made = commands.Cls 2 3 ∷ [] }
+
+abbrev pub asked_wrongly : Acted
+asked_wrongly = record { what = all.Str_comes 0 0; outcome = all.Erred (commands.Err 3 []); made = commands.Err 3 [] ∷ [] }
+
+abbrev pub gives_back : Acted
+gives_back = record { what = all.Gvb_comes 2 64 128; outcome = all.Accepted; made = commands.Ret 2 1 16 ∷ [] }

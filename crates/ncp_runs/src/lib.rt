@@ -5,5 +5,6 @@
 pub mod commands;
 pub mod histories;
 pub mod links;
+pub mod marks;
 pub mod peers;
 pub mod transcripts;

@@ -6,6 +6,7 @@ ghost use Rattle.ncp_control.specs.declared.command.Command.{Command};
 ghost use Rattle.ncp_model.specs.Pairs.{receives};
 ghost use Rattle.ncp_model.specs.End.{End};
 ghost use Rattle.ncp_model.specs.Phase.{up};
+ghost use Rattle.ncp_conn.specs.Records.{record_in};
 ghost use Rattle.ncp_host.specs.PeerState.{PeerState, new_state, control_link};
 ghost use Rattle.ncp_host.specs.Output.{leader_to, links};
 ghost use Rattle.ncp_host.specs.Host.{numbers_of, state_of, is_one_of, new_host};
@@ -15,6 +16,7 @@ ghost use Rattle.ncp_transcript.specs.After.{after_notes};
 ghost use Rattle.ncp_runs.specs.Peers.{FromBeginning, notes_of, notes_for, ignored_by};
 ghost use Rattle.ncp_runs.specs.Links.{is_fresh, told_on, fresh_on, ready_told};
 ghost use Rattle.ncp_runs.specs.Histories.{past_of};
+ghost use Rattle.ncp_runs.specs.Marks.{record_marked, marks_of};
 ghost use Rattle.ncp_runs.specs.Making.{made_of, is_up_told, message_of, joined};
 
 use ncp_bits::BitStore;
@@ -24,12 +26,13 @@ use ncp_transcript::{Alone, HostNote};
 /// The transcript of a host is a run from its beginning, of which every law of this crate speaks; and the
 /// host is what its notes leave: its flags, its records and all else that it has for a peer are what the
 /// notes of that peer alone make of it, and what is ignored is what they say was of no peer. It is up with a
-/// peer where these say so.
+/// peer where these say so, and the record of each pair, if it has one, is what its marks and sums say.
 pub fn a_host_is_what_its_notes_say<S: BitStore>(alone: &Alone<S>)
     ensures run { FromBeginning alone.now.host.me (numbers_of alone.now.host.peers) alone.now.notes }
     ensures host { alone.now.host ≡ after_notes alone.now.notes (new_host alone.now.host.me (numbers_of alone.now.host.peers)) }
     ensures peer { (n : ℕ) → is_one_of n (numbers_of alone.now.host.peers) ≡ true → state_of alone.now.host n ≡ Some (notes_for (notes_of n alone.now.notes) new_state) }
     ensures up { (n : ℕ) (s : PeerState) → state_of alone.now.host n ≡ Some s → up s.peer.phase ≡ is_up_told (made_of (notes_of n alone.now.notes)) }
+    ensures records { (n : ℕ) (s : PeerState) (pair : Pair) → state_of alone.now.host n ≡ Some s → record_in pair s.peer.ends ≡ record_marked pair (marks_of pair (notes_of n alone.now.notes)) }
     ensures ignored { alone.now.host.ignored ≡ ignored_by alone.now.notes none_ignored }
 {
     let _notes = alone.transcript();

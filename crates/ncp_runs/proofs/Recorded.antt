@@ -1,0 +1,71 @@
+-- The record of a pair is the one that its marks and sums tell.
+use Rattle.std.proofs.Common.{◌≡◌, ℕ, Bool, true, if◌then◌else◌, List, ◌∷◌, ◌++◌, Option, None, Some, refl, sym, ap, ◌∙◌, subst, arith}
+use Rattle.std.proofs.lemmas.List.{length-append}
+use Rattle.std.specs.FinMap.{get}
+use Rattle.ncp_model.specs.declared.pair.Pair.{Pair}
+use Rattle.ncp_model.specs.End.{End}
+use Rattle.ncp_conn.specs.declared.record.Record.{Record}
+use Rattle.ncp_conn.specs.Records.{record_of, record_if_any, record_in}
+use Rattle.ncp_host.specs.PeerState.{PeerState, new_state}
+use Rattle.ncp_host.specs.Host.{Host, state_of, new_host, if_known}
+use Rattle.ncp_host.specs.Calls.{record_answer}
+use Rattle.ncp_host.specs.Calls as of_host
+use Rattle.ncp_transcript.specs.declared.call.Call.TheVariants as calls
+use Rattle.ncp_transcript.specs.declared.note.HostNote.{HostNote}
+use Rattle.ncp_transcript.specs.declared.note.HostNote.TheVariants as notes
+use Rattle.ncp_transcript.specs.Notes.{told_or_refused}
+use Rattle.ncp_transcript.specs.After.{after_notes}
+use Rattle.ncp_runs.specs.Peers.{FromBeginning, notes_of, notes_for}
+use Rattle.ncp_runs.specs.Acts.{acts_of}
+use Rattle.ncp_runs.specs.Marks.{Marks, no_marks, is_there, record_told, record_marked, marks_of}
+use Rattle.ncp_runs.proofs.InRuns.{before_note, kept_as_noted}
+use Rattle.ncp_runs.proofs.ActsOfRuns.{acts-from-nothing}
+use Rattle.ncp_runs.proofs.MarksKept.{IsMarked, IsSummed, IsSummedAt, Told, told-from}
+
+record-told : (pair : Pair) (e : End) (m : Marks) → IsMarked e m → IsSummed pair e m → record_of pair e ≡ record_told pair m
+record-told pair e m k q = grind (arith, length-append)
+
+is-there : (e : End) (m : Marks) → IsMarked e m → is_there m ≡ true
+is-there e m k = grind arith
+
+pub record-marked : (pair : Pair) (o : Option End) (m : Marks) → Told pair o m → record_if_any pair o ≡ record_marked pair m
+record-marked pair None m t = ap (record_marked pair) (sym t.marked)
+record-marked pair (Some e) m t =
+    ap (λ (r : Record). Some r) (record-told pair e m t.marked t.summed)
+    ∙ ap (λ (b : Bool). if b then Some (record_told pair m) else None) (sym (is-there e m t.marked))
+
+-- after any run
+pub told-there : (me : ℕ) (ns : List ℕ) (all : List HostNote) (n : ℕ) (s : PeerState) (pair : Pair) → FromBeginning me ns all → state_of (after_notes all (new_host me ns)) n ≡ Some s
+    → Told pair (get s.peer.ends pair) (marks_of pair (notes_of n all))
+told-there me ns all n s pair from there =
+    let acts = acts-from-nothing pair (notes_of n all) in
+    let t = told-from pair (acts_of pair (notes_of n all)) None (get (notes_for (notes_of n all) new_state).peer.ends pair) no_marks acts (record { sound = tt; marked = refl; summed = tt }) in
+    subst (λ (x : PeerState). Told pair (get x.peer.ends pair) (marks_of pair (notes_of n all))) (sym (kept_as_noted me ns all n s from there)) t
+
+pub record-there : (me : ℕ) (ns : List ℕ) (all : List HostNote) (n : ℕ) (s : PeerState) (pair : Pair) → FromBeginning me ns all → state_of (after_notes all (new_host me ns)) n ≡ Some s
+    → record_in pair s.peer.ends ≡ record_marked pair (marks_of pair (notes_of n all))
+record-there me ns all n s pair from there = record-marked pair (get s.peer.ends pair) (marks_of pair (notes_of n all)) (told-there me ns all n s pair from there)
+
+pub stored-there : (me : ℕ) (ns : List ℕ) (all : List HostNote) (n : ℕ) (s : PeerState) (pair : Pair) (e : End) → FromBeginning me ns all → state_of (after_notes all (new_host me ns)) n ≡ Some s → get s.peer.ends pair ≡ Some e
+    → IsSummed pair e (marks_of pair (notes_of n all))
+stored-there me ns all n s pair e from there is = subst (λ (o : Option End). IsSummedAt pair o (marks_of pair (notes_of n all))) is (told-there me ns all n s pair from there).summed
+
+-- a note that reads it
+
+record-read : (n : ℕ) (pair : Pair) (r : Record) (h : Host) → told_or_refused (calls.State n pair) (notes.State n pair) (of_host.record_told n pair h) ≡ notes.State n pair r → (s : PeerState) × (state_of h n ≡ Some s) × (record_in pair s.peer.ends ≡ Some r)
+record-read n pair r h e = go (state_of h n) refl e
+  where
+    answered : (s : PeerState) (o : Option Record) → told_or_refused (calls.State n pair) (notes.State n pair) (record_answer o) ≡ notes.State n pair r → o ≡ Some r
+    answered s None e = absurd (cc)
+    answered s (Some x) e = let same : x ≡ r = cc in ap (λ (y : Record). Some y) same
+
+    go : (o : Option PeerState) → state_of h n ≡ o → told_or_refused (calls.State n pair) (notes.State n pair) (if_known o (λ s. record_answer (record_in pair s.peer.ends))) ≡ notes.State n pair r → (s : PeerState) × (state_of h n ≡ Some s) × (record_in pair s.peer.ends ≡ Some r)
+    go None f e = absurd (cc)
+    go (Some s) f e = (s, f, answered s (record_in pair s.peer.ends) e)
+
+pub record-noted : (me : ℕ) (ns : List ℕ) (before after : List HostNote) (n : ℕ) (pair : Pair) (r : Record) → FromBeginning me ns (before ++ notes.State n pair r ∷ after)
+    → record_marked pair (marks_of pair (notes_of n before)) ≡ Some r
+record-noted me ns before after n pair r from =
+    let b = before_note me ns before after (notes.State n pair r) from in
+    let w = record-read n pair r (after_notes before (new_host me ns)) b.said in
+    sym (record-there me ns before n w.0 pair b.from w.1) ∙ w.2

@@ -1,0 +1,55 @@
+//! The record that a host keeps of a pair of sockets is what the marks and sums of its notes say.
+ghost use Rattle.std.specs.Prelude.{◌≡◌, ℕ, true, false, List, [], ◌∷◌, ◌++◌, None, Some};
+ghost use Rattle.std.specs.FinMap.{get};
+ghost use Rattle.ncp_model.specs.End.{End as Held};
+ghost use Rattle.ncp_model.specs.Rows.{inward};
+ghost use Rattle.ncp_conn.specs.declared.record.End.TheVariants.{Receive};
+ghost use Rattle.ncp_conn.specs.declared.record.Record.{Record as Known};
+ghost use Rattle.ncp_conn.specs.Records.{record_in};
+ghost use Rattle.ncp_host.specs.PeerState.{PeerState};
+ghost use Rattle.ncp_host.specs.Host.{state_of, new_host};
+ghost use Rattle.ncp_transcript.specs.declared.note.HostNote.{HostNote as Note};
+ghost use Rattle.ncp_transcript.specs.After.{after_notes};
+ghost use Rattle.ncp_runs.specs.Peers.{FromBeginning, notes_of};
+ghost use Rattle.ncp_runs.specs.Acts.{AreActs, was_cleared, acts_of};
+ghost use Rattle.ncp_runs.specs.Marks.{no_marks, is_open, is_leaving, is_dropped, record_marked, marks_from, marks_of};
+ghost use Rattle.ncp_runs.specs.Examples.{asks, is_asked, allocates, gets, cls_comes, takes, closes, asked_wrongly, gives_back};
+
+use ncp_host::Pair;
+use ncp_transcript::HostNote;
+
+/// The acts on a pair that the notes of its peer say, in any run, are those of the rules: each is answered
+/// as they answer it at the end before it and makes the commands that they make, and together they lead to
+/// the end that is there, from none.
+pub fn acts_are_those_of_the_rules()
+    ensures { (me : ℕ) (ns : List ℕ) (all : List Note) (n : ℕ) (s : PeerState) (pair : Pair) → FromBeginning me ns all → state_of (after_notes all (new_host me ns)) n ≡ Some s → AreActs pair None (acts_of pair (notes_of n all)) (get s.peer.ends pair) }
+{}
+
+/// The record that a host keeps of a pair, and whether it keeps one, are what the marks and sums of the notes
+/// say, after any run: so of the own request and the peer's, the opening, leaving and both CLSs, the link and
+/// the size, of a text that has had no RFNM and a GVB that has had no RET; and so of the counters or what is
+/// outstanding, of the bits that are stored, and of the interrupts. What is stored is what was given or got,
+/// less what went out or was taken, unless it was dropped. A note that reads a record says the same.
+pub fn records_are_what_marks_and_sums_say()
+    ensures record { (me : ℕ) (ns : List ℕ) (all : List Note) (n : ℕ) (s : PeerState) (pair : Pair) → FromBeginning me ns all → state_of (after_notes all (new_host me ns)) n ≡ Some s → record_in pair s.peer.ends ≡ record_marked pair (marks_of pair (notes_of n all)) }
+    ensures stored { (me : ℕ) (ns : List ℕ) (all : List Note) (n : ℕ) (s : PeerState) (pair : Pair) (e : Held) → FromBeginning me ns all → state_of (after_notes all (new_host me ns)) n ≡ Some s → get s.peer.ends pair ≡ Some e → is_dropped pair (marks_of pair (notes_of n all)) ≡ false → (marks_of pair (notes_of n all)).entered ≡ (marks_of pair (notes_of n all)).drawn ++ e.stored }
+    ensures dropped { (me : ℕ) (ns : List ℕ) (all : List Note) (n : ℕ) (s : PeerState) (pair : Pair) (e : Held) → FromBeginning me ns all → state_of (after_notes all (new_host me ns)) n ≡ Some s → get s.peer.ends pair ≡ Some e → is_dropped pair (marks_of pair (notes_of n all)) ≡ true → e.stored ≡ [] }
+    ensures noted { (me : ℕ) (ns : List ℕ) (before after : List Note) (n : ℕ) (pair : Pair) (r : Known) → FromBeginning me ns (before ++ HostNote.State n pair r ∷ after) → record_marked pair (marks_of pair (notes_of n before)) ≡ Some r }
+{}
+
+/// That these laws speak of something: both requests open, whichever came first, on the link and of the size
+/// that they say; but a request that was refused does not, nor does one behind the own CLS. A receiver that
+/// holds bits is leaving once the peer's CLS came, and with its own, which a taking makes, nothing is left.
+/// What is called back is no longer there, and a clearing leaves nothing.
+pub fn a_connection_is_marked()
+    ensures opened { marks_from (asks ∷ is_asked ∷ []) no_marks ≡ record no_marks { asked = true; heard = true; opened = true; link = 2; size = 8 } }
+    ensures either { marks_from (is_asked ∷ asks ∷ []) no_marks ≡ marks_from (asks ∷ is_asked ∷ []) no_marks }
+    ensures refused { marks_from (asks ∷ asked_wrongly ∷ []) no_marks ≡ record no_marks { asked = true; link = 2 } }
+    ensures left { marks_from (asks ∷ closes ∷ is_asked ∷ []) no_marks ≡ record no_marks { asked = true; heard = true; left = true; link = 2; size = 8 } }
+    ensures got { record_marked inward (marks_from (asks ∷ is_asked ∷ allocates ∷ gets ∷ []) no_marks) ≡ Some (record { end = Receive; asked = true; heard = true; opened = true; leaving = false; left = false; cls = false; link = 2; size = 8; messages = 2; bits = 16; stored = 16; busy = false; recall = false; interrupts = 0 }) }
+    ensures leaving { (is_leaving (marks_from (asks ∷ is_asked ∷ allocates ∷ gets ∷ cls_comes ∷ []) no_marks) ≡ true) × (is_open (marks_from (asks ∷ is_asked ∷ allocates ∷ gets ∷ cls_comes ∷ []) no_marks) ≡ false) }
+    ensures over { marks_from (asks ∷ is_asked ∷ allocates ∷ gets ∷ cls_comes ∷ takes ∷ []) no_marks ≡ no_marks }
+    ensures back { marks_from (gives_back ∷ []) (record no_marks { granted_messages = 2; granted_bits = 16 }) ≡ record no_marks { granted_messages = 2; granted_bits = 16; returned_messages = 1; returned_bits = 16 } }
+    ensures cleared { marks_from (was_cleared ∷ []) (record no_marks { asked = true; link = 2 }) ≡ no_marks }
+    ensures nothing { record_marked inward no_marks ≡ None }
+{}
