@@ -49,7 +49,7 @@ up-then : (b : Bool) (o : Outcome) → reply (if b then o else Refused NotUp) �
 up-then true o e = (refl, e)
 up-then false o e = absurd (cc)
 
-accepted : {A : Type 0} (r : Result A CallFault) → reply (all.of_call r) ≡ Ok tt → is_accepted (all.of_call r) ≡ true
+pub accepted : {A : Type 0} (r : Result A CallFault) → reply (all.of_call r) ≡ Ok tt → is_accepted (all.of_call r) ≡ true
 accepted (Ok a) e = refl
 accepted (Err fault) e = absurd (cc)
 
@@ -69,7 +69,7 @@ pub record WasDone (me : ℕ) (ns : List ℕ) (before : List HostNote) (n : ℕ)
   pub is_up : up (notes_for (notes_of n before) new_state).peer.phase ≡ true
   pub fine : reply (happened_at p call (notes_for (notes_of n before) new_state).peer).outcome ≡ Ok tt
 
-done-before : (me : ℕ) (ns : List ℕ) (before : List HostNote) (n : ℕ) (p : Pair) (call : Pair_call) (c : Call) → FromBeginning me ns before
+pub done-before : (me : ℕ) (ns : List ℕ) (before : List HostNote) (n : ℕ) (p : Pair) (call : Pair_call) (c : Call) → FromBeginning me ns before
     → done_or_refused c (if_known (state_of (after_notes before (new_host me ns)) n) (λ s. reply (comes_of p call s.peer))) ≡ notes.Done c
     → WasDone me ns before n p call
 done-before me ns before n p call c from said =

@@ -21,3 +21,4 @@ pub mod Begun
 pub mod ActsOfRuns
 pub mod MarksKept
 pub mod Recorded
+pub mod Marked

@@ -16,7 +16,7 @@ ghost use Rattle.ncp_runs.specs.Marks.{no_marks, is_open, is_leaving, is_dropped
 ghost use Rattle.ncp_runs.specs.Examples.{asks, is_asked, allocates, gets, cls_comes, takes, closes, asked_wrongly, gives_back};
 
 use ncp_host::Pair;
-use ncp_transcript::HostNote;
+use ncp_transcript::{Call, HostNote};
 
 /// The acts on a pair that the notes of its peer say, in any run, are those of the rules: each is answered
 /// as they answer it at the end before it and makes the commands that they make, and together they lead to
@@ -35,6 +35,15 @@ pub fn records_are_what_marks_and_sums_say()
     ensures stored { (me : ℕ) (ns : List ℕ) (all : List Note) (n : ℕ) (s : PeerState) (pair : Pair) (e : Held) → FromBeginning me ns all → state_of (after_notes all (new_host me ns)) n ≡ Some s → get s.peer.ends pair ≡ Some e → is_dropped pair (marks_of pair (notes_of n all)) ≡ false → (marks_of pair (notes_of n all)).entered ≡ (marks_of pair (notes_of n all)).drawn ++ e.stored }
     ensures dropped { (me : ℕ) (ns : List ℕ) (all : List Note) (n : ℕ) (s : PeerState) (pair : Pair) (e : Held) → FromBeginning me ns all → state_of (after_notes all (new_host me ns)) n ≡ Some s → get s.peer.ends pair ≡ Some e → is_dropped pair (marks_of pair (notes_of n all)) ≡ true → e.stored ≡ [] }
     ensures noted { (me : ℕ) (ns : List ℕ) (before after : List Note) (n : ℕ) (pair : Pair) (r : Known) → FromBeginning me ns (before ++ HostNote.State n pair r ∷ after) → record_marked pair (marks_of pair (notes_of n before)) ≡ Some r }
+{}
+
+/// What a note says that was done is marked: a request, with its byte size, and a close, since when the pair is
+/// not open; and a reset that was done leaves no mark.
+pub fn what_was_done_is_marked()
+    ensures sender { (me : ℕ) (ns : List ℕ) (before after : List Note) (n : ℕ) (pair : Pair) (of_size room : ℕ) → FromBeginning me ns (before ++ HostNote.Done (Call.AskSend n pair of_size room) ∷ after) → ((marks_of pair (notes_of n (before ++ HostNote.Done (Call.AskSend n pair of_size room) ∷ []))).asked ≡ true) × ((marks_of pair (notes_of n (before ++ HostNote.Done (Call.AskSend n pair of_size room) ∷ []))).size ≡ of_size) }
+    ensures receiver { (me : ℕ) (ns : List ℕ) (before after : List Note) (n : ℕ) (pair : Pair) (room : ℕ) → FromBeginning me ns (before ++ HostNote.Done (Call.AskReceive n pair room) ∷ after) → (marks_of pair (notes_of n (before ++ HostNote.Done (Call.AskReceive n pair room) ∷ []))).asked ≡ true }
+    ensures closed { (me : ℕ) (ns : List ℕ) (before after : List Note) (n : ℕ) (pair : Pair) → FromBeginning me ns (before ++ HostNote.Done (Call.Close n pair) ∷ after) → is_open (marks_of pair (notes_of n (before ++ HostNote.Done (Call.Close n pair) ∷ []))) ≡ false }
+    ensures cleared { (me : ℕ) (ns : List ℕ) (before after : List Note) (n : ℕ) (pair : Pair) → FromBeginning me ns (before ++ HostNote.Done (Call.Reset n) ∷ after) → marks_of pair (notes_of n (before ++ HostNote.Done (Call.Reset n) ∷ [])) ≡ no_marks }
 {}
 
 /// That these laws speak of something: both requests open, whichever came first, on the link and of the size
