@@ -26,3 +26,4 @@ pub mod SeenRuns
 pub mod Headlines
 pub mod Fitting
 mod OneSide
+pub mod Vain

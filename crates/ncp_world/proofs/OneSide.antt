@@ -1,5 +1,5 @@
 -- The notes of one side are a run of its host.
-use Rattle.std.proofs.Common.{◌≡◌, ◌≢◌, ◌<◌, ◌^◌, ◌==◌, ◌&&◌, not, ℕ, zero, suc, Bool, true, false, if◌then◌else◌, List, [], ◌∷◌, ◌++◌, length, get_or, Option, None, Some, refl, sym, ap, ◌∙◌, subst, arith}
+use Rattle.std.proofs.Common.{◌≡◌, ◌≢◌, ◌<◌, ◌^◌, ℕ, zero, suc, Bool, true, false, if◌then◌else◌, List, [], ◌∷◌, ◌++◌, get_or, Option, None, Some, refl, sym, ap, ◌∙◌, subst, arith}
 use Rattle.std.proofs.lemmas.Bool.{ne_eqb}
 use Rattle.std.proofs.lemmas.List.{append_assoc, append-nil}
 use Rattle.ncp_host.specs.Host.{Host, are_peers, new_host}
@@ -21,7 +21,7 @@ use Rattle.ncp_world.specs.declared.note.Move.TheVariants as moves
 use Rattle.ncp_world.specs.declared.note.Note.{Note}
 use Rattle.ncp_world.specs.declared.note.Note.TheVariants as notes
 use Rattle.ncp_world.specs.Between.{Hosts, other, number_of, host_of, transit_of, after_note, after_notes}
-use Rattle.ncp_world.specs.Happening.{Noted, IsCalled, came, answered}
+use Rattle.ncp_world.specs.Happening.{Noted, came, answered}
 use Rattle.ncp_world.specs.Transcript.{IsRun, began, IsTranscript}
 use Rattle.ncp_world.specs.Sides.{note_at, notes_at}
 

@@ -1,5 +1,5 @@
 //! Laws of transcripts of a world, each the contract of a function that does nothing.
-ghost use Rattle.std.specs.Prelude.{◌≡◌, ℕ, true, false, List, length};
+ghost use Rattle.std.specs.Prelude.{◌≡◌, ℕ, true, false, List, ◌∷◌, ◌++◌, length, None};
 ghost use Rattle.ncp_model.specs.declared.pair.Pair.{Pair};
 ghost use Rattle.ncp_model.specs.Pairs.{sends};
 ghost use Rattle.ncp_resets.specs.Resets.{Side};
@@ -11,8 +11,13 @@ ghost use Rattle.ncp_world.specs.Streams.{GotIsBeginning, GotIsTakenOrHeld, Neve
 ghost use Rattle.ncp_world.specs.Underway.{MessagesAgree, BitsAgree, Parted, NoResetUnderway};
 ghost use Rattle.ncp_world.specs.declared.event.Event.{Event};
 ghost use Rattle.ncp_world.specs.declared.note.Note.{Note};
-ghost use Rattle.ncp_world.specs.Between.{Hosts, host_of};
-ghost use Rattle.ncp_world.specs.Transcript.{IsRun, AreNotes, IsTranscript};
+ghost use Rattle.ncp_host.specs.Turns.{next_output};
+ghost use Rattle.ncp_transcript.specs.declared.note.HostNote.TheVariants as of_host;
+ghost use Rattle.ncp_world.specs.declared.note.Move.{Move};
+ghost use Rattle.ncp_world.specs.declared.note.Note.TheVariants as of_world;
+ghost use Rattle.ncp_world.specs.Between.{Hosts, host_of, transit_of, after_notes};
+ghost use Rattle.ncp_world.specs.Transcript.{IsRun, AreNotes, began, IsTranscript};
+ghost use Rattle.ncp_world.specs.Vain.{CannotBe};
 ghost use Rattle.ncp_world.specs.Seen.{seen, told};
 ghost use Rattle.ncp_world.specs.OfRules.{histories_of, IsOfRules, IsOfModelsHosts};
 ghost use Rattle.ncp_world.specs.declared.side.Side as sides;
@@ -69,4 +74,15 @@ pub fn transcripts_are_honest()
     ensures honest { (notes : List Note) (w : Hosts) → IsTranscript notes w → IsHonest w.number_a w.number_b (told notes) }
     ensures came { (notes : List Note) (w : Hosts) → IsTranscript notes w → (side : Side) (on : ℕ) → IsBeginning 1 (came side on (told notes)) (sent (number_of_side w.number_a w.number_b side) side on (told notes)) }
     ensures again { (notes : List Note) (w : Hosts) → IsTranscript notes w → (side : Side) (on : ℕ) → Repeats side on (told notes) }
+{}
+
+/// Nothing is noted only where nothing can be: of a message, where the subnet has none to which this may
+/// happen; of a host that was asked for its next message, where it has none to go out; of a call, or of what
+/// came to a host, never.
+pub fn nothing_is_noted_only_where_nothing_can_be()
+    ensures moves { (before after : List Note) (w : Hosts) (side : sides.Side) (link : ℕ) (wanted : Move) → IsTranscript (before ++ of_world.Nothing side link wanted ∷ after) w → CannotBe wanted (transit_of side link (after_notes before (began w))) }
+    ensures out { (before after : List Note) (w : Hosts) (side : sides.Side) → IsTranscript (before ++ of_world.Out side of_host.Nothing ∷ after) w → next_output (host_of side (after_notes before (began w))) ≡ None }
+    ensures called { (before after : List Note) (w : Hosts) (side : sides.Side) → IsTranscript (before ++ of_world.Called side of_host.Nothing ∷ after) w → ⊥ }
+    ensures came { (before after : List Note) (w : Hosts) (side : sides.Side) (link : ℕ) → IsTranscript (before ++ of_world.Came side link of_host.Nothing ∷ after) w → ⊥ }
+    ensures answered { (before after : List Note) (w : Hosts) (side : sides.Side) (link : ℕ) → IsTranscript (before ++ of_world.Answered side link of_host.Nothing ∷ after) w → ⊥ }
 {}

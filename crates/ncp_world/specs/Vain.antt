@@ -1,0 +1,14 @@
+-- Where nothing can be, and so nothing is noted.
+use Rattle.std.specs.Prelude.{◌≡◌, false, None}
+use Rattle.ncp_subnet.specs.Transit.{is_accepted, answer_kind}
+use Rattle.ncp_subnet.specs.Ways.{OnLink}
+use Rattle.ncp_world.specs.declared.note.Move.{Move}
+use Rattle.ncp_world.specs.declared.note.Move.TheVariants as moves
+
+-- This cannot happen to what is in transit on a link: no message was accepted that has not come, and could
+-- come, be lost or find its destination dead; or none came or will not come, and could be answered.
+abbrev pub CannotBe : Move → OnLink → Type 0
+CannotBe moves.Deliver transit = is_accepted transit ≡ false
+CannotBe moves.Lose transit = is_accepted transit ≡ false
+CannotBe moves.Dead transit = is_accepted transit ≡ false
+CannotBe moves.Answer transit = answer_kind transit ≡ None
