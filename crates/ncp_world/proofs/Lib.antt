@@ -27,3 +27,6 @@ pub mod Headlines
 pub mod Fitting
 mod OneSide
 pub mod Vain
+pub mod Sums
+pub mod Waiting
+pub mod Ledgers

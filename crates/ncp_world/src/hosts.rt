@@ -1,9 +1,11 @@
 //! `Hosts`: two hosts and the subnet between them.
 ghost use Rattle.std.specs.Prelude.{◌≡◌, ◌≢◌, Ok, IfOk, OnErr};
-ghost use Rattle.ncp_world.specs.Between.{new_hosts, other, number_of, after_out, after_note};
+ghost use Rattle.ncp_world.specs.Between.{new_hosts, other, number_of, host_of, after_out, after_note};
 ghost use Rattle.ncp_world.specs.Tie.{IsPair};
 ghost use Rattle.ncp_world.specs.Seen.{CallFits};
 ghost use Rattle.ncp_world.specs.Happening.{IsCalled, note_of_out, note_of_delivery, note_of_loss, note_of_death, note_of_answer, Noted};
+
+mod ledgers;
 
 use crate::event::Event;
 use crate::note::{Move, Note};
@@ -20,8 +22,8 @@ use std::marker::Model;
 pub(crate) struct Hosts<S: BitStore> {
     number_a: u8,
     number_b: u8,
-    pub(crate) a: Host<S>,
-    pub(crate) b: Host<S>,
+    a: Host<S>,
+    b: Host<S>,
     subnet: Subnet,
 }
 
@@ -125,6 +127,16 @@ impl<S: BitStore> Hosts<S> {
             b: made_in_memory(Host::new(alloc, b, &[a]))?,
             subnet: Subnet::new(alloc, a, b)?,
         })
+    }
+
+    /// The host of a side.
+    pub(crate) fn host(&self, side: Side) -> &Host<S>
+        ensures { result.now ≡ host_of side self.now }
+    {
+        match side {
+            Side::A => &self.a,
+            Side::B => &self.b,
+        }
     }
 
     /// The number for which a side is a name.

@@ -1,14 +1,16 @@
 //! `World`.
-ghost use Rattle.std.specs.Prelude.{◌≡◌, ◌≢◌, IfOk, OnOk, OnErr};
+ghost use Rattle.std.specs.Prelude.{◌≡◌, ◌≢◌, IfOk, IfSome, OnOk, OnErr};
 ghost use Rattle.ncp_world.specs.Between.{new_hosts, host_of, after_notes};
+ghost use Rattle.ncp_world.specs.Ledgers.{ledger_of, IsBalanced};
 ghost use Rattle.ncp_world.specs.Transcript.{new_world, IsStep, AreNotes, IsTranscript};
 
 use crate::event::Event;
 use crate::hosts::Hosts;
+use crate::ledger::Ledger;
 use crate::note::Note;
 use crate::side::Side;
 use ncp_bits::BitStore;
-use ncp_host::Host;
+use ncp_host::{Host, Pair};
 use std::alloc::{AllocError, Global};
 use std::marker::Model;
 
@@ -80,10 +82,17 @@ impl<S: BitStore> World<S> {
     pub fn host(&self, side: Side) -> &Host<S>
         ensures { result.now ≡ host_of side self.now.hosts }
     {
-        match side {
-            Side::A => &self.hosts.a,
-            Side::B => &self.hosts.b,
-        }
+        self.hosts.host(side)
+    }
+
+    /// What is outstanding of an open connection, and where it is. The side and the pair are the
+    /// sender's. None where the socket here is even, or one of the two ends is not open. It takes no
+    /// memory.
+    pub fn ledger(&self, side: Side, pair: Pair) -> Option<Ledger>
+        ensures ledger { result ≡ ledger_of side pair self.now.hosts }
+        ensures balanced { IfSome result IsBalanced }
+    {
+        self.hosts.ledger(side, pair)
     }
 }
 

@@ -1,0 +1,137 @@
+//! The ledger of an open connection, reckoned from what the hosts and the subnet tell.
+ghost use Rattle.std.specs.Prelude.{◌≡◌, length};
+ghost use Rattle.std.specs.Option.{option_copied};
+ghost use Rattle.ncp_headline.specs.Headline.{sum_on};
+ghost use Rattle.ncp_world.specs.Underway.{text_of, how_many, bits_out};
+ghost use Rattle.ncp_world.specs.Ledgers.{amount};
+ghost use Rattle.ncp_world.specs.Reckoning.{counted, kept_from, commands_from, if_open, open_at, ledger_with, ledger_read};
+
+use super::{Hosts, other};
+use crate::carrying::{Quantity, carried_by_message, carried_by_waiting};
+use crate::ledger::{Amount, Ledger};
+use crate::side::Side;
+use ncp_bits::{BitStore, Bits};
+use ncp_host::{CallFault, Pair, Record};
+use ncp_leader::read_regular;
+
+/// The link of control messages.
+const CONTROL_LINK: u8 = 0;
+
+// The record of an end that is open.
+fn if_open(told: Result<Record, CallFault>) -> Option<Record>
+    ensures { result ≡ if_open told }
+{
+    let record = told.ok()?;
+    if record.asked && record.heard && !(record.leaving || record.left) {
+        Some(record)
+    } else {
+        None
+    }
+}
+
+// How many bits of text a message has.
+fn text_len(message: &Bits) -> u64
+    ensures { result ≡ length (text_of message.now) }
+{
+    match read_regular(message) {
+        Ok(message) => message.text().len() as u64,
+        Err(_) => 0,
+    }
+}
+
+// How much the text of a message is, if there is one.
+fn text_amount(message: Option<&Bits>) -> Amount
+    ensures { result ≡ amount (how_many (option_copied message.entry)) (length (bits_out (option_copied message.entry))) }
+{
+    match message {
+        Some(message) => Amount {
+            messages: 1,
+            bits: text_len(message),
+        },
+        None => Amount {
+            messages: 0,
+            bits: 0,
+        },
+    }
+}
+
+// The counters of a sender, or what is outstanding at a receiver.
+fn amount_of(end: &Record) -> Amount
+    ensures { result ≡ amount end.now.messages end.now.bits }
+{
+    Amount {
+        messages: u64::from(end.messages),
+        bits: u64::from(end.bits),
+    }
+}
+
+impl<S: BitStore> Hosts<S> {
+    // The record of a pair at the host of a side, where it is open.
+    fn open_at(&self, side: Side, pair: Pair) -> Option<Record>
+        ensures { result ≡ open_at side pair self.now }
+    {
+        if_open(self.host(side).state(self.number(other(side)), pair))
+    }
+
+    // The message that a side has on a link, unless it came.
+    fn kept_from(&self, side: Side, link: u8) -> Option<&Bits>
+        ensures { option_copied result ≡ kept_from side link self.now }
+    {
+        let from = self.number(side);
+        let to = self.number(other(side));
+        if self.subnet.delivered(from, to, link) {
+            None
+        } else {
+            self.host(side).kept(to, link)
+        }
+    }
+
+    // What the commands carry on a link that are underway from a side.
+    #[tactic(auto, using(crate::proofs::Sums::sum_joined))]
+    fn carried_from(&self, side: Side, link: u8, what: Quantity) -> u64
+        ensures { result ≡ sum_on link (counted what) (commands_from side self.now) }
+    {
+        let message = match self.kept_from(side, CONTROL_LINK) {
+            Some(message) => carried_by_message(message, link, what),
+            None => 0,
+        };
+        message + carried_by_waiting(self.host(side), self.number(other(side)), link, what)
+    }
+
+    // The ledger of two open ends.
+    fn ledger_with(&self, side: Side, sender: &Record, receiver: &Record) -> Ledger
+        ensures { result ≡ ledger_with side self.now sender.now receiver.now }
+    {
+        let link = sender.link;
+        let back = other(side);
+        Ledger {
+            outstanding: amount_of(receiver),
+            counters: amount_of(sender),
+            all: Amount {
+                messages: self.carried_from(back, link, Quantity::GrantedMessages),
+                bits: self.carried_from(back, link, Quantity::GrantedBits),
+            },
+            text: text_amount(self.kept_from(side, link)),
+            ret: Amount {
+                messages: self.carried_from(side, link, Quantity::ReturnedMessages),
+                bits: self.carried_from(side, link, Quantity::ReturnedBits),
+            },
+        }
+    }
+
+    /// The ledger of a pair that sends from a side, where both of its ends are open.
+    pub(crate) fn ledger(&self, side: Side, pair: Pair) -> Option<Ledger>
+        ensures { result ≡ ledger_read side pair self.now }
+    {
+        if pair.local % 2 == 0 {
+            return None;
+        }
+        let sender = self.open_at(side, pair)?;
+        let turned = Pair {
+            local: pair.remote,
+            remote: pair.local,
+        };
+        let receiver = self.open_at(other(side), turned)?;
+        Some(self.ledger_with(side, &sender, &receiver))
+    }
+}
