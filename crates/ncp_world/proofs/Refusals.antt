@@ -1,9 +1,9 @@
 -- Nothing that comes is refused.
-use Rattle.std.proofs.Common.{◌≡◌, ℕ, ◌==◌, Bool, true, false, ◌||◌, if◌then◌else◌, List, [], ◌∷◌, Option, None, Some, Ok, refl, sym, ap, ◌∙◌, arith, subst}
+use Rattle.std.proofs.Common.{◌≡◌, ◌<◌, ◌≤◌, ◌^◌, ℕ, ◌==◌, Bool, true, false, ◌||◌, if◌then◌else◌, List, [], ◌∷◌, Option, None, Some, Result, Ok, refl, sym, ap, ◌∙◌, arith, subst}
 use Rattle.std.proofs.lemmas.Bool.{eqb-true}
 use Rattle.ncp_bits.specs.Bits.{bits_of_bytes}
 use Rattle.ncp_control.specs.Spelling.{spellings}
-use Rattle.ncp_leader.specs.Message.{Message, message_with}
+use Rattle.ncp_leader.specs.Message.{Message, message_with, message_in}
 use Rattle.ncp_host.specs.Hearing.{is_wrong_link}
 use Rattle.ncp_host.specs.Output.{leader_to, next_of}
 use Rattle.ncp_slot.specs.Slots.{slot_at}
@@ -16,7 +16,7 @@ use Rattle.ncp_hosts.specs.Hosts as hosts
 use Rattle.ncp_host.specs.declared.received.Received.TheVariants as cases
 use Rattle.ncp_host.specs.PeerState.{PeerState}
 use Rattle.ncp_host.specs.Hearing as hearing
-use Rattle.ncp_world.specs.Subnet.{Holds, Free, Accepted, Delivered, Lost, Dead, from_host}
+use Rattle.ncp_world.specs.Subnet.{Holds, Free, Accepted, Delivered, Lost, Dead, from_host, answer_bits}
 use Rattle.ncp_world.specs.World.{World}
 use Rattle.ncp_world.specs.World as worlds
 use Rattle.ncp_world.specs.Tie.{control_bits, text_bits, AreCommands, IsTextOn, Reached, Goes_on, Tied}
@@ -36,6 +36,13 @@ use Rattle.ncp_model.specs.Happenings.{of_text, is_violation}
 use Rattle.ncp_model.specs.Ends.{text_in}
 use Rattle.ncp_world.proofs.Written.{comes-received, control_text, from_host-message}
 use Rattle.ncp_world.proofs.Links.{Comes, delivered}
+use Rattle.ncp_leader.specs.declared.leader.Leader.{Leader}
+use Rattle.ncp_leader.specs.declared.leader.Short.{Short}
+use Rattle.ncp_leader.specs.Leader.{leader_in}
+use Rattle.ncp_slot.specs.Slots.{LinkSlot}
+use Rattle.ncp_slot.specs.Slot.{is_travelling}
+use Rattle.ncp_world.proofs.Written.{answer_leader, answer-led}
+use Rattle.ncp_world.proofs.Flights.{IsOut, delivered-out, lost-out, dead-out}
 
 or_right : (a b : Bool) → (a || b) ≡ false → b ≡ false
 or_right true b e = absurd (cc e)
@@ -114,12 +121,22 @@ die-good on Delivered v = refl
 die-good on Lost v = refl
 die-good on Dead v = refl
 
-answer-good : (on : ℕ) (h : Holds) (v : World) → refuses (answers_for on h v).1 ≡ false
-answer-good on Free v = refl
-answer-good on (Accepted m) v = refl
-answer-good on Delivered v = refl
-answer-good on Lost v = refl
-answer-good on Dead v = refl
+-- an answer is to a message that is out
+answer-told : (on kind : ℕ) (v : World) (out : IsOut on (slot_at v.this.slots on)) → v.there < 2 ^ 8 → kind ≤ 15 → (kind == hearing.regular) ≡ false → is_refused (received (answer_bits kind v.there on) v.this) ≡ false
+answer-told on kind v out n few other =
+    let bits : List Bool = answer_bits kind v.there on in
+    let l : Leader = answer_leader kind v.there on in
+    let front : leader_in bits ≡ Ok l = answer-led kind v.there on (record { flags = omega arith; kind = few; host = n; link = out.fits; low = omega arith }) in
+    ap (λ (r : Result Leader Short). is_refused (worlds.received_with r bits v.this)) front
+    ∙ ap (λ (b : Bool). is_refused (if b then hearing.message_received on (message_in bits) v.this else hearing.answer_received on v.this)) other
+    ∙ ap (λ (s : LinkSlot). is_refused (if is_travelling s then cases.Answered else cases.Stray)) out.in_slot
+
+answer-good : (on : ℕ) (w : hosts.World) (v : World) (h : Holds) → Tied w v → v.going on ≡ h → refuses (answers_for on h v).1 ≡ false
+answer-good on w v Free t e = refl
+answer-good on w v (Accepted m) t e = refl
+answer-good on w v Delivered t e = answer-told on hearing.rfnm v (delivered-out on w v t e) t.this.number (omega arith) refl
+answer-good on w v Lost t e = answer-told on hearing.incomplete v (lost-out on w v t e) t.this.number (omega arith) refl
+answer-good on w v Dead t e = answer-told on hearing.destination_dead v (dead-out on w v t e) t.this.number (omega arith) refl
 
 move-good : (st : worlds.Step) (w : hosts.World) (v : World) → Tied w v → refuses (moves st v).1 ≡ false
 move-good (Call_is_made asked) w v t = refl
@@ -127,7 +144,7 @@ move-good Goes_out w v t = out-good (next_of v.there v.this) v
 move-good (Is_delivered on) w v t = deliver-good on w v (v.going on) t refl
 move-good (Is_lost on) w v t = lose-good on (v.going on) v
 move-good (Finds_dead on) w v t = die-good on (v.going on) v
-move-good (Is_answered on) w v t = answer-good on (v.going on) v
+move-good (Is_answered on) w v t = answer-good on w v (v.going on) t refl
 
 step-good : (side : Side) (st : worlds.Step) (v : World) → IsOfModel v → refuses (at side st v).1 ≡ false
 step-good This st v t = move-good st t.0 v t.1

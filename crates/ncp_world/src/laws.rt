@@ -41,8 +41,8 @@ pub fn streams_are_kept()
 /// sender's counters hold and what ALL, the text and RET carry that are underway on the link; and what was
 /// given was got, is underway, or waits. What is underway is read off slots and subnet.
 pub fn the_ledger_is_kept()
-    ensures messages { (v : World) (events : List Event) (pair : Pair) → IsNewWorld v → AreEvents events → sends pair ≡ true → let p = histories_from events v no_histories in MessagesAgree pair (run_from events v) × MessagesAgree pair (swap (run_from events v)) }
-    ensures bits { (v : World) (events : List Event) (pair : Pair) → IsNewWorld v → AreEvents events → sends pair ≡ true → let p = histories_from events v no_histories in BitsAgree pair (run_from events v) × BitsAgree pair (swap (run_from events v)) }
+    ensures messages { (v : World) (events : List Event) (pair : Pair) → IsNewWorld v → AreEvents events → sends pair ≡ true → MessagesAgree pair (run_from events v) × MessagesAgree pair (swap (run_from events v)) }
+    ensures bits { (v : World) (events : List Event) (pair : Pair) → IsNewWorld v → AreEvents events → sends pair ≡ true → BitsAgree pair (run_from events v) × BitsAgree pair (swap (run_from events v)) }
     ensures parted { (v : World) (events : List Event) (pair : Pair) → IsNewWorld v → AreEvents events → sends pair ≡ true → let p = histories_from events v no_histories in Parted pair (run_from events v) p × Parted pair (swap (run_from events v)) (turn p) }
 {}
 
@@ -51,8 +51,8 @@ pub fn no_reset_is_underway_between_two_that_are_up()
     ensures { (v : World) (events : List Event) → IsNewWorld v → AreEvents events → NoResetUnderway (run_from events v) × NoResetUnderway (swap (run_from events v)) }
 {}
 
-/// Of what comes, no text is answered as not connected, of the wrong size or beyond the allocation, and
-/// no bits as a faulty message.
+/// Of what comes, no text is answered as not connected, of the wrong size or beyond the allocation, no
+/// bits as a faulty message, and no answer as stray.
 pub fn nothing_is_refused()
     ensures { (v : World) (events : List Event) → IsNewWorld v → AreEvents events → any_refused (notes_from events v) ≡ false }
 {}

@@ -54,15 +54,15 @@ pub fn each_host_is_by_itself()
 /// was given since the sender last opened; it was taken or is held until the receiver left; it is never
 /// beyond the allocation; and while both ends are open, what is outstanding at the receiver is what the
 /// sender's counters hold and what is underway. Between two hosts that are up no RST or RRP is underway, and
-/// no text is answered as not connected, of the wrong size or beyond the allocation. Of what commands did, and
-/// of ERRs, it says nothing: that commands act once and in order, and that none makes the other host make
+/// no text is answered as not connected, of the wrong size or beyond the allocation, no message is faulty, and
+/// no answer stray. Of what commands did, and of ERRs, it says nothing: that commands act once and in order, and that none makes the other host make
 /// an ERR, are laws of the model's two hosts.
 pub fn transcripts_keep_the_headline()
     ensures beginning { (notes : List Note) (w : Hosts) (pair : Pair) → IsTranscript notes w → sends pair ≡ true → let p = histories_of notes w in GotIsBeginning pair (seen w) p × GotIsBeginning pair (swap (seen w)) (turn p) }
     ensures held { (notes : List Note) (w : Hosts) (pair : Pair) → IsTranscript notes w → sends pair ≡ true → let p = histories_of notes w in GotIsTakenOrHeld pair (seen w) p × GotIsTakenOrHeld pair (swap (seen w)) (turn p) }
     ensures allocation { (notes : List Note) (w : Hosts) (pair : Pair) → IsTranscript notes w → sends pair ≡ true → let p = histories_of notes w in NeverBeyondAllocation pair (seen w) p × NeverBeyondAllocation pair (swap (seen w)) (turn p) }
-    ensures messages { (notes : List Note) (w : Hosts) (pair : Pair) → IsTranscript notes w → sends pair ≡ true → let p = histories_of notes w in MessagesAgree pair (seen w) × MessagesAgree pair (swap (seen w)) }
-    ensures bits { (notes : List Note) (w : Hosts) (pair : Pair) → IsTranscript notes w → sends pair ≡ true → let p = histories_of notes w in BitsAgree pair (seen w) × BitsAgree pair (swap (seen w)) }
+    ensures messages { (notes : List Note) (w : Hosts) (pair : Pair) → IsTranscript notes w → sends pair ≡ true → MessagesAgree pair (seen w) × MessagesAgree pair (swap (seen w)) }
+    ensures bits { (notes : List Note) (w : Hosts) (pair : Pair) → IsTranscript notes w → sends pair ≡ true → BitsAgree pair (seen w) × BitsAgree pair (swap (seen w)) }
     ensures parted { (notes : List Note) (w : Hosts) (pair : Pair) → IsTranscript notes w → sends pair ≡ true → let p = histories_of notes w in Parted pair (seen w) p × Parted pair (swap (seen w)) (turn p) }
     ensures resets { (notes : List Note) (w : Hosts) → IsTranscript notes w → NoResetUnderway (seen w) × NoResetUnderway (swap (seen w)) }
     ensures refused { (notes : List Note) (w : Hosts) → IsTranscript notes w → any_refused (told notes) ≡ false }
