@@ -1,6 +1,8 @@
-//! The lines of a script, read from a source.
+//! The lines of a script, read from a source: each, or the next that is not skipped, with its number.
 #![tactic(auto)]
 
+mod lines;
 mod reading;
 
+pub use lines::{Lines, NextLine, next_played};
 pub use reading::next_line;
