@@ -3,6 +3,7 @@ use Rattle.std.specs.Prelude.{◌≡◌, ℕ, Bool, true, false, List, [], ◌++
 use Rattle.ncp_stream.specs.declared.source.Failed.{Failed}
 use Rattle.ncp_files.specs.File.{name_of_fault}
 use Rattle.ncp_files.specs.Lines.{field}
+use Rattle.ncp_files.specs.Results as files
 use Rattle.ncp_play.specs.declared.fault.PlayFault.{PlayFault}
 use Rattle.ncp_play.specs.declared.fault.PlayFault.TheVariants.{BadLine, LineTooLong, BadHosts, Feed, ReadFailed, WriteFailed, OutOfMemory}
 
@@ -47,6 +48,20 @@ is_write other = false
 abbrev pub is_write_failed : {X : Type 0} → Result X PlayFault → Bool
 is_write_failed (Ok x) = false
 is_write_failed (Err fault) = is_write fault
+
+-- whether a result says that a read failed, of the script or of the message file in it
+abbrev pub is_read : PlayFault → Bool
+is_read (Feed fault) = files.is_read fault
+is_read ReadFailed = true
+is_read (BadLine line) = false
+is_read (LineTooLong line) = false
+is_read BadHosts = false
+is_read WriteFailed = false
+is_read OutOfMemory = false
+
+abbrev pub is_read_failed : {X : Type 0} → Result X PlayFault → Bool
+is_read_failed (Ok x) = false
+is_read_failed (Err fault) = is_read fault
 
 -- what was written behind what was there: this text, or where a write failed a beginning of it
 abbrev pub Wrote : List ℕ → List ℕ → Result Unit Failed → Option (List ℕ) → Type 0

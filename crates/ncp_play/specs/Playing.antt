@@ -17,14 +17,29 @@ Tells was first notes heading page written = (heading ≡ heading_after first no
 abbrev pub TellsBeginning : List ℕ → Heading → List HostNote → Option (List ℕ) → Type 0
 TellsBeginning was first notes written = (lost : List ℕ) × SaidSoFar was lost written (lines_from first notes)
 
--- one input was done and its note told; or there was no memory, and nothing has happened; or it was done, and a
--- write failed
-abbrev pub Plays : Input → List ℕ → Heading → Alone → Result Unit PlayFault → Alone → Heading → List ℕ → Option (List ℕ) → Type 0
-Plays input was first before (Ok done) now heading page written = IsStep input before now × Tells was first now.notes heading page written
-Plays input was first before (Err OutOfMemory) now heading page written = (now ≡ before) × Tells was first now.notes heading page written
-Plays input was first before (Err WriteFailed) now heading page written = IsStep input before now × TellsBeginning was first now.notes written
-Plays input was first before (Err ReadFailed) now heading page written = ⊥
-Plays input was first before (Err BadHosts) now heading page written = ⊥
-Plays input was first before (Err (BadLine line)) now heading page written = ⊥
-Plays input was first before (Err (LineTooLong line)) now heading page written = ⊥
-Plays input was first before (Err (Feed fault)) now heading page written = ⊥
+-- ---- one input
+
+-- what was done to a host, by the answer: the input; or there was no memory, and nothing has happened; or the
+-- input, and a write failed
+abbrev pub Does : Input → Alone → Result Unit PlayFault → Alone → Type 0
+Does input before (Ok done) now = IsStep input before now
+Does input before (Err OutOfMemory) now = now ≡ before
+Does input before (Err WriteFailed) now = IsStep input before now
+Does input before (Err (Feed fault)) now = ⊥
+Does input before (Err ReadFailed) now = ⊥
+Does input before (Err BadHosts) now = ⊥
+Does input before (Err (BadLine line)) now = ⊥
+Does input before (Err (LineTooLong line)) now = ⊥
+
+-- ---- what is told
+
+-- the lines of all notes were told; where a write failed a beginning of them was written
+abbrev pub TellsAs : {X : Type 0} → List ℕ → Heading → List HostNote → Result X PlayFault → Heading → List ℕ → Option (List ℕ) → Type 0
+TellsAs was first notes (Ok x) heading page written = Tells was first notes heading page written
+TellsAs was first notes (Err WriteFailed) heading page written = TellsBeginning was first notes written
+TellsAs was first notes (Err OutOfMemory) heading page written = Tells was first notes heading page written
+TellsAs was first notes (Err (Feed fault)) heading page written = Tells was first notes heading page written
+TellsAs was first notes (Err ReadFailed) heading page written = Tells was first notes heading page written
+TellsAs was first notes (Err BadHosts) heading page written = Tells was first notes heading page written
+TellsAs was first notes (Err (BadLine line)) heading page written = Tells was first notes heading page written
+TellsAs was first notes (Err (LineTooLong line)) heading page written = Tells was first notes heading page written

@@ -2,7 +2,7 @@
 ghost use Rattle.std.specs.Prelude.{◌≡◌, ◌+◌, ◌≤◌, ◌||◌, ℕ, List, is_err};
 ghost use Rattle.ncp_stream.specs.Pieces.{bytes_and_writes, lost_pieces};
 ghost use Rattle.ncp_play.specs.Faults.{is_write_failed};
-ghost use Rattle.ncp_play.specs.Playing.{Tells, Plays};
+ghost use Rattle.ncp_play.specs.Playing.{Does, Tells, TellsAs};
 ghost use Rattle.ncp_play.specs.declared.heading.Heading.{Heading as Beginning};
 
 use crate::fault::PlayFault;
@@ -25,7 +25,8 @@ pub fn play_input<S: BitStore, W: Sink>(
     page: &mut Page,
     sink: &mut W,
 ) -> Result<(), PlayFault>
-    ensures told { (was : List ℕ) (first : Beginning) → Tells was first alone.old.notes heading.old page.old (W.written sink.old) → Plays input.now was first alone.old result alone.new heading.new page.new (W.written sink.new) }
+    ensures events { Does input.now alone.old result alone.new }
+    ensures told { (was : List ℕ) (first : Beginning) → Tells was first alone.old.notes heading.old page.old (W.written sink.old) → TellsAs was first alone.new.notes result heading.new page.new (W.written sink.new) }
     ensures writes { bytes_and_writes W.takes_all (W.writes sink.old) (W.written sink.old) ≤ bytes_and_writes W.takes_all (W.writes sink.new) (W.written sink.new) + lost_pieces (is_write_failed result) }
     ensures mark { W.has_failed sink.new ≡ (W.has_failed sink.old || is_write_failed result) }
 {
