@@ -161,6 +161,30 @@ came_from [] first bytes e number line behind found ended = absurd (cc)
 came_from (l ∷ ls) first bytes e number line behind found ended =
     came_at (kind_of (said l)) first bytes l ls refl e number line behind found ended (λ found' e'. came_from ls (number_behind first) l.behind e' number line behind found' ended)
 
+last_here : (first : ℕ) (bytes : List ℕ) (l : Line) (ls : List Line) → lines_of bytes ≡ l ∷ ls → ((it : Numbered) (others : Option Numbered) → unless_skipped (kind_of (said l)) it others ≡ Some it)
+    → (number : ℕ) (line : Line) (behind : List Line) → next_from first (l ∷ ls) ≡ Some (number, line, behind) → line.ended ≡ false → line.behind ≡ []
+last_here first bytes l ls e here number line behind found ended =
+    let it : Some (first, l, ls) ≡ Some (number, line, behind) = sym (here (first, l, ls) (next_from (number_behind first) ls)) ∙ found in
+    let same : l ≡ line = ap (λ (n : Numbered). n.1) (some_is it) in
+    let front = front_of bytes l ls e in
+    ap (λ (x : Line). x.behind) (sym same) ∙ front.1 (ap (λ (x : Line). x.ended) same ∙ ended)
+
+last_at : (kind : LineKind) (first : ℕ) (bytes : List ℕ) (l : Line) (ls : List Line) → kind_of (said l) ≡ kind → lines_of bytes ≡ l ∷ ls → (number : ℕ) (line : Line) (behind : List Line)
+    → next_from first (l ∷ ls) ≡ Some (number, line, behind) → line.ended ≡ false → (next_from (number_behind first) ls ≡ Some (number, line, behind) → line.behind ≡ []) → line.behind ≡ []
+last_at kinds.Skipped first bytes l ls kind e number line behind found ended later = later (sym (skipped_from first l ls kind) ∙ found)
+last_at kinds.TooLong first bytes l ls kind e number line behind found ended later = last_here first bytes l ls e (λ it others. ap (λ k. unless_skipped k it others) kind) number line behind found ended
+last_at kinds.Played first bytes l ls kind e number line behind found ended later = last_here first bytes l ls e (λ it others. ap (λ k. unless_skipped k it others) kind) number line behind found ended
+
+last_from : (lines : List Line) (first : ℕ) (bytes : List ℕ) → lines_of bytes ≡ lines → (number : ℕ) (line : Line) (behind : List Line) → next_from first lines ≡ Some (number, line, behind) → line.ended ≡ false → line.behind ≡ []
+last_from [] first bytes e number line behind found ended = absurd (cc)
+last_from (l ∷ ls) first bytes e number line behind found ended =
+    let front = front_of bytes l ls e in
+    last_at (kind_of (said l)) first bytes l ls refl e number line behind found ended (λ found'. last_from ls (number_behind first) l.behind (sym front.0) number line behind found' ended)
+
+-- a next line that no LF ends is the last
+pub last_behind : (first : ℕ) (bytes : List ℕ) (number : ℕ) (line : Line) (behind : List Line) → next_from first (lines_of bytes) ≡ Some (number, line, behind) → line.ended ≡ false → line.behind ≡ []
+last_behind first bytes number line behind found ended = last_from (lines_of bytes) first bytes refl number line behind found ended
+
 -- where a read failed behind the next line: the lines that came whole are that line and those that came behind it
 pub came_behind : (first : ℕ) (bytes : List ℕ) (number : ℕ) (line : Line) (behind : List Line) (given : List ℕ) (left : Option (List ℕ)) → next_from first (lines_of bytes) ≡ Some (number, line, behind) → line.ended ≡ true → CameBefore line.behind left given
     → (all : List ℕ) × CameBefore bytes left all × (next_from first (ended_lines (lines_of all)) ≡ Some (number, record line { behind = given }, ended_lines (lines_of given)))
