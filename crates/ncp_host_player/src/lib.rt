@@ -1,0 +1,5 @@
+//! The player of a script of one host.
+#![tactic(auto)]
+
+mod asking;
+mod lines;
