@@ -1,0 +1,4 @@
+pub mod Going
+pub mod Arrivals
+pub mod Departures
+pub mod Whole
