@@ -1,7 +1,6 @@
 -- Messages that come, one after the other.
 use Rattle.std.proofs.Common.{◌≡◌, ℕ, Bool, false, List, [], ◌∷◌, ◌++◌, Option, Some, Result, Ok, Err, refl, sym, ap, ◌∙◌, subst}
 use Rattle.std.proofs.lemmas.List.{append_assoc}
-use Rattle.ncp_transcript.specs.declared.input.Input.{Input}
 use Rattle.ncp_transcript.specs.declared.input.Input.TheVariants as inputs
 use Rattle.ncp_transcript.specs.declared.note.HostNote.{HostNote}
 use Rattle.ncp_transcript.specs.Alone.{Alone, IsStep}
@@ -15,8 +14,8 @@ use Rattle.ncp_files.proofs.Contents.{next_record-front, holds_some}
 use Rattle.ncp_play.specs.declared.fault.PlayFault.{PlayFault}
 use Rattle.ncp_play.specs.declared.fault.PlayFault.TheVariants.{BadLine, LineTooLong, BadHosts, Feed, ReadFailed, WriteFailed, OutOfMemory}
 use Rattle.ncp_play.specs.declared.heading.Heading.{Heading}
-use Rattle.ncp_feed.specs.Feeds.{TellsAs, is_cut}
-use Rattle.ncp_feed.specs.Steps.{IsOtherHeader, ReadsFeedHeader, Does, HearsNext, Hears, HearsFirst, HearsFrom}
+use Rattle.ncp_play.specs.Playing.{Does, TellsAs}
+use Rattle.ncp_feed.specs.Steps.{IsOtherHeader, ReadsFeedHeader, HearsNext, Hears, HearsFirst, HearsFrom}
 
 -- ---- the header
 
@@ -55,16 +54,6 @@ next_breaks bytes rest window message left before now BadHosts h k = absurd k
 next_breaks bytes rest window message left before now (BadLine line) h k = absurd k
 next_breaks bytes rest window message left before now (LineTooLong line) h k = absurd k
 next_breaks bytes rest window message left before now (Feed fault) h k = absurd k
-
--- no read fails where an input is done
-pub never_cut : (input : Input) (before now : Alone) (fault : PlayFault) → Does input before (Err fault) now → is_cut fault ≡ false
-never_cut input before now OutOfMemory h = refl
-never_cut input before now WriteFailed h = refl
-never_cut input before now ReadFailed h = refl
-never_cut input before now BadHosts h = refl
-never_cut input before now (BadLine line) h = refl
-never_cut input before now (LineTooLong line) h = refl
-never_cut input before now (Feed fault) h = absurd h
 
 -- ---- messages from here on
 

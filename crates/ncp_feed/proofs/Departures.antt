@@ -11,7 +11,8 @@ use Rattle.ncp_transcript.specs.Noting.{note_of_message}
 use Rattle.ncp_transcript.specs.Alone.{Alone, IsStep}
 use Rattle.ncp_play.specs.declared.fault.PlayFault.{PlayFault}
 use Rattle.ncp_play.specs.declared.fault.PlayFault.TheVariants.{BadLine, LineTooLong, BadHosts, Feed, ReadFailed, WriteFailed, OutOfMemory}
-use Rattle.ncp_feed.specs.Steps.{Does, Asked, SentOne, SendsNext, SentAll, SentSome, SendsFrom, is_out}
+use Rattle.ncp_play.specs.Playing.{Does}
+use Rattle.ncp_feed.specs.Steps.{Asked, SentOne, SendsNext, SentAll, SentSome, SendsFrom, is_out}
 use Rattle.ncp_feed.specs.Feeds.{all_output}
 use Rattle.ncp_feed.specs.Going.{open_links}
 use Rattle.ncp_feed.proofs.Going.{fewer_links}

@@ -1,6 +1,6 @@
 -- What a feed gives (this profile): a message file from an IMP. Each of its messages comes, up to the first fault
 -- of the file; where it has none, the host is then asked for output until it has none.
-use Rattle.std.specs.Prelude.{◌≡◌, ◌⊎◌, ℕ, Bool, false, List, [], ◌∷◌, ◌++◌, drop, length, map, replicate, Option, Some, None, Result, Ok, Err}
+use Rattle.std.specs.Prelude.{◌≡◌, ◌⊎◌, ℕ, Bool, List, [], ◌∷◌, ◌++◌, drop, length, map, replicate, Option, Some, None, Result, Ok, Err}
 use Rattle.ncp_transcript.specs.declared.input.Input.TheVariants as inputs
 use Rattle.ncp_transcript.specs.declared.note.HostNote.{HostNote}
 use Rattle.ncp_transcript.specs.declared.note.HostNote.TheVariants as notes
@@ -10,11 +10,9 @@ use Rattle.ncp_files.specs.declared.file.Direction.TheVariants.{ToImp, FromImp}
 use Rattle.ncp_files.specs.declared.file.FileFault.{FileFault}
 use Rattle.ncp_files.specs.declared.file.FileFault.TheVariants.{BadHeader}
 use Rattle.ncp_files.specs.File.{direction_of, Holds, IsCut}
-use Rattle.ncp_files.specs.Results.{MatchFault, is_read}
+use Rattle.ncp_files.specs.Results.{MatchFault}
 use Rattle.ncp_play.specs.declared.fault.PlayFault.{PlayFault}
 use Rattle.ncp_play.specs.declared.fault.PlayFault.TheVariants.{BadLine, LineTooLong, BadHosts, Feed, ReadFailed, WriteFailed, OutOfMemory}
-use Rattle.ncp_play.specs.declared.heading.Heading.{Heading}
-use Rattle.ncp_play.specs.Playing.{Tells, TellsBeginning}
 
 -- ---- the file
 
@@ -76,32 +74,3 @@ FeedDoes bytes before (Err ReadFailed) now left = ⊥
 FeedDoes bytes before (Err BadHosts) now left = ⊥
 FeedDoes bytes before (Err (BadLine line)) now left = ⊥
 FeedDoes bytes before (Err (LineTooLong line)) now left = ⊥
-
--- ---- what is told
-
--- the lines of all notes were told; where a write failed a beginning of them was written
-abbrev pub TellsAs : {X : Type 0} → List ℕ → Heading → List HostNote → Result X PlayFault → Heading → List ℕ → Option (List ℕ) → Type 0
-TellsAs was first notes (Ok x) heading page written = Tells was first notes heading page written
-TellsAs was first notes (Err WriteFailed) heading page written = TellsBeginning was first notes written
-TellsAs was first notes (Err OutOfMemory) heading page written = Tells was first notes heading page written
-TellsAs was first notes (Err (Feed fault)) heading page written = Tells was first notes heading page written
-TellsAs was first notes (Err ReadFailed) heading page written = Tells was first notes heading page written
-TellsAs was first notes (Err BadHosts) heading page written = Tells was first notes heading page written
-TellsAs was first notes (Err (BadLine line)) heading page written = Tells was first notes heading page written
-TellsAs was first notes (Err (LineTooLong line)) heading page written = Tells was first notes heading page written
-
--- ---- results
-
--- whether a fault says that a read failed in a feed
-abbrev pub is_cut : PlayFault → Bool
-is_cut (Feed fault) = is_read fault
-is_cut (BadLine line) = false
-is_cut (LineTooLong line) = false
-is_cut BadHosts = false
-is_cut ReadFailed = false
-is_cut WriteFailed = false
-is_cut OutOfMemory = false
-
-abbrev pub is_cut_off : {X : Type 0} → Result X PlayFault → Bool
-is_cut_off (Ok x) = false
-is_cut_off (Err fault) = is_cut fault

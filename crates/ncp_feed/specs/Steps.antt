@@ -1,6 +1,5 @@
 -- What the parts of a feed do.
 use Rattle.std.specs.Prelude.{◌≡◌, ◌⊎◌, ℕ, Bool, true, false, List, [], ◌∷◌, ◌++◌, length, map, replicate, drop, Option, Some, None, Result, Ok, Err}
-use Rattle.ncp_transcript.specs.declared.input.Input.{Input}
 use Rattle.ncp_transcript.specs.declared.input.Input.TheVariants as inputs
 use Rattle.ncp_transcript.specs.declared.note.HostNote.{HostNote}
 use Rattle.ncp_transcript.specs.declared.note.HostNote.TheVariants as notes
@@ -27,19 +26,6 @@ IsOtherHeader None = Unit {0}
 abbrev pub ReadsFeedHeader : List ℕ → Result Unit FileFault → List ℕ → Option (List ℕ) → Type 0
 ReadsFeedHeader bytes (Ok done) window left = (direction_of bytes ≡ Some FromImp) × Ahead window left (drop 4 bytes)
 ReadsFeedHeader bytes (Err fault) window left = MatchFault (λ f. (f ≡ BadHeader) × IsOtherHeader (direction_of bytes)) (CutInHeader bytes window left) ⊥ fault
-
--- ---- one input
-
--- it was done; or there was no memory, and nothing has happened; or it was done, and a write failed
-abbrev pub Does : Input → Alone → Result Unit PlayFault → Alone → Type 0
-Does input before (Ok done) now = IsStep input before now
-Does input before (Err OutOfMemory) now = now ≡ before
-Does input before (Err WriteFailed) now = IsStep input before now
-Does input before (Err (Feed fault)) now = ⊥
-Does input before (Err ReadFailed) now = ⊥
-Does input before (Err BadHosts) now = ⊥
-Does input before (Err (BadLine line)) now = ⊥
-Does input before (Err (LineTooLong line)) now = ⊥
 
 -- ---- messages that come
 

@@ -2,11 +2,11 @@
 ghost use Rattle.std.specs.Prelude.{◌≡◌, ℕ, ◌+◌, ◌≤◌, ◌||◌, List, OnOk};
 ghost use Rattle.ncp_stream.specs.Pieces.{reads_beyond, bytes_and_writes, lost_pieces};
 ghost use Rattle.ncp_stream.specs.Streams.{Ahead};
-ghost use Rattle.ncp_files.specs.Results.{is_read_failed};
-ghost use Rattle.ncp_play.specs.Faults.{is_write_failed};
-ghost use Rattle.ncp_play.specs.Playing.{Tells};
+ghost use Rattle.ncp_files.specs.Results.{is_read_failed as is_file_read_failed};
+ghost use Rattle.ncp_play.specs.Faults.{is_read_failed, is_write_failed};
+ghost use Rattle.ncp_play.specs.Playing.{Tells, TellsAs};
 ghost use Rattle.ncp_play.specs.declared.heading.Heading.{Heading as Beginning};
-ghost use Rattle.ncp_feed.specs.Feeds.{FeedDoes, TellsAs, is_cut_off};
+ghost use Rattle.ncp_feed.specs.Feeds.{FeedDoes};
 ghost use Rattle.ncp_feed.specs.Steps.{ReadsFeedHeader};
 
 use crate::hearing::hear_all;
@@ -20,7 +20,7 @@ use ncp_transcript::Alone;
 // Reads the header, which has to be that of a file from an IMP.
 fn read_feed_header<R: Source>(window: &mut Window, source: &mut R) -> Result<(), FileFault>
     ensures told { (bytes : List ℕ) → Ahead window.old (R.left source.old) bytes → ReadsFeedHeader bytes result window.new (R.left source.new) }
-    ensures mark { R.has_failed source.new ≡ (R.has_failed source.old || is_read_failed result) }
+    ensures mark { R.has_failed source.new ≡ (R.has_failed source.old || is_file_read_failed result) }
     ensures reads { reads_beyond R.gives_all (R.reads source.old) (R.left source.old) ≤ reads_beyond R.gives_all (R.reads source.new) (R.left source.new) + 1 }
     ensures taken { OnOk result (reads_beyond R.gives_all (R.reads source.old) (R.left source.old) ≤ reads_beyond R.gives_all (R.reads source.new) (R.left source.new)) }
 {
@@ -57,7 +57,7 @@ pub fn feed<S: BitStore, R: Source, W: Sink>(
         → TellsAs was first alone.new.notes result heading.new page.new (W.written sink.new) }
 
     // Reading and writing are blamed exactly where they failed.
-    ensures source_mark { R.has_failed source.new ≡ (R.has_failed source.old || is_cut_off result) }
+    ensures source_mark { R.has_failed source.new ≡ (R.has_failed source.old || is_read_failed result) }
     ensures sink_mark { W.has_failed sink.new ≡ (W.has_failed sink.old || is_write_failed result) }
 
     // Bytes are read, and lines written, in pieces.

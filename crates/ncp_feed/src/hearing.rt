@@ -3,16 +3,14 @@ ghost use Rattle.std.specs.Prelude.{◌≡◌, ℕ, ◌+◌, ◌<◌, ◌≤◌,
 ghost use Rattle.ncp_stream.specs.Pieces.{reads_beyond, bytes_and_writes, lost_pieces};
 ghost use Rattle.ncp_stream.specs.Streams.{Ahead};
 ghost use Rattle.ncp_files.specs.Windows.{effort};
-ghost use Rattle.ncp_play.specs.Faults.{is_write_failed};
-ghost use Rattle.ncp_play.specs.Playing.{Tells};
+ghost use Rattle.ncp_play.specs.Faults.{is_read_failed, is_write_failed};
+ghost use Rattle.ncp_play.specs.Playing.{Tells, TellsAs};
 ghost use Rattle.ncp_play.specs.declared.heading.Heading.{Heading as Beginning};
-ghost use Rattle.ncp_feed.specs.Feeds.{TellsAs, is_cut_off};
 ghost use Rattle.ncp_feed.specs.Steps.{HearsNext, HearsFrom};
 
-use crate::playing::play;
 use ncp_bits::{BitStore, Bits};
 use ncp_files::{Page, Window, read_record};
-use ncp_play::{Heading, PlayFault};
+use ncp_play::{Heading, PlayFault, play_input};
 use ncp_stream::{Sink, Source};
 use ncp_transcript::{Alone, Input};
 
@@ -28,7 +26,7 @@ fn hear_next<S: BitStore, R: Source, W: Sink>(
     ensures events { (bytes : List ℕ) → Ahead window.old (R.left source.old) bytes → HearsNext bytes alone.old result alone.new window.new (R.left source.new) }
     ensures told { (was : List ℕ) (first : Beginning) → Tells was first alone.old.notes heading.old page.old (W.written sink.old)
         → TellsAs was first alone.new.notes result heading.new page.new (W.written sink.new) }
-    ensures source_mark { R.has_failed source.new ≡ (R.has_failed source.old || is_cut_off result) }
+    ensures source_mark { R.has_failed source.new ≡ (R.has_failed source.old || is_read_failed result) }
     ensures sink_mark { W.has_failed sink.new ≡ (W.has_failed sink.old || is_write_failed result) }
     ensures reads { reads_beyond R.gives_all (R.reads source.old) (R.left source.old) ≤ reads_beyond R.gives_all (R.reads source.new) (R.left source.new) + 1 }
     ensures taken { IfOk result (λ more. more ≡ true → reads_beyond R.gives_all (R.reads source.old) (R.left source.old) ≤ reads_beyond R.gives_all (R.reads source.new) (R.left source.new)) }
@@ -38,7 +36,7 @@ fn hear_next<S: BitStore, R: Source, W: Sink>(
     let mut message = Bits::new();
     match read_record(window, source, &mut message) {
         Ok(true) => {
-            play(alone, &Input::In(message), heading, page, sink)?;
+            play_input(alone, &Input::In(message), heading, page, sink)?;
             Ok(true)
         }
         Ok(false) => Ok(false),
@@ -58,7 +56,7 @@ pub(crate) fn hear_all<S: BitStore, R: Source, W: Sink>(
     ensures events { (bytes : List ℕ) → Ahead window.old (R.left source.old) bytes → HearsFrom bytes alone.old result alone.new (R.left source.new) }
     ensures told { (was : List ℕ) (first : Beginning) → Tells was first alone.old.notes heading.old page.old (W.written sink.old)
         → TellsAs was first alone.new.notes result heading.new page.new (W.written sink.new) }
-    ensures source_mark { R.has_failed source.new ≡ (R.has_failed source.old || is_cut_off result) }
+    ensures source_mark { R.has_failed source.new ≡ (R.has_failed source.old || is_read_failed result) }
     ensures sink_mark { W.has_failed sink.new ≡ (W.has_failed sink.old || is_write_failed result) }
     ensures reads { reads_beyond R.gives_all (R.reads source.old) (R.left source.old) ≤ reads_beyond R.gives_all (R.reads source.new) (R.left source.new) + 1 }
     ensures writes { bytes_and_writes W.takes_all (W.writes sink.old) (W.written sink.old) ≤ bytes_and_writes W.takes_all (W.writes sink.new) (W.written sink.new) + lost_pieces (is_write_failed result) }

@@ -3,7 +3,6 @@
 
 mod feeding;
 mod hearing;
-mod playing;
 mod sending;
 
 pub use feeding::feed;

@@ -3,16 +3,14 @@ ghost use Rattle.std.specs.Prelude.{◌≡◌, ℕ, ◌+◌, ◌<◌, ◌≤◌,
 ghost use Rattle.ncp_stream.specs.Pieces.{bytes_and_writes, lost_pieces};
 ghost use Rattle.ncp_transcript.specs.declared.note.HostNote.{HostNote as Note};
 ghost use Rattle.ncp_play.specs.Faults.{is_write_failed};
-ghost use Rattle.ncp_play.specs.Playing.{Tells};
+ghost use Rattle.ncp_play.specs.Playing.{Tells, TellsAs};
 ghost use Rattle.ncp_play.specs.declared.heading.Heading.{Heading as Beginning};
-ghost use Rattle.ncp_feed.specs.Feeds.{TellsAs};
 ghost use Rattle.ncp_feed.specs.Steps.{SendsNext, SendsFrom, is_out};
 ghost use Rattle.ncp_feed.specs.Going.{open_links};
 
-use crate::playing::play;
 use ncp_bits::BitStore;
 use ncp_files::Page;
-use ncp_play::{Heading, PlayFault};
+use ncp_play::{Heading, PlayFault, play_input};
 use ncp_stream::Sink;
 use ncp_transcript::{Alone, HostNote, Input};
 
@@ -38,7 +36,7 @@ fn send_next<S: BitStore, W: Sink>(
     ensures sink_mark { W.has_failed sink.new ≡ (W.has_failed sink.old || is_write_failed result) }
     ensures writes { bytes_and_writes W.takes_all (W.writes sink.old) (W.written sink.old) ≤ bytes_and_writes W.takes_all (W.writes sink.new) (W.written sink.new) + lost_pieces (is_write_failed result) }
 {
-    play(alone, &Input::Out, heading, page, sink)?;
+    play_input(alone, &Input::Out, heading, page, sink)?;
     let notes = alone.transcript();
     Ok(is_out(&notes[notes.len() - 1]))
 }

@@ -3,18 +3,18 @@ use Rattle.std.proofs.lemmas.Result.{err_from_is_err_and}
 use Rattle.ncp_feed.proofs.Arrivals.{next_ends, next_breaks}
 use Rattle.ncp_feed.proofs.hearing.hear_next.Goals as goal
 
-pub returns-in_err-play-in-Ok-true-clause-events : goal.returns-in_err-play-in-Ok-true-clause-events
-returns-in_err-play-in-Ok-true-clause-events g c = λ bytes ahead.
+pub returns-in_err-play_input-in-Ok-true-clause-events : goal.returns-in_err-play_input-in-Ok-true-clause-events
+returns-in_err-play_input-in-Ok-true-clause-events g c = λ bytes ahead.
     let p = err_from_is_err_and c.from_residual.result c.from_residual.ensures.1 in
     let read = rw c.in-Ok-true.field-0-test at (c.in-Ok-true.ensures.told bytes ahead) in
     rw (p.1, p.2) (
-    next_breaks bytes read.0 c.read_record.new.window c.read_record.new.message (g.R.Source.left c.read_record.new.source) c.args.alone.now c.play.new.alone c.in_err-play-in-Ok-true.field-0.0 read.1
-    c.in_err-play-in-Ok-true.ensures.events)
+    next_breaks bytes read.0 c.read_record.new.window c.read_record.new.message (g.R.Source.left c.read_record.new.source) c.args.alone.now c.play_input.new.alone c.in_err-play_input-in-Ok-true.field-0.0 read.1
+    c.in_err-play_input-in-Ok-true.ensures.events)
 
-pub returns-in_ok-play-in-Ok-true-clause-events : goal.returns-in_ok-play-in-Ok-true-clause-events
-returns-in_ok-play-in-Ok-true-clause-events g c = λ bytes ahead.
+pub returns-in_ok-play_input-in-Ok-true-clause-events : goal.returns-in_ok-play_input-in-Ok-true-clause-events
+returns-in_ok-play_input-in-Ok-true-clause-events g c = λ bytes ahead.
     let read = rw c.in-Ok-true.field-0-test at (c.in-Ok-true.ensures.told bytes ahead) in
-    (c.read_record.new.message, read.0, read.1, read.2, c.in_ok-play-in-Ok-true.ensures.events)
+    (c.read_record.new.message, read.0, read.1, read.2, c.in_ok-play_input-in-Ok-true.ensures.events)
 
 pub returns-in-Ok-false-clause-events : goal.returns-in-Ok-false-clause-events
 returns-in-Ok-false-clause-events g c = λ bytes ahead. (rw c.in-Ok-false.field-0-test at (c.in-Ok-false.ensures.told bytes ahead), refl)
