@@ -1,3 +1,4 @@
 pub mod Asks
 pub mod Does
 pub mod Telling
+pub mod Begun

@@ -2,4 +2,5 @@
 #![tactic(auto)]
 
 mod asking;
+mod beginning;
 mod lines;
