@@ -1,3 +1,4 @@
 pub mod Feeds
 pub mod Steps
 pub mod Going
+pub mod Examples

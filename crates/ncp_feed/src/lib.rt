@@ -3,6 +3,7 @@
 
 mod feeding;
 mod hearing;
+pub mod laws;
 mod sending;
 
 pub use feeding::feed;

@@ -1,0 +1,13 @@
+-- A feed by which the definitions show what they mean.
+use Rattle.std.specs.Prelude.{ℕ, Bool, List, [], ◌∷◌, ◌++◌, codes}
+use Rattle.ncp_bits.specs.Bits.{bits_of_bytes}
+
+-- RST in a message from host 2, and an RFNM from host 2
+abbrev pub rst : List Bool
+rst = bits_of_bytes (0 ∷ 2 ∷ 0 ∷ 0 ∷ 0 ∷ 8 ∷ 0 ∷ 1 ∷ 0 ∷ 12 ∷ [])
+
+abbrev pub stray : List Bool
+stray = bits_of_bytes (5 ∷ 2 ∷ 0 ∷ 0 ∷ [])
+
+abbrev pub first_feed : List ℕ
+first_feed = codes "NCPI" ++ 0 ∷ 80 ∷ 0 ∷ 2 ∷ 0 ∷ 0 ∷ 0 ∷ 8 ∷ 0 ∷ 1 ∷ 0 ∷ 12 ∷ 0 ∷ 32 ∷ 5 ∷ 2 ∷ 0 ∷ 0 ∷ []
