@@ -5,11 +5,11 @@ ghost use Rattle.ncp_play.specs.Arrived.{received_words};
 use ncp_files::{LONGEST_NUMBER, PAGE_SIZE, Page, push_field};
 use ncp_host::Received;
 
-// How many bytes the words have at most.
-const LONGEST_RECEIVED: usize = 8 + LONGEST_NUMBER;
+/// How many bytes the words have at most that say what became of bits.
+pub const LONGEST_RECEIVED: usize = 8 + LONGEST_NUMBER;
 
-/// Appends the words.
-pub(crate) fn push_received(page: &mut Page, received: Received)
+/// Appends what became of bits that came, in words.
+pub fn push_received(page: &mut Page, received: Received)
     requires { length page.old + LONGEST_RECEIVED ≤ PAGE_SIZE }
     ensures bytes { page.new ≡ page.old ++ received_words received }
     ensures len { length page.new ≤ length page.old + LONGEST_RECEIVED }

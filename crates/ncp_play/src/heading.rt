@@ -35,8 +35,8 @@ impl Heading {
     }
 }
 
-// How many bytes a line has at most in front of its first word.
-const LONGEST_FRONT: usize = LONGEST_NUMBER + 2;
+/// How many bytes a line has at most in front of its first word.
+pub const LONGEST_FRONT: usize = LONGEST_NUMBER + 2;
 
 // How many letters the longest word has that names a call.
 const LONGEST_VERB: usize = 11;
@@ -67,8 +67,8 @@ fn push_peer(page: &mut Page, speaker: Speaker, peer: Option<u8>)
     }
 }
 
-/// Appends the number and the side.
-pub(crate) fn push_front(page: &mut Page, heading: Heading)
+/// Appends what a line begins with: its number, and in a script of two hosts its side.
+pub fn push_front(page: &mut Page, heading: Heading)
     requires { length page.old + LONGEST_FRONT ≤ PAGE_SIZE }
     ensures bytes { page.new ≡ page.old ++ front heading }
     ensures len { length page.new ≤ length page.old + LONGEST_FRONT }

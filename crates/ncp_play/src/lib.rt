@@ -11,7 +11,8 @@ mod note_lines;
 mod playing;
 mod results;
 
+pub use arrived::{LONGEST_RECEIVED, push_received};
 pub use fault::PlayFault;
-pub use heading::{Heading, Speaker};
+pub use heading::{Heading, LONGEST_FRONT, Speaker, push_front};
 pub use note_lines::say_note;
 pub use playing::play_input;

@@ -1,8 +1,7 @@
 //! The call that the words of a line are.
-ghost use Rattle.std.specs.Prelude.{◌≡◌, ◌≢◌, IfOk, option_map};
+ghost use Rattle.std.specs.Prelude.{◌≡◌, ◌≢◌, ◌∷◌, IfOk, option_map};
 ghost use Rattle.ncp_script.specs.declared.verbs.Verb.TheVariants.{Give};
-ghost use Rattle.ncp_script.specs.Verbs.{verb_of};
-ghost use Rattle.ncp_script.specs.Calls.{pair_call, peer_call, verb_call, named_call, call_of, all_of};
+ghost use Rattle.ncp_script.specs.Calls.{pair_call, peer_call, verb_call, call_of, all_of};
 
 use crate::line_words::Words;
 use crate::verbs::{Verb, verb_named};
@@ -115,14 +114,16 @@ fn last(call: Option<Call>, words: &Words<'_>) -> Option<Call>
     if words.is_empty() { call } else { None }
 }
 
-// The call that a word names, with the words behind it, all that are left.
-pub(crate) fn call_named(
+/// The call that a word names, with the words behind it, all that are left: its peer where none is
+/// given, and its arguments. Memory is taken for the text of a `give` alone. Where they are no call, the
+/// words that are left are not told.
+pub fn call_named(
     alloc: Global,
     word: &[u8],
     words: &mut Words<'_>,
     given: Option<u8>,
 ) -> Result<Option<Call>, AllocError>
-    ensures { IfOk result (λ call. call ≡ all_of (named_call given (verb_of word.now) words.old)) }
+    ensures { IfOk result (λ call. call ≡ call_of given (word.now ∷ words.old)) }
 {
     let Some(verb) = verb_named(word) else {
         return Ok(None);

@@ -1,5 +1,6 @@
 //! Lines of scripts and what they ask for, computed from the definitions.
 ghost use Rattle.std.specs.Prelude.{◌≡◌, codes, List, [], ◌∷◌, Option, None, Some, true, false};
+ghost use Rattle.ncp_bits.specs.Bits.{bits_of_bytes};
 ghost use Rattle.ncp_transcript.specs.declared.call.Call.TheVariants as calls;
 ghost use Rattle.ncp_transcript.specs.declared.input.Input.TheVariants as inputs;
 ghost use Rattle.ncp_script.specs.declared.host_lines.HostLine.TheVariants as lines;
@@ -35,6 +36,16 @@ pub fn calls_are_read_so()
     ensures errors { call_of None (words_of (codes "errors 9")) ≡ Some (calls.Errors 9) }
     ensures counts { call_of None (words_of (codes "counts 9")) ≡ Some (calls.Counts 9) }
     ensures ignored { call_of None (words_of (codes "ignored")) ≡ Some calls.Ignored }
+{}
+
+/// The largest numbers of calls.
+pub fn the_largest_numbers_are_read_so()
+    ensures ask_send { call_of None (words_of (codes "ask-send 255 4294967295 4294967294 255 4294967295")) ≡ Some (calls.AskSend 255 (record { local = 4294967295; remote = 4294967294 }) 255 4294967295) }
+    ensures ask_receive { call_of None (words_of (codes "ask-receive 9 2 5 4294967295")) ≡ Some (calls.AskReceive 9 (record { local = 2; remote = 5 }) 4294967295) }
+    ensures take { call_of None (words_of (codes "take 9 2 5 4294967295")) ≡ Some (calls.Take 9 (record { local = 2; remote = 5 }) 4294967295) }
+    ensures allocate { call_of None (words_of (codes "allocate 9 2 5 65535 4294967295")) ≡ Some (calls.Allocate 9 (record { local = 2; remote = 5 }) 65535 4294967295) }
+    ensures room { call_of None (words_of (codes "ask-receive 9 2 5 4294967296")) ≡ None }
+    ensures bytes { call_of None (words_of (codes "take 9 2 5 4294967296")) ≡ None }
 {}
 
 /// In a script of two hosts no word is the peer.
@@ -111,4 +122,10 @@ pub fn scripts_are_read_so()
     ensures no_line { host_script [] ≡ NoHosts BadHosts }
     ensures no_hosts { host_script (codes "#\n\n") ≡ NoHosts BadHosts }
     ensures other_hosts { host_script (codes "out\nhost 9 3\n") ≡ NoHosts BadHosts }
+{}
+
+/// What a host is asked for in a script with each kind of line but a feed.
+#[tactic(auto, unfolding(ncp_bits::specs::Bits::byte_bits, ncp_bits::specs::Numbers::bits_of))]
+pub fn a_script_of_one_host()
+    ensures { host_script (codes "host 1 2\nphase 2\nin 32 05020000\nin 80 0002000000080001000c\nphase 2\necho 2 65\necho 2 66\nout\n") ≡ Plays (record { me = 1; peers = 2 ∷ [] }) (record { events = inputs.Call (calls.Phase 2) ∷ inputs.In (bits_of_bytes (5 ∷ 2 ∷ 0 ∷ 0 ∷ [])) ∷ inputs.In (bits_of_bytes (0 ∷ 2 ∷ 0 ∷ 0 ∷ 0 ∷ 8 ∷ 0 ∷ 1 ∷ 0 ∷ 12 ∷ [])) ∷ inputs.Call (calls.Phase 2) ∷ inputs.Call (calls.Echo 2 65) ∷ inputs.Call (calls.Echo 2 66) ∷ inputs.Out ∷ []; ending = Over }) }
 {}

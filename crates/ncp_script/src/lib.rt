@@ -17,7 +17,7 @@ mod line_words;
 mod numbers;
 mod verbs;
 
-pub use calls::call;
+pub use calls::{call, call_named};
 pub use equality::{equal_kinds, equal_verbs};
 pub use first_lines::{HostAndPeers, TwoHosts, host_named, hosts_named};
 pub use host_lines::{HostLine, host_line};
