@@ -1,0 +1,2 @@
+pub mod MoreWorldNotes
+pub mod OneEvent

@@ -1,0 +1,51 @@
+//! Lines of scripts of two hosts and what they ask for, computed from the definitions.
+ghost use Rattle.std.specs.Prelude.{◌≡◌, codes, [], ◌∷◌, None, Some};
+ghost use Rattle.ncp_script.specs.Words.{words_of};
+ghost use Rattle.ncp_script.specs.Scripts.{Over, Faulty, BadLine, BadHosts, NoHosts, Plays};
+ghost use Rattle.ncp_script.specs.declared.first_lines.TwoHosts.{TwoHosts};
+ghost use Rattle.ncp_transcript.specs.declared.call.Call.TheVariants as calls;
+ghost use Rattle.ncp_world.specs.declared.event.Event.TheVariants as events;
+ghost use Rattle.ncp_world.specs.declared.side.Side.TheVariants.{A, B};
+ghost use Rattle.ncp_world_player.specs.WorldLines.{world_line_of};
+ghost use Rattle.ncp_world_player.specs.WorldScripts.{world_script};
+
+/// Each word of a line; the peer of a call is the other host.
+pub fn lines_are_read_so()
+    ensures reset { (hosts : TwoHosts) → world_line_of hosts (words_of (codes "a reset")) ≡ Some (events.Call A (calls.Reset hosts.b)) }
+    ensures close { (hosts : TwoHosts) → world_line_of hosts (words_of (codes "b close 2 3")) ≡ Some (events.Call B (calls.Close hosts.a (record { local = 2; remote = 3 }))) }
+    ensures ignored { (hosts : TwoHosts) → world_line_of hosts (words_of (codes "b ignored")) ≡ Some (events.Call B calls.Ignored) }
+    ensures out { (hosts : TwoHosts) → world_line_of hosts (words_of (codes "b out")) ≡ Some (events.Out B) }
+    ensures deliver { (hosts : TwoHosts) → world_line_of hosts (words_of (codes "a deliver 2")) ≡ Some (events.Deliver A 2) }
+    ensures lose { (hosts : TwoHosts) → world_line_of hosts (words_of (codes "b lose 0")) ≡ Some (events.Lose B 0) }
+    ensures dead { (hosts : TwoHosts) → world_line_of hosts (words_of (codes "a dead 71")) ≡ Some (events.Dead A 71) }
+    ensures answer { (hosts : TwoHosts) → world_line_of hosts (words_of (codes "b answer 255")) ≡ Some (events.Answer B 255) }
+{}
+
+/// What no line asks for: no word, a side that is none or stands alone, a peer that is named, a space too
+/// many, a link that is missing, too large, or followed by more, and words of a script of one host.
+pub fn no_lines()
+    ensures none { (hosts : TwoHosts) → world_line_of hosts (words_of []) ≡ None }
+    ensures side { (hosts : TwoHosts) → world_line_of hosts (words_of (codes "c out")) ≡ None }
+    ensures no_side { (hosts : TwoHosts) → world_line_of hosts (words_of (codes "out")) ≡ None }
+    ensures large { (hosts : TwoHosts) → world_line_of hosts (words_of (codes "A out")) ≡ None }
+    ensures alone { (hosts : TwoHosts) → world_line_of hosts (words_of (codes "a")) ≡ None }
+    ensures peer { (hosts : TwoHosts) → world_line_of hosts (words_of (codes "a reset 2")) ≡ None }
+    ensures spaces { (hosts : TwoHosts) → world_line_of hosts (words_of (codes "a  out")) ≡ None }
+    ensures end { (hosts : TwoHosts) → world_line_of hosts (words_of (codes "a out ")) ≡ None }
+    ensures link { (hosts : TwoHosts) → world_line_of hosts (words_of (codes "a deliver")) ≡ None }
+    ensures far { (hosts : TwoHosts) → world_line_of hosts (words_of (codes "a answer 256")) ≡ None }
+    ensures more { (hosts : TwoHosts) → world_line_of hosts (words_of (codes "a lose 2 2")) ≡ None }
+    ensures bits { (hosts : TwoHosts) → world_line_of hosts (words_of (codes "a in 0")) ≡ None }
+    ensures feed { (hosts : TwoHosts) → world_line_of hosts (words_of (codes "a feed")) ≡ None }
+{}
+
+/// What the bytes of a script of two hosts ask for.
+pub fn scripts_are_read_so()
+    ensures whole { world_script (codes "# two\n\nhosts 1 2\r\na reset\na out\na deliver 0\na answer 0\nb out") ≡ Plays (record { a = 1; b = 2 }) (record { events = events.Call A (calls.Reset 2) ∷ events.Out A ∷ events.Deliver A 0 ∷ events.Answer A 0 ∷ events.Out B ∷ []; ending = Over }) }
+    ensures nothing { world_script (codes "hosts 1 2") ≡ Plays (record { a = 1; b = 2 }) (record { events = []; ending = Over }) }
+    ensures bad_line { world_script (codes "hosts 1 2\n#\n\na out\nout\na out\n") ≡ Plays (record { a = 1; b = 2 }) (record { events = events.Out A ∷ []; ending = Faulty (BadLine 5) }) }
+    ensures no_line { world_script [] ≡ NoHosts BadHosts }
+    ensures same_hosts { world_script (codes "hosts 1 1\na out\n") ≡ NoHosts BadHosts }
+    ensures one_host { world_script (codes "host 1 2\nout\n") ≡ NoHosts BadHosts }
+    ensures other_line { world_script (codes "a out\nhosts 1 2\n") ≡ NoHosts BadHosts }
+{}

@@ -1,0 +1,42 @@
+//! One event of a player: it happens to the hosts and the subnet, and its note is said.
+ghost use Rattle.std.specs.Prelude.{◌≡◌, ◌+◌, ◌≤◌, ◌||◌, ℕ, List, is_err};
+ghost use Rattle.ncp_stream.specs.Pieces.{bytes_and_writes, lost_pieces};
+ghost use Rattle.ncp_play.specs.Faults.{is_write_failed};
+ghost use Rattle.ncp_world_player.specs.Playing.{DoesEvent, TellsWorld, TellsWorldAs};
+
+use crate::world_notes::say_world_note;
+use ncp_bits::BitStore;
+use ncp_files::Page;
+use ncp_play::PlayFault;
+use ncp_stream::Sink;
+use ncp_world::{Event, World};
+
+/// Does what an event says, and says the lines of its note, which has this number; then the number is
+/// that of the next note.
+///
+/// After `OutOfMemory` nothing has happened, and the same event may be given again; after
+/// `WriteFailed` the event was done, and a beginning of all lines is written.
+pub fn play_event<S: BitStore, W: Sink>(
+    world: &mut World<S>,
+    event: &Event,
+    number: &mut u32,
+    page: &mut Page,
+    sink: &mut W,
+) -> Result<(), PlayFault>
+    ensures event { DoesEvent event.now world.old result world.new }
+    ensures told { (was : List ℕ) → TellsWorld was world.old.notes number.old page.old (W.written sink.old) → TellsWorldAs was world.new.notes result number.new page.new (W.written sink.new) }
+    ensures writes { bytes_and_writes W.takes_all (W.writes sink.old) (W.written sink.old) ≤ bytes_and_writes W.takes_all (W.writes sink.new) (W.written sink.new) + lost_pieces (is_write_failed result) }
+    ensures mark { W.has_failed sink.new ≡ (W.has_failed sink.old || is_write_failed result) }
+{
+    if world.step(event).is_err() {
+        return Err(PlayFault::OutOfMemory);
+    }
+    let notes = world.transcript();
+    match say_world_note(page, sink, *number, &notes[notes.len() - 1]) {
+        Ok(()) => {
+            *number = number.saturating_add(1);
+            Ok(())
+        }
+        Err(_) => Err(PlayFault::WriteFailed),
+    }
+}
