@@ -1,5 +1,6 @@
 //! The first line of a script: the hosts that it names.
-ghost use Rattle.std.specs.Prelude.{◌≡◌, option_map};
+ghost use Rattle.std.specs.Prelude.{◌≡◌, ◌≢◌, Some, option_map};
+ghost use Rattle.ncp_script.specs.declared.first_lines.TwoHosts.{TwoHosts as Pair_of_hosts};
 ghost use Rattle.ncp_script.specs.FirstLines.{named_in, numbers_of, few, host_named, hosts_named};
 
 use crate::line_words::Words;
@@ -56,7 +57,8 @@ pub fn host_named(words: &mut Words<'_>) -> Option<HostAndPeers>
 /// The two hosts that the words of a line name, all that are left; they are distinct. Where they
 /// name none, the words that are left are not told.
 pub fn hosts_named(words: &mut Words<'_>) -> Option<TwoHosts>
-    ensures { result ≡ hosts_named words.old }
+    ensures hosts { result ≡ hosts_named words.old }
+    ensures distinct { (hosts : Pair_of_hosts) → result ≡ Some hosts → hosts.a ≢ hosts.b }
 {
     let word = words.next_word()?;
     if word != HOSTS {

@@ -1,2 +1,3 @@
 pub mod MoreWorldNotes
 pub mod OneEvent
+pub mod AskedLines

@@ -5,6 +5,7 @@
 pub mod examples;
 pub mod laws;
 mod moves;
+mod next_event;
 mod playing;
 mod world_lines;
 mod world_notes;

@@ -1,0 +1,134 @@
+-- What the next line asks for, by its words.
+use Rattle.std.proofs.Common.{◌≡◌, ℕ, Bool, true, false, List, [], Option, Some, None, Result, Ok, Err, option_map, refl, sym, ap, ◌∙◌, subst}
+use Rattle.ncp_stream.specs.Streams.{Ahead}
+use Rattle.ncp_stream.specs.declared.source.Failed.{Failed}
+use Rattle.ncp_script.specs.declared.first_lines.TwoHosts.{TwoHosts}
+use Rattle.ncp_script.specs.declared.line_buffer.LineKind.{LineKind}
+use Rattle.ncp_script.specs.declared.line_buffer.LineKind.TheVariants as kinds
+use Rattle.ncp_script.specs.FirstLines.{hosts_named}
+use Rattle.ncp_script.specs.Lines.{text_of, kind_of}
+use Rattle.ncp_script.specs.Words.{words_of}
+use Rattle.ncp_script.specs.Scripts.{Line, lines_of, said, Asked, Event as Asks, Course, Script, Over as Is_over, Faulty, ends, judged, played, number_behind, course_from, begun, first_judged, script_from, NoHosts, Plays}
+use Rattle.ncp_script.specs.Scripts.{BadLine as Is_bad_line, LineTooLong as Is_too_long, BadHosts as Are_bad_hosts}
+use Rattle.ncp_reader.specs.declared.lines.Lines.{Lines}
+use Rattle.ncp_reader.specs.declared.lines.NextLine.{NextLine}
+use Rattle.ncp_reader.specs.declared.lines.NextLine.TheVariants.{Over, TooLong, Played}
+use Rattle.ncp_reader.specs.NextLines.{next_from, ended_lines, CameBefore, IsNext, ReadsNext}
+use Rattle.ncp_reader.proofs.Courses.{course_at, course_next, script_at, script_next}
+use Rattle.ncp_reader.proofs.Nexts.{came_behind, last_behind}
+use Rattle.ncp_play.specs.declared.fault.PlayFault.{PlayFault}
+use Rattle.ncp_play.specs.declared.fault.PlayFault.TheVariants.{BadLine, LineTooLong, BadHosts, Feed, ReadFailed, WriteFailed, OutOfMemory}
+use Rattle.ncp_world.specs.declared.event.Event.{Event}
+use Rattle.ncp_world_player.specs.WorldLines.{world_line_of}
+use Rattle.ncp_world_player.specs.WorldScripts.{asks}
+use Rattle.ncp_world_player.specs.NextEvents.{EventIn, course_of, course_cut, with_event, AsksOne, AsksNext, script_behind, FindsHosts}
+
+module _ (hosts : TwoHosts) (first : ℕ) (bytes : List ℕ) where
+  -- what is asked for from the next line on
+  course_is : (kind : LineKind) (number : ℕ) (line : Line) (next : ℕ) (window : List ℕ) (left : Option (List ℕ)) → IsNext first bytes kind number line next window left
+      → course_of hosts first bytes ≡ judged number line kind (asks hosts (words_of (said line))) (course_of hosts (number_behind number) line.behind)
+  course_is kind number line next window left is =
+      course_next (asks hosts) first (lines_of bytes) ∙ ap (course_at (asks hosts)) is.0
+      ∙ ap (λ k. judged number line k (asks hosts (words_of (said line))) (course_of hosts (number_behind number) line.behind)) is.1
+
+  pub asks_over : next_from first (lines_of bytes) ≡ None → course_of hosts first bytes ≡ ends Is_over
+  asks_over none = course_next (asks hosts) first (lines_of bytes) ∙ ap (course_at (asks hosts)) none
+
+  pub asks_cut : (given : List ℕ) → next_from first (ended_lines (lines_of given)) ≡ None → course_cut hosts first given ≡ ends Is_over
+  asks_cut given none = course_next (asks hosts) first (ended_lines (lines_of given)) ∙ ap (course_at (asks hosts)) none
+
+  module _ (number : ℕ) (line : Line) (now : Lines) (left : Option (List ℕ)) (is : IsNext first bytes kinds.Played number line now.number now.window left) where
+    pub asks_bad : world_line_of hosts (words_of (said line)) ≡ None → course_of hosts first bytes ≡ ends (Faulty (Is_bad_line number))
+    asks_bad none =
+        course_is kinds.Played number line now.number now.window left is
+        ∙ ap (λ (event : Option Event). played number line (option_map Asks event) (course_of hosts (number_behind number) line.behind)) none
+
+    asks_event : (event : Event) → world_line_of hosts (words_of (said line)) ≡ Some event → course_of hosts first bytes ≡ with_event event (course_of hosts (number_behind number) line.behind)
+    asks_event event some =
+        course_is kinds.Played number line now.number now.window left is
+        ∙ ap (λ (event : Option Event). played number line (option_map Asks event) (course_of hosts (number_behind number) line.behind)) some
+
+    -- the same of bytes that were cut off behind the line
+    cut_event : (event : Event) → world_line_of hosts (words_of (said line)) ≡ Some event → (given all : List ℕ)
+        → next_from first (ended_lines (lines_of all)) ≡ Some (number, record line { behind = given }, ended_lines (lines_of given))
+        → course_cut hosts first all ≡ with_event event (course_cut hosts (number_behind number) given)
+    cut_event event some given all found =
+        course_next (asks hosts) first (ended_lines (lines_of all)) ∙ ap (course_at (asks hosts)) found
+        ∙ ap (λ k. judged number (record line { behind = given }) k (asks hosts (words_of (said line))) (course_cut hosts (number_behind number) given)) is.1
+        ∙ ap (λ (event : Option Event). played number (record line { behind = given }) (option_map Asks event) (course_cut hosts (number_behind number) given)) some
+
+    pub asks_one : (event : Event) → world_line_of hosts (words_of (said line)) ≡ Some event → line.ended ≡ true → AsksOne hosts first bytes event now left
+    asks_one event some ended = (
+      line.behind,
+      asks_event event some ∙ ap (λ n. with_event event (course_of hosts n line.behind)) (sym is.2),
+      is.3,
+      λ given left' before.
+          let came = came_behind first bytes number line (lines_of line.behind) given left' is.0 ended before in
+          (came.0, came.1, cut_event event some given came.0 came.2 ∙ ap (λ n. with_event event (course_cut hosts n given)) (sym is.2)),
+    )
+
+    pub asks_last : (event : Event) → world_line_of hosts (words_of (said line)) ≡ Some event → line.ended ≡ false → course_of hosts first bytes ≡ with_event event (ends Is_over)
+    asks_last event some ended =
+        asks_event event some
+        ∙ ap (λ behind. with_event event (course_of hosts (number_behind number) behind)) (last_behind first bytes number line (lines_of line.behind) is.0 ended)
+
+    asks_by_end : (event : Event) (ended : Bool) → world_line_of hosts (words_of (said line)) ≡ Some event → line.ended ≡ ended → AsksNext hosts first bytes (Ok (Some (event, ended))) now left
+    asks_by_end event true some e = asks_one event some e
+    asks_by_end event false some e = asks_last event some e
+
+    -- the event of the line that was read
+    pub asks_read : (event : Event) (ended : Bool) (text : List ℕ) → world_line_of hosts (words_of text) ≡ Some event → text ≡ said line → line.ended ≡ ended → AsksNext hosts first bytes (Ok (Some (event, ended))) now left
+    asks_read event ended text some same e = asks_by_end event ended (ap (λ t. world_line_of hosts (words_of t)) (sym same) ∙ some) e
+
+    pub asks_fault : (fault : PlayFault) (text : List ℕ) → text ≡ said line → EventIn hosts number text (Err fault) → AsksNext hosts first bytes (Err fault) now left
+    asks_fault (BadLine line') text same bad = asks_bad (ap (λ t. world_line_of hosts (words_of t)) (sym same) ∙ bad.0) ∙ ap (λ n. ends (Faulty (Is_bad_line n))) (sym bad.1)
+    asks_fault OutOfMemory text same bad = tt
+    asks_fault (LineTooLong line') text same bad = absurd bad
+    asks_fault ReadFailed text same bad = absurd bad
+    asks_fault WriteFailed text same bad = absurd bad
+    asks_fault BadHosts text same bad = absurd bad
+    asks_fault (Feed fault) text same bad = absurd bad
+
+  pub asks_long : (number : ℕ) (line : Line) (now : Lines) (left : Option (List ℕ)) → IsNext first bytes kinds.TooLong number line now.number now.window left → course_of hosts first bytes ≡ ends (Faulty (Is_too_long number))
+  asks_long number line now left is = course_is kinds.TooLong number line now.number now.window left is
+
+-- ---- the first line
+
+-- a script by its next line
+pub script_is : (first : ℕ) (bytes : List ℕ) (kind : LineKind) (number : ℕ) (line : Line) (next : ℕ) (window : List ℕ) (left : Option (List ℕ)) → IsNext first bytes kind number line next window left
+    → script_behind first (lines_of bytes) ≡ first_judged number kind (hosts_named (words_of (said line))) (λ h. course_of h (number_behind number) line.behind) (script_behind (number_behind number) (lines_of line.behind))
+script_is first bytes kind number line next window left is =
+    script_next hosts_named asks first (lines_of bytes) ∙ ap (script_at hosts_named asks) is.0
+    ∙ ap (λ k. first_judged number k (hosts_named (words_of (said line))) (λ h. course_of h (number_behind number) line.behind) (script_behind (number_behind number) (lines_of line.behind))) is.1
+
+pub no_first : (first : ℕ) (lines : List Line) → next_from first lines ≡ None → script_behind first lines ≡ NoHosts Are_bad_hosts
+no_first first lines none = script_next hosts_named asks first lines ∙ ap (script_at hosts_named asks) none
+
+pub first_long : (first : ℕ) (bytes : List ℕ) (number : ℕ) (line : Line) (now : Lines) (left : Option (List ℕ)) → IsNext first bytes kinds.TooLong number line now.number now.window left → script_behind first (lines_of bytes) ≡ NoHosts (Is_too_long number)
+first_long first bytes number line now left is = script_is first bytes kinds.TooLong number line now.number now.window left is
+
+pub first_bad : (first : ℕ) (bytes : List ℕ) (number : ℕ) (line : Line) (now : Lines) (left : Option (List ℕ)) (text : List ℕ) → IsNext first bytes kinds.Played number line now.number now.window left → text ≡ said line → hosts_named (words_of text) ≡ None
+    → script_behind first (lines_of bytes) ≡ NoHosts Are_bad_hosts
+first_bad first bytes number line now left text is same none =
+    script_is first bytes kinds.Played number line now.number now.window left is
+    ∙ ap (λ (h : Option TwoHosts). begun h (λ h. course_of h (number_behind number) line.behind)) (ap (λ t. hosts_named (words_of t)) (sym same) ∙ none)
+
+-- the course behind the line that names the hosts
+pub first_named : (first : ℕ) (bytes : List ℕ) (number : ℕ) (line : Line) (now : Lines) (left : Option (List ℕ)) (hosts : TwoHosts) → IsNext first bytes kinds.Played number line now.number now.window left → hosts_named (words_of (said line)) ≡ Some hosts
+    → script_behind first (lines_of bytes) ≡ Plays hosts (course_of hosts now.number line.behind)
+first_named first bytes number line now left hosts is some =
+    script_is first bytes kinds.Played number line now.number now.window left is
+    ∙ ap (λ (h : Option TwoHosts). begun h (λ h. course_of h (number_behind number) line.behind)) some ∙ ap (λ n. Plays hosts (course_of hosts n line.behind)) (sym is.2)
+
+-- the same of bytes that were cut off behind that line
+pub first_cut : (first : ℕ) (bytes : List ℕ) (number : ℕ) (line : Line) (now : Lines) (left : Option (List ℕ)) (hosts : TwoHosts) → IsNext first bytes kinds.Played number line now.number now.window left → hosts_named (words_of (said line)) ≡ Some hosts → line.ended ≡ true
+    → (given : List ℕ) (left' : Option (List ℕ)) → CameBefore line.behind left' given
+    → (all : List ℕ) × CameBefore bytes left' all × (script_behind first (ended_lines (lines_of all)) ≡ Plays hosts (course_cut hosts now.number given))
+first_cut first bytes number line now left hosts is some ended given left' before =
+    let came = came_behind first bytes number line (lines_of line.behind) given left' is.0 ended before in (
+      came.0,
+      came.1,
+      script_next hosts_named asks first (ended_lines (lines_of came.0)) ∙ ap (script_at hosts_named asks) came.2
+          ∙ ap (λ k. first_judged number k (hosts_named (words_of (said line))) (λ h. course_cut h (number_behind number) given) (script_behind (number_behind number) (ended_lines (lines_of given)))) is.1
+          ∙ ap (λ (h : Option TwoHosts). begun h (λ h. course_cut h (number_behind number) given)) some ∙ ap (λ n. Plays hosts (course_cut hosts n given)) (sym is.2),
+    )
