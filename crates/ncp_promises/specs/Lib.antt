@@ -1,0 +1,2 @@
+pub mod EachNote
+pub mod Judged

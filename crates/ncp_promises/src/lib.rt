@@ -1,0 +1,5 @@
+//! What two hosts promise each other, read off their transcript: laws alone, above those of the world
+//! and of the model's two hosts.
+#![tactic(auto)]
+
+pub mod promises;
