@@ -85,6 +85,11 @@ acts w v m t e =
 pub on_control : (on : ℕ) (v : World) (m : List Bool) → (on == 0) ≡ true → v.going on ≡ Accepted m → v.going 0 ≡ Accepted m
 on_control on v m z e = ap v.going (sym (eqb-true on 0 z)) ∙ e
 
+pub hears_all-stands : (here : ℕ) (cs : List Command) (n : Node) (s : PeerState) (u : Subnet) → All IsCommand cs → ModelStands n → Stands here n s u → Stands here (hosts.hears_all cs n) (hearing.hears_all cs s) u
+hears_all-stands here [] n s u f g k = k
+hears_all-stands here (c ∷ cs) n s u f g k =
+    hears_all-stands here cs (hosts.hears c n) (hearing.hears c s) u (All-tail IsCommand c cs f) (hearing-stands c n g) (hears-stands here c n s u (All-head IsCommand c cs f) g k)
+
 -- No command of it is answered by an ERR.
 
 or_left : (a b : Bool) → (a || b) ≡ false → a ≡ false

@@ -1,3 +1,4 @@
 pub mod Standing
 pub mod Each
 pub mod Judging
+pub mod Waiting

@@ -1,2 +1,3 @@
 pub mod EachNote
 pub mod Judged
+pub mod Resetting

@@ -5,10 +5,18 @@ ghost use Rattle.ncp_world.specs.Between.{Hosts};
 ghost use Rattle.ncp_world.specs.Transcript.{began, IsTranscript};
 ghost use Rattle.ncp_promises.specs.EachNote.{OfEachNote};
 ghost use Rattle.ncp_promises.specs.Judged.{ActsOnce, MakesNoErr};
+ghost use Rattle.ncp_promises.specs.Resetting.{OnlyResetsAct};
 
 /// Each command of a control message that comes acts once, in order, and nothing else does; none of them
 /// is answered by an ERR, and nothing that comes is refused.
 pub fn what_comes_acts_once_and_is_right()
     ensures once { (notes : List Note) (w : Hosts) → IsTranscript notes w → OfEachNote ActsOnce notes (began w) }
     ensures right { (notes : List Note) (w : Hosts) → IsTranscript notes w → OfEachNote MakesNoErr notes (began w) }
+{}
+
+/// From making an RST until an RRP came, a host acts on nothing but RST and RRP: in each note of that time no
+/// call changes what it keeps of its peer, all that comes but these two is dropped, and nothing but them
+/// waits to go out. It waits on in each note but one in which an RRP comes.
+pub fn only_resets_act_until_the_answer()
+    ensures { (notes : List Note) (w : Hosts) → IsTranscript notes w → OfEachNote OnlyResetsAct notes (began w) }
 {}
