@@ -2,3 +2,6 @@ pub mod Standing
 pub mod Each
 pub mod Judging
 pub mod Waiting
+pub mod Lines
+pub mod Keeping
+pub mod Watching

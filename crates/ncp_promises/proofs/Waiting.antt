@@ -139,10 +139,10 @@ text-drops : (on : ℕ) (w : hosts.World) (v : World) (m : List Bool) → (on ==
     → (worlds.received (from_host v.here m) v.that ≡ received.NotUp) × ((worlds.after_received (from_host v.here m) v.that).peer ≡ v.that.peer)
 text-drops on w v m z t e a = (
   ap (λ (x : List Bool). worlds.received (from_host v.here x) v.that) c.written
-  ∙ ap (λ (x : List Bool). worlds.received x v.that) (from_host-message v.here v.there on c.what.of_size c.what.bits)
-  ∙ comes-received v.here on c.what.of_size c.what.bits v.that t.that.number (small on c.fits.0) c.fits.1
-  ∙ text-is on (message_with (leader_to v.here on) c.what.of_size c.what.bits) v.that c.fits.0 z
-  ∙ ap (λ (b : Bool). if b then received.Text (answer (text_in on c.what.of_size c.what.bits v.that.peer.ends)) else received.NotUp) (down v.that.peer.phase a),
+      ∙ ap (λ (x : List Bool). worlds.received x v.that) (from_host-message v.here v.there on c.what.of_size c.what.bits)
+      ∙ comes-received v.here on c.what.of_size c.what.bits v.that t.that.number (small on c.fits.0) c.fits.1
+      ∙ text-is on (message_with (leader_to v.here on) c.what.of_size c.what.bits) v.that c.fits.0 z
+      ∙ ap (λ (b : Bool). if b then received.Text (answer (text_in on c.what.of_size c.what.bits v.that.peer.ends)) else received.NotUp) (down v.that.peer.phase a),
   ap (λ (s : PeerState). s.peer) (text-heard on w v m t z c) ∙ stays (up v.that.peer.phase) _ v.that.peer (down v.that.peer.phase a),
 )
   where
@@ -171,10 +171,10 @@ deliver-acts on w v (Accepted m) t e y u = (
     λ z. (
       drops-others (commands_of (from_host v.here m)) v.that,
       λ none.
-      let c : ControlComes w v m = control-comes w v m t (on_control on v m z e) in
-      let r : commands_of (from_host v.here m) ≡ c.what = control-read w v m t c in
-      still-there y (delivers on (Accepted m) v).0 u
-      (subst (λ (s : PeerState). Waits s) (sym (control-heard w v m t c)) (control-waits w v m t c a (ap (λ (cs : List Command). list_any is_rrp cs) (sym r) ∙ none))),
+          let c : ControlComes w v m = control-comes w v m t (on_control on v m z e) in
+          let r : commands_of (from_host v.here m) ≡ c.what = control-read w v m t c in
+          still-there y (delivers on (Accepted m) v).0 u
+          (subst (λ (s : PeerState). Waits s) (sym (control-heard w v m t c)) (control-waits w v m t c a (ap (λ (cs : List Command). list_any is_rrp cs) (sym r) ∙ none))),
     ),
   ),
   refl,

@@ -1,3 +1,4 @@
 pub mod EachNote
 pub mod Judged
 pub mod Resetting
+pub mod Since

@@ -6,6 +6,9 @@ ghost use Rattle.ncp_world.specs.Transcript.{began, IsTranscript};
 ghost use Rattle.ncp_promises.specs.EachNote.{OfEachNote};
 ghost use Rattle.ncp_promises.specs.Judged.{ActsOnce, MakesNoErr};
 ghost use Rattle.ncp_promises.specs.Resetting.{OnlyResetsAct};
+ghost use Rattle.ncp_promises.specs.Since.{Watched, none_watched, watched_from, turned, CommandsAgree};
+ghost use Rattle.ncp_world.specs.World.{swap};
+ghost use Rattle.ncp_world.specs.Seen.{seen};
 
 /// Each command of a control message that comes acts once, in order, and nothing else does; none of them
 /// is answered by an ERR, and nothing that comes is refused.
@@ -19,4 +22,11 @@ pub fn what_comes_acts_once_and_is_right()
 /// waits to go out. It waits on in each note but one in which an RRP comes.
 pub fn only_resets_act_until_the_answer()
     ensures { (notes : List Note) (w : Hosts) → IsTranscript notes w → OfEachNote OnlyResetsAct notes (began w) }
+{}
+
+/// Commands act once and in order: between two hosts that are up no RST or RRP is underway, and the commands
+/// that came to one of them since it was last cleared, followed by those underway to it, are those that the
+/// other has made since that was last cleared.
+pub fn commands_act_once_in_order()
+    ensures { (notes : List Note) (w : Hosts) → IsTranscript notes w → let p = watched_from notes (began w) none_watched in CommandsAgree (seen w) p × CommandsAgree (swap (seen w)) (turned p) }
 {}
