@@ -1,3 +1,3 @@
-mod OpensNot
+pub mod OpensNot
 mod LinkSums
 pub mod HostsHeadline

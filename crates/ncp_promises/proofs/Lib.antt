@@ -5,3 +5,4 @@ pub mod Waiting
 pub mod Lines
 pub mod Keeping
 pub mod Watching
+pub mod Opening

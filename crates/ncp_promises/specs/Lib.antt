@@ -2,3 +2,4 @@ pub mod EachNote
 pub mod Judged
 pub mod Resetting
 pub mod Since
+pub mod Openings

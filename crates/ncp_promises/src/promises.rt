@@ -6,6 +6,7 @@ ghost use Rattle.ncp_world.specs.Transcript.{began, IsTranscript};
 ghost use Rattle.ncp_promises.specs.EachNote.{OfEachNote};
 ghost use Rattle.ncp_promises.specs.Judged.{ActsOnce, MakesNoErr};
 ghost use Rattle.ncp_promises.specs.Resetting.{OnlyResetsAct};
+ghost use Rattle.ncp_promises.specs.Openings.{OpensUnderNoText};
 ghost use Rattle.ncp_promises.specs.Since.{Watched, none_watched, watched_from, turned, CommandsAgree};
 ghost use Rattle.ncp_world.specs.World.{swap};
 ghost use Rattle.ncp_world.specs.Seen.{seen};
@@ -29,4 +30,10 @@ pub fn only_resets_act_until_the_answer()
 /// other has made since that was last cleared.
 pub fn commands_act_once_in_order()
     ensures { (notes : List Note) (w : Hosts) → IsTranscript notes w → let p = watched_from notes (began w) none_watched in CommandsAgree (seen w) p × CommandsAgree (swap (seen w)) (turned p) }
+{}
+
+/// From the Out of a text to its RFNM no pair whose texts go from that host on that link opens at either host:
+/// no call and no command of a control message opens one, and nothing else opens any.
+pub fn none_opens_while_its_link_has_a_text()
+    ensures { (notes : List Note) (w : Hosts) → IsTranscript notes w → OfEachNote OpensUnderNoText notes (began w) }
 {}
