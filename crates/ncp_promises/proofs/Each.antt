@@ -1,5 +1,5 @@
 -- What holds of each step of the rules holds of each note of a transcript.
-use Rattle.std.proofs.Common.{◌≡◌, List, [], ◌∷◌, ◌++◌, Option, None, Some, refl, sym, ap, ◌∙◌, subst}
+use Rattle.std.proofs.Common.{◌≡◌, List, [], ◌∷◌, ◌++◌, Option, None, Some, refl, subst}
 use Rattle.ncp_resets.specs.Resets.{Side, This, That}
 use Rattle.ncp_hosts.specs.Hosts as hosts
 use Rattle.ncp_world.specs.World.{World, swap, Told, Event, moves, at, step, run_from, notes_from}
@@ -10,7 +10,7 @@ use Rattle.ncp_world.specs.Between.{Hosts, after_note}
 use Rattle.ncp_world.specs.Transcript.{IsRun, began, IsTranscript}
 use Rattle.ncp_world.specs.Seen.{seen, as_rules, told_of, side_of, notes_of}
 use Rattle.ncp_world.proofs.Ties.{tied-swapped}
-use Rattle.ncp_world.proofs.Runs.{run-ties, step-ties}
+use Rattle.ncp_world.proofs.Runs.{run-ties}
 use Rattle.ncp_world.proofs.SeenSteps.{Stand}
 use Rattle.ncp_world.proofs.SeenRuns.{Follows, follows}
 use Rattle.ncp_world.proofs.Headlines.{watched-all}

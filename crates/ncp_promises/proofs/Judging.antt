@@ -1,5 +1,5 @@
 -- How what comes is judged.
-use Rattle.std.proofs.Common.{◌≡◌, ◌<◌, ◌^◌, ℕ, ◌==◌, Bool, true, false, ◌||◌, if◌then◌else◌, All, List, [], ◌∷◌, ◌++◌, length, Option, None, Some, Result, Ok, refl, sym, ap, ◌∙◌, arith, subst}
+use Rattle.std.proofs.Common.{◌≡◌, ℕ, ◌==◌, Bool, true, false, ◌||◌, if◌then◌else◌, All, List, [], ◌∷◌, ◌++◌, length, Option, None, Some, Result, refl, sym, ap, ◌∙◌, arith, subst}
 use Rattle.std.specs.List.{list_any}
 use Rattle.std.proofs.lemmas.Bool.{eqb-true}
 use Rattle.std.proofs.lemmas.List.Elements.{All-head, All-tail}
@@ -13,7 +13,7 @@ use Rattle.ncp_control.specs.declared.command.Command.TheVariants as commands
 use Rattle.ncp_control.specs.Spelling.{spellings, IsCommand}
 use Rattle.ncp_control.specs.Reading.{commands_in}
 use Rattle.ncp_control.proofs.Reading.{spellings_small, spelled_alone}
-use Rattle.ncp_slot.specs.Slots.{slot_at, is_quiet}
+use Rattle.ncp_slot.specs.Slots.{slot_at}
 use Rattle.ncp_resets.specs.Delivery as model
 use Rattle.ncp_resets.specs.Resets.{This, That, is_up}
 use Rattle.ncp_model.specs.declared.outcomes.Heard.{Heard}
@@ -35,7 +35,7 @@ use Rattle.ncp_host.specs.Hearing as hearing
 use Rattle.ncp_world.specs.Subnet.{Holds, Free, Accepted, Delivered, Lost, Dead, Subnet, from_host}
 use Rattle.ncp_world.specs.World.{World, Told, In, Call_is_made, Goes_out, Is_delivered, Is_lost, Finds_dead, Is_answered, moves, goes, delivers, loses, dies, answers_for}
 use Rattle.ncp_world.specs.World as worlds
-use Rattle.ncp_world.specs.Tie.{control_bits, AreCommands, Stands, Reached, Goes_on, Tied, IsMove, IsOfModel}
+use Rattle.ncp_world.specs.Tie.{control_bits, AreCommands, Stands, Reached, Goes_on, Tied, IsMove}
 use Rattle.ncp_world.specs.Refused.{refuses}
 use Rattle.ncp_world.specs.Underway.{text_read, commands_of}
 use Rattle.ncp_world.proofs.Links.{Comes, delivered}

@@ -1,11 +1,11 @@
 -- Commands act once and in order: what holds of the machine of resets after each of its steps holds of the
 -- hosts after each step of the rules, with what was made and came there.
-use Rattle.std.proofs.Common.{◌≡◌, ◌<◌, ◌+◌, ◌^◌, ℕ, ◌==◌, Bool, true, false, if◌then◌else◌, List, [], ◌∷◌, ◌++◌, length, take, drop, Option, None, Some, Result, Ok, refl, sym, ap, ◌∙◌, arith, subst}
+use Rattle.std.proofs.Common.{◌≡◌, ℕ, ◌==◌, Bool, true, false, if◌then◌else◌, List, [], ◌∷◌, length, take, Option, None, Some, Result, refl, sym, ap, ◌∙◌, subst}
 use Rattle.std.proofs.lemmas.Bool.{eqb-true}
 use Rattle.ncp_control.specs.declared.command.Command.{Command}
 use Rattle.ncp_leader.specs.declared.regular.TheConstants.{FRONT_BITS}
 use Rattle.ncp_leader.specs.declared.fault.MessageFault.{MessageFault}
-use Rattle.ncp_leader.specs.Message.{Message, message_in, message_with}
+use Rattle.ncp_leader.specs.Message.{Message, message_in}
 use Rattle.ncp_slot.specs.declared.slot.Slot.TheVariants as slots
 use Rattle.ncp_slot.specs.declared.slot.Answer.{Answer}
 use Rattle.ncp_slot.specs.declared.slot.Answer.TheVariants.{Rfnm, Incomplete, Dead}
@@ -24,7 +24,7 @@ use Rattle.ncp_model.specs.Sending.{next_commands, is_full}
 use Rattle.ncp_model.specs.Peers.{Peer, Call}
 use Rattle.ncp_model.specs.Peers as peers
 use Rattle.ncp_resets.specs.Delivery as model
-use Rattle.ncp_resets.specs.Resets.{Host, is_up, host_settles, host_makes_all, host_resets}
+use Rattle.ncp_resets.specs.Resets.{Host, is_up, host_resets}
 use Rattle.ncp_resets.proofs.ResetKept.{Kept, turned, replying, resetting, settling, hearing_all}
 use Rattle.ncp_resets.proofs.ResetRuns.{fronting, agreeing}
 use Rattle.ncp_hosts.specs.Hosts.{Node, TextOut, peer_of}
@@ -33,19 +33,18 @@ use Rattle.ncp_hosts.specs.Watching.{Watch, watch_of, sees_call, sees_echo, sees
 use Rattle.ncp_hosts.proofs.HostsBase.{either, reactions, hears_all-host}
 use Rattle.ncp_hosts.proofs.Seeing.{calls_agree, echoes_agree, resets_agree, messages_agree, texts_agree, frees_agree}
 use Rattle.ncp_hosts.proofs.Watches.{watches_agree}
-use Rattle.ncp_hosts.proofs.HostsStand.{Stands as ModelStands}
 use Rattle.ncp_host.specs.PeerState.{PeerState, after_answer}
 use Rattle.ncp_host.specs.PeerState as states
 use Rattle.ncp_host.specs.Hearing.{is_wrong_link}
 use Rattle.ncp_host.specs.Hearing as hearing
-use Rattle.ncp_host.specs.Output.{leader_to, next_of, links, output_by, made_on, control_message, after_by}
+use Rattle.ncp_host.specs.Output.{next_of, links, output_by, made_on, control_message, after_by}
 use Rattle.ncp_world.specs.Subnet.{Holds, Free, Accepted, Delivered, Lost, Subnet, from_host, link_in, set_at}
 use Rattle.ncp_world.specs.Subnet as subnets
 use Rattle.ncp_world.specs.World.{World, swap, Asked, Asks, Asks_echo, Asks_reset, Asks_wake, after_call, after_received, Told, Call_is_made, Goes_out, Is_delivered, Is_lost, Finds_dead, Is_answered, moves, goes, delivers, loses, dies, answers_for}
 use Rattle.ncp_world.specs.World as worlds
-use Rattle.ncp_world.specs.Tie.{control_bits, text_bits, AreCommands, IsTextOn, Tied, IsMove}
+use Rattle.ncp_world.specs.Tie.{control_bits, text_bits, AreCommands, IsTextOn, Tied}
 use Rattle.ncp_world.specs.Underway.{commands_of, underway}
-use Rattle.ncp_world.proofs.Links.{Comes, delivered, zero_apart, set_at-apart}
+use Rattle.ncp_world.proofs.Links.{Comes, delivered, zero_apart}
 use Rattle.ncp_world.proofs.Ties.{quiet-is}
 use Rattle.ncp_world.proofs.Written.{read, from_host-message, answer_comes-is}
 use Rattle.ncp_world.proofs.Comings.{small, text-heard, control-heard}

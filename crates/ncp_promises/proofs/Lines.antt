@@ -1,6 +1,6 @@
 -- What is on the control link of a host, read off its slot and the subnet, as steps change it.
-use Rattle.std.proofs.Common.{◌≡◌, ◌<◌, ◌≤◌, ◌-◌, ◌+◌, ◌^◌, ℕ, ◌==◌, Bool, true, false, if◌then◌else◌, nat_le, All, List, [], ◌∷◌, length, take, Option, None, Some, Result, refl, sym, ap, ◌∙◌, arith, subst}
-use Rattle.std.proofs.lemmas.Bool.{eqb-true, leb-true}
+use Rattle.std.proofs.Common.{◌≡◌, ◌<◌, ◌≤◌, ◌-◌, ◌^◌, ℕ, ◌==◌, Bool, true, false, if◌then◌else◌, nat_le, All, List, [], ◌∷◌, length, take, Result, refl, sym, ap, ◌∙◌, arith, subst}
+use Rattle.std.proofs.lemmas.Bool.{leb-true}
 use Rattle.std.proofs.lemmas.List.{length-append}
 use Rattle.std.proofs.lemmas.List.Elements.{All-take}
 use Rattle.ncp_bits.specs.Bits.{bytes_of, bits_of_bytes}
@@ -13,20 +13,17 @@ use Rattle.ncp_control.specs.Reading.{commands_in}
 use Rattle.ncp_control.proofs.Reading.{spellings_small, spelled_alone}
 use Rattle.ncp_slot.specs.declared.slot.Slot.TheVariants as slots
 use Rattle.ncp_slot.specs.declared.slot.Answer.{Answer}
-use Rattle.ncp_slot.specs.declared.slot.Answer.TheVariants.{Rfnm, Incomplete, Dead}
 use Rattle.ncp_slot.specs.Slot.{answered, woken}
 use Rattle.ncp_slot.specs.Slots.{LinkSlot, LinkSlots, slot_at, with_slot, all_woken}
 use Rattle.ncp_slot.proofs.Places.{slot_at-with_slot_same}
 use Rattle.ncp_slot.proofs.Waking.{slot_at-all_woken}
 use Rattle.ncp_model.specs.Sending.{fitting, next_commands}
 use Rattle.ncp_hosts.specs.Hosts as hosts
-use Rattle.ncp_host.specs.PeerState.{PeerState}
-use Rattle.ncp_world.specs.Subnet.{Holds, Free, Accepted, Delivered, Lost, Subnet, set_at}
-use Rattle.ncp_world.specs.Subnet as subnets
+use Rattle.ncp_world.specs.Subnet.{Holds, Free, Accepted, Delivered, Subnet, set_at}
 use Rattle.ncp_world.specs.World.{World}
 use Rattle.ncp_world.specs.Tie.{control_bits, AreCommands, Tied}
 use Rattle.ncp_world.specs.Underway.{text_read, commands_of, not_come, commands_out}
-use Rattle.ncp_world.proofs.Links.{away, set_at-apart, set_at-same, with_slot-apart}
+use Rattle.ncp_world.proofs.Links.{away, set_at-apart, with_slot-apart}
 use Rattle.ncp_world.proofs.Written.{read, control_text}
 
 abbrev pub line_of : LinkSlot → Holds → List Command

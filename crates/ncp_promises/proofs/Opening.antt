@@ -1,17 +1,15 @@
 -- Nothing opens while its link has a text.
-use Rattle.std.proofs.Common.{◌≡◌, ℕ, ◌==◌, Bool, true, false, not, ◌&&◌, if◌then◌else◌, All, List, [], ◌∷◌, ◌++◌, Option, None, Some, Result, Ok, refl, sym, ap, ◌∙◌, arith, subst}
+use Rattle.std.proofs.Common.{◌≡◌, ℕ, ◌==◌, Bool, true, false, not, ◌&&◌, if◌then◌else◌, All, List, [], ◌∷◌, ◌++◌, Option, None, Some, refl, sym, ap, ◌∙◌, arith, subst}
 use Rattle.std.specs.FinMap.{get, get-empty}
-use Rattle.std.proofs.lemmas.Bool.{both_ways, eqb-true}
 use Rattle.std.proofs.lemmas.List.{append_assoc}
 use Rattle.std.proofs.lemmas.List.Elements.{All-head, All-tail}
 use Rattle.ncp_control.specs.declared.command.Command.{Command}
 use Rattle.ncp_control.specs.Spelling.{IsCommand}
-use Rattle.ncp_leader.specs.declared.regular.TheConstants.{FRONT_BITS}
 use Rattle.ncp_slot.specs.declared.slot.Slot.TheVariants as slots
 use Rattle.ncp_slot.specs.declared.slot.Answer.{Answer}
 use Rattle.ncp_slot.specs.declared.slot.Answer.TheVariants.{Rfnm, Incomplete, Dead}
 use Rattle.ncp_slot.specs.Slot.{is_empty}
-use Rattle.ncp_slot.specs.Slots.{LinkSlot, LinkSlots, slot_at, is_quiet}
+use Rattle.ncp_slot.specs.Slots.{LinkSlot, LinkSlots, slot_at}
 use Rattle.ncp_model.specs.declared.pair.Pair.{Pair}
 use Rattle.ncp_model.specs.Pairs.{pair_cmp}
 use Rattle.ncp_model.specs.End.{End, is_live}
@@ -36,7 +34,7 @@ use Rattle.ncp_hosts.proofs.EndsGood.{changed-each, act-changes}
 use Rattle.ncp_hosts.proofs.HostsBase.{hears_all-texts}
 use Rattle.ncp_hosts.proofs.HostsStand.{hearing-stands}
 use Rattle.ncp_hosts.proofs.HostsStand.{Stands as ModelStands}
-use Rattle.ncp_hosts.proofs.Seeing.{calls_agree, echoes_agree, resets_agree, hears_agree}
+use Rattle.ncp_hosts.proofs.Seeing.{calls_agree, echoes_agree, resets_agree}
 use Rattle.ncp_ties.proofs.HostsHeld.{ever, ever-swapped, happening, after_step}
 use Rattle.ncp_headline.specs.Headline.{NoPairOpens, NoCommandOpens, SenderOpensAt, ReceiverOpensAt}
 use Rattle.ncp_headline.proofs.OpensNot.{none-live-at}
@@ -59,7 +57,7 @@ use Rattle.ncp_world.proofs.Comings.{text-heard, hears-stands}
 use Rattle.ncp_world.proofs.Answering.{answered-is}
 use Rattle.ncp_world.proofs.Flights.{IsOut, delivered-out, lost-out, dead-out}
 use Rattle.ncp_world.proofs.Reaching.{of-reached, stands-there}
-use Rattle.ncp_promises.specs.Openings.{Opens, OpensOnFreeLinks, EachOpensOnFreeLinks, OpensNothing, OpensUnderNoText}
+use Rattle.ncp_promises.specs.Openings.{OpensOnFreeLinks, EachOpensOnFreeLinks, OpensNothing, OpensUnderNoText}
 use Rattle.ncp_promises.proofs.Judging.{ControlComes, control-comes, control-read, on_control}
 
 -- What is not live stays so.
@@ -244,11 +242,11 @@ same-call Asks_wake w v t = record { peer = t.this.peer; out = λ on e. woken-fu
 call-opens : (asked : Asked) (w : hosts.World) (v : World) → Tied w v → OpensOnFreeLinks v.this v.that v.this.peer (after_call asked v.this).peer
 call-opens asked w v t pair on z o = (
   λ h. empty-or (is_empty (slot_at v.this.slots on)) (λ e.
-  let out = sym (slot-empty v.there on (w.this.texts on) (slot_at v.this.slots on) (v.going on) (t.this.texts on z)) ∙ e in
-  (none.0 pair on (out, k.out on out)).0 (opened, ap (λ (p : Peer). passes (hears_link on) pair (get p.ends pair)) (sym k.peer) ∙ h)),
+      let out = sym (slot-empty v.there on (w.this.texts on) (slot_at v.this.slots on) (v.going on) (t.this.texts on z)) ∙ e in
+      (none.0 pair on (out, k.out on out)).0 (opened, ap (λ (p : Peer). passes (hears_link on) pair (get p.ends pair)) (sym k.peer) ∙ h)),
   λ h. empty-or (is_empty (slot_at v.that.slots on)) (λ e.
-  let out = sym (slot-empty v.here on (w.that.texts on) (slot_at v.that.slots on) (v.coming on) (t.that.texts on z)) ∙ e in
-  (none.1 pair on (out, ap (λ (n : Node). is_empty (n.texts on).slot) k.there ∙ out)).1 (opened, ap (λ (p : Peer). passes (uses_link on) pair (get p.ends pair)) (sym k.peer) ∙ h)),
+      let out = sym (slot-empty v.here on (w.that.texts on) (slot_at v.that.slots on) (v.coming on) (t.that.texts on z)) ∙ e in
+      (none.1 pair on (out, ap (λ (n : Node). is_empty (n.texts on).slot) k.there ∙ out)).1 (opened, ap (λ (p : Peer). passes (uses_link on) pair (get p.ends pair)) (sym k.peer) ∙ h)),
 )
   where
     k : SameCall asked w v
@@ -274,11 +272,11 @@ module _ (w : hosts.World) (v : World) (t : Tied w v) where
       → OpensOnFreeLinks s v.this s.peer (hearing.hears c s).peer
   command-opens done rest c n s e is g f k pair on z o = (
     λ h. empty-or (is_empty (slot_at s.slots on)) (λ d.
-    (none pair on).0 (sym (ap (λ (l : ℕ → Link TextOut). is_empty (l on).slot) texts) ∙ sym (slot-empty v.here on (n.texts on) (slot_at s.slots on) (v.coming on) (k.texts on z)) ∙ d)
-    (opened, ap (λ (p : Peer). passes (hears_link on) pair (get p.ends pair)) (sym next.peer) ∙ h)),
+        (none pair on).0 (sym (ap (λ (l : ℕ → Link TextOut). is_empty (l on).slot) texts) ∙ sym (slot-empty v.here on (n.texts on) (slot_at s.slots on) (v.coming on) (k.texts on z)) ∙ d)
+        (opened, ap (λ (p : Peer). passes (hears_link on) pair (get p.ends pair)) (sym next.peer) ∙ h)),
     λ h. empty-or (is_empty (slot_at v.this.slots on)) (λ d.
-    (none pair on).1 (sym (slot-empty v.there on (w.this.texts on) (slot_at v.this.slots on) (v.going on) (t.this.texts on z)) ∙ d)
-    (opened, ap (λ (p : Peer). passes (uses_link on) pair (get p.ends pair)) (sym next.peer) ∙ h)),
+        (none pair on).1 (sym (slot-empty v.there on (w.this.texts on) (slot_at v.this.slots on) (v.going on) (t.this.texts on z)) ∙ d)
+        (opened, ap (λ (p : Peer). passes (uses_link on) pair (get p.ends pair)) (sym next.peer) ∙ h)),
   )
     where
       next : Stands v.here (hosts.hears c n) (hearing.hears c s) v.coming

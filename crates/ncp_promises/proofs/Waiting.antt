@@ -1,7 +1,6 @@
 -- A host that waits for an RRP acts on nothing but RST and RRP.
 use Rattle.std.proofs.Common.{◌≡◌, ℕ, ◌==◌, Bool, true, false, if◌then◌else◌, List, [], ◌∷◌, Option, None, Some, Ok, refl, sym, ap, ◌∙◌, arith, subst}
 use Rattle.std.specs.List.{filter, list_any}
-use Rattle.std.proofs.lemmas.Bool.{both_ways, eqb-true}
 use Rattle.ncp_control.specs.declared.command.Command.{Command}
 use Rattle.ncp_control.specs.declared.command.Command.TheVariants.{Rst, Rrp}
 use Rattle.ncp_leader.specs.Message.{Message, message_with}
@@ -20,7 +19,6 @@ use Rattle.ncp_hosts.specs.Hosts.{Node, peer_of}
 use Rattle.ncp_hosts.specs.Hosts as hosts
 use Rattle.ncp_hosts.proofs.HostsBase.{reactions, hears_all-host}
 use Rattle.ncp_ties.proofs.HostsHeld.{ever}
-use Rattle.ncp_host.specs.declared.received.Received.{Received}
 use Rattle.ncp_host.specs.declared.received.Received.TheVariants as received
 use Rattle.ncp_host.specs.PeerState.{PeerState, frees_on, after_answer}
 use Rattle.ncp_host.specs.PeerState as states
@@ -40,7 +38,7 @@ use Rattle.ncp_world.proofs.Answering.{answered-is}
 use Rattle.ncp_world.proofs.Flights.{IsOut, delivered-out, lost-out, dead-out}
 use Rattle.ncp_world.proofs.Reaching.{of-reached, stands-there}
 use Rattle.ncp_world.proofs.Runs.{moves-tie}
-use Rattle.ncp_promises.specs.Resetting.{Waits, StillWaits, DropsOthers, Drops, OnlyResetsAct}
+use Rattle.ncp_promises.specs.Resetting.{Waits, StillWaits, DropsOthers, OnlyResetsAct}
 use Rattle.ncp_promises.proofs.Judging.{ControlComes, control-comes, control-read, on_control, hears_all-stands}
 
 down : (p : Phase) → p.wait ≡ true → up p ≡ false

@@ -1,20 +1,18 @@
 -- What was made and came, note by note.
-use Rattle.std.proofs.Common.{◌≡◌, ℕ, ◌==◌, Bool, if◌then◌else◌, List, [], ◌∷◌, ◌++◌, Option, None, Some, refl, sym, ap, ◌∙◌, subst}
+use Rattle.std.proofs.Common.{◌≡◌, ℕ, ◌==◌, Bool, if◌then◌else◌, List, [], ◌∷◌, ◌++◌, Option, None, Some, refl, sym, ap, subst}
 use Rattle.std.proofs.lemmas.Bool.{eq-eqb}
 use Rattle.ncp_control.specs.declared.command.Command.{Command}
-use Rattle.ncp_slot.specs.declared.slot.Slot.TheVariants as slots
-use Rattle.ncp_slot.specs.Slots.{LinkSlot, slot_at, no_slots}
+use Rattle.ncp_slot.specs.Slots.{LinkSlot, no_slots}
 use Rattle.ncp_slot.proofs.Places.{slot_at-no_slots}
 use Rattle.ncp_world.specs.Subnet.{Subnet}
 use Rattle.ncp_resets.specs.Resets.{Side, This, That}
-use Rattle.ncp_resets.specs.Resets as resets
 use Rattle.ncp_resets.proofs.ResetKept.{Kept}
 use Rattle.ncp_resets.proofs.ResetRuns.{starting}
 use Rattle.ncp_hosts.specs.Hosts as hosts
 use Rattle.ncp_host.specs.PeerState.{PeerState, new_state}
 use Rattle.ncp_world.specs.World.{World, swap, Told, Event, moves, at, step, run_from, notes_from}
 use Rattle.ncp_world.specs.World as worlds
-use Rattle.ncp_world.specs.Tie.{IsMove, AreEvents, IsOfModel}
+use Rattle.ncp_world.specs.Tie.{IsOfModel}
 use Rattle.ncp_world.specs.declared.note.Note.{Note}
 use Rattle.ncp_world.specs.Between.{Hosts, after_note, after_notes}
 use Rattle.ncp_world.specs.Transcript.{IsRun, began, IsTranscript}

@@ -3,3 +3,5 @@ pub mod Judged
 pub mod Resetting
 pub mod Since
 pub mod Openings
+pub mod Headline
+pub mod Examples

@@ -1,6 +1,6 @@
 -- From the Out of a text to its RFNM no pair whose texts go from that host on that link opens, at either host.
 -- A text is out on a link of a host while the slot of the link is not empty.
-use Rattle.std.specs.Prelude.{◌≡◌, ℕ, ◌==◌, Bool, true, false, List, [], ◌∷◌}
+use Rattle.std.specs.Prelude.{◌≡◌, ℕ, ◌==◌, true, false, List, [], ◌∷◌}
 use Rattle.std.specs.FinMap.{get}
 use Rattle.ncp_control.specs.declared.command.Command.{Command}
 use Rattle.ncp_slot.specs.Slot.{is_empty}

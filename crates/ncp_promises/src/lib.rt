@@ -2,4 +2,6 @@
 //! and of the model's two hosts.
 #![tactic(auto)]
 
+pub mod examples;
+pub mod headline;
 pub mod promises;

@@ -1,0 +1,19 @@
+-- States for examples.
+use Rattle.std.specs.Prelude.{true, [], ◌∷◌}
+use Rattle.ncp_control.specs.declared.command.Command.{Command}
+use Rattle.ncp_model.specs.Phase.{up_phase}
+use Rattle.ncp_model.specs.Peers.{new_peer}
+use Rattle.ncp_hosts.specs.Watching.{Watch}
+use Rattle.ncp_host.specs.PeerState.{PeerState, new_state}
+use Rattle.ncp_promises.specs.Since.{nothing_seen}
+
+-- a host that is up, without a connection, and one that waits for an RRP
+abbrev pub up_state : PeerState
+up_state = record new_state { peer = record new_peer { phase = up_phase } }
+
+abbrev pub waiting_state : PeerState
+waiting_state = record new_state { peer = record new_peer { phase = record up_phase { wait = true } } }
+
+-- an ECO was made, and an INR came
+abbrev pub seen_before : Watch
+seen_before = record nothing_seen { made = Command.Eco 64 ∷ []; came = Command.Inr 2 ∷ [] }

@@ -1,0 +1,76 @@
+//! That the laws speak of something, and what their definitions refuse: small laws that a wrong definition
+//! makes false.
+ghost use Rattle.std.specs.Prelude.{◌≡◌, ℕ, Bool, true, false, List, [], ◌∷◌};
+ghost use Rattle.std.specs.List.{filter};
+ghost use Rattle.ncp_control.specs.declared.command.Command.{Command as Order};
+ghost use Rattle.ncp_slot.specs.Slot.{is_empty};
+ghost use Rattle.ncp_slot.specs.Slots.{slot_at};
+ghost use Rattle.ncp_model.specs.declared.outcomes.Heard.TheVariants as heard;
+ghost use Rattle.ncp_model.specs.declared.outcomes.Took.TheVariants as took;
+ghost use Rattle.ncp_model.specs.Act.{answer};
+ghost use Rattle.ncp_model.specs.Ends.{hear};
+ghost use Rattle.ncp_model.specs.Phase.{up, up_phase, is_other};
+ghost use Rattle.ncp_model.specs.Peers.{new_peer};
+ghost use Rattle.ncp_model.specs.Rows.{outward, inward};
+ghost use Rattle.ncp_resets.specs.Resets.{This, That};
+ghost use Rattle.ncp_watch.specs.Histories.{no_past};
+ghost use Rattle.ncp_hosts.specs.Hosts.{Hears, at, run, peer_of};
+ghost use Rattle.ncp_hosts.specs.HostRuns.{meets, meets_there};
+ghost use Rattle.ncp_host.specs.declared.received.Received.TheVariants as received;
+ghost use Rattle.ncp_host.specs.PeerState.{PeerState, new_state};
+ghost use Rattle.ncp_world.specs.World.{World, Asks_echo, Asks_reset, Called, In, Reply, Asked};
+ghost use Rattle.ncp_world.specs.Underway.{commands_of, underway};
+ghost use Rattle.ncp_promises.specs.Judged.{ActsOnce, NoneErrs};
+ghost use Rattle.ncp_promises.specs.Resetting.{Waits, OnlyResetsAct};
+ghost use Rattle.ncp_promises.specs.Openings.{Opens, OpensOnFreeLinks};
+ghost use Rattle.ncp_promises.specs.Since.{Watched, nothing_seen, of_asked, of_message, CommandsAgree};
+ghost use Rattle.ncp_promises.specs.Headline.{IsWithin};
+ghost use Rattle.ncp_promises.specs.Examples.{up_state, waiting_state, seen_before};
+
+use ncp_control::Command;
+use ncp_headline::headline::openings_and_texts_out_happen;
+
+/// Pairs open, at the sender's host and at the receiver's; where a text is out on their link, of the host
+/// that sends on it, the definition refuses that.
+pub fn openings_happen_and_are_seen()
+    ensures sender { Opens outward (peer_of (run meets).this) (peer_of (at This Hears (run meets)).this) }
+    ensures receiver { Opens inward (peer_of (run meets_there).that) (peer_of (at That Hears (run meets_there)).that) }
+    ensures own_text { (own other : PeerState) → is_empty (slot_at own.slots 2) ≡ false → OpensOnFreeLinks own other (peer_of (run meets).this) (peer_of (at This Hears (run meets)).this) → ⊥ }
+    ensures text_there { (own other : PeerState) → is_empty (slot_at other.slots 2) ≡ false → OpensOnFreeLinks own other (peer_of (run meets_there).that) (peer_of (at That Hears (run meets_there)).that) → ⊥ }
+{
+    openings_and_texts_out_happen();
+}
+
+/// A command that an ERR answers is seen as one; one that comes and does nothing, or is counted as two, is
+/// refused.
+pub fn errs_and_lost_commands_are_seen()
+    ensures err { (c : Order) (code : ℕ) (bytes : List ℕ) (s : PeerState) → up s.peer.phase ≡ true → answer (hear c s.peer.ends) ≡ heard.Reply (Command.Err code bytes) → NoneErrs (c ∷ []) s → ⊥ }
+    ensures lost { (m : List Bool) (v after : World) → commands_of m ≡ Command.Rrp ∷ [] → Waits v.that → Waits after.that → ActsOnce (In 0 m (received.Control 1)) v after → ⊥ }
+    ensures twice { (m : List Bool) (v after : World) → commands_of m ≡ Command.Rrp ∷ [] → ActsOnce (In 0 m (received.Control 2)) v after → ⊥ }
+{}
+
+/// A host that waits for an RRP is one after its RST; a text that it admits, and a command that it makes, are
+/// refused.
+pub fn acts_before_the_answer_are_seen()
+    ensures waits { Waits waiting_state }
+    ensures text { (m : List Bool) (v after : World) → Waits v.that → OnlyResetsAct (In 2 m (received.Text took.Admitted)) v after → ⊥ }
+    ensures made { (asked : Asked) (reply : Reply) (v after : World) → Waits v.this → after.this.peer.phase.waiting ≡ Command.Eco 65 ∷ v.this.peer.phase.waiting → OnlyResetsAct (Called asked reply) v after → ⊥ }
+{}
+
+/// What is watched: a command that is made, one that comes and what it makes, and that a reset and an RST that
+/// comes begin anew. A command that was made, did not come, and is not underway is refused.
+pub fn what_is_made_and_comes_is_seen()
+    ensures made { of_asked (Asks_echo 65) up_state seen_before ≡ record seen_before { made = Command.Eco 64 ∷ Command.Eco 65 ∷ [] } }
+    ensures came { (m : List Bool) → commands_of m ≡ Command.Eco 65 ∷ [] → of_message 0 m up_state seen_before ≡ record seen_before { made = Command.Eco 64 ∷ Command.Erp 65 ∷ []; came = Command.Inr 2 ∷ Command.Eco 65 ∷ [] } }
+    ensures resets { of_asked Asks_reset up_state seen_before ≡ nothing_seen }
+    ensures cleared { (m : List Bool) → commands_of m ≡ Command.Rst ∷ [] → of_message 0 m up_state seen_before ≡ nothing_seen }
+    ensures down { (m : List Bool) → commands_of m ≡ Command.Eco 65 ∷ [] → of_message 0 m waiting_state nothing_seen ≡ nothing_seen }
+    ensures lost { (v : World) (p : Watched) (c : Order) → up v.this.peer.phase ≡ true → up v.that.peer.phase ≡ true → p.this.made ≡ c ∷ [] → p.that.came ≡ [] → filter is_other (underway v.this v.going) ≡ [] → CommandsAgree v p → ⊥ }
+{}
+
+/// What is used beyond the allocation is refused, of messages and of bits.
+pub fn use_beyond_the_allocation_is_seen()
+    ensures messages { IsWithin (record no_past { granted_messages = 3; returned_messages = 2; used_messages = 2 }) → ⊥ }
+    ensures bits { IsWithin (record no_past { granted_bits = 8; returned_bits = 7; got = true ∷ false ∷ [] }) → ⊥ }
+    ensures all { IsWithin (record no_past { granted_messages = 1; granted_bits = 1; used_messages = 1; got = true ∷ [] }) }
+{}
