@@ -1,0 +1,31 @@
+-- The numbers that C is answered: what is refused keeps the number that it has everywhere.
+use Rattle.std.specs.Prelude.{ℕ, ◌+◌, Result, Ok, Err}
+use Rattle.ncp_bits.specs.declared.bits.BitsFault.{BitsFault}
+use Rattle.ncp_bits.specs.declared.bits.BitsFault.TheVariants.{TooLong, ShortBytes, SpareNotZero}
+use Rattle.ncp_host.specs.declared.fault.HostFault.{HostFault}
+use Rattle.ncp_host.specs.declared.fault.HostFault.TheVariants.{BadPeers, OutOfMemory}
+use Rattle.ncp_model.specs.declared.call_fault.CallFault.{CallFault}
+use Rattle.ncp_model.specs.Faults.{fault_number}
+use Rattle.ncp_embed.specs.declared.codes.TheConstants.{DONE, BITS}
+
+-- of a call
+abbrev pub fault_code : CallFault → ℕ
+fault_code fault = fault_number fault
+
+abbrev pub code_of : {A : Type 0} → Result A CallFault → ℕ
+code_of (Ok answer) = DONE
+code_of (Err fault) = fault_code fault
+
+-- of a new host
+abbrev pub host_code : HostFault → ℕ
+host_code BadPeers = 1
+host_code OutOfMemory = 2
+
+-- of bytes and the number of their bits
+abbrev pub bits_number : BitsFault → ℕ
+bits_number TooLong = 1
+bits_number ShortBytes = 2
+bits_number SpareNotZero = 3
+
+abbrev pub bits_code : BitsFault → ℕ
+bits_code fault = BITS + bits_number fault

@@ -1,0 +1,151 @@
+-- What the functions for C do to the host of a handle, if it has one. `NO_HOST` is answered where it has none,
+-- and then nothing changes.
+use Rattle.std.specs.Prelude.{ℕ, ◌≡◌, ◌⊎◌, ◌++◌, Bool, nat_lt, if◌then◌else◌, List, length, drop, slice_get, Option, None, Some, Result, Ok, Err}
+use Rattle.ncp_bits.specs.declared.bits.BitsFault.{BitsFault}
+use Rattle.ncp_bits.specs.Bits.{bytes_for, bytes_of}
+use Rattle.ncp_control.specs.declared.command.Command.{Command}
+use Rattle.ncp_control.specs.Spelling.{spelling}
+use Rattle.ncp_model.specs.declared.pair.Pair.{Pair}
+use Rattle.ncp_model.specs.declared.call_fault.CallFault.{CallFault}
+use Rattle.ncp_model.specs.declared.outcomes.Error.{Error}
+use Rattle.ncp_host.specs.Host.{Host}
+use Rattle.ncp_host.specs.declared.counts.Ignored.{Ignored}
+use Rattle.ncp_host.specs.Calls.{errors_told}
+use Rattle.ncp_host.specs.Arrivals.{received_in}
+use Rattle.ncp_embed.specs.declared.handle.held.Held.{Held}
+use Rattle.ncp_embed.specs.declared.told.Arrived.{Arrived}
+use Rattle.ncp_embed.specs.declared.codes.TheConstants.{DONE, NO_HOST, NOTHING}
+use Rattle.ncp_embed.specs.Codes.{code_of, fault_code, bits_code}
+use Rattle.ncp_embed.specs.Told.{arrived_of}
+
+abbrev pub held : Host → Held
+held h = record { host = h }
+
+abbrev pub pair_of : ℕ → ℕ → Pair
+pair_of here there = record { local = here; remote = there }
+
+-- A call on the host: its code, and the host after it.
+
+abbrev pub code_in : {A : Type 0} → (Host → Result A CallFault) → Option Held → ℕ
+code_in reply None = NO_HOST
+code_in reply (Some at) = code_of (reply at.host)
+
+abbrev pub host_in : (Host → Host) → Option Held → Option Held
+host_in after None = None
+host_in after (Some at) = Some (held (after at.host))
+
+-- It does all that it is to do, or nothing where there is no memory for it, which is answered where no other
+-- refusal comes.
+abbrev pub DoneOrNoMemory : ℕ → Option Held → ℕ → Option Held → Option Held → Type 0
+DoneOrNoMemory code after result before now =
+    ((result ≡ code) × (now ≡ after)) ⊎ ((result ≡ 17) × (code ≡ DONE) × (now ≡ before))
+
+-- What is told is written where there is something to tell, and else what stood there stays.
+
+abbrev pub told_of : {A B : Type 0} → (A → B) → Result A CallFault → B → B
+told_of form (Ok answer) out = form answer
+told_of form (Err fault) out = out
+
+abbrev pub told_in : {A B : Type 0} → (A → B) → (Host → Result A CallFault) → Option Held → B → B
+told_in form reply None out = out
+told_in form reply (Some at) out = told_of form (reply at.host) out
+
+-- Of what may be nothing.
+
+abbrev pub code_if_any : {A : Type 0} → Option A → ℕ
+code_if_any None = NOTHING
+code_if_any (Some answer) = DONE
+
+abbrev pub any_of : {A B : Type 0} → (A → B → B) → Option A → B → B
+any_of write None out = out
+any_of write (Some answer) out = write answer out
+
+abbrev pub any_code_in : {A : Type 0} → (Host → Option A) → Option Held → ℕ
+any_code_in reply None = NO_HOST
+any_code_in reply (Some at) = code_if_any (reply at.host)
+
+abbrev pub any_in : {A B : Type 0} → (A → B → B) → (Host → Option A) → Option Held → B → B
+any_in write reply None out = out
+any_in write reply (Some at) out = any_of write (reply at.host) out
+
+-- Bytes over the front of a buffer; a message and a command as bytes; how many bits or bytes they are.
+
+abbrev pub over : List ℕ → ℕ → List ℕ → List ℕ
+over bytes count out = bytes ++ drop count out
+
+abbrev pub message_over : List Bool → List ℕ → List ℕ
+message_over message out = over (bytes_of message) (bytes_for (length message)) out
+
+abbrev pub size_of_message : List Bool → ℕ → ℕ
+size_of_message message out = length message
+
+abbrev pub command_over : Command → List ℕ → List ℕ
+command_over command out = over (spelling command) (length (spelling command)) out
+
+abbrev pub size_of_command : Command → ℕ → ℕ
+size_of_command command out = length (spelling command)
+
+-- A buffer that has not room for the longest answer is refused before all else, and nothing changes.
+
+abbrev pub with_room : {A : Type 0} → ℕ → List ℕ → A → A → A
+with_room longest out short answer = if nat_lt (length out) longest then short else answer
+
+-- Bits come as bytes. What is no such number of bits is refused before all else, and nothing changes.
+
+abbrev pub code_of_bits : Result (List Bool) BitsFault → (List Bool → ℕ) → ℕ
+code_of_bits (Err fault) code = bits_code fault
+code_of_bits (Ok bits) code = code bits
+
+abbrev pub after_bits : {A : Type 0} → Result (List Bool) BitsFault → (List Bool → A) → A → A
+after_bits (Err fault) after before = before
+after_bits (Ok bits) after before = after bits
+
+abbrev pub receive_code : List Bool → Option Held → ℕ
+receive_code bits None = NO_HOST
+receive_code bits (Some at) = DONE
+
+abbrev pub arrived_in : List Bool → Option Held → Arrived → Arrived
+arrived_in bits None out = out
+arrived_in bits (Some at) out = arrived_of (received_in bits at.host)
+
+-- a text that is taken, over the front of a buffer
+abbrev pub told_over_of : {A B : Type 0} → (A → B → B) → Result A CallFault → B → B
+told_over_of write (Ok answer) out = write answer out
+told_over_of write (Err fault) out = out
+
+abbrev pub told_over : {A B : Type 0} → (A → B → B) → (Host → Result A CallFault) → Option Held → B → B
+told_over write reply None out = out
+told_over write reply (Some at) out = told_over_of write (reply at.host) out
+
+abbrev pub ignored_told : Host → Result Ignored CallFault
+ignored_told h = Ok h.ignored
+
+-- Of what is refused, or may be nothing.
+
+abbrev pub code_of_found : {A : Type 0} → Result (Option A) CallFault → ℕ
+code_of_found (Ok answer) = code_if_any answer
+code_of_found (Err fault) = fault_code fault
+
+abbrev pub found_code_in : {A : Type 0} → (Host → Result (Option A) CallFault) → Option Held → ℕ
+found_code_in reply None = NO_HOST
+found_code_in reply (Some at) = code_of_found (reply at.host)
+
+abbrev pub form_if_any : {A B : Type 0} → (A → B) → Option A → B → B
+form_if_any form None out = out
+form_if_any form (Some answer) out = form answer
+
+abbrev pub found_of : {A B : Type 0} → (A → B) → Result (Option A) CallFault → B → B
+found_of form (Ok answer) out = form_if_any form answer out
+found_of form (Err fault) out = out
+
+abbrev pub found_in : {A B : Type 0} → (A → B) → (Host → Result (Option A) CallFault) → Option Held → B → B
+found_in form reply None out = out
+found_in form reply (Some at) out = found_of form (reply at.host) out
+
+-- the error that came at a place behind the oldest that is kept, if there is one
+abbrev pub error_of : ℕ → Result (List Error) CallFault → Result (Option Error) CallFault
+error_of place (Ok errors) = Ok (slice_get errors place)
+error_of place (Err fault) = Err fault
+
+abbrev pub error_told : ℕ → ℕ → Host → Result (Option Error) CallFault
+error_told peer place h = error_of place (errors_told peer h)

@@ -1,0 +1,4 @@
+pub mod Handles
+pub mod Codes
+pub mod Told
+pub mod Exports

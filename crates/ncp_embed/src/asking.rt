@@ -1,0 +1,50 @@
+//! The calls of a user that take memory.
+ghost use Rattle.ncp_model.specs.Peers.{Ask_to_send, Ask_to_receive};
+ghost use Rattle.ncp_host.specs.Calls.{call_reply, after_call};
+ghost use Rattle.ncp_embed.specs.Exports.{pair_of, code_in, host_in, DoneOrNoMemory};
+
+use crate::codes::{NO_HOST, code_of};
+use crate::handle::{Handle, put, take};
+use ncp_model::Pair;
+use std::alloc::Global;
+
+/// `Host::ask_send`.
+#[unsafe(no_mangle)]
+pub extern "C" fn ncp_embed_ask_send(
+    alloc: Global,
+    handle: &mut Handle,
+    peer: u8,
+    local: u32,
+    remote: u32,
+    size: u8,
+    room: u32,
+) -> u32
+    ensures done { DoneOrNoMemory (code_in (call_reply peer (pair_of local remote) (Ask_to_send size room)) handle.old.host) (host_in (after_call peer (pair_of local remote) (Ask_to_send size room)) handle.old.host) result handle.old.host handle.new.host }
+{
+    let Some(mut held) = take(alloc, handle) else {
+        return NO_HOST;
+    };
+    let answer = held.host.ask_send(peer, Pair { local, remote }, size, room);
+    put(handle, held);
+    code_of(answer)
+}
+
+/// `Host::ask_receive`.
+#[unsafe(no_mangle)]
+pub extern "C" fn ncp_embed_ask_receive(
+    alloc: Global,
+    handle: &mut Handle,
+    peer: u8,
+    local: u32,
+    remote: u32,
+    room: u32,
+) -> u32
+    ensures done { DoneOrNoMemory (code_in (call_reply peer (pair_of local remote) (Ask_to_receive room)) handle.old.host) (host_in (after_call peer (pair_of local remote) (Ask_to_receive room)) handle.old.host) result handle.old.host handle.new.host }
+{
+    let Some(mut held) = take(alloc, handle) else {
+        return NO_HOST;
+    };
+    let answer = held.host.ask_receive(peer, Pair { local, remote }, room);
+    put(handle, held);
+    code_of(answer)
+}

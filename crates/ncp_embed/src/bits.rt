@@ -1,0 +1,134 @@
+//! Messages come and go.
+ghost use Rattle.std.specs.Prelude.{◌≡◌, ◌<◌, length};
+ghost use Rattle.ncp_bits.specs.Bits.{read_bytes};
+ghost use Rattle.ncp_model.specs.Peers.{Give, Take};
+ghost use Rattle.ncp_host.specs.Calls.{call_reply, after_call, take_reply};
+ghost use Rattle.ncp_host.specs.Arrivals.{after_received};
+ghost use Rattle.ncp_host.specs.Turns.{next_output, after_next_output};
+ghost use Rattle.ncp_embed.specs.Exports.{pair_of, code_in, host_in, any_code_in, any_in, told_in, with_room, message_over, size_of_message, code_of_bits, after_bits, receive_code, arrived_in, told_over};
+
+use crate::codes::{
+    DONE, LONGEST_MESSAGE, NO_HOST, NOTHING, SHORT_BUFFER, bits_code, code_of, fault_code,
+};
+use crate::handle::{Handle, put, take};
+use crate::told::{Arrived, arrived_of};
+use crate::writing::write_message;
+use ncp_bits::Bits;
+use ncp_model::Pair;
+use std::alloc::Global;
+
+/// `Host::receive`, of the first `bits` bits of a buffer.
+#[unsafe(no_mangle)]
+pub extern "C" fn ncp_embed_receive(
+    alloc: Global,
+    handle: &mut Handle,
+    bytes: &[u8],
+    bits: usize,
+    arrived: &mut Arrived,
+) -> u32
+    ensures code { result ≡ code_of_bits (read_bytes bytes.now bits) (λ came. receive_code came handle.old.host) }
+    ensures host { handle.new.host ≡ after_bits (read_bytes bytes.now bits) (λ came. host_in (after_received came) handle.old.host) handle.old.host }
+    ensures arrived { arrived.new ≡ after_bits (read_bytes bytes.now bits) (λ came. arrived_in came handle.old.host arrived.old) arrived.old }
+{
+    let came = match Bits::from_bytes(bytes, bits) {
+        Ok(came) => came,
+        Err(fault) => return bits_code(fault),
+    };
+    let Some(mut held) = take(alloc, handle) else {
+        return NO_HOST;
+    };
+    let received = held.host.receive(&came);
+    put(handle, held);
+    *arrived = arrived_of(received);
+    DONE
+}
+
+/// `Host::next_output`. `NOTHING` where none is ready.
+#[unsafe(no_mangle)]
+pub extern "C" fn ncp_embed_next_output(
+    alloc: Global,
+    handle: &mut Handle,
+    out: &mut [u8],
+    bits: &mut usize,
+) -> u32
+    ensures code { result ≡ with_room LONGEST_MESSAGE out.old SHORT_BUFFER (any_code_in next_output handle.old.host) }
+    ensures host { handle.new.host ≡ with_room LONGEST_MESSAGE out.old handle.old.host (host_in after_next_output handle.old.host) }
+    ensures message { out.new ≡ with_room LONGEST_MESSAGE out.old out.old (any_in message_over next_output handle.old.host out.old) }
+    ensures bits { bits.new ≡ with_room LONGEST_MESSAGE out.old bits.old (any_in size_of_message next_output handle.old.host bits.old) }
+{
+    if out.len() < LONGEST_MESSAGE {
+        return SHORT_BUFFER;
+    }
+    let Some(mut held) = take(alloc, handle) else {
+        return NO_HOST;
+    };
+    let next = held.host.next_output();
+    put(handle, held);
+    match next {
+        Some(message) => {
+            *bits = write_message(&message, out);
+            DONE
+        }
+        None => NOTHING,
+    }
+}
+
+/// `Host::give`, of the first `bits` bits of a buffer.
+#[unsafe(no_mangle)]
+pub extern "C" fn ncp_embed_give(
+    alloc: Global,
+    handle: &mut Handle,
+    peer: u8,
+    local: u32,
+    remote: u32,
+    bytes: &[u8],
+    bits: usize,
+) -> u32
+    ensures code { result ≡ code_of_bits (read_bytes bytes.now bits) (λ text. code_in (call_reply peer (pair_of local remote) (Give text)) handle.old.host) }
+    ensures host { handle.new.host ≡ after_bits (read_bytes bytes.now bits) (λ text. host_in (after_call peer (pair_of local remote) (Give text)) handle.old.host) handle.old.host }
+{
+    let text = match Bits::from_bytes(bytes, bits) {
+        Ok(text) => text,
+        Err(fault) => return bits_code(fault),
+    };
+    let Some(mut held) = take(alloc, handle) else {
+        return NO_HOST;
+    };
+    let answer = held.host.give(peer, Pair { local, remote }, &text);
+    put(handle, held);
+    code_of(answer)
+}
+
+/// `Host::take`.
+#[unsafe(no_mangle)]
+pub extern "C" fn ncp_embed_take(
+    alloc: Global,
+    handle: &mut Handle,
+    peer: u8,
+    local: u32,
+    remote: u32,
+    bytes: u32,
+    out: &mut [u8],
+    bits: &mut usize,
+) -> u32
+    ensures code { result ≡ with_room LONGEST_MESSAGE out.old SHORT_BUFFER (code_in (take_reply peer (pair_of local remote) bytes) handle.old.host) }
+    ensures host { handle.new.host ≡ with_room LONGEST_MESSAGE out.old handle.old.host (host_in (after_call peer (pair_of local remote) (Take bytes)) handle.old.host) }
+    ensures text { out.new ≡ with_room LONGEST_MESSAGE out.old out.old (told_over message_over (take_reply peer (pair_of local remote) bytes) handle.old.host out.old) }
+    ensures bits { bits.new ≡ with_room LONGEST_MESSAGE out.old bits.old (told_over size_of_message (take_reply peer (pair_of local remote) bytes) handle.old.host bits.old) }
+{
+    if out.len() < LONGEST_MESSAGE {
+        return SHORT_BUFFER;
+    }
+    let Some(mut held) = take(alloc, handle) else {
+        return NO_HOST;
+    };
+    let answer = held.host.take(peer, Pair { local, remote }, bytes);
+    put(handle, held);
+    match answer {
+        Ok(text) => {
+            *bits = write_message(&text, out);
+            DONE
+        }
+        Err(fault) => fault_code(fault),
+    }
+}

@@ -1,0 +1,138 @@
+//! The calls of a user that take no memory.
+ghost use Rattle.std.specs.Prelude.{◌≡◌};
+ghost use Rattle.ncp_model.specs.Peers.{Close, Allocate, Call_back, Interrupt};
+ghost use Rattle.ncp_host.specs.Calls.{call_reply, after_call, reset_reply, after_reset, echo_reply, after_echo, wake_reply, after_wake};
+ghost use Rattle.ncp_embed.specs.Exports.{pair_of, code_in, host_in};
+
+use crate::codes::{NO_HOST, code_of};
+use crate::handle::{Handle, put, take};
+use ncp_model::Pair;
+use std::alloc::Global;
+
+/// `Host::reset`.
+#[unsafe(no_mangle)]
+pub extern "C" fn ncp_embed_reset(alloc: Global, handle: &mut Handle, peer: u8) -> u32
+    ensures code { result ≡ code_in (reset_reply peer) handle.old.host }
+    ensures host { handle.new.host ≡ host_in (after_reset peer) handle.old.host }
+{
+    let Some(mut held) = take(alloc, handle) else {
+        return NO_HOST;
+    };
+    let answer = held.host.reset(peer);
+    put(handle, held);
+    code_of(answer)
+}
+
+/// `Host::allocate`.
+#[unsafe(no_mangle)]
+pub extern "C" fn ncp_embed_allocate(
+    alloc: Global,
+    handle: &mut Handle,
+    peer: u8,
+    local: u32,
+    remote: u32,
+    messages: u16,
+    bits: u32,
+) -> u32
+    ensures code { result ≡ code_in (call_reply peer (pair_of local remote) (Allocate messages bits)) handle.old.host }
+    ensures host { handle.new.host ≡ host_in (after_call peer (pair_of local remote) (Allocate messages bits)) handle.old.host }
+{
+    let Some(mut held) = take(alloc, handle) else {
+        return NO_HOST;
+    };
+    let answer = held
+        .host
+        .allocate(peer, Pair { local, remote }, messages, bits);
+    put(handle, held);
+    code_of(answer)
+}
+
+/// `Host::call_back`.
+#[unsafe(no_mangle)]
+pub extern "C" fn ncp_embed_call_back(
+    alloc: Global,
+    handle: &mut Handle,
+    peer: u8,
+    local: u32,
+    remote: u32,
+    fm: u8,
+    fb: u8,
+) -> u32
+    ensures code { result ≡ code_in (call_reply peer (pair_of local remote) (Call_back fm fb)) handle.old.host }
+    ensures host { handle.new.host ≡ host_in (after_call peer (pair_of local remote) (Call_back fm fb)) handle.old.host }
+{
+    let Some(mut held) = take(alloc, handle) else {
+        return NO_HOST;
+    };
+    let answer = held.host.call_back(peer, Pair { local, remote }, fm, fb);
+    put(handle, held);
+    code_of(answer)
+}
+
+/// `Host::interrupt`.
+#[unsafe(no_mangle)]
+pub extern "C" fn ncp_embed_interrupt(
+    alloc: Global,
+    handle: &mut Handle,
+    peer: u8,
+    local: u32,
+    remote: u32,
+) -> u32
+    ensures code { result ≡ code_in (call_reply peer (pair_of local remote) Interrupt) handle.old.host }
+    ensures host { handle.new.host ≡ host_in (after_call peer (pair_of local remote) Interrupt) handle.old.host }
+{
+    let Some(mut held) = take(alloc, handle) else {
+        return NO_HOST;
+    };
+    let answer = held.host.interrupt(peer, Pair { local, remote });
+    put(handle, held);
+    code_of(answer)
+}
+
+/// `Host::close`.
+#[unsafe(no_mangle)]
+pub extern "C" fn ncp_embed_close(
+    alloc: Global,
+    handle: &mut Handle,
+    peer: u8,
+    local: u32,
+    remote: u32,
+) -> u32
+    ensures code { result ≡ code_in (call_reply peer (pair_of local remote) Close) handle.old.host }
+    ensures host { handle.new.host ≡ host_in (after_call peer (pair_of local remote) Close) handle.old.host }
+{
+    let Some(mut held) = take(alloc, handle) else {
+        return NO_HOST;
+    };
+    let answer = held.host.close(peer, Pair { local, remote });
+    put(handle, held);
+    code_of(answer)
+}
+
+/// `Host::echo`.
+#[unsafe(no_mangle)]
+pub extern "C" fn ncp_embed_echo(alloc: Global, handle: &mut Handle, peer: u8, byte: u8) -> u32
+    ensures code { result ≡ code_in (echo_reply peer byte) handle.old.host }
+    ensures host { handle.new.host ≡ host_in (after_echo peer byte) handle.old.host }
+{
+    let Some(mut held) = take(alloc, handle) else {
+        return NO_HOST;
+    };
+    let answer = held.host.echo(peer, byte);
+    put(handle, held);
+    code_of(answer)
+}
+
+/// `Host::wake`.
+#[unsafe(no_mangle)]
+pub extern "C" fn ncp_embed_wake(alloc: Global, handle: &mut Handle, peer: u8) -> u32
+    ensures code { result ≡ code_in (wake_reply peer) handle.old.host }
+    ensures host { handle.new.host ≡ host_in (after_wake peer) handle.old.host }
+{
+    let Some(mut held) = take(alloc, handle) else {
+        return NO_HOST;
+    };
+    let answer = held.host.wake(peer);
+    put(handle, held);
+    code_of(answer)
+}

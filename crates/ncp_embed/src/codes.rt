@@ -1,0 +1,55 @@
+//! The numbers that C is answered.
+ghost use Rattle.std.specs.Prelude.{◌≡◌, ◌<◌, ◌≤◌};
+ghost use Rattle.ncp_embed.specs.Codes.{code_of, fault_code, host_code, bits_code};
+
+use ncp_bits::{BitsFault, MAX_BITS};
+use ncp_host::HostFault;
+use ncp_model::CallFault;
+
+/// It was done.
+pub const DONE: u32 = 0;
+/// There is no host at the handle.
+pub const NO_HOST: u32 = 32;
+/// A buffer for an answer is shorter than the longest answer.
+pub const SHORT_BUFFER: u32 = 34;
+/// There is nothing to tell.
+pub const NOTHING: u32 = 35;
+/// To this the number of a fault of bits is added.
+pub const BITS: u32 = 40;
+
+/// How many bytes the longest message takes.
+pub const LONGEST_MESSAGE: usize = MAX_BITS / 8;
+
+pub(crate) fn fault_code(fault: CallFault) -> u32
+    ensures { result ≡ fault_code fault }
+{
+    u32::from(fault.number())
+}
+
+pub(crate) fn code_of(answer: Result<(), CallFault>) -> u32
+    ensures { result ≡ code_of answer }
+{
+    match answer {
+        Ok(()) => DONE,
+        Err(fault) => fault_code(fault),
+    }
+}
+
+pub(crate) fn host_code(fault: HostFault) -> u32
+    ensures { result ≡ host_code fault }
+{
+    match fault {
+        HostFault::BadPeers => 1,
+        HostFault::OutOfMemory => 2,
+    }
+}
+
+pub(crate) fn bits_code(fault: BitsFault) -> u32
+    ensures { result ≡ bits_code fault }
+{
+    match fault {
+        BitsFault::TooLong => BITS + 1,
+        BitsFault::ShortBytes => BITS + 2,
+        BitsFault::SpareNotZero => BITS + 3,
+    }
+}

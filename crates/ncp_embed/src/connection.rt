@@ -1,0 +1,57 @@
+//! What C is told of a connection.
+ghost use Rattle.std.specs.Prelude.{◌≡◌};
+ghost use Rattle.ncp_embed.specs.Told.{connection_of, is_sender};
+
+use ncp_host::{End, Record};
+
+/// What is known of a connection.
+#[repr(C)]
+#[derive(Clone, Copy, Drop)]
+pub struct Connection {
+    pub bits: u32,
+    pub stored: u32,
+    pub interrupts: u32,
+    pub messages: u16,
+    pub link: u8,
+    pub size: u8,
+    pub sends: bool,
+    pub asked: bool,
+    pub heard: bool,
+    pub opened: bool,
+    pub leaving: bool,
+    pub left: bool,
+    pub cls: bool,
+    pub busy: bool,
+    pub recall: bool,
+}
+
+fn is_sender(end: End) -> bool
+    ensures { result ≡ is_sender end }
+{
+    match end {
+        End::Send => true,
+        End::Receive => false,
+    }
+}
+
+pub(crate) fn connection_of(known: Record) -> Connection
+    ensures { result ≡ connection_of known }
+{
+    Connection {
+        bits: known.bits,
+        stored: known.stored,
+        interrupts: known.interrupts,
+        messages: known.messages,
+        link: known.link,
+        size: known.size,
+        sends: is_sender(known.end),
+        asked: known.asked,
+        heard: known.heard,
+        opened: known.opened,
+        leaving: known.leaving,
+        left: known.left,
+        cls: known.cls,
+        busy: known.busy,
+        recall: known.recall,
+    }
+}

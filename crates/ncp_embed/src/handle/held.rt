@@ -1,0 +1,9 @@
+//! What a handle leads to.
+use ncp_bits::PackedStore;
+use ncp_host::Host;
+
+/// A host with its peers.
+#[derive(Drop)]
+pub struct Held {
+    pub host: Host<PackedStore>,
+}

@@ -1,0 +1,24 @@
+//! One host with its peers, for C: each function here calls one of `ncp_host`, and states its clauses
+//! again.
+//!
+//! What C has to uphold: a handle is all zeros before its first use, and then what these functions
+//! left there, neither altered nor copied and used twice; no two calls use one handle at a time;
+//! pointers are not null, are aligned, lead to as much as their length says, and do not overlap.
+#![tactic(auto)]
+
+mod asking;
+mod bits;
+mod calls;
+mod codes;
+mod connection;
+mod handle;
+mod life;
+mod placing;
+mod readers;
+mod told;
+mod writing;
+
+pub use codes::{BITS, DONE, LONGEST_MESSAGE, NO_HOST, NOTHING, SHORT_BUFFER};
+pub use connection::Connection;
+pub use handle::Handle;
+pub use told::{Arrived, Counted, Discarded, Noted, Phase};

@@ -1,0 +1,41 @@
+//! A host begins and ends.
+ghost use Rattle.std.specs.Prelude.{◌≡◌, ◌≢◌, ◌⊎◌, true, false};
+ghost use Rattle.std.specs.declared.option.Option.TheVariants.{None, Some};
+ghost use Rattle.ncp_host.specs.Host.{new_host, are_peers};
+ghost use Rattle.ncp_host.specs.declared.fault.HostFault.TheVariants.{BadPeers, OutOfMemory};
+ghost use Rattle.ncp_embed.specs.Codes.{host_code};
+ghost use Rattle.ncp_embed.specs.Exports.{held};
+
+use crate::codes::{DONE, host_code};
+use crate::handle::{Handle, Held, put};
+use ncp_host::{Host, HostFault};
+use std::alloc::Global;
+
+/// `Host::new`, in the place of the host that the handle had.
+#[unsafe(no_mangle)]
+pub extern "C" fn ncp_embed_new(alloc: Global, handle: &mut Handle, me: u8, peers: &[u8]) -> u32
+    ensures made { result ≡ DONE → handle.new.host ≡ Some (held (new_host me peers.now)) }
+    ensures kept { result ≢ DONE → handle.new.host ≡ handle.old.host }
+    ensures bad { are_peers me peers.now ≡ false → result ≡ host_code BadPeers }
+    ensures full { are_peers me peers.now ≡ true → (result ≡ DONE) ⊎ (result ≡ host_code OutOfMemory) }
+{
+    let host = match Host::new(alloc, me, peers) {
+        Ok(host) => host,
+        Err(fault) => return host_code(fault),
+    };
+    match Box::new(alloc, Held { host }) {
+        Ok(held) => {
+            put(handle, held);
+            DONE
+        }
+        Err(_) => host_code(HostFault::OutOfMemory),
+    }
+}
+
+/// Frees the host of the handle, if it has one.
+#[unsafe(no_mangle)]
+pub extern "C" fn ncp_embed_free(alloc: Global, handle: &mut Handle)
+    ensures { handle.new.host ≡ None }
+{
+    *handle = Handle::none(alloc);
+}

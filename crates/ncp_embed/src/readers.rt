@@ -1,0 +1,233 @@
+//! What a user may read. The host stays as it was.
+ghost use Rattle.std.specs.Prelude.{◌≡◌, Ok};
+ghost use Rattle.ncp_control.specs.declared.command.TheConstants.{LONGEST_COMMAND};
+ghost use Rattle.ncp_host.specs.Host.{state_of};
+ghost use Rattle.ncp_host.specs.Calls.{record_told, flags_told, echoed_told, counts_told, waiting_at, kept_for};
+ghost use Rattle.ncp_embed.specs.Told.{connection_of, phase_of, counted_of, discarded_of, noted_of};
+ghost use Rattle.ncp_embed.specs.Exports.{pair_of, code_in, told_in, any_code_in, any_in, with_room, message_over, size_of_message, command_over, size_of_command, ignored_told, found_code_in, found_in, error_told};
+
+use crate::codes::{DONE, LONGEST_MESSAGE, NO_HOST, NOTHING, SHORT_BUFFER, fault_code};
+use crate::connection::{Connection, connection_of};
+use crate::handle::{Handle, put, take};
+use crate::placing::error_in;
+use crate::told::{Counted, Discarded, Noted, Phase, counted_of, discarded_of, noted_of, phase_of};
+use crate::writing::{write_command, write_message};
+use ncp_control::LONGEST_COMMAND;
+use ncp_model::Pair;
+use std::alloc::Global;
+
+/// `Host::state`.
+#[unsafe(no_mangle)]
+pub extern "C" fn ncp_embed_state(
+    alloc: Global,
+    handle: &mut Handle,
+    peer: u8,
+    local: u32,
+    remote: u32,
+    out: &mut Connection,
+) -> u32
+    ensures host { handle.new.host ≡ handle.old.host }
+    ensures code { result ≡ code_in (record_told peer (pair_of local remote)) handle.old.host }
+    ensures told { out.new ≡ told_in connection_of (record_told peer (pair_of local remote)) handle.old.host out.old }
+{
+    let Some(held) = take(alloc, handle) else {
+        return NO_HOST;
+    };
+    let answer = held.host.state(peer, Pair { local, remote });
+    put(handle, held);
+    match answer {
+        Ok(record) => {
+            *out = connection_of(record);
+            DONE
+        }
+        Err(fault) => fault_code(fault),
+    }
+}
+
+/// `Host::phase`.
+#[unsafe(no_mangle)]
+pub extern "C" fn ncp_embed_phase(
+    alloc: Global,
+    handle: &mut Handle,
+    peer: u8,
+    out: &mut Phase,
+) -> u32
+    ensures host { handle.new.host ≡ handle.old.host }
+    ensures code { result ≡ code_in (flags_told peer) handle.old.host }
+    ensures told { out.new ≡ told_in phase_of (flags_told peer) handle.old.host out.old }
+{
+    let Some(held) = take(alloc, handle) else {
+        return NO_HOST;
+    };
+    let answer = held.host.phase(peer);
+    put(handle, held);
+    match answer {
+        Ok(flags) => {
+            *out = phase_of(flags);
+            DONE
+        }
+        Err(fault) => fault_code(fault),
+    }
+}
+
+/// `Host::counts`.
+#[unsafe(no_mangle)]
+pub extern "C" fn ncp_embed_counts(
+    alloc: Global,
+    handle: &mut Handle,
+    peer: u8,
+    out: &mut Counted,
+) -> u32
+    ensures host { handle.new.host ≡ handle.old.host }
+    ensures code { result ≡ code_in (counts_told peer) handle.old.host }
+    ensures told { out.new ≡ told_in counted_of (counts_told peer) handle.old.host out.old }
+{
+    let Some(held) = take(alloc, handle) else {
+        return NO_HOST;
+    };
+    let answer = held.host.counts(peer);
+    put(handle, held);
+    match answer {
+        Ok(counts) => {
+            *out = counted_of(counts);
+            DONE
+        }
+        Err(fault) => fault_code(fault),
+    }
+}
+
+/// `Host::ignored`.
+#[unsafe(no_mangle)]
+pub extern "C" fn ncp_embed_ignored(alloc: Global, handle: &mut Handle, out: &mut Discarded) -> u32
+    ensures host { handle.new.host ≡ handle.old.host }
+    ensures code { result ≡ code_in ignored_told handle.old.host }
+    ensures told { out.new ≡ told_in discarded_of ignored_told handle.old.host out.old }
+{
+    let Some(held) = take(alloc, handle) else {
+        return NO_HOST;
+    };
+    let ignored = held.host.ignored();
+    put(handle, held);
+    *out = discarded_of(ignored);
+    DONE
+}
+
+/// `Host::waiting`, as the bytes of the command. `NOTHING` where none waits at that place.
+#[unsafe(no_mangle)]
+pub extern "C" fn ncp_embed_waiting(
+    alloc: Global,
+    handle: &mut Handle,
+    peer: u8,
+    place: u32,
+    out: &mut [u8],
+    bytes: &mut usize,
+) -> u32
+    ensures host { handle.new.host ≡ handle.old.host }
+    ensures code { result ≡ with_room LONGEST_COMMAND out.old SHORT_BUFFER (any_code_in (λ h. waiting_at (state_of h peer) place) handle.old.host) }
+    ensures command { out.new ≡ with_room LONGEST_COMMAND out.old out.old (any_in command_over (λ h. waiting_at (state_of h peer) place) handle.old.host out.old) }
+    ensures bytes { bytes.new ≡ with_room LONGEST_COMMAND out.old bytes.old (any_in size_of_command (λ h. waiting_at (state_of h peer) place) handle.old.host bytes.old) }
+{
+    if out.len() < LONGEST_COMMAND {
+        return SHORT_BUFFER;
+    }
+    let Some(held) = take(alloc, handle) else {
+        return NO_HOST;
+    };
+    let waiting = held.host.waiting(peer, place);
+    put(handle, held);
+    match waiting {
+        Some(command) => {
+            *bytes = write_command(&command, out);
+            DONE
+        }
+        None => NOTHING,
+    }
+}
+
+/// `Host::kept`. `NOTHING` where none is kept on that link.
+#[unsafe(no_mangle)]
+pub extern "C" fn ncp_embed_kept(
+    alloc: Global,
+    handle: &mut Handle,
+    peer: u8,
+    link: u8,
+    out: &mut [u8],
+    bits: &mut usize,
+) -> u32
+    ensures host { handle.new.host ≡ handle.old.host }
+    ensures code { result ≡ with_room LONGEST_MESSAGE out.old SHORT_BUFFER (any_code_in (λ h. kept_for (state_of h peer) link) handle.old.host) }
+    ensures message { out.new ≡ with_room LONGEST_MESSAGE out.old out.old (any_in message_over (λ h. kept_for (state_of h peer) link) handle.old.host out.old) }
+    ensures bits { bits.new ≡ with_room LONGEST_MESSAGE out.old bits.old (any_in size_of_message (λ h. kept_for (state_of h peer) link) handle.old.host bits.old) }
+{
+    if out.len() < LONGEST_MESSAGE {
+        return SHORT_BUFFER;
+    }
+    let Some(held) = take(alloc, handle) else {
+        return NO_HOST;
+    };
+    let code = match held.host.kept(peer, link) {
+        Some(message) => {
+            *bits = write_message(message, out);
+            DONE
+        }
+        None => NOTHING,
+    };
+    put(handle, held);
+    code
+}
+
+/// `Host::echoed`. `NOTHING` where no ERP answered an echo.
+#[unsafe(no_mangle)]
+pub extern "C" fn ncp_embed_echoed(
+    alloc: Global,
+    handle: &mut Handle,
+    peer: u8,
+    byte: &mut u8,
+) -> u32
+    ensures host { handle.new.host ≡ handle.old.host }
+    ensures code { result ≡ found_code_in (echoed_told peer) handle.old.host }
+    ensures told { byte.new ≡ found_in (λ b. b) (echoed_told peer) handle.old.host byte.old }
+{
+    let Some(held) = take(alloc, handle) else {
+        return NO_HOST;
+    };
+    let answer = held.host.echoed(peer);
+    put(handle, held);
+    match answer {
+        Ok(Some(echoed)) => {
+            *byte = echoed;
+            DONE
+        }
+        Ok(None) => NOTHING,
+        Err(fault) => fault_code(fault),
+    }
+}
+
+/// One of `Host::errors`: the one at a place behind the oldest, which is at 0. `NOTHING` where fewer
+/// are kept.
+#[unsafe(no_mangle)]
+pub extern "C" fn ncp_embed_error(
+    alloc: Global,
+    handle: &mut Handle,
+    peer: u8,
+    place: u32,
+    out: &mut Noted,
+) -> u32
+    ensures host { handle.new.host ≡ handle.old.host }
+    ensures code { result ≡ found_code_in (error_told peer place) handle.old.host }
+    ensures told { out.new ≡ found_in noted_of (error_told peer place) handle.old.host out.old }
+{
+    let Some(held) = take(alloc, handle) else {
+        return NO_HOST;
+    };
+    let answer = error_in(&held.host, peer, place);
+    put(handle, held);
+    match answer {
+        Ok(Some(error)) => {
+            *out = noted_of(error);
+            DONE
+        }
+        Ok(None) => NOTHING,
+        Err(fault) => fault_code(fault),
+    }
+}

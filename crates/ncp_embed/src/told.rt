@@ -1,0 +1,152 @@
+//! What C is told, as structs of numbers.
+ghost use Rattle.std.specs.Prelude.{◌≡◌};
+ghost use Rattle.ncp_embed.specs.Told.{arrived_of, number_of_took, number_of_message_fault, phase_of, counted_of, discarded_of, noted_of};
+
+use ncp_control::ERROR_DATA;
+use ncp_host::{Counts, Error, Flags, Ignored, Received};
+use ncp_leader::MessageFault;
+use ncp_model::Took;
+
+/// What became of bits that came.
+#[repr(C)]
+#[derive(Clone, Copy, Drop)]
+pub struct Arrived {
+    /// 1 to 11, in the order of `Received`.
+    pub what: u32,
+    /// Of `Other` the type, of `Fault` the number of the fault, of `Control` how many commands were
+    /// read, of `Text` 1 to 5 in the order of `Took`; else 0.
+    pub detail: u32,
+}
+
+/// The flags for a peer.
+#[repr(C)]
+#[derive(Clone, Copy, Drop)]
+pub struct Phase {
+    pub down: bool,
+    pub want: bool,
+    pub owe: bool,
+    pub wait: bool,
+}
+
+/// What was counted of what came from a peer.
+#[repr(C)]
+#[derive(Clone, Copy, Drop)]
+pub struct Counted {
+    pub stray: u32,
+    pub faults: u32,
+    pub wrong_link: u32,
+    pub wrong_size: u32,
+    pub not_up: u32,
+    pub late: u32,
+    pub over: u32,
+}
+
+/// What was counted of messages that are of no peer.
+#[repr(C)]
+#[derive(Clone, Copy, Drop)]
+pub struct Discarded {
+    pub short: u32,
+    pub other: u32,
+    pub unknown: u32,
+}
+
+/// An ERR that came.
+#[repr(C)]
+#[derive(Clone, Copy, Drop)]
+pub struct Noted {
+    pub code: u8,
+    pub bytes: [u8; ERROR_DATA],
+}
+
+fn number_of_message_fault(fault: MessageFault) -> u32
+    ensures { result ≡ number_of_message_fault fault }
+{
+    match fault {
+        MessageFault::ShortPrefix => 1,
+        MessageFault::M1NotZero => 2,
+        MessageFault::SizeZero => 3,
+        MessageFault::M2NotZero => 4,
+        MessageFault::TextMissing => 5,
+        MessageFault::TextTooLong => 6,
+        MessageFault::NotWhole => 7,
+    }
+}
+
+fn number_of_took(took: Took) -> u32
+    ensures { result ≡ number_of_took took }
+{
+    match took {
+        Took::Admitted => 1,
+        Took::Late => 2,
+        Took::WrongSize => 3,
+        Took::Over => 4,
+        Took::NotOpen => 5,
+    }
+}
+
+fn arrival(what: u32, detail: u32) -> Arrived
+    ensures what { result.what ≡ what }
+    ensures detail { result.detail ≡ detail }
+{
+    Arrived { what, detail }
+}
+
+pub(crate) fn arrived_of(received: Received) -> Arrived
+    ensures { result ≡ arrived_of received }
+{
+    match received {
+        Received::Short => arrival(1, 0),
+        Received::Other(kind) => arrival(2, u32::from(kind)),
+        Received::Unknown => arrival(3, 0),
+        Received::Stray => arrival(4, 0),
+        Received::Answered => arrival(5, 0),
+        Received::Fault(fault) => arrival(6, number_of_message_fault(fault)),
+        Received::WrongLink => arrival(7, 0),
+        Received::WrongSize => arrival(8, 0),
+        Received::Control(commands) => arrival(9, commands),
+        Received::Text(took) => arrival(10, number_of_took(took)),
+        Received::NotUp => arrival(11, 0),
+    }
+}
+
+pub(crate) fn phase_of(flags: Flags) -> Phase
+    ensures { result ≡ phase_of flags }
+{
+    Phase {
+        down: flags.down,
+        want: flags.want,
+        owe: flags.owe,
+        wait: flags.wait,
+    }
+}
+
+pub(crate) fn counted_of(counts: Counts) -> Counted
+    ensures { result ≡ counted_of counts }
+{
+    Counted {
+        stray: counts.stray,
+        faults: counts.faults,
+        wrong_link: counts.wrong_link,
+        wrong_size: counts.wrong_size,
+        not_up: counts.not_up,
+        late: counts.late,
+        over: counts.over,
+    }
+}
+
+pub(crate) fn discarded_of(ignored: Ignored) -> Discarded
+    ensures { result ≡ discarded_of ignored }
+{
+    Discarded {
+        short: ignored.short,
+        other: ignored.other,
+        unknown: ignored.unknown,
+    }
+}
+
+pub(crate) fn noted_of(error: Error) -> Noted
+    ensures { result ≡ noted_of error }
+{
+    let Error { code, bytes } = error;
+    Noted { code, bytes }
+}

@@ -1,0 +1,31 @@
+//! What is written into buffers of C.
+ghost use Rattle.std.specs.Prelude.{◌≡◌, ◌≤◌, length};
+ghost use Rattle.ncp_control.specs.Spelling.{spelling};
+ghost use Rattle.ncp_embed.specs.Exports.{message_over, command_over};
+
+use crate::codes::LONGEST_MESSAGE;
+use ncp_bits::Bits;
+use ncp_control::{Command, LONGEST_COMMAND, put_command};
+
+// Writes a message over the front of a buffer; how many bits it has is answered.
+pub(crate) fn write_message(message: &Bits, out: &mut [u8]) -> usize
+    requires { LONGEST_MESSAGE ≤ length out.old }
+    ensures bits { result ≡ length message.now }
+    ensures out { out.new ≡ message_over message.now out.old }
+{
+    let bits = message.len();
+    let _used = message.to_bytes(out);
+    bits
+}
+
+// Writes a command over the front of a buffer; how many bytes it has is answered.
+pub(crate) fn write_command(command: &Command, out: &mut [u8]) -> usize
+    requires { LONGEST_COMMAND ≤ length out.old }
+    ensures bytes { result ≡ length (spelling command.now) }
+    ensures out { out.new ≡ command_over command.now out.old }
+{
+    let spelled = put_command(command);
+    let count = spelled.len();
+    out[..count].copy_from_slice(spelled.as_slice());
+    count
+}
