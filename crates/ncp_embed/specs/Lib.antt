@@ -2,3 +2,4 @@ pub mod Handles
 pub mod Codes
 pub mod Told
 pub mod Exports
+pub mod Names

@@ -10,6 +10,8 @@ use ncp_model::CallFault;
 pub const DONE: u32 = 0;
 /// There is no host at the handle.
 pub const NO_HOST: u32 = 32;
+/// A pointer is null; the functions of the header answer it.
+pub const NO_POINTER: u32 = 33;
 /// A buffer for an answer is shorter than the longest answer.
 pub const SHORT_BUFFER: u32 = 34;
 /// There is nothing to tell.

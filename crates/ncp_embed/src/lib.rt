@@ -13,12 +13,14 @@ mod codes;
 mod connection;
 mod handle;
 mod life;
+mod names;
 mod placing;
 mod readers;
 mod told;
 mod writing;
 
-pub use codes::{BITS, DONE, LONGEST_MESSAGE, NO_HOST, NOTHING, SHORT_BUFFER};
+pub use codes::{BITS, DONE, LONGEST_MESSAGE, NO_HOST, NO_POINTER, NOTHING, SHORT_BUFFER};
 pub use connection::Connection;
 pub use handle::Handle;
+pub use names::Answer;
 pub use told::{Arrived, Counted, Discarded, Noted, Phase};

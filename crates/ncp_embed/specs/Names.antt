@@ -1,0 +1,72 @@
+-- The names of what is answered: those that a program prints, found by the number.
+use Rattle.std.specs.Prelude.{ℕ, ◌==◌, if◌then◌else◌, List, [], ◌∷◌, length, codes, Option, None, Some}
+use Rattle.ncp_bits.specs.declared.bits.BitsFault.{BitsFault}
+use Rattle.ncp_bits.specs.declared.bits.BitsFault.TheVariants.{TooLong, ShortBytes, SpareNotZero}
+use Rattle.ncp_host.specs.declared.fault.HostFault.{HostFault}
+use Rattle.ncp_host.specs.declared.fault.HostFault.TheVariants as new
+use Rattle.ncp_model.specs.declared.call_fault.CallFault.TheVariants as call
+use Rattle.ncp_model.specs.Faults as call_names
+use Rattle.ncp_embed.specs.declared.codes.TheConstants.{DONE, NO_HOST, NO_POINTER, NOTHING, SHORT_BUFFER}
+use Rattle.ncp_embed.specs.declared.names.Answer.{Answer}
+use Rattle.ncp_embed.specs.declared.names.Answer.TheVariants.{Done, Call, New, NoHost, NoPointer, ShortBuffer, Nothing, Bits}
+use Rattle.ncp_embed.specs.Codes.{fault_code, host_code, bits_code}
+use Rattle.ncp_embed.specs.Exports.{over, with_room}
+
+abbrev pub name_of_new : HostFault → List ℕ
+name_of_new new.BadPeers = codes "BadPeers"
+name_of_new new.OutOfMemory = codes "OutOfMemory"
+
+abbrev pub name_of_bits : BitsFault → List ℕ
+name_of_bits TooLong = codes "TooLong"
+name_of_bits ShortBytes = codes "ShortBytes"
+name_of_bits SpareNotZero = codes "SpareNotZero"
+
+abbrev pub number_of : Answer → ℕ
+number_of Done = DONE
+number_of (Call fault) = fault_code fault
+number_of (New fault) = host_code fault
+number_of NoHost = NO_HOST
+number_of NoPointer = NO_POINTER
+number_of ShortBuffer = SHORT_BUFFER
+number_of Nothing = NOTHING
+number_of (Bits fault) = bits_code fault
+
+abbrev pub name_of : Answer → List ℕ
+name_of Done = codes "Done"
+name_of (Call fault) = call_names.name_of fault
+name_of (New fault) = name_of_new fault
+name_of NoHost = codes "NoHost"
+name_of NoPointer = codes "NoPointer"
+name_of ShortBuffer = codes "ShortBuffer"
+name_of Nothing = codes "Nothing"
+name_of (Bits fault) = name_of_bits fault
+
+-- what all calls but the making of a host answer
+abbrev pub answers : List Answer
+answers =
+    Done ∷ Call call.UnknownPeer ∷ Call call.NotUp ∷ Call call.BadSex ∷ Call call.BadSize ∷ Call call.BadRoom ∷ Call call.NoEntry ∷ Call call.AlreadyAsked ∷ Call call.Closing
+    ∷ Call call.NotOpen ∷ Call call.WrongEnd ∷ Call call.NotWhole ∷ Call call.Busy ∷ Call call.NoRoom ∷ Call call.TooMuch ∷ Call call.TableFull ∷ Call call.QueueFull
+    ∷ Call call.OutOfMemory ∷ NoHost ∷ NoPointer ∷ ShortBuffer ∷ Nothing ∷ Bits TooLong ∷ Bits ShortBytes ∷ Bits SpareNotZero ∷ []
+
+-- what the making of a host answers
+abbrev pub new_answers : List Answer
+new_answers = Done ∷ New new.BadPeers ∷ New new.OutOfMemory ∷ NoHost ∷ NoPointer ∷ []
+
+-- the one of a number
+abbrev pub answer_among : List Answer → ℕ → Option Answer
+answer_among [] code = None
+answer_among (answer ∷ behind) code = if number_of answer == code then Some answer else answer_among behind code
+
+-- its name over the front of a buffer, if it has room for the name
+
+abbrev pub name_code : Option Answer → List ℕ → ℕ
+name_code None out = NOTHING
+name_code (Some answer) out = with_room (length (name_of answer)) out SHORT_BUFFER DONE
+
+abbrev pub name_over : Option Answer → List ℕ → List ℕ
+name_over None out = out
+name_over (Some answer) out = with_room (length (name_of answer)) out out (over (name_of answer) (length (name_of answer)) out)
+
+abbrev pub size_of_name : Option Answer → List ℕ → ℕ → ℕ
+size_of_name None out bytes = bytes
+size_of_name (Some answer) out bytes = with_room (length (name_of answer)) out bytes (length (name_of answer))
