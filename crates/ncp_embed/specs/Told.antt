@@ -61,7 +61,7 @@ abbrev pub counted_of : Counts → Counted
 counted_of n = record { stray = n.stray; faults = n.faults; wrong_link = n.wrong_link; wrong_size = n.wrong_size; not_up = n.not_up; late = n.late; over = n.over }
 
 abbrev pub discarded_of : Ignored → Discarded
-discarded_of n = record { short = n.short; other = n.other; unknown = n.unknown }
+discarded_of n = record { short_bits = n.short; other = n.other; unknown = n.unknown }
 
 abbrev pub noted_of : Error → Noted
 noted_of e = record { code = e.code; bytes = e.bytes }

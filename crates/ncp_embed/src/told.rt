@@ -45,7 +45,7 @@ pub struct Counted {
 #[repr(C)]
 #[derive(Clone, Copy, Drop)]
 pub struct Discarded {
-    pub short: u32,
+    pub short_bits: u32,
     pub other: u32,
     pub unknown: u32,
 }
@@ -138,7 +138,7 @@ pub(crate) fn discarded_of(ignored: Ignored) -> Discarded
     ensures { result ≡ discarded_of ignored }
 {
     Discarded {
-        short: ignored.short,
+        short_bits: ignored.short,
         other: ignored.other,
         unknown: ignored.unknown,
     }

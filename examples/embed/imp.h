@@ -1,0 +1,49 @@
+/* What the examples need of an IMP: messages as text, and the leaders that a network writes. */
+#ifndef IMP_H
+#define IMP_H
+
+#include "ncp.h"
+#include <stdio.h>
+#include <stdlib.h>
+#include <string.h>
+
+enum { REGULAR = 0, RFNM = 5, INCOMPLETE = 9, LEADER = 4 };
+
+/* Ends the program where a function answered another number than it should. */
+static inline void want(uint32_t wanted, uint32_t answered, const char *what)
+{
+    char name[NCP_LONGEST_NAME];
+    size_t bytes = 0;
+    if (answered == wanted) return;
+    (void)ncp_name(answered, name, sizeof name, &bytes);
+    printf("%s answered %.*s\n", what, (int)bytes, name);
+    exit(1);
+}
+
+/* A message as digits, behind words. */
+static inline void say(const char *words, const uint8_t *message, size_t bits)
+{
+    printf("%s ", words);
+    for (size_t place = 0; place < (bits + 7) / 8; place++) printf("%02x", message[place]);
+    printf("\n");
+}
+
+/* The answer of a network to a message of a host: a leader of a type, of the host that it went to, on
+ * the link that it went on. */
+static inline void answer_of(uint8_t type, const uint8_t *message, uint8_t answer[LEADER])
+{
+    answer[0] = type;
+    answer[1] = message[1];
+    answer[2] = message[2];
+    answer[3] = 0;
+}
+
+/* Gives a host what came for it. */
+static inline struct ncp_arrived hand(struct ncp_host *host, const uint8_t *message, size_t len, size_t bits)
+{
+    struct ncp_arrived arrived = {0, 0};
+    want(NCP_DONE, ncp_receive(host, message, len, bits, &arrived), "receive");
+    return arrived;
+}
+
+#endif

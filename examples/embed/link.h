@@ -1,0 +1,134 @@
+/* A host of the examples at its end of a datagram socket: each message is a datagram, two bytes that say how
+ * many bits it has, the most significant byte first, and then the message. */
+#ifndef LINK_H
+#define LINK_H
+
+#include "imp.h"
+#include <errno.h>
+#include <sys/socket.h>
+#include <sys/time.h>
+#include <sys/un.h>
+#include <time.h>
+#include <unistd.h>
+
+enum { HEAD = 2, PATIENCE = 10 /* seconds */ };
+
+struct end {
+    struct ncp_host host;
+    uint8_t peer;
+    int socket;
+    struct sockaddr_un there;
+    bool loses; /* whether the next text is lost on the way */
+};
+
+static inline void give_up(const char *what)
+{
+    perror(what);
+    exit(1);
+}
+
+static inline struct sockaddr_un address(const char *path)
+{
+    struct sockaddr_un at;
+    memset(&at, 0, sizeof at);
+    at.sun_family = AF_UNIX;
+    strncpy(at.sun_path, path, sizeof at.sun_path - 1);
+    return at;
+}
+
+/* An end with its host: its socket has a path here, and its peer's socket a path there. */
+static inline void begin(struct end *end, uint8_t me, uint8_t peer, const char *here, const char *there)
+{
+    struct sockaddr_un at = address(here);
+    struct timeval patience = {PATIENCE, 0};
+    end->host.at = NULL;
+    end->peer = peer;
+    end->loses = false;
+    end->there = address(there);
+    end->socket = socket(AF_UNIX, SOCK_DGRAM, 0);
+    if (end->socket < 0) give_up("socket");
+    if (bind(end->socket, (const struct sockaddr *)&at, sizeof at) != 0) give_up("bind");
+    if (setsockopt(end->socket, SOL_SOCKET, SO_RCVTIMEO, &patience, sizeof patience) != 0) give_up("setsockopt");
+    want(NCP_DONE, ncp_new(&end->host, me, &peer, 1), "new");
+}
+
+/* Sends a message as a datagram. While the other program has no socket yet it waits a little. */
+static inline void post(const struct end *end, const uint8_t *message, size_t bits)
+{
+    uint8_t datagram[HEAD + NCP_LONGEST_MESSAGE];
+    size_t len = (bits + 7) / 8;
+    struct timespec little = {0, 10000000};
+    datagram[0] = (uint8_t)(bits >> 8);
+    datagram[1] = (uint8_t)bits;
+    memcpy(datagram + HEAD, message, len);
+    for (int tries = 0; tries < 100 * PATIENCE; tries++) {
+        if (sendto(end->socket, datagram, HEAD + len, 0, (const struct sockaddr *)&end->there, sizeof end->there) >= 0) return;
+        if (errno != ENOENT && errno != ECONNREFUSED) break;
+        nanosleep(&little, NULL);
+    }
+    give_up("sendto");
+}
+
+/* Sends all that the host has to send. */
+static inline void send_all(struct end *end)
+{
+    uint8_t message[NCP_LONGEST_MESSAGE];
+    uint8_t answer[LEADER];
+    size_t bits = 0;
+    while (ncp_next_output(&end->host, message, sizeof message, &bits) == NCP_DONE) {
+        say("out", message, bits);
+        if (end->loses && message[2] != 0) {
+            end->loses = false;
+            puts("  lost");
+            answer_of(INCOMPLETE, message, answer);
+            hand(&end->host, answer, sizeof answer, 8 * sizeof answer);
+        } else {
+            post(end, message, bits);
+        }
+    }
+}
+
+/* Waits for a datagram, and gives it to the host. A message of the other host is answered by RFNM, as
+ * a network does, whose leaders name the host that they come from. */
+static inline void take_one(struct end *end)
+{
+    uint8_t datagram[HEAD + NCP_LONGEST_MESSAGE];
+    uint8_t answer[LEADER];
+    uint8_t *message = datagram + HEAD;
+    ssize_t len = recv(end->socket, datagram, sizeof datagram, 0);
+    if (len < HEAD + LEADER) give_up("recv");
+    if (message[0] == REGULAR) {
+        answer_of(RFNM, message, answer);
+        message[1] = end->peer;
+        post(end, answer, 8 * sizeof answer);
+    }
+    hand(&end->host, message, (size_t)len - HEAD, (size_t)datagram[0] << 8 | datagram[1]);
+}
+
+/* Whether nothing of the control link is out or waits. */
+static inline bool is_quiet(struct end *end)
+{
+    uint8_t message[NCP_LONGEST_MESSAGE];
+    size_t count = 0;
+    return ncp_kept(&end->host, end->peer, 0, message, sizeof message, &count) == NCP_NOTHING &&
+           ncp_waiting(&end->host, end->peer, 0, message, sizeof message, &count) == NCP_NOTHING;
+}
+
+/* Sends and takes messages until something holds and the control link is quiet. */
+static inline void until(struct end *end, bool (*holds)(struct end *end))
+{
+    send_all(end);
+    while (!(holds(end) && is_quiet(end))) {
+        take_one(end);
+        send_all(end);
+    }
+}
+
+static inline void finish(struct end *end, const char *here)
+{
+    ncp_free(&end->host);
+    close(end->socket);
+    unlink(here);
+}
+
+#endif

@@ -1,0 +1,56 @@
+/* Host 2, which receives a text from host 1 over a datagram socket: `receiver HERE THERE`, the paths of the
+ * two sockets. What it prints stands in receiver.txt. */
+#define _POSIX_C_SOURCE 200809L
+#include "link.h"
+
+enum { ME = 2, PEER = 1, EVEN = 2, ODD = 3 };
+
+static bool is_up(struct end *end)
+{
+    struct ncp_flags flags;
+    want(NCP_DONE, ncp_phase(&end->host, PEER, &flags), "phase");
+    return !(flags.down || flags.want || flags.owe || flags.wait);
+}
+
+static bool is_open(struct end *end)
+{
+    struct ncp_connection it;
+    want(NCP_DONE, ncp_state(&end->host, PEER, EVEN, ODD, &it), "state");
+    return it.opened;
+}
+
+static bool has_text(struct end *end)
+{
+    struct ncp_connection it;
+    want(NCP_DONE, ncp_state(&end->host, PEER, EVEN, ODD, &it), "state");
+    return it.stored > 0;
+}
+
+static bool is_closed(struct end *end)
+{
+    struct ncp_connection it;
+    return ncp_state(&end->host, PEER, EVEN, ODD, &it) == NCP_NO_ENTRY;
+}
+
+int main(int argc, char **argv)
+{
+    uint8_t text[NCP_LONGEST_MESSAGE];
+    size_t bits = 0;
+    struct end end;
+    if (argc != 3) return 2;
+    begin(&end, ME, PEER, argv[1], argv[2]);
+
+    until(&end, is_up);
+    puts("up");
+    want(NCP_DONE, ncp_ask_receive(&end.host, PEER, EVEN, ODD, 1024), "ask_receive");
+    until(&end, is_open);
+    puts("open");
+    want(NCP_DONE, ncp_allocate(&end.host, PEER, EVEN, ODD, 2, 64), "allocate");
+    until(&end, has_text);
+    want(NCP_DONE, ncp_take(&end.host, PEER, EVEN, ODD, 100, text, sizeof text, &bits), "take");
+    printf("took %d bits: %.*s\n", (int)bits, (int)(bits / 8), (const char *)text);
+    until(&end, is_closed);
+    puts("closed");
+    finish(&end, argv[1]);
+    return 0;
+}
