@@ -1,0 +1,75 @@
+//! `Dice`.
+ghost use Rattle.std.specs.Prelude.{◌<◌, ◌≤◌, ◌^◌};
+
+/// Numbers that look random, the same in each run.
+#[derive(Drop)]
+pub struct Dice {
+    state: u64,
+}
+
+impl Dice {
+    pub fn new() -> Self {
+        Dice {
+            state: 88_172_645_463_325_252,
+        }
+    }
+
+    fn roll(&mut self) -> u64 {
+        self.state ^= self.state << 13;
+        self.state ^= self.state >> 7;
+        self.state ^= self.state << 17;
+        self.state >> 16
+    }
+
+    /// A number below another.
+    pub fn pick(&mut self, below: u64) -> u64
+        requires { 0 < below }
+        ensures { result < below }
+    {
+        self.roll() % below
+    }
+
+    /// Whether one time of so many.
+    pub fn one_in(&mut self, many: u64) -> bool
+        requires { 0 < many }
+    {
+        self.pick(many) == 0
+    }
+
+    /// A byte.
+    pub fn byte(&mut self) -> u8 {
+        self.pick(256) as u8
+    }
+
+    /// A byte below another number.
+    pub fn small(&mut self, below: u64) -> u8
+        requires some { 0 < below }
+        requires small { below ≤ 256 }
+        ensures { result < below }
+    {
+        self.pick(below) as u8
+    }
+
+    /// A length below another.
+    pub fn size(&mut self, below: u64) -> usize
+        requires { 0 < below }
+        ensures { result < below }
+    {
+        self.pick(below) as usize
+    }
+
+    /// A number below another, but one time of so many any number of 32 bits.
+    pub fn mostly(&mut self, below: u64, many: u64) -> u32
+        requires some { 0 < below }
+        requires fits { below ≤ 2 ^ 32 }
+        requires many { 0 < many }
+        ensures { result < 2 ^ 32 }
+    {
+        let bound = if self.one_in(many) {
+            4_294_967_296
+        } else {
+            below
+        };
+        self.pick(bound) as u32
+    }
+}
