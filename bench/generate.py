@@ -1,5 +1,7 @@
 #!/usr/bin/env python3
-"""Writes a message file of about as many MiB as asked: answers, texts and control messages, from a fixed seed."""
+"""Writes a message file of about as many MiB as asked: answers, texts and control messages, from a fixed seed.
+
+The hosts that they come from are 1 to 63, or 1 to the second number."""
 import random
 import struct
 import sys
@@ -48,11 +50,12 @@ def answer(r, host):
 
 def main():
     size = int(sys.argv[1]) << 20
+    hosts = int(sys.argv[2]) if len(sys.argv) > 2 else 63
     r = random.Random(1972)
     out = sys.stdout.buffer
     written = out.write(b"NCPI")
     while written < size:
-        host = r.randrange(1, 64)
+        host = r.randrange(1, hosts + 1)
         written += out.write(r.choice((control, text, text, answer, answer, answer))(r, host))
 
 
