@@ -16,8 +16,9 @@ const LINES: &[u8] =
 // The message of the RFNM.
 const STRAY: &[u8] = b"\x00\x20\x05\x02\x00\x00";
 
-// How many of these there are in a feed whose lines have more than a page.
-const MANY: u32 = 2000;
+// How many of these there are in a feed that has more than a window, and whose lines have more than a
+// page.
+const MANY: u32 = 4000;
 
 // How many bytes the lines have of the messages that are whole in the first bytes of the file.
 fn lines_of_front(len: usize) -> usize {
@@ -140,7 +141,7 @@ fn many_messages_come(rt: HostRuntime) -> Result<(), Fail> {
     assert!(rt; fed(rt.alloc(), &mut source, &mut sink)? == Ok(()));
     assert!(rt;
         sink.bytes()
-            .ends_with(b"2005 in stray\n2006 in stray\n2007 out nothing\n")
+            .ends_with(b"4005 in stray\n4006 in stray\n4007 out nothing\n")
     );
     Ok(())
 }
