@@ -7,20 +7,21 @@ use Rattle.ncp_play.specs.declared.heading.Heading.{Heading}
 use Rattle.ncp_play.specs.Playing.{TellsAs}
 use Rattle.ncp_host_player.specs.declared.lines.LinesEnd.{LinesEnd}
 
-tells_passed : (was : List ℕ) (first : Heading) (notes : List HostNote) (fault : PlayFault) (heading : Heading) (page : List ℕ) (written : Option (List ℕ))
-    → TellsAs {X = Option LinesEnd} was first notes (Err fault) heading page written → TellsAs {X = LinesEnd} was first notes (Err fault) heading page written
-tells_passed was first notes (BadLine number) heading page written tells = tells
-tells_passed was first notes (LineTooLong number) heading page written tells = tells
-tells_passed was first notes BadHosts heading page written tells = tells
-tells_passed was first notes (Feed fault) heading page written tells = tells
-tells_passed was first notes ReadFailed heading page written tells = tells
-tells_passed was first notes OutOfMemory heading page written tells = tells
-tells_passed was first notes WriteFailed heading page written tells = tells
+pub tells_passed : (X Y : Type 0) (was : List ℕ) (first : Heading) (notes : List HostNote) (fault : PlayFault) (heading : Heading) (page : List ℕ) (written : Option (List ℕ))
+    → TellsAs {X = X} was first notes (Err fault) heading page written → TellsAs {X = Y} was first notes (Err fault) heading page written
+tells_passed X Y was first notes (BadLine number) heading page written tells = tells
+tells_passed X Y was first notes (LineTooLong number) heading page written tells = tells
+tells_passed X Y was first notes BadHosts heading page written tells = tells
+tells_passed X Y was first notes (Feed fault) heading page written tells = tells
+tells_passed X Y was first notes ReadFailed heading page written tells = tells
+tells_passed X Y was first notes OutOfMemory heading page written tells = tells
+tells_passed X Y was first notes WriteFailed heading page written tells = tells
 
-pub tells_end : (was : List ℕ) (first : Heading) (notes : List HostNote) (r : Result LinesEnd PlayFault) (fault : PlayFault) (heading : Heading) (page : List ℕ) (written : Option (List ℕ)) → r ≡ Err fault
-    → TellsAs {X = Option LinesEnd} was first notes (Err fault) heading page written → TellsAs was first notes r heading page written
-tells_end was first notes r fault heading page written e tells =
-    subst (λ (r : Result LinesEnd PlayFault). TellsAs was first notes r heading page written) (sym e) (tells_passed was first notes fault heading page written tells)
+-- a fault that is answered where another was
+pub tells_end : (X Y : Type 0) (was : List ℕ) (first : Heading) (notes : List HostNote) (r : Result Y PlayFault) (fault : PlayFault) (heading : Heading) (page : List ℕ) (written : Option (List ℕ)) → r ≡ Err fault
+    → TellsAs {X = X} was first notes (Err fault) heading page written → TellsAs was first notes r heading page written
+tells_end X Y was first notes r fault heading page written e tells =
+    subst (λ (r : Result Y PlayFault). TellsAs was first notes r heading page written) (sym e) (tells_passed X Y was first notes fault heading page written tells)
 
 pub none_is : (end : Option LinesEnd) → ((e : LinesEnd) → end ≡ Some e → ⊥) → end ≡ None
 none_is None other = refl

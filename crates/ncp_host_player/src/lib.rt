@@ -4,3 +4,6 @@
 mod asking;
 mod beginning;
 mod lines;
+mod playing;
+
+pub use playing::play_host;

@@ -1,6 +1,7 @@
-use Rattle.std.proofs.Common.{◌∙◌, Ok}
+use Rattle.std.proofs.Common.{◌∙◌, Option, Ok}
 use Rattle.std.proofs.Math.Bool.{or-false}
 use Rattle.std.proofs.lemmas.Result.{err_from_is_err_and}
+use Rattle.ncp_host_player.specs.declared.lines.LinesEnd.{LinesEnd}
 use Rattle.ncp_host_player.proofs.Does.{does_behind}
 use Rattle.ncp_host_player.proofs.Telling.{tells_end, none_is}
 use Rattle.ncp_host_player.proofs.lines.play_lines.Goals as goal
@@ -14,7 +15,7 @@ returns-in_err-end-clause-events g c = λ bytes ahead.
 pub returns-in_err-end-clause-told : goal.returns-in_err-end-clause-told
 returns-in_err-end-clause-told g c = λ was first tells.
     let p = err_from_is_err_and c.from_residual.result c.from_residual.ensures.1 in
-    tells_end was first c.play_next.new.alone.notes c.from_residual.result p.0 c.play_next.new.heading c.play_next.new.page (g.W.Sink.written c.play_next.new.sink) p.1
+    tells_end (Option LinesEnd) LinesEnd was first c.play_next.new.alone.notes c.from_residual.result p.0 c.play_next.new.heading c.play_next.new.page (g.W.Sink.written c.play_next.new.sink) p.1
     (rw p.2 (c.in_err-end.ensures.told was first (c.loop-end.invariant.told was first tells)))
 
 pub returns-in-Some-clause-events : goal.returns-in-Some-clause-events
