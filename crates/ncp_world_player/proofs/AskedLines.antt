@@ -1,19 +1,14 @@
 -- What the next line asks for, by its words.
-use Rattle.std.proofs.Common.{◌≡◌, ℕ, Bool, true, false, List, [], Option, Some, None, Result, Ok, Err, option_map, refl, sym, ap, ◌∙◌, subst}
-use Rattle.ncp_stream.specs.Streams.{Ahead}
-use Rattle.ncp_stream.specs.declared.source.Failed.{Failed}
+use Rattle.std.proofs.Common.{◌≡◌, ℕ, Bool, true, false, List, Option, Some, None, Ok, Err, option_map, sym, ap, ◌∙◌}
 use Rattle.ncp_script.specs.declared.first_lines.TwoHosts.{TwoHosts}
 use Rattle.ncp_script.specs.declared.line_buffer.LineKind.{LineKind}
 use Rattle.ncp_script.specs.declared.line_buffer.LineKind.TheVariants as kinds
 use Rattle.ncp_script.specs.FirstLines.{hosts_named}
-use Rattle.ncp_script.specs.Lines.{text_of, kind_of}
 use Rattle.ncp_script.specs.Words.{words_of}
-use Rattle.ncp_script.specs.Scripts.{Line, lines_of, said, Asked, Event as Asks, Course, Script, Over as Is_over, Faulty, ends, judged, played, number_behind, course_from, begun, first_judged, script_from, NoHosts, Plays}
+use Rattle.ncp_script.specs.Scripts.{Line, lines_of, said, Event as Asks, Over as Is_over, Faulty, ends, judged, played, number_behind, begun, first_judged, NoHosts, Plays}
 use Rattle.ncp_script.specs.Scripts.{BadLine as Is_bad_line, LineTooLong as Is_too_long, BadHosts as Are_bad_hosts}
 use Rattle.ncp_reader.specs.declared.lines.Lines.{Lines}
-use Rattle.ncp_reader.specs.declared.lines.NextLine.{NextLine}
-use Rattle.ncp_reader.specs.declared.lines.NextLine.TheVariants.{Over, TooLong, Played}
-use Rattle.ncp_reader.specs.NextLines.{next_from, ended_lines, CameBefore, IsNext, ReadsNext}
+use Rattle.ncp_reader.specs.NextLines.{next_from, ended_lines, CameBefore, IsNext}
 use Rattle.ncp_reader.proofs.Courses.{course_at, course_next, script_at, script_next}
 use Rattle.ncp_reader.proofs.Nexts.{came_behind, last_behind}
 use Rattle.ncp_play.specs.declared.fault.PlayFault.{PlayFault}
@@ -21,7 +16,7 @@ use Rattle.ncp_play.specs.declared.fault.PlayFault.TheVariants.{BadLine, LineToo
 use Rattle.ncp_world.specs.declared.event.Event.{Event}
 use Rattle.ncp_world_player.specs.WorldLines.{world_line_of}
 use Rattle.ncp_world_player.specs.WorldScripts.{asks}
-use Rattle.ncp_world_player.specs.NextEvents.{EventIn, course_of, course_cut, with_event, AsksOne, AsksNext, script_behind, FindsHosts}
+use Rattle.ncp_world_player.specs.NextEvents.{EventIn, course_of, course_cut, with_event, AsksOne, AsksNext, script_behind}
 
 module _ (hosts : TwoHosts) (first : ℕ) (bytes : List ℕ) where
   -- what is asked for from the next line on

@@ -1,3 +1,5 @@
 pub mod MoreWorldNotes
 pub mod OneEvent
 pub mod AskedLines
+pub mod PlayedLines
+pub mod PlayedScripts

@@ -85,6 +85,13 @@ WritesAs was notes (Err (BadLine line)) written = WritesLines was notes written
 WritesAs was notes (Err (LineTooLong line)) written = WritesLines was notes written
 WritesAs was notes (Err (Feed fault)) written = WritesLines was notes written
 
+-- what was done with the lines behind the first to new hosts, and written of it
+abbrev pub PlaysBehind : TwoHosts → ℕ → List ℕ → List ℕ → Result Bool PlayFault → Option (List ℕ) → Option (List ℕ) → Type 0
+PlaysBehind hosts first bytes was (Ok good) left written =
+    (now : Noted_world) × PlaysLines hosts first bytes (new_world hosts.a hosts.b) (Ok tt) now left × WritesLines was now.notes written × (good ≡ not (any_refusal now.notes))
+PlaysBehind hosts first bytes was (Err fault) left written =
+    (now : Noted_world) × PlaysLines hosts first bytes (new_world hosts.a hosts.b) (Err fault) now left × WritesAs {X = Bool} was now.notes (Err fault) written
+
 -- ---- a whole script
 
 -- all its events happened to new hosts, the lines of their notes were written, and it ends so

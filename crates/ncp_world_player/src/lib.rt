@@ -6,10 +6,12 @@ pub mod examples;
 pub mod laws;
 mod moves;
 mod next_event;
+mod player;
 mod playing;
 mod world_lines;
 mod world_notes;
 
+pub use player::play_world;
 pub use playing::play_event;
 pub use world_lines::world_line;
 pub use world_notes::say_world_note;

@@ -1,8 +1,8 @@
 //! What the next line of a script asks for.
-ghost use Rattle.std.specs.Prelude.{◌≡◌, ◌≢◌, ◌<◌, ◌||◌, ℕ, List, true, IfOk};
+ghost use Rattle.std.specs.Prelude.{◌≡◌, ◌≢◌, ◌<◌, ◌||◌, ℕ, List, true, false, IfOk};
 ghost use Rattle.ncp_stream.specs.Streams.{Ahead};
 ghost use Rattle.ncp_files.specs.Windows.{effort};
-ghost use Rattle.ncp_play.specs.Faults.{is_read_failed};
+ghost use Rattle.ncp_play.specs.Faults.{is_read_failed, is_write_failed};
 ghost use Rattle.ncp_world_player.specs.NextEvents.{EventIn, AsksNext, FindsHosts, may_go_on};
 
 use crate::world_lines::world_line;
@@ -35,6 +35,7 @@ pub(crate) fn next_event<R: Source>(
     ensures told { (bytes : List ℕ) → Ahead lines.old.window (R.left source.old) bytes → AsksNext hosts lines.old.number bytes result lines.new (R.left source.new) }
     ensures effort { IfOk result (λ next. may_go_on next ≡ true → effort (R.reads source.new) lines.new.window < effort (R.reads source.old) lines.old.window) }
     ensures mark { R.has_failed source.new ≡ (R.has_failed source.old || is_read_failed result) }
+    ensures unblamed { is_write_failed result ≡ false }
 {
     match next_played(lines, source) {
         Ok(NextLine::Played { number, ended }) => {
@@ -58,6 +59,7 @@ pub(crate) fn read_hosts<R: Source>(
     ensures told { (bytes : List ℕ) → Ahead lines.old.window (R.left source.old) bytes → FindsHosts lines.old.number bytes result lines.new (R.left source.new) }
     ensures distinct { IfOk result (λ found. found.0.a ≢ found.0.b) }
     ensures mark { R.has_failed source.new ≡ (R.has_failed source.old || is_read_failed result) }
+    ensures unblamed { is_write_failed result ≡ false }
 {
     match next_played(lines, source) {
         Ok(NextLine::Played { ended, .. }) => {

@@ -1,0 +1,196 @@
+-- The events of lines, one after the other.
+use Rattle.std.proofs.Common.{◌≡◌, ◌⊎◌, inl, inr, ℕ, Bool, true, false, List, [], ◌∷◌, ◌++◌, Option, Some, None, Result, Ok, Err, refl, sym, ap, ◌∙◌, subst}
+use Rattle.std.proofs.lemmas.List.{append-nil}
+use Rattle.ncp_script.specs.declared.first_lines.TwoHosts.{TwoHosts}
+use Rattle.ncp_script.specs.Scripts.{Course, Ending, Over, ends}
+use Rattle.ncp_stream.specs.Streams.{SaidSoFar, SaysText, SaysBeginning}
+use Rattle.ncp_reader.specs.declared.lines.Lines.{Lines}
+use Rattle.ncp_play.specs.Faults.{is_read_failed, is_write_failed}
+use Rattle.ncp_play.specs.declared.fault.PlayFault.{PlayFault}
+use Rattle.ncp_play.specs.declared.fault.PlayFault.TheVariants.{BadLine, LineTooLong, BadHosts, Feed, ReadFailed, WriteFailed, OutOfMemory}
+use Rattle.ncp_world.specs.declared.event.Event.{Event}
+use Rattle.ncp_world.specs.declared.note.Note.{Note}
+use Rattle.ncp_world.specs.Transcript.{Noted_world, IsStep, AreSteps}
+use Rattle.ncp_world_player.specs.WorldNotes.{world_lines_from}
+use Rattle.ncp_world_player.specs.Playing.{DoesEvent, TellsWorld, TellsWorldBeginning, TellsWorldAs}
+use Rattle.ncp_world_player.specs.NextEvents.{course_of, course_cut, with_event, AsksOne, AsksNext}
+use Rattle.ncp_world_player.specs.Players.{PlayedTo, PlayedFirst, PlaysLines, GoesOn, PlaysNext, WritesLines, WritesAs}
+
+no_events : (course : Course Event) (ending : Ending) (before : Noted_world) → course ≡ ends ending → PlayedTo course ending before before
+no_events course ending before e = (ap (λ c. c.ending) e, subst (λ (c : Course Event). AreSteps c.events before before) (sym e) refl)
+
+pub none_first : (course : Course Event) (before : Noted_world) → PlayedFirst course before before
+none_first course before = ([], course.events, refl, refl)
+
+-- ---- one event, and those behind it
+
+module _ (course rest : Course Event) (event : Event) (before mid : Noted_world) (e : course ≡ with_event event rest) (step : IsStep event before mid) where
+  more_to : (ending : Ending) (now : Noted_world) → PlayedTo rest ending mid now → PlayedTo course ending before now
+  more_to ending now h = (ap (λ c. c.ending) e ∙ h.0, subst (λ (c : Course Event). AreSteps c.events before now) (sym e) (mid, step, h.1))
+
+  more_first : (now : Noted_world) → PlayedFirst rest mid now → PlayedFirst course before now
+  more_first now h = (event ∷ h.0, h.1, ap (λ c. c.events) e ∙ ap (λ (events : List Event). event ∷ events) h.2, (mid, step, h.3))
+
+module _ (hosts : TwoHosts) (first : ℕ) (bytes : List ℕ) (before : Noted_world) where
+  goes_on : (event : Event) (lines : Lines) (left : Option (List ℕ)) (mid : Noted_world) (asks : AsksOne hosts first bytes event lines left) → IsStep event before mid → GoesOn hosts first bytes before lines.number asks.0 mid
+  goes_on event lines left mid asks step (Ok done) last left' h = more_to (course_of hosts first bytes) (course_of hosts lines.number asks.0) event before mid asks.1 step Over last h
+  goes_on event lines left mid asks step (Err (BadLine line)) last left' h = more_to (course_of hosts first bytes) (course_of hosts lines.number asks.0) event before mid asks.1 step _ last h
+  goes_on event lines left mid asks step (Err (LineTooLong line)) last left' h = more_to (course_of hosts first bytes) (course_of hosts lines.number asks.0) event before mid asks.1 step _ last h
+  goes_on event lines left mid asks step (Err ReadFailed) last left' h =
+      let cut = asks.3 h.0 left' h.1 in (
+        cut.0,
+        cut.1,
+        more_to (course_cut hosts first cut.0) (course_cut hosts lines.number h.0) event before mid cut.2 step Over last h.2,
+        more_first (course_of hosts first bytes) (course_of hosts lines.number asks.0) event before mid asks.1 step last h.3,
+      )
+  goes_on event lines left mid asks step (Err OutOfMemory) last left' h = more_first (course_of hosts first bytes) (course_of hosts lines.number asks.0) event before mid asks.1 step last h
+  goes_on event lines left mid asks step (Err WriteFailed) last left' h = more_first (course_of hosts first bytes) (course_of hosts lines.number asks.0) event before mid asks.1 step last h
+  goes_on event lines left mid asks step (Err BadHosts) last left' h = absurd h
+  goes_on event lines left mid asks step (Err (Feed fault)) last left' h = absurd h
+
+  pub asks_none : (lines : Lines) (left : Option (List ℕ)) → AsksNext hosts first bytes (Ok None) lines left → PlaysLines hosts first bytes before (Ok tt) before left
+  asks_none lines left asks = no_events (course_of hosts first bytes) Over before asks
+
+  pub asks_err : (lines : Lines) (left : Option (List ℕ)) (fault : PlayFault) → AsksNext hosts first bytes (Err fault) lines left → PlaysLines hosts first bytes before (Err fault) before left
+  asks_err lines left (BadLine line) asks = no_events (course_of hosts first bytes) _ before asks
+  asks_err lines left (LineTooLong line) asks = no_events (course_of hosts first bytes) _ before asks
+  asks_err lines left ReadFailed asks = (asks.0, asks.1, no_events (course_cut hosts first asks.0) Over before asks.2, none_first (course_of hosts first bytes) before)
+  asks_err lines left OutOfMemory asks = none_first (course_of hosts first bytes) before
+  asks_err lines left WriteFailed asks = absurd asks
+  asks_err lines left BadHosts asks = absurd asks
+  asks_err lines left (Feed fault) asks = absurd asks
+
+  course_some : (event : Event) (ended : Bool) (lines : Lines) (left : Option (List ℕ)) → AsksNext hosts first bytes (Ok (Some (event, ended))) lines left → (rest : Course Event) × (course_of hosts first bytes ≡ with_event event rest)
+  course_some event true lines left asks = (course_of hosts lines.number asks.0, asks.1)
+  course_some event false lines left asks = (ends Over, asks)
+
+  pub event_err : (event : Event) (ended : Bool) (lines : Lines) (left : Option (List ℕ)) (now : Noted_world) (fault : PlayFault) → AsksNext hosts first bytes (Ok (Some (event, ended))) lines left → DoesEvent event before (Err fault) now
+      → PlaysLines hosts first bytes before (Err fault) now left
+  event_err event ended lines left now OutOfMemory asks does = subst (λ (w : Noted_world). PlayedFirst (course_of hosts first bytes) before w) (sym does) (none_first (course_of hosts first bytes) before)
+  event_err event ended lines left now WriteFailed asks does =
+      let some = course_some event ended lines left asks in
+      more_first (course_of hosts first bytes) some.0 event before now some.1 does now (none_first some.0 now)
+  event_err event ended lines left now ReadFailed asks does = absurd does
+  event_err event ended lines left now BadHosts asks does = absurd does
+  event_err event ended lines left now (BadLine line) asks does = absurd does
+  event_err event ended lines left now (LineTooLong line) asks does = absurd does
+  event_err event ended lines left now (Feed fault) asks does = absurd does
+
+  pub event_ok : (event : Event) (ended : Bool) (lines : Lines) (left : Option (List ℕ)) (now : Noted_world) → AsksNext hosts first bytes (Ok (Some (event, ended))) lines left → IsStep event before now
+      → PlaysNext hosts first bytes before (Ok ended) now lines.number lines.window left
+  event_ok event true lines left now asks step = (asks.0, asks.2, goes_on event lines left now asks step)
+  event_ok event false lines left now asks step = more_to (course_of hosts first bytes) (ends Over) event before now asks step Over now (refl, refl)
+
+  -- no line stands behind the first
+  pub no_lines : (left : Option (List ℕ)) → bytes ≡ [] → PlaysLines hosts first bytes before (Ok tt) before left
+  no_lines left none = no_events (course_of hosts first bytes) Over before (ap (λ b. course_of hosts first b) none)
+
+  -- in any case the first events happened
+  pub first_of_all : (now : Noted_world) (left : Option (List ℕ)) (r : Result Unit PlayFault) → PlaysLines hosts first bytes before r now left → PlayedFirst (course_of hosts first bytes) before now
+  first_of_all now left (Ok done) h = let all = course_of hosts first bytes in (all.events, [], sym (append-nil all.events), h.1)
+  first_of_all now left (Err (BadLine line)) h = let all = course_of hosts first bytes in (all.events, [], sym (append-nil all.events), h.1)
+  first_of_all now left (Err (LineTooLong line)) h = let all = course_of hosts first bytes in (all.events, [], sym (append-nil all.events), h.1)
+  first_of_all now left (Err ReadFailed) h = h.3
+  first_of_all now left (Err OutOfMemory) h = h
+  first_of_all now left (Err WriteFailed) h = h
+  first_of_all now left (Err BadHosts) h = absurd h
+  first_of_all now left (Err (Feed fault)) h = absurd h
+
+  pub plays_finished : (now : Noted_world) (left : Option (List ℕ)) (played r : Result Unit PlayFault) → PlaysLines hosts first bytes before played now left → (r ≡ played) ⊎ (r ≡ Err WriteFailed) → PlaysLines hosts first bytes before r now left
+  plays_finished now left played r h (inl e) = subst (λ (x : Result Unit PlayFault). PlaysLines hosts first bytes before x now left) (sym e) h
+  plays_finished now left played r h (inr e) = subst (λ (x : Result Unit PlayFault). PlaysLines hosts first bytes before x now left) (sym e) (first_of_all now left played h)
+
+-- an event is never blamed on reading
+pub never_reads : (event : Event) (before now : Noted_world) (r : Result Unit PlayFault) → DoesEvent event before r now → is_read_failed r ≡ false
+never_reads event before now (Ok done) does = refl
+never_reads event before now (Err OutOfMemory) does = refl
+never_reads event before now (Err WriteFailed) does = refl
+never_reads event before now (Err ReadFailed) does = absurd does
+never_reads event before now (Err BadHosts) does = absurd does
+never_reads event before now (Err (BadLine line)) does = absurd does
+never_reads event before now (Err (LineTooLong line)) does = absurd does
+never_reads event before now (Err (Feed fault)) does = absurd does
+
+-- ---- what is told
+
+-- where all is told, a beginning is
+told_beginning : (was : List ℕ) (notes : List Note) (number : ℕ) (page : List ℕ) (written : Option (List ℕ)) → TellsWorld was notes number page written → TellsWorldBeginning was notes written
+told_beginning was notes number page written told = (page, told.1)
+
+module _ {X : Type 0} (was : List ℕ) (notes : List Note) (number : ℕ) (page : List ℕ) (written : Option (List ℕ)) where
+  pub tells_any : (r : Result X PlayFault) → TellsWorld was notes number page written → TellsWorldAs was notes r number page written
+  tells_any (Ok x) told = told
+  tells_any (Err WriteFailed) told = told_beginning was notes number page written told
+  tells_any (Err OutOfMemory) told = told
+  tells_any (Err ReadFailed) told = told
+  tells_any (Err BadHosts) told = told
+  tells_any (Err (BadLine line)) told = told
+  tells_any (Err (LineTooLong line)) told = told
+  tells_any (Err (Feed fault)) told = told
+
+  pub tells_all : (r : Result X PlayFault) → is_write_failed r ≡ false → TellsWorldAs was notes r number page written → TellsWorld was notes number page written
+  tells_all (Ok x) other told = told
+  tells_all (Err WriteFailed) other told = let f : ⊥ = cc in absurd f
+  tells_all (Err OutOfMemory) other told = told
+  tells_all (Err ReadFailed) other told = told
+  tells_all (Err BadHosts) other told = told
+  tells_all (Err (BadLine line)) other told = told
+  tells_all (Err (LineTooLong line)) other told = told
+  tells_all (Err (Feed fault)) other told = told
+
+-- the same fault of another kind of result
+pub tells_err : (X Y : Type 0) (was : List ℕ) (notes : List Note) (number : ℕ) (page : List ℕ) (written : Option (List ℕ)) (fault : PlayFault) → TellsWorldAs {X = X} was notes (Err fault) number page written
+    → TellsWorldAs {X = Y} was notes (Err fault) number page written
+tells_err X Y was notes number page written WriteFailed told = told
+tells_err X Y was notes number page written OutOfMemory told = told
+tells_err X Y was notes number page written ReadFailed told = told
+tells_err X Y was notes number page written BadHosts told = told
+tells_err X Y was notes number page written (BadLine line) told = told
+tells_err X Y was notes number page written (LineTooLong line) told = told
+tells_err X Y was notes number page written (Feed fault) told = told
+
+pub writes_err : (X Y : Type 0) (was : List ℕ) (notes : List Note) (written : Option (List ℕ)) (fault : PlayFault) → WritesAs {X = X} was notes (Err fault) written → WritesAs {X = Y} was notes (Err fault) written
+writes_err X Y was notes written WriteFailed told = told
+writes_err X Y was notes written OutOfMemory told = told
+writes_err X Y was notes written ReadFailed told = told
+writes_err X Y was notes written BadHosts told = told
+writes_err X Y was notes written (BadLine line) told = told
+writes_err X Y was notes written (LineTooLong line) told = told
+writes_err X Y was notes written (Feed fault) told = told
+
+-- the page was written
+writes_lines : (was : List ℕ) (notes : List Note) (number : ℕ) (page last : List ℕ) (written now : Option (List ℕ)) → TellsWorld was notes number page written → last ≡ [] → SaysText page written [] last now → WritesLines was notes now
+writes_lines was notes number page last written now told none says =
+    let said = says was (world_lines_from 1 notes) told.1 in
+    said.1 ∙ ap (λ text. Some (was ++ text)) (sym (append-nil said.0) ∙ ap (λ rest. said.0 ++ rest) (sym none) ∙ said.2 ∙ append-nil (world_lines_from 1 notes))
+
+writes_as : {X : Type 0} (was : List ℕ) (notes : List Note) (r : Result X PlayFault) (written : Option (List ℕ)) → is_write_failed r ≡ false → WritesLines was notes written → WritesAs was notes r written
+writes_as was notes (Ok x) written other h = h
+writes_as was notes (Err WriteFailed) written other h = let f : ⊥ = cc in absurd f
+writes_as was notes (Err OutOfMemory) written other h = h
+writes_as was notes (Err ReadFailed) written other h = h
+writes_as was notes (Err BadHosts) written other h = h
+writes_as was notes (Err (BadLine line)) written other h = h
+writes_as was notes (Err (LineTooLong line)) written other h = h
+writes_as was notes (Err (Feed fault)) written other h = h
+
+module _ (was : List ℕ) (notes : List Note) (number : ℕ) (page : List ℕ) (written : Option (List ℕ)) (played : Result Unit PlayFault) (told : TellsWorldAs was notes played number page written) where
+  pub finish_flushed : (last : List ℕ) (now : Option (List ℕ)) → is_write_failed played ≡ false → (last ≡ []) × SaysText page written [] last now → WritesAs was notes played now
+  finish_flushed last now other flushed =
+      writes_as was notes played now other (writes_lines was notes number page last written now (tells_all was notes number page written played other told) flushed.0 flushed.1)
+
+  pub finish_broken : (now : Option (List ℕ)) → is_write_failed played ≡ false → SaysBeginning page written [] now → TellsWorldBeginning was notes now
+  finish_broken now other says =
+      let all = tells_all was notes number page written played other told in
+      let said = says.1 was (world_lines_from 1 notes) all.1 in
+      (says.0, subst (λ text. SaidSoFar was says.0 now text) (append-nil (world_lines_from 1 notes)) said)
+
+pub finish_failed : (was : List ℕ) (notes : List Note) (number : ℕ) (page : List ℕ) (written : Option (List ℕ)) (played : Result Unit PlayFault) → is_write_failed played ≡ true → TellsWorldAs was notes played number page written → WritesAs was notes played written
+finish_failed was notes number page written (Err WriteFailed) blamed told = told
+finish_failed was notes number page written (Ok done) blamed told = let f : ⊥ = cc in absurd f
+finish_failed was notes number page written (Err OutOfMemory) blamed told = let f : ⊥ = cc in absurd f
+finish_failed was notes number page written (Err ReadFailed) blamed told = let f : ⊥ = cc in absurd f
+finish_failed was notes number page written (Err BadHosts) blamed told = let f : ⊥ = cc in absurd f
+finish_failed was notes number page written (Err (BadLine line)) blamed told = let f : ⊥ = cc in absurd f
+finish_failed was notes number page written (Err (LineTooLong line)) blamed told = let f : ⊥ = cc in absurd f
+finish_failed was notes number page written (Err (Feed fault)) blamed told = let f : ⊥ = cc in absurd f
