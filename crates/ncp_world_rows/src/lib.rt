@@ -3,6 +3,12 @@
 #![tactic(auto)]
 
 #[cfg(test)]
+mod events;
+#[cfg(test)]
+mod held_back;
+#[cfg(test)]
+mod ledgers;
+#[cfg(test)]
 mod scripts;
 #[cfg(test)]
 mod states;

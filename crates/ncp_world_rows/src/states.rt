@@ -1,7 +1,8 @@
-//! Each thing that may happen to a message, in each state of the subnet.
-use crate::tried::{B, Tried};
+//! Each thing that may happen to a message, and an output, in each state of the subnet and the slot.
+use crate::events::{out, reset};
+use crate::tried::Tried;
 use ncp_bits::{BitStore, PackedStore, PlainStore};
-use ncp_transcript::Call;
+use ncp_transcript::HostNote;
 use ncp_world::{Event, Move, Note, Side};
 use std::alloc::Global;
 use std::process::Abort;
@@ -21,17 +22,17 @@ fn event_of(wanted: Move) -> Event {
     }
 }
 
-/// A message went out on link 0, and then this happened to it.
-fn after<S: BitStore>(rt: &impl Abort, alloc: Global, moves: &[Move]) -> Result<Tried<S>, Fail> {
+/// A host wants to send a message.
+fn beginning<S: BitStore>(rt: &impl Abort, alloc: Global) -> Result<Tried<S>, Fail> {
     let mut tried = Tried::new(alloc)?;
-    tried.does(
-        rt,
-        &Event::Call {
-            side: Side::A,
-            call: Call::Reset { peer: B },
-        },
-    );
-    tried.does(rt, &Event::Out { side: Side::A });
+    tried.does(rt, &reset(Side::A));
+    Ok(tried)
+}
+
+/// It went out on link 0, and then this happened to it.
+fn after<S: BitStore>(rt: &impl Abort, alloc: Global, moves: &[Move]) -> Result<Tried<S>, Fail> {
+    let mut tried = beginning(rt, alloc)?;
+    tried.does(rt, &out(Side::A));
     for one in moves {
         tried.does(rt, &event_of(*one));
     }
@@ -42,41 +43,66 @@ fn after<S: BitStore>(rt: &impl Abort, alloc: Global, moves: &[Move]) -> Result<
 fn is_nothing<S: BitStore>(tried: &Tried<S>) -> bool {
     matches!(
         tried.notes().last(),
-        Some(Note::Nothing {
-            side: Side::A,
-            link: 0,
-            ..
-        })
+        Some(
+            Note::Nothing {
+                side: Side::A,
+                link: 0,
+                ..
+            } | Note::Out {
+                side: Side::A,
+                note: HostNote::Nothing,
+            }
+        )
     )
 }
 
-/// In the state after some moves, each move can happen or not.
+/// An event can happen in this state, or not.
+fn happens<S: BitStore>(rt: &impl Abort, mut tried: Tried<S>, event: &Event, can: bool) {
+    tried.does(rt, event);
+    assert!(rt; is_nothing(&tried) != can);
+}
+
+/// In the state after some moves each move can happen or not, and a message can go out or not.
 fn can<S: BitStore>(
     rt: &impl Abort,
     alloc: Global,
     moves: &[Move],
     possible: [bool; 4],
+    goes: bool,
 ) -> Result<(), Fail> {
     for (wanted, can) in MOVES.iter().zip(possible.iter()) {
-        let mut tried: Tried<S> = after(rt, alloc, moves)?;
-        tried.does(rt, &event_of(*wanted));
-        assert!(rt; tried.notes().len() == moves.len() + 3);
-        assert!(rt; is_nothing(&tried) != *can);
+        let tried: Tried<S> = after(rt, alloc, moves)?;
+        happens(rt, tried, &event_of(*wanted), *can);
     }
+    let tried: Tried<S> = after(rt, alloc, moves)?;
+    happens(rt, tried, &out(Side::A), goes);
+    Ok(())
+}
+
+/// No message went out yet.
+fn before_any<S: BitStore>(rt: &impl Abort, alloc: Global) -> Result<(), Fail> {
+    for wanted in MOVES.iter() {
+        let tried: Tried<S> = beginning(rt, alloc)?;
+        happens(rt, tried, &event_of(*wanted), false);
+    }
+    let tried: Tried<S> = beginning(rt, alloc)?;
+    happens(rt, tried, &out(Side::A), true);
     Ok(())
 }
 
 fn all_states<S: BitStore>(rt: &impl Abort, alloc: Global) -> Result<(), Fail> {
-    can::<S>(rt, alloc, &[], [true, true, true, false])?;
-    can::<S>(rt, alloc, &[Move::Deliver], [false, false, false, true])?;
-    can::<S>(rt, alloc, &[Move::Lose], [false, false, false, true])?;
-    can::<S>(rt, alloc, &[Move::Dead], [false, false, false, true])?;
-    can::<S>(
-        rt,
-        alloc,
-        &[Move::Deliver, Move::Answer],
-        [false, false, false, false],
-    )
+    let open = [true, true, true, false];
+    let gone = [false, false, false, true];
+    let free = [false, false, false, false];
+    before_any::<S>(rt, alloc)?;
+    can::<S>(rt, alloc, &[], open, false)?;
+    can::<S>(rt, alloc, &[Move::Deliver], gone, false)?;
+    can::<S>(rt, alloc, &[Move::Lose], gone, false)?;
+    can::<S>(rt, alloc, &[Move::Dead], gone, false)?;
+    can::<S>(rt, alloc, &[Move::Deliver, Move::Answer], free, false)?;
+    // A message that was lost goes out again; one that found its destination dead is held.
+    can::<S>(rt, alloc, &[Move::Lose, Move::Answer], free, true)?;
+    can::<S>(rt, alloc, &[Move::Dead, Move::Answer], free, false)
 }
 
 #[test]

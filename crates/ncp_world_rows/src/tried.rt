@@ -1,6 +1,7 @@
 //! A world whose calls tell the prover nothing.
 use ncp_bits::BitStore;
-use ncp_world::{Event, Note, Side, World, run};
+use ncp_host::{Pair, Record};
+use ncp_world::{Event, Ledger, Note, Side, World, run};
 use std::alloc::{AllocError, Global};
 use std::process::Abort;
 
@@ -18,16 +19,22 @@ pub(super) struct Tried<S: BitStore> {
 
 impl<S: BitStore> Tried<S> {
     pub(super) fn new(alloc: Global) -> Result<Self, AllocError> {
-        Ok(Tried {
-            world: World::new(alloc, A, B)?,
-        })
+        let world = match World::new(alloc, A, B) {
+            Ok(world) => world,
+            // Memory was refused once.
+            Err(_) => World::new(alloc, A, B)?,
+        };
+        Ok(Tried { world })
     }
 
     /// A world after these events, by one call.
     pub(super) fn run(alloc: Global, events: &[Event]) -> Result<Self, AllocError> {
-        Ok(Tried {
-            world: run(alloc, A, B, events)?,
-        })
+        let world = match run(alloc, A, B, events) {
+            Ok(world) => world,
+            // Memory was refused once.
+            Err(_) => run(alloc, A, B, events)?,
+        };
+        Ok(Tried { world })
     }
 
     pub(super) fn notes(&self) -> &[Note] {
@@ -40,6 +47,23 @@ impl<S: BitStore> Tried<S> {
             Ok(flags) => flags.up(),
             Err(_) => false,
         }
+    }
+
+    /// The record of a pair at a host, if it has one.
+    pub(super) fn record(&self, side: Side, other: u8, pair: Pair) -> Option<Record> {
+        self.world.host(side).state(other, pair).ok()
+    }
+
+    /// How many ERRs came to a host.
+    pub(super) fn errors(&self, side: Side, other: u8) -> usize {
+        match self.world.host(side).errors(other) {
+            Ok(errors) => errors.count(),
+            Err(_) => 0,
+        }
+    }
+
+    pub(super) fn ledger(&self, side: Side, pair: Pair) -> Option<Ledger> {
+        self.world.ledger(side, pair)
     }
 
     /// Steps once. Where memory is refused nothing has happened, and the same event is given again.

@@ -22,6 +22,7 @@ pub(super) enum Wanted<'a> {
     /// These bytes came, and were received as this.
     Came(&'a [u8], Received),
     Lost,
+    FoundDead,
     Answered(Answer),
     /// The subnet had no such message.
     Nothing,
@@ -78,7 +79,9 @@ pub(super) fn says(rt: &impl Abort, note: &Note, wanted: &Wanted<'_>) -> bool {
             },
             Wanted::Answered(other),
         ) => answer == other,
-        (Note::Lost { .. }, Wanted::Lost) | (Note::Nothing { .. }, Wanted::Nothing) => true,
+        (Note::Lost { .. }, Wanted::Lost)
+        | (Note::FoundDead { .. }, Wanted::FoundDead)
+        | (Note::Nothing { .. }, Wanted::Nothing) => true,
         _ => false,
     }
 }

@@ -1,0 +1,276 @@
+//! Each message of the first script, held back while the connection is closed, a host resets, or the
+//! connection is closed and asked for again.
+use crate::events;
+use crate::events::{
+    LINK, RECEIVER, SENDER, answer, ask_receive, ask_send, close, deliver, out, reset, take,
+};
+use crate::tried::{A, B, Tried};
+use crate::wanted::{Wanted, says};
+use ncp_bits::{BitStore, PackedStore, PlainStore};
+use ncp_host::{Received, Record, Took};
+use ncp_transcript::HostNote;
+use ncp_world::{Note, Side};
+use std::alloc::Global;
+use std::process::Abort;
+use std::test::Fail;
+
+/// A message that is held back: after how many events it is out, whose it is, and its link.
+#[derive(Clone, Copy, Debug, Drop)]
+struct Held {
+    after: usize,
+    side: Side,
+    link: u8,
+}
+
+const RST: Held = Held {
+    after: 2,
+    side: Side::A,
+    link: 0,
+};
+
+const RRP: Held = Held {
+    after: 5,
+    side: Side::B,
+    link: 0,
+};
+
+const RTS: Held = Held {
+    after: 10,
+    side: Side::B,
+    link: 0,
+};
+
+const STR: Held = Held {
+    after: 13,
+    side: Side::A,
+    link: 0,
+};
+
+const ALL: Held = Held {
+    after: 17,
+    side: Side::B,
+    link: 0,
+};
+
+const TEXT: Held = Held {
+    after: 21,
+    side: Side::A,
+    link: LINK,
+};
+
+const CONTROL_MESSAGES: [Held; 5] = [RST, RRP, RTS, STR, ALL];
+
+/// What the message is held back past.
+#[derive(Clone, Copy, Debug, Drop)]
+enum Past {
+    CloseBySender,
+    CloseByReceiver,
+    ResetBySender,
+    ResetByReceiver,
+    /// Both close, and ask for the connection again.
+    Reopening,
+}
+
+const ENDINGS: [Past; 4] = [
+    Past::CloseBySender,
+    Past::CloseByReceiver,
+    Past::ResetBySender,
+    Past::ResetByReceiver,
+];
+
+/// The links on which messages go.
+const WAYS: [(Side, u8); 3] = [(Side::A, 0), (Side::B, 0), (Side::A, LINK)];
+
+/// How often each host is asked for output.
+const ROUNDS: usize = 8;
+
+fn is_on(held: Option<Held>, side: Side, link: u8) -> bool {
+    match held {
+        Some(held) => {
+            held.link == link
+                && matches!((held.side, side), (Side::A, Side::A) | (Side::B, Side::B))
+        }
+        None => false,
+    }
+}
+
+/// All messages go out, come and are answered, but the one that is held back.
+fn go_on<S: BitStore>(rt: &impl Abort, tried: &mut Tried<S>, held: Option<Held>) {
+    for _round in 0..ROUNDS {
+        for (side, link) in WAYS.iter() {
+            tried.does(rt, &out(*side));
+            if !is_on(held, *side, *link) {
+                tried.does(rt, &deliver(*side, *link));
+                tried.does(rt, &answer(*side, *link));
+            }
+        }
+    }
+}
+
+/// Both ask for the connection. Where it is still there, the call is refused.
+fn ask<S: BitStore>(rt: &impl Abort, tried: &mut Tried<S>) {
+    tried.does(rt, &ask_receive());
+    tried.does(rt, &ask_send());
+}
+
+fn happens<S: BitStore>(rt: &impl Abort, tried: &mut Tried<S>, past: Past, held: Held) {
+    match past {
+        Past::CloseBySender => tried.does(rt, &close(Side::A)),
+        Past::CloseByReceiver => tried.does(rt, &close(Side::B)),
+        Past::ResetBySender => tried.does(rt, &reset(Side::A)),
+        Past::ResetByReceiver => tried.does(rt, &reset(Side::B)),
+        Past::Reopening => {
+            tried.does(rt, &close(Side::A));
+            tried.does(rt, &close(Side::B));
+            go_on(rt, tried, Some(held));
+            ask(rt, tried);
+        }
+    }
+    go_on(rt, tried, Some(held));
+}
+
+/// The script up to this message, what it is held back past, and then all the rest: the message
+/// comes, the user of the receiver takes what is there, and the messages go on.
+fn held_back<S: BitStore>(
+    rt: &impl Abort,
+    alloc: Global,
+    held: Held,
+    past: Past,
+) -> Result<Tried<S>, Fail> {
+    let events = events::one_connection(rt, alloc)?;
+    let mut tried: Tried<S> = Tried::new(alloc)?;
+    assert!(rt; held.after <= events.len());
+    for event in &events[..held.after] {
+        tried.does(rt, event);
+    }
+    happens(rt, &mut tried, past, held);
+    tried.does(rt, &deliver(held.side, held.link));
+    tried.does(rt, &answer(held.side, held.link));
+    go_on(rt, &mut tried, None);
+    Ok(tried)
+}
+
+/// Whether something came that the other host may not send.
+fn is_bad(note: &Note) -> bool {
+    match note {
+        Note::Came {
+            note: HostNote::In { received, .. },
+            ..
+        } => !matches!(
+            received,
+            Received::Control(_) | Received::NotUp | Received::Text(Took::Admitted | Took::Late)
+        ),
+        _ => false,
+    }
+}
+
+/// Both hosts are up, neither made an ERR, and nothing came that may not.
+fn is_well<S: BitStore>(rt: &impl Abort, tried: &Tried<S>) {
+    assert!(rt; tried.is_up(Side::A, B) && tried.is_up(Side::B, A));
+    assert!(rt; tried.errors(Side::A, B) == 0 && tried.errors(Side::B, A) == 0);
+    assert!(rt; !tried.notes().iter().any(is_bad));
+}
+
+/// Whether a record is of an open end on the link, with nothing counted or stored.
+fn is_new(record: &Option<Record>) -> bool {
+    match record {
+        Some(record) => {
+            record.opened
+                && !record.leaving
+                && !record.left
+                && record.link == LINK
+                && record.messages == 0
+                && record.bits == 0
+                && record.stored == 0
+        }
+        None => false,
+    }
+}
+
+/// What the user of the receiver is answered, once all has come.
+fn takes<S: BitStore>(rt: &impl Abort, tried: &mut Tried<S>, text: Option<&[u8]>) {
+    tried.does(rt, &take());
+    match (tried.notes().last(), text) {
+        (Some(note), Some(bytes)) => assert!(rt; says(rt, note, &Wanted::Took(bytes))),
+        (
+            Some(
+                Note::Called {
+                    note: HostNote::Refused { .. },
+                    ..
+                },
+            ),
+            None,
+        ) => {}
+        _ => assert!(rt; false),
+    }
+    go_on(rt, tried, None);
+}
+
+/// Past a close or a reset nothing is left of the connection, and this was to be taken.
+fn ends<S: BitStore>(
+    rt: &impl Abort,
+    alloc: Global,
+    held: Held,
+    past: Past,
+    text: Option<&[u8]>,
+) -> Result<(), Fail> {
+    let mut tried: Tried<S> = held_back(rt, alloc, held, past)?;
+    takes(rt, &mut tried, text);
+    is_well(rt, &tried);
+    assert!(rt; tried.record(Side::A, B, SENDER).is_none());
+    assert!(rt; tried.record(Side::B, A, RECEIVER).is_none());
+    Ok(())
+}
+
+/// Past a reopening the connection is a new one on the same link, and nothing of the old one came
+/// into it.
+fn opens<S: BitStore>(rt: &impl Abort, alloc: Global, held: Held) -> Result<(), Fail> {
+    let mut tried: Tried<S> = held_back(rt, alloc, held, Past::Reopening)?;
+    ask(rt, &mut tried);
+    go_on(rt, &mut tried, None);
+    takes(rt, &mut tried, Some(b""));
+    is_well(rt, &tried);
+    assert!(rt; is_new(&tried.record(Side::A, B, SENDER)));
+    assert!(rt; is_new(&tried.record(Side::B, A, RECEIVER)));
+    Ok(())
+}
+
+fn control_held_back<S: BitStore>(rt: &impl Abort, alloc: Global) -> Result<(), Fail> {
+    for held in CONTROL_MESSAGES.iter() {
+        for past in ENDINGS.iter() {
+            ends::<S>(rt, alloc, *held, *past, None)?;
+        }
+        opens::<S>(rt, alloc, *held)?;
+    }
+    Ok(())
+}
+
+// While its receiver has not closed and no host was cleared, the text comes to the connection for
+// which it was given.
+fn text_held_back<S: BitStore>(rt: &impl Abort, alloc: Global) -> Result<(), Fail> {
+    ends::<S>(rt, alloc, TEXT, Past::CloseBySender, Some(b"ab"))?;
+    ends::<S>(rt, alloc, TEXT, Past::CloseByReceiver, None)?;
+    ends::<S>(rt, alloc, TEXT, Past::ResetBySender, None)?;
+    ends::<S>(rt, alloc, TEXT, Past::ResetByReceiver, None)?;
+    opens::<S>(rt, alloc, TEXT)
+}
+
+#[test]
+fn control_held_back_over_plain_bits(rt: HostRuntime) -> Result<(), Fail> {
+    control_held_back::<PlainStore>(&rt, rt.alloc())
+}
+
+#[test]
+fn control_held_back_over_packed_bits(rt: HostRuntime) -> Result<(), Fail> {
+    control_held_back::<PackedStore>(&rt, rt.alloc())
+}
+
+#[test]
+fn text_held_back_over_plain_bits(rt: HostRuntime) -> Result<(), Fail> {
+    text_held_back::<PlainStore>(&rt, rt.alloc())
+}
+
+#[test]
+fn text_held_back_over_packed_bits(rt: HostRuntime) -> Result<(), Fail> {
+    text_held_back::<PackedStore>(&rt, rt.alloc())
+}

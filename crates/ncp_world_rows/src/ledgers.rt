@@ -1,0 +1,188 @@
+//! The ledger after each event of a script.
+use crate::events;
+use crate::events::{RECEIVER, SENDER, answer, call, deliver, out, push};
+use crate::tried::{A, Tried};
+use ncp_bits::{BitStore, PackedStore, PlainStore};
+use ncp_transcript::Call;
+use ncp_world::{Amount, Event, Ledger, Side};
+use std::alloc::Global;
+use std::process::Abort;
+use std::test::Fail;
+
+const NONE: Amount = Amount {
+    messages: 0,
+    bits: 0,
+};
+
+/// What is allowed.
+const ALLOWED: Amount = Amount {
+    messages: 2,
+    bits: 16,
+};
+
+/// What is left when the text went out.
+const LEFT: Amount = Amount {
+    messages: 1,
+    bits: 0,
+};
+
+/// The text.
+const TEXT: Amount = Amount {
+    messages: 1,
+    bits: 16,
+};
+
+/// What is called back.
+const HALF: Amount = Amount {
+    messages: 1,
+    bits: 8,
+};
+
+/// A ledger with nothing underway.
+fn at_rest(amount: Amount) -> Ledger {
+    Ledger {
+        outstanding: amount,
+        counters: amount,
+        all: NONE,
+        text: NONE,
+        ret: NONE,
+    }
+}
+
+fn opened() -> Ledger {
+    at_rest(NONE)
+}
+
+fn allowing() -> Ledger {
+    Ledger {
+        outstanding: ALLOWED,
+        all: ALLOWED,
+        ..at_rest(NONE)
+    }
+}
+
+fn with_text() -> Ledger {
+    Ledger {
+        outstanding: ALLOWED,
+        counters: LEFT,
+        text: TEXT,
+        ..at_rest(NONE)
+    }
+}
+
+fn returning() -> Ledger {
+    Ledger {
+        outstanding: ALLOWED,
+        counters: HALF,
+        ret: HALF,
+        ..at_rest(NONE)
+    }
+}
+
+/// After so many events of the first script.
+fn of_one_connection(events: usize) -> Option<Ledger> {
+    match events {
+        0..=13 => None,
+        14..=15 => Some(opened()),
+        16..=17 => Some(allowing()),
+        18..=20 => Some(at_rest(ALLOWED)),
+        21 => Some(with_text()),
+        _ => Some(at_rest(LEFT)),
+    }
+}
+
+/// After so many events of the script in which the text is lost twice.
+fn of_lost_twice(events: usize) -> Option<Ledger> {
+    match events {
+        0..=20 => of_one_connection(events),
+        21..=27 => Some(with_text()),
+        _ => Some(at_rest(LEFT)),
+    }
+}
+
+/// After so many events of the script in which half of what is allowed is called back.
+fn of_called_back(events: usize) -> Option<Ledger> {
+    match events {
+        0..=19 => of_one_connection(events),
+        20..=21 => Some(at_rest(ALLOWED)),
+        22..=24 => Some(returning()),
+        _ => Some(at_rest(HALF)),
+    }
+}
+
+/// Half is called back in place of a text that is given.
+fn called_back(rt: &impl Abort, alloc: Global) -> Result<Vec<Event>, Fail> {
+    let mut events = events::beginning(rt, alloc)?;
+    events.truncate(19);
+    let rest = vec![in alloc;
+        call(
+            Side::B,
+            Call::CallBack {
+                peer: A,
+                pair: RECEIVER,
+                fm: 64,
+                fb: 64
+            }
+        ),
+        out(Side::B),
+        deliver(Side::B, 0),
+        answer(Side::B, 0),
+        out(Side::A),
+        deliver(Side::A, 0),
+        answer(Side::A, 0),
+    ]?;
+    push(&mut events, rest)?;
+    Ok(events)
+}
+
+/// A script.
+#[derive(Clone, Copy, Debug, Drop)]
+enum Script {
+    OneConnection,
+    LostTwice,
+    CalledBack,
+}
+
+fn events_of(rt: &impl Abort, alloc: Global, script: Script) -> Result<Vec<Event>, Fail> {
+    match script {
+        Script::OneConnection => events::one_connection(rt, alloc),
+        Script::LostTwice => events::lost_twice(rt, alloc),
+        Script::CalledBack => called_back(rt, alloc),
+    }
+}
+
+fn wanted(script: Script, events: usize) -> Option<Ledger> {
+    match script {
+        Script::OneConnection => of_one_connection(events),
+        Script::LostTwice => of_lost_twice(events),
+        Script::CalledBack => of_called_back(events),
+    }
+}
+
+/// After each event the ledger of the sender is what is wanted, and there is none elsewhere.
+fn is_kept<S: BitStore>(rt: &impl Abort, alloc: Global, script: Script) -> Result<(), Fail> {
+    let mut tried: Tried<S> = Tried::new(alloc)?;
+    for event in &events_of(rt, alloc, script)? {
+        tried.does(rt, event);
+        assert!(rt; tried.ledger(Side::A, SENDER) == wanted(script, tried.notes().len()));
+        assert!(rt; tried.ledger(Side::B, SENDER).is_none());
+        assert!(rt; tried.ledger(Side::B, RECEIVER).is_none());
+    }
+    Ok(())
+}
+
+fn all_ledgers<S: BitStore>(rt: &impl Abort, alloc: Global) -> Result<(), Fail> {
+    is_kept::<S>(rt, alloc, Script::OneConnection)?;
+    is_kept::<S>(rt, alloc, Script::LostTwice)?;
+    is_kept::<S>(rt, alloc, Script::CalledBack)
+}
+
+#[test]
+fn ledgers_over_plain_bits(rt: HostRuntime) -> Result<(), Fail> {
+    all_ledgers::<PlainStore>(&rt, rt.alloc())
+}
+
+#[test]
+fn ledgers_over_packed_bits(rt: HostRuntime) -> Result<(), Fail> {
+    all_ledgers::<PackedStore>(&rt, rt.alloc())
+}
