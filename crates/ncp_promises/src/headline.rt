@@ -1,14 +1,15 @@
 //! The headline, of transcripts: each phrase a clause.
-ghost use Rattle.std.specs.Prelude.{◌≡◌, ℕ, List, true, false, map, ◌++◌, Some};
+ghost use Rattle.std.specs.Prelude.{◌≡◌, ℕ, List, true, not, map, ◌++◌};
 ghost use Rattle.ncp_control.specs.declared.command.Command.{Command};
 ghost use Rattle.ncp_model.specs.declared.pair.Pair.{Pair};
 ghost use Rattle.ncp_model.specs.Pairs.{sends};
+ghost use Rattle.ncp_model.specs.Phase.{up};
+ghost use Rattle.ncp_slot.specs.Slots.{slot_at};
 ghost use Rattle.ncp_resets.specs.Resets.{Side};
-ghost use Rattle.ncp_host.specs.PeerState.{PeerState, control_link};
-ghost use Rattle.ncp_host.specs.Host.{state_of};
+ghost use Rattle.ncp_host.specs.PeerState.{control_link};
 ghost use Rattle.ncp_runs.specs.Peers.{notes_of};
-ghost use Rattle.ncp_runs.specs.Links.{fresh_on};
-ghost use Rattle.ncp_runs.specs.Making.{made_of, message_of, joined};
+ghost use Rattle.ncp_runs.specs.Links.{fresh_on, told_on, slot_told};
+ghost use Rattle.ncp_runs.specs.Making.{made_of, is_up_told, message_of, joined};
 ghost use Rattle.ncp_world.specs.World.{swap};
 ghost use Rattle.ncp_world.specs.Honest.{IsBeginning, number_of_side, sent, came};
 ghost use Rattle.ncp_world.specs.Watch.{turn};
@@ -19,7 +20,7 @@ ghost use Rattle.ncp_world.specs.declared.side.Side as sides;
 ghost use Rattle.ncp_world.specs.Between.{Hosts, other, number_of, host_of};
 ghost use Rattle.ncp_world.specs.Sides.{notes_at};
 ghost use Rattle.ncp_world.specs.Transcript.{began, IsTranscript};
-ghost use Rattle.ncp_world.specs.Seen.{seen, told};
+ghost use Rattle.ncp_world.specs.Seen.{had_for, seen, told};
 ghost use Rattle.ncp_world.specs.OfRules.{histories_of};
 ghost use Rattle.ncp_promises.specs.EachNote.{OfEachNote};
 ghost use Rattle.ncp_promises.specs.Judged.{ActsOnce, MakesNoErr};
@@ -31,10 +32,15 @@ use ncp_world::transcripts::{
     each_host_is_by_itself, transcripts_are_honest, transcripts_keep_the_headline,
 };
 
-/// Of each host of a world, as of any by itself: the commands that were made for the other, less those that
-/// clearings struck, are those in the fresh messages on link 0, followed by those that wait, in order.
-pub fn each_host_sends_what_it_made()
-    ensures { (notes : List Note) (w : Hosts) (side : sides.Side) (s : PeerState) → IsTranscript notes w → let n = number_of (other side) w in let own = notes_of n (notes_at side notes) in state_of (host_of side w) n ≡ Some s → (css : List (List Command)) × (fresh_on control_link own ≡ map (message_of n) css) × ((made_of own).all ≡ joined css ++ s.peer.phase.waiting) }
+/// Each host of a world is what its own notes say, as any host by itself is: the commands that were made for
+/// the other, less those that clearings struck, are those in the fresh messages on link 0, followed by those
+/// that wait, in order; it is up, and it waits for an RRP, where the notes say so; and a slot has what they
+/// tell of its link.
+pub fn each_host_is_what_its_notes_say()
+    ensures commands { (notes : List Note) (w : Hosts) (side : sides.Side) → IsTranscript notes w → let n = number_of (other side) w in let own = notes_of n (notes_at side notes) in (css : List (List Command)) × (fresh_on control_link own ≡ map (message_of n) css) × ((made_of own).all ≡ joined css ++ (had_for n (host_of side w)).peer.phase.waiting) }
+    ensures up { (notes : List Note) (w : Hosts) (side : sides.Side) → IsTranscript notes w → let n = number_of (other side) w in up (had_for n (host_of side w)).peer.phase ≡ is_up_told (made_of (notes_of n (notes_at side notes))) }
+    ensures waits { (notes : List Note) (w : Hosts) (side : sides.Side) → IsTranscript notes w → let n = number_of (other side) w in (had_for n (host_of side w)).peer.phase.wait ≡ not (made_of (notes_of n (notes_at side notes))).got_answer }
+    ensures slots { (notes : List Note) (w : Hosts) (side : sides.Side) (on : ℕ) → IsTranscript notes w → let n = number_of (other side) w in slot_at (had_for n (host_of side w)).slots on ≡ slot_told (told_on on (notes_of n (notes_at side notes))) }
 {
     each_host_is_by_itself();
 }

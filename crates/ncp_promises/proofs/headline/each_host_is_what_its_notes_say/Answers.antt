@@ -1,0 +1,49 @@
+use Rattle.std.proofs.Common.{ℕ, List, Some}
+use Rattle.ncp_host.specs.PeerState.{PeerState}
+use Rattle.ncp_host.specs.Host.{Host, numbers_of}
+use Rattle.ncp_runs.proofs.Begun.{is_run, is_kept}
+use Rattle.ncp_runs.proofs.InOrder.{commands-noted, flags-noted, up-noted}
+use Rattle.ncp_runs.proofs.InRuns.{slot_as_noted}
+use Rattle.ncp_transcript.specs.declared.note.HostNote.{HostNote}
+use Rattle.ncp_world.specs.Between.{other, number_of, host_of}
+use Rattle.ncp_world.specs.Sides.{notes_at}
+use Rattle.ncp_world.specs.Seen.{had_for}
+use Rattle.ncp_promises.proofs.Standing.{kept-for}
+use Rattle.ncp_promises.proofs.headline.each_host_is_what_its_notes_say.Goals as goal
+
+pub returns-clause-commands : goal.returns-clause-commands
+returns-clause-commands c ns w side is =
+    let all : List HostNote = notes_at side ns in
+    let h : Host = host_of side w in
+    let n : ℕ = number_of (other side) w in
+    let s : PeerState = had_for n h in
+    let t = c.each_host_is_by_itself.ensures ns w side is in
+    let k = commands-noted h.me (numbers_of h.peers) all n s (is_run all h t) (is_kept all h n (Some s) t (kept-for ns w side is)) in
+    (k.0, k.1, k.2)
+
+pub returns-clause-up : goal.returns-clause-up
+returns-clause-up c ns w side is =
+    let all : List HostNote = notes_at side ns in
+    let h : Host = host_of side w in
+    let n : ℕ = number_of (other side) w in
+    let s : PeerState = had_for n h in
+    let t = c.each_host_is_by_itself.ensures ns w side is in
+    up-noted h.me (numbers_of h.peers) all n s (is_run all h t) (is_kept all h n (Some s) t (kept-for ns w side is))
+
+pub returns-clause-waits : goal.returns-clause-waits
+returns-clause-waits c ns w side is =
+    let all : List HostNote = notes_at side ns in
+    let h : Host = host_of side w in
+    let n : ℕ = number_of (other side) w in
+    let s : PeerState = had_for n h in
+    let t = c.each_host_is_by_itself.ensures ns w side is in
+    (flags-noted h.me (numbers_of h.peers) all n s (is_run all h t) (is_kept all h n (Some s) t (kept-for ns w side is))).2
+
+pub returns-clause-slots : goal.returns-clause-slots
+returns-clause-slots c ns w side on is =
+    let all : List HostNote = notes_at side ns in
+    let h : Host = host_of side w in
+    let n : ℕ = number_of (other side) w in
+    let s : PeerState = had_for n h in
+    let t = c.each_host_is_by_itself.ensures ns w side is in
+    slot_as_noted h.me (numbers_of h.peers) all n on s (is_run all h t) (is_kept all h n (Some s) t (kept-for ns w side is))
