@@ -52,7 +52,7 @@ use Rattle.ncp_world.proofs.Answering.{answered-is}
 use Rattle.ncp_world.proofs.Goings.{Found, found, links-right, not_true}
 use Rattle.ncp_world.proofs.Flights.{IsOut, delivered-out, lost-out, dead-out, out-link}
 use Rattle.ncp_world.proofs.Reaching.{stands-there}
-use Rattle.ncp_promises.specs.Since.{Watched, of_asked, of_text, of_message, of_answer, after_told, CommandsAgree}
+use Rattle.ncp_promises.specs.Since.{Watched, of_asked, of_text, of_message, of_answer, after_told, CommandsAgree, IsSilent}
 use Rattle.ncp_promises.proofs.Judging.{ControlComes, control-comes, control-read, hears_all-stands}
 use Rattle.ncp_promises.proofs.Lines.{line_of, line, commands-written, fitting-take, next-are, accepted-line, woken-line, other-line, failed-line, delivered-line, answered-line, apart-line, out-line}
 
@@ -398,3 +398,6 @@ kept-turned p v g = turned (host_at v.this.peer p.this) (host_at v.that.peer p.t
 -- what is so of these hosts is what is said of them
 pub commands-agree : (p : Watched) (v : World) → KeptIn p v → CommandsAgree v p
 commands-agree p v g a b = agreeing (host_at v.this.peer p.this) (host_at v.that.peer p.that) (underway v.this v.going) (underway v.that v.coming) a b g.there g.here
+
+pub silent : (p : Watched) (v : World) → KeptIn p v → IsSilent v.this p.this × IsSilent v.that p.that
+silent p v g = (λ e. (g.this.made e, g.this.came e, g.this.waiting e), λ e. (g.that.made e, g.that.came e, g.that.waiting e))

@@ -6,3 +6,4 @@ pub mod Lines
 pub mod Keeping
 pub mod Watching
 pub mod Opening
+pub mod Beginnings

@@ -20,11 +20,11 @@ use Rattle.ncp_world.specs.Seen.{state_or_new, seen, as_rules, told_of, side_of,
 use Rattle.ncp_world.proofs.Ties.{tied-swapped}
 use Rattle.ncp_world.proofs.SeenSteps.{Stand}
 use Rattle.ncp_world.proofs.SeenRuns.{Follows, follows}
-use Rattle.ncp_promises.specs.Since.{Watched, nothing_seen, none_watched, after_told, on_side, if_told, watched_from, turned, CommandsAgree}
+use Rattle.ncp_promises.specs.Since.{Watched, nothing_seen, none_watched, after_told, on_side, if_told, watched_from, turned, CommandsAgree, IsSilent}
 use Rattle.ncp_promises.proofs.Standing.{stand-after, stands-first}
 use Rattle.ncp_promises.proofs.Each.{begins-tied, tied-after}
 use Rattle.ncp_promises.proofs.Lines.{line_of, line}
-use Rattle.ncp_promises.proofs.Keeping.{host_at, KeptIn, step-kept, kept-turned, commands-agree}
+use Rattle.ncp_promises.proofs.Keeping.{host_at, KeptIn, step-kept, kept-turned, commands-agree, silent}
 
 on-side : (e : Event) (v : World) (p : Watched) → IsOfModel v → KeptIn p v → KeptIn (on_side e.side (step e v).1.told v p) (step e v).0
 on-side e v p m g = go e.side
@@ -78,3 +78,6 @@ agree ns w t =
     let p : Watched = watched_from ns (began w) none_watched in
     let g : KeptIn p (seen w) = kept-last ns w t in
     (commands-agree p (seen w) g, commands-agree (turned p) (swap (seen w)) (kept-turned p (seen w) g))
+
+pub are-silent : (ns : List Note) (w : Hosts) → IsTranscript ns w → IsSilent (seen w).this (watched_from ns (began w) none_watched).this × IsSilent (seen w).that (watched_from ns (began w) none_watched).that
+are-silent ns w t = silent (watched_from ns (began w) none_watched) (seen w) (kept-last ns w t)

@@ -82,3 +82,8 @@ watched_from (note ∷ rest) w p = watched_from rest (after_note note w) (if_tol
 abbrev pub CommandsAgree : World → Watched → Type 0
 CommandsAgree v p = up v.this.peer.phase ≡ true → up v.that.peer.phase ≡ true
     → (filter is_reset (underway v.this v.going) ≡ []) × (p.that.came ++ filter is_other (underway v.this v.going) ≡ p.this.made)
+
+-- A host that is not up has made nothing and nothing came to it since it was cleared, and it lets nothing wait
+-- but RST and RRP.
+abbrev pub IsSilent : PeerState → Watch → Type 0
+IsSilent s w = up s.peer.phase ≡ false → (w.made ≡ []) × (w.came ≡ []) × (filter is_other s.peer.phase.waiting ≡ [])

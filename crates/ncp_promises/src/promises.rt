@@ -1,13 +1,13 @@
 //! Laws of every transcript of a world, each the contract of a function that does nothing.
-ghost use Rattle.std.specs.Prelude.{◌≡◌, List};
+ghost use Rattle.std.specs.Prelude.{List, ◌++◌};
 ghost use Rattle.ncp_world.specs.declared.note.Note.{Note};
-ghost use Rattle.ncp_world.specs.Between.{Hosts};
+ghost use Rattle.ncp_world.specs.Between.{Hosts, after_notes};
 ghost use Rattle.ncp_world.specs.Transcript.{began, IsTranscript};
 ghost use Rattle.ncp_promises.specs.EachNote.{OfEachNote};
 ghost use Rattle.ncp_promises.specs.Judged.{ActsOnce, MakesNoErr};
 ghost use Rattle.ncp_promises.specs.Resetting.{OnlyResetsAct};
 ghost use Rattle.ncp_promises.specs.Openings.{OpensUnderNoText};
-ghost use Rattle.ncp_promises.specs.Since.{Watched, none_watched, watched_from, turned, CommandsAgree};
+ghost use Rattle.ncp_promises.specs.Since.{Watched, none_watched, watched_from, turned, CommandsAgree, IsSilent};
 ghost use Rattle.ncp_world.specs.World.{swap};
 ghost use Rattle.ncp_world.specs.Seen.{seen};
 
@@ -27,13 +27,20 @@ pub fn only_resets_act_until_the_answer()
 
 /// Commands act once and in order: between two hosts that are up no RST or RRP is underway, and the commands
 /// that came to one of them since it was last cleared, followed by those underway to it, are those that the
-/// other has made since that was last cleared.
+/// other has made since that was last cleared. A host that is not up has made and heard nothing since then.
 pub fn commands_act_once_in_order()
-    ensures { (notes : List Note) (w : Hosts) → IsTranscript notes w → let p = watched_from notes (began w) none_watched in CommandsAgree (seen w) p × CommandsAgree (swap (seen w)) (turned p) }
+    ensures agree { (notes : List Note) (w : Hosts) → IsTranscript notes w → let p = watched_from notes (began w) none_watched in CommandsAgree (seen w) p × CommandsAgree (swap (seen w)) (turned p) }
+    ensures silent { (notes : List Note) (w : Hosts) → IsTranscript notes w → let p = watched_from notes (began w) none_watched in IsSilent (seen w).this p.this × IsSilent (seen w).that p.that }
 {}
 
 /// From the Out of a text to its RFNM no pair whose texts go from that host on that link opens at either host:
 /// no call and no command of a control message opens one, and nothing else opens any.
 pub fn none_opens_while_its_link_has_a_text()
     ensures { (notes : List Note) (w : Hosts) → IsTranscript notes w → OfEachNote OpensUnderNoText notes (began w) }
+{}
+
+/// Each beginning of a transcript is one too, of the hosts as they were then: so what holds of every transcript
+/// holds after each of its notes.
+pub fn beginnings_are_transcripts()
+    ensures { (before after : List Note) (w : Hosts) → IsTranscript (before ++ after) w → IsTranscript before (after_notes before (began w)) }
 {}
