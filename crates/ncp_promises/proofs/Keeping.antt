@@ -52,7 +52,7 @@ use Rattle.ncp_world.proofs.Answering.{answered-is}
 use Rattle.ncp_world.proofs.Goings.{Found, found, links-right, not_true}
 use Rattle.ncp_world.proofs.Flights.{IsOut, delivered-out, lost-out, dead-out, out-link}
 use Rattle.ncp_world.proofs.Reaching.{stands-there}
-use Rattle.ncp_promises.specs.Since.{Watched, of_asked, of_text, of_message, of_answer, after_told, CommandsAgree, IsSilent}
+use Rattle.ncp_promises.specs.Since.{Watches, of_asked, of_text, of_message, of_answer, after_told, CommandsAgree, IsSilent}
 use Rattle.ncp_promises.proofs.Judging.{ControlComes, control-comes, control-read, hears_all-stands}
 use Rattle.ncp_promises.proofs.Lines.{line_of, line, commands-written, fitting-take, next-are, accepted-line, woken-line, other-line, failed-line, delivered-line, answered-line, apart-line, out-line}
 
@@ -60,7 +60,7 @@ use Rattle.ncp_promises.proofs.Lines.{line_of, line, commands-written, fitting-t
 abbrev pub host_at : Peer → Watch → Host
 host_at p w = record { phase = p.phase; made = w.made; came = w.came }
 
-abbrev pub KeptIn : Watched → World → Type 0
+abbrev pub KeptIn : Watches → World → Type 0
 KeptIn p v = Kept (host_at v.this.peer p.this) (host_at v.that.peer p.that) (line v.this.slots v.going) (line v.that.slots v.coming)
 
 -- the model's host, with what is watched here
@@ -90,7 +90,7 @@ module _ (k : Host) (y : List Command) where
 
 -- A call.
 
-call-kept : (asked : Asked) (x : hosts.World) (v : World) (p : Watched) → Tied x v → KeptIn p v → KeptIn (record p { this = of_asked asked v.this p.this }) (record v { this = after_call asked v.this })
+call-kept : (asked : Asked) (x : hosts.World) (v : World) (p : Watches) → Tied x v → KeptIn p v → KeptIn (record p { this = of_asked asked v.this p.this }) (record v { this = after_call asked v.this })
 call-kept (Asks pair call) x v p t g =
     let k : Host = host_at v.that.peer p.that in
     let y : List Command = line v.that.slots v.coming in
@@ -127,7 +127,7 @@ call-kept Asks_wake x v p t g =
 abbrev hears_it : List Command → Node → hosts.World
 hears_it cs n = record { this = n; that = record n { control = record { slot = model.Travelling cs; subnet = model.Accepted cs } } }
 
-control-kept : (w : hosts.World) (v : World) (m : List Bool) (p : Watched) → Tied w v → v.going 0 ≡ Accepted m → KeptIn p v
+control-kept : (w : hosts.World) (v : World) (m : List Bool) (p : Watches) → Tied w v → v.going 0 ≡ Accepted m → KeptIn p v
     → KeptIn (record p { that = of_message 0 (from_host v.here m) v.that p.that }) (record v { that = after_received (from_host v.here m) v.that; going = set_at 0 Delivered v.going })
 control-kept w v m p t e g =
     let here : Host = host_at v.this.peer p.this in
@@ -178,7 +178,7 @@ text-told on w v m t z c p =
 abbrev hears_text_there : TextOut → Node → hosts.World
 hears_text_there t n = record { this = n; that = record n { texts = λ _. record { slot = model.Travelling t; subnet = model.Accepted t } } }
 
-heard-text-kept : (on : ℕ) (w : hosts.World) (v : World) (m : List Bool) (p : Watched) → (on == 0) ≡ false → Tied w v → v.going on ≡ Accepted m → KeptIn p v
+heard-text-kept : (on : ℕ) (w : hosts.World) (v : World) (m : List Bool) (p : Watches) → (on == 0) ≡ false → Tied w v → v.going on ≡ Accepted m → KeptIn p v
     → KeptIn (record p { that = of_message on (from_host v.here m) v.that p.that }) (record v { that = after_received (from_host v.here m) v.that; going = set_at on Delivered v.going })
 heard-text-kept on w v m p z t e g =
     subst (λ (s : PeerState). Kept here (host_at s.peer told) (line v.this.slots (set_at on Delivered v.going)) (line s.slots v.coming)) (sym (text-heard on w v m t z c))
@@ -210,7 +210,7 @@ heard-text-kept on w v m p z t e g =
     told : Watch
     told = of_message on (from_host v.here m) v.that p.that
 
-deliver-kept : (on : ℕ) (w : hosts.World) (v : World) (h : Holds) (p : Watched) → Tied w v → v.going on ≡ h → KeptIn p v → KeptIn (after_told (delivers on h v).1 v p) (delivers on h v).0
+deliver-kept : (on : ℕ) (w : hosts.World) (v : World) (h : Holds) (p : Watches) → Tied w v → v.going on ≡ h → KeptIn p v → KeptIn (after_told (delivers on h v).1 v p) (delivers on h v).0
 deliver-kept on w v (Accepted m) p t e g = go (on == 0) refl
   where
     Goal : ℕ → Type 0
@@ -227,10 +227,10 @@ deliver-kept on w v subnets.Dead p t e g = g
 -- A message goes out.
 
 -- of that host nothing changes
-abbrev HereKept : Peer → LinkSlots → Subnet → World → Watched → Type 0
+abbrev HereKept : Peer → LinkSlots → Subnet → World → Watches → Type 0
 HereKept q sl u v p = Kept (host_at q p.this) (host_at v.that.peer p.that) (line sl u) (line v.that.slots v.coming)
 
-out-new : (w : hosts.World) (v : World) (m : List Bool) (p : Watched) → Tied w v → slot_at v.this.slots 0 ≡ slots.Empty → made_on v.there 0 v.this.peer ≡ Some m → KeptIn p v
+out-new : (w : hosts.World) (v : World) (m : List Bool) (p : Watches) → Tied w v → slot_at v.this.slots 0 ≡ slots.Empty → made_on v.there 0 v.this.peer ≡ Some m → KeptIn p v
     → HereKept (peers.sends v.this.peer) (with_slot v.this.slots 0 (slots.Travelling m)) (set_at 0 (Accepted m) v.going) v p
 out-new w v m p t s e g = go (next_commands q) refl e
   where
@@ -255,7 +255,7 @@ out-new w v m p t s e g = go (next_commands q) refl e
         same-line k y (host_at (peers.sends v.this.peer) p.this) (take (length (next_commands q)) q) (line (with_slot v.this.slots 0 (slots.Travelling m)) (set_at 0 (Accepted m) v.going)) (sym front)
         (fronting (host_at v.this.peer p.this) k y (length (next_commands q)) (same-line k y (host_at v.this.peer p.this) (line v.this.slots v.going) [] empty g))
 
-out-control : (w : hosts.World) (v : World) (m : List Bool) (p : Watched) (s : LinkSlot) → Tied w v → slot_at v.this.slots 0 ≡ s → output_by s v.there 0 v.this.peer ≡ Some m → KeptIn p v
+out-control : (w : hosts.World) (v : World) (m : List Bool) (p : Watches) (s : LinkSlot) → Tied w v → slot_at v.this.slots 0 ≡ s → output_by s v.there 0 v.this.peer ≡ Some m → KeptIn p v
     → HereKept (after_by s 0 v.this.peer) (with_slot v.this.slots 0 (slots.Travelling m)) (set_at 0 (Accepted m) v.going) v p
 out-control w v m p slots.Empty t e o g = out-new w v m p t e o g
 out-control w v m p (slots.Ready r) t e o g =
@@ -273,7 +273,7 @@ same-phase (slots.Ready r) on q z = refl
 same-phase (slots.Travelling r) on q z = refl
 same-phase (slots.Held r) on q z = refl
 
-out-text : (on : ℕ) (v : World) (m : List Bool) (p : Watched) (s : LinkSlot) → (on == 0) ≡ false → KeptIn p v
+out-text : (on : ℕ) (v : World) (m : List Bool) (p : Watches) (s : LinkSlot) → (on == 0) ≡ false → KeptIn p v
     → HereKept (after_by s on v.this.peer) (with_slot v.this.slots on (slots.Travelling m)) (set_at on (Accepted m) v.going) v p
 out-text on v m p s z g =
     let k : Host = host_at v.that.peer p.that in
@@ -282,7 +282,7 @@ out-text on v m p s z g =
     (sym (apart-line on (slots.Travelling m) (Accepted m) v.this.slots v.going (zero_apart on z)))
     (subst (λ (f : Phase). (let h : Host = record { phase = f; made = p.this.made; came = p.this.came } in Kept h k (line v.this.slots v.going) y)) (sym (same-phase s on v.this.peer z)) g)
 
-goes-kept : (w : hosts.World) (v : World) (o : Option (ℕ × List Bool)) (p : Watched) → Tied w v → next_of v.there v.this ≡ o → KeptIn p v → KeptIn (after_told (goes o v).1 v p) (goes o v).0
+goes-kept : (w : hosts.World) (v : World) (o : Option (ℕ × List Bool)) (p : Watches) → Tied w v → next_of v.there v.this ≡ o → KeptIn p v → KeptIn (after_told (goes o v).1 v p) (goes o v).0
 goes-kept w v None p t e g = g
 goes-kept w v (Some out) p t e g =
     let f : Found v.there v.this out = found v.there links v.this out e links-right in
@@ -299,21 +299,21 @@ goes-kept w v (Some out) p t e g =
 
 -- The subnet does not deliver it.
 
-fails-kept : (on : ℕ) (h : Holds) (w : hosts.World) (v : World) (m : List Bool) (p : Watched) → line_of (slots.Travelling m) h ≡ commands_of m → Tied w v → v.going on ≡ Accepted m → KeptIn p v → KeptIn p (record v { going = set_at on h v.going })
+fails-kept : (on : ℕ) (h : Holds) (w : hosts.World) (v : World) (m : List Bool) (p : Watches) → line_of (slots.Travelling m) h ≡ commands_of m → Tied w v → v.going on ≡ Accepted m → KeptIn p v → KeptIn p (record v { going = set_at on h v.going })
 fails-kept on h w v m p same t e g = same-line (host_at v.that.peer p.that) (line v.that.slots v.coming) (host_at v.this.peer p.this) (line v.this.slots v.going) (line v.this.slots (set_at on h v.going)) (sym (go (on == 0) refl)) g
   where
     go : (b : Bool) → (on == 0) ≡ b → line v.this.slots (set_at on h v.going) ≡ line v.this.slots v.going
     go true z = subst (λ (k : ℕ). v.going k ≡ Accepted m → line v.this.slots (set_at k h v.going) ≡ line v.this.slots v.going) (sym (eqb-true on 0 z)) (failed-line h w v m same t) e
     go false z = other-line on h v.this.slots v.going (zero_apart on z)
 
-lose-kept : (on : ℕ) (w : hosts.World) (v : World) (h : Holds) (p : Watched) → Tied w v → v.going on ≡ h → KeptIn p v → KeptIn (after_told (loses on h v).1 v p) (loses on h v).0
+lose-kept : (on : ℕ) (w : hosts.World) (v : World) (h : Holds) (p : Watches) → Tied w v → v.going on ≡ h → KeptIn p v → KeptIn (after_told (loses on h v).1 v p) (loses on h v).0
 lose-kept on w v (Accepted m) p t e g = fails-kept on Lost w v m p refl t e g
 lose-kept on w v Free p t e g = g
 lose-kept on w v Delivered p t e g = g
 lose-kept on w v Lost p t e g = g
 lose-kept on w v subnets.Dead p t e g = g
 
-die-kept : (on : ℕ) (w : hosts.World) (v : World) (h : Holds) (p : Watched) → Tied w v → v.going on ≡ h → KeptIn p v → KeptIn (after_told (dies on h v).1 v p) (dies on h v).0
+die-kept : (on : ℕ) (w : hosts.World) (v : World) (h : Holds) (p : Watches) → Tied w v → v.going on ≡ h → KeptIn p v → KeptIn (after_told (dies on h v).1 v p) (dies on h v).0
 die-kept on w v (Accepted m) p t e g = fails-kept on subnets.Dead w v m p refl t e g
 die-kept on w v Free p t e g = g
 die-kept on w v Delivered p t e g = g
@@ -341,7 +341,7 @@ no_text = record { of_size = 0; bits = [] }
 abbrev taken_there : Node → hosts.World
 taken_there n = let m : Node = record n { texts = λ _. record { slot = model.Travelling no_text; subnet = model.Delivered } } in record { this = m; that = m }
 
-frees-kept : (on : ℕ) (x : hosts.World) (v : World) (p : Watched) → Tied x v → KeptIn p v → Kept (host_at (peers.frees on v.this.peer) (sees_taken on v.this.peer p.this)) (host_at v.that.peer p.that) (line v.this.slots v.going) (line v.that.slots v.coming)
+frees-kept : (on : ℕ) (x : hosts.World) (v : World) (p : Watches) → Tied x v → KeptIn p v → Kept (host_at (peers.frees on v.this.peer) (sees_taken on v.this.peer p.this)) (host_at v.that.peer p.that) (line v.this.slots v.going) (line v.that.slots v.coming)
 frees-kept on x v p t g =
     let k : Host = host_at v.that.peer p.that in
     let y : List Command = line v.that.slots v.coming in
@@ -353,7 +353,7 @@ frees-kept on x v p t g =
     (replying n.host k l y (made_if_any (answer (answered_in on texts.Rfnm n.ends))) (same-host k y v.this.peer (peer_of x.this) p.this p.this l t.this.peer refl g))
 
 -- what the answer leaves of the host
-settled-kept : (on : ℕ) (how : Answer) (sl : LinkSlots) (x : hosts.World) (v : World) (p : Watched) → Tied x v → KeptIn p v
+settled-kept : (on : ℕ) (how : Answer) (sl : LinkSlots) (x : hosts.World) (v : World) (p : Watches) → Tied x v → KeptIn p v
     → Kept (host_at (after_answer on how sl v.this.peer) (of_answer on how v.this p.this)) (host_at v.that.peer p.that) (line v.this.slots v.going) (line v.that.slots v.coming)
 settled-kept on Rfnm sl x v p t g = go (on == 0)
   where
@@ -366,7 +366,7 @@ settled-kept on Rfnm sl x v p t g = go (on == 0)
 settled-kept on Incomplete sl x v p t g = g
 settled-kept on Dead sl x v p t g = g
 
-told-kept : (on : ℕ) (how : Answer) (h : Holds) (x : hosts.World) (v : World) (p : Watched) (r : PeerState) → Tied x v → (o : IsOut on (slot_at v.this.slots on)) → v.going on ≡ h
+told-kept : (on : ℕ) (how : Answer) (h : Holds) (x : hosts.World) (v : World) (p : Watches) (r : PeerState) → Tied x v → (o : IsOut on (slot_at v.this.slots on)) → v.going on ≡ h
     → line_of (answered how (slots.Travelling o.message)) Free ≡ line_of (slots.Travelling o.message) h → r ≡ states.answer_comes on how v.this → KeptIn p v
     → KeptIn (record p { this = of_answer on how v.this p.this }) (record v { this = r; going = set_at on Free v.going })
 told-kept on how h x v p r t o e same is g =
@@ -377,14 +377,14 @@ told-kept on how h x v p r t o e same is g =
     (same-line k y (host_at (after_answer on how sl v.this.peer) (of_answer on how v.this p.this)) (line v.this.slots v.going) (line sl (set_at on Free v.going))
     (sym (told-line on how h v.this.slots v.going o.message o.in_slot e same)) (settled-kept on how sl x v p t g))
 
-answer-kept : (on : ℕ) (w : hosts.World) (v : World) (h : Holds) (p : Watched) → Tied w v → v.going on ≡ h → KeptIn p v → KeptIn (after_told (answers_for on h v).1 v p) (answers_for on h v).0
+answer-kept : (on : ℕ) (w : hosts.World) (v : World) (h : Holds) (p : Watches) → Tied w v → v.going on ≡ h → KeptIn p v → KeptIn (after_told (answers_for on h v).1 v p) (answers_for on h v).0
 answer-kept on w v Delivered p t e g = let o = delivered-out on w v t e in told-kept on Rfnm Delivered w v p _ t o e refl (answer_comes-is v.there on v.this t.this.number o.fits).0 g
 answer-kept on w v Lost p t e g = let o = lost-out on w v t e in told-kept on Incomplete Lost w v p _ t o e refl (answer_comes-is v.there on v.this t.this.number o.fits).1 g
 answer-kept on w v subnets.Dead p t e g = let o = dead-out on w v t e in told-kept on Dead subnets.Dead w v p _ t o e refl (answer_comes-is v.there on v.this t.this.number o.fits).2 g
 answer-kept on w v Free p t e g = g
 answer-kept on w v (Accepted m) p t e g = g
 
-pub step-kept : (st : worlds.Step) (x : hosts.World) (v : World) (p : Watched) → Tied x v → KeptIn p v → KeptIn (after_told (moves st v).1 v p) (moves st v).0
+pub step-kept : (st : worlds.Step) (x : hosts.World) (v : World) (p : Watches) → Tied x v → KeptIn p v → KeptIn (after_told (moves st v).1 v p) (moves st v).0
 step-kept (Call_is_made asked) x v p t g = call-kept asked x v p t g
 step-kept Goes_out x v p t g = goes-kept x v (next_of v.there v.this) p t refl g
 step-kept (Is_delivered on) x v p t g = deliver-kept on x v (v.going on) p t refl g
@@ -392,12 +392,12 @@ step-kept (Is_lost on) x v p t g = lose-kept on x v (v.going on) p t refl g
 step-kept (Finds_dead on) x v p t g = die-kept on x v (v.going on) p t refl g
 step-kept (Is_answered on) x v p t g = answer-kept on x v (v.going on) p t refl g
 
-pub kept-turned : (p : Watched) (v : World) → KeptIn p v → KeptIn (record { this = p.that; that = p.this }) (swap v)
+pub kept-turned : (p : Watches) (v : World) → KeptIn p v → KeptIn (record { this = p.that; that = p.this }) (swap v)
 kept-turned p v g = turned (host_at v.this.peer p.this) (host_at v.that.peer p.that) (line v.this.slots v.going) (line v.that.slots v.coming) g
 
 -- what is so of these hosts is what is said of them
-pub commands-agree : (p : Watched) (v : World) → KeptIn p v → CommandsAgree v p
+pub commands-agree : (p : Watches) (v : World) → KeptIn p v → CommandsAgree v p
 commands-agree p v g a b = agreeing (host_at v.this.peer p.this) (host_at v.that.peer p.that) (underway v.this v.going) (underway v.that v.coming) a b g.there g.here
 
-pub silent : (p : Watched) (v : World) → KeptIn p v → IsSilent v.this p.this × IsSilent v.that p.that
+pub silent : (p : Watches) (v : World) → KeptIn p v → IsSilent v.this p.this × IsSilent v.that p.that
 silent p v g = (λ e. (g.this.made e, g.this.came e, g.this.waiting e), λ e. (g.that.made e, g.that.came e, g.that.waiting e))

@@ -1,5 +1,5 @@
 -- The hosts stand as each other's only peers after each note of a run, and from the first.
-use Rattle.std.proofs.Common.{◌≡◌, ◌≢◌, ℕ, ◌==◌, Bool, true, false, if◌then◌else◌, List, [], ◌∷◌, Option, Some, refl, sym, ap, ◌∙◌, subst}
+use Rattle.std.proofs.Common.{◌≡◌, ◌≢◌, ℕ, Bool, true, false, if◌then◌else◌, List, [], ◌∷◌, Option, Some, refl, sym, ap, ◌∙◌, subst}
 use Rattle.std.proofs.lemmas.Bool.{eq-eqb, ne_eqb}
 use Rattle.ncp_subnet.specs.Subnet.{Subnet, has_way, new_subnet}
 use Rattle.ncp_subnet.proofs.NewRows.{has_way-new}

@@ -20,13 +20,13 @@ use Rattle.ncp_world.specs.Seen.{state_or_new, seen, as_rules, told_of, side_of,
 use Rattle.ncp_world.proofs.Ties.{tied-swapped}
 use Rattle.ncp_world.proofs.SeenSteps.{Stand}
 use Rattle.ncp_world.proofs.SeenRuns.{Follows, follows}
-use Rattle.ncp_promises.specs.Since.{Watched, nothing_seen, none_watched, after_told, on_side, if_told, watched_from, turned, CommandsAgree, IsSilent}
+use Rattle.ncp_promises.specs.Since.{Watches, nothing_seen, none_watched, after_told, on_side, if_told, watched_from, other_way, CommandsAgree, IsSilent}
 use Rattle.ncp_promises.proofs.Standing.{stand-after, stands-first}
 use Rattle.ncp_promises.proofs.Each.{begins-tied, tied-after}
 use Rattle.ncp_promises.proofs.Lines.{line_of, line}
 use Rattle.ncp_promises.proofs.Keeping.{host_at, KeptIn, step-kept, kept-turned, commands-agree, silent}
 
-on-side : (e : Event) (v : World) (p : Watched) → IsOfModel v → KeptIn p v → KeptIn (on_side e.side (step e v).1.told v p) (step e v).0
+on-side : (e : Event) (v : World) (p : Watches) → IsOfModel v → KeptIn p v → KeptIn (on_side e.side (step e v).1.told v p) (step e v).0
 on-side e v p m g = go e.side
   where
     go : (side : Side) → KeptIn (on_side side (at side e.step v).1 v p) (at side e.step v).0
@@ -35,7 +35,7 @@ on-side e v p m g = go e.side
         let d : World × Told = moves e.step (swap v) in
         kept-turned (after_told d.1 (swap v) (record { this = p.that; that = p.this })) d.0 (step-kept e.step (hosts.swap m.0) (swap v) (record { this = p.that; that = p.this }) (tied-swapped m.0 v m.1) (kept-turned p v g))
 
-of-one : (side : Side) (v : World) (p : Watched) → IsOfModel v → KeptIn p v → (o : Option Told) (es : List Event) → notes_from es v ≡ notes_of side o ++ [] → KeptIn (if_told side o v p) (run_from es v)
+of-one : (side : Side) (v : World) (p : Watches) → IsOfModel v → KeptIn p v → (o : Option Told) (es : List Event) → notes_from es v ≡ notes_of side o ++ [] → KeptIn (if_told side o v p) (run_from es v)
 of-one side v p m g None [] e = g
 of-one side v p m g None (x ∷ es) e = absurd (cc e)
 of-one side v p m g (Some t) [] e = absurd (cc e)
@@ -44,11 +44,11 @@ of-one side v p m g (Some t) (x ∷ []) e =
     subst (λ (n : worlds.Note). KeptIn (on_side n.side n.told v p) (step x v).0) is (on-side x v p m g)
 of-one side v p m g (Some t) (x ∷ y ∷ es) e = absurd (cc e)
 
-each : (ns : List Note) (w : Hosts) (p : Watched) → IsRun ns w → Stand w → IsOfModel (seen w) → KeptIn p (seen w) → KeptIn (watched_from ns w p) (seen (after_notes ns w))
+each : (ns : List Note) (w : Hosts) (p : Watches) → IsRun ns w → Stand w → IsOfModel (seen w) → KeptIn p (seen w) → KeptIn (watched_from ns w p) (seen (after_notes ns w))
 each [] w p r k m g = g
 each (note ∷ ns) w p r k m g =
     let f : Follows (note ∷ []) w (seen w) = follows (note ∷ []) w (r.0, tt) k m in
-    let q : Watched = if_told (as_rules (side_of note)) (told_of note) (seen w) p in
+    let q : Watches = if_told (as_rules (side_of note)) (told_of note) (seen w) p in
     each ns (after_note note w) q r.1 (stand-after note w k) (tied-after note w f m)
     (subst (KeptIn q) f.state (of-one (as_rules (side_of note)) (seen w) p m g (told_of note) f.events f.said))
 
@@ -73,11 +73,11 @@ kept-last ns w t =
     subst (λ (x : Hosts). KeptIn (watched_from ns (began w) none_watched) (seen x)) (sym t.state)
     (each ns (began w) none_watched t.run (stands-first ns w t) (begins-tied ns w t) (begins-kept w))
 
-pub agree : (ns : List Note) (w : Hosts) → IsTranscript ns w → CommandsAgree (seen w) (watched_from ns (began w) none_watched) × CommandsAgree (swap (seen w)) (turned (watched_from ns (began w) none_watched))
+pub agree : (ns : List Note) (w : Hosts) → IsTranscript ns w → CommandsAgree (seen w) (watched_from ns (began w) none_watched) × CommandsAgree (swap (seen w)) (other_way (watched_from ns (began w) none_watched))
 agree ns w t =
-    let p : Watched = watched_from ns (began w) none_watched in
+    let p : Watches = watched_from ns (began w) none_watched in
     let g : KeptIn p (seen w) = kept-last ns w t in
-    (commands-agree p (seen w) g, commands-agree (turned p) (swap (seen w)) (kept-turned p (seen w) g))
+    (commands-agree p (seen w) g, commands-agree (other_way p) (swap (seen w)) (kept-turned p (seen w) g))
 
 pub are-silent : (ns : List Note) (w : Hosts) → IsTranscript ns w → IsSilent (seen w).this (watched_from ns (began w) none_watched).this × IsSilent (seen w).that (watched_from ns (began w) none_watched).that
 are-silent ns w t = silent (watched_from ns (began w) none_watched) (seen w) (kept-last ns w t)

@@ -21,18 +21,18 @@ use Rattle.ncp_world.specs.Between.{Hosts, after_note}
 use Rattle.ncp_world.specs.Seen.{seen, as_rules, told_of, side_of}
 
 -- what is watched at this host and at that one: what was made and came there
-pub record Watched : Type 0 where
+pub record Watches : Type 0 where
   pub this : Watch
   pub that : Watch
 
 abbrev pub nothing_seen : Watch
 nothing_seen = record { made = []; came = []; pasts = empty; violated = false }
 
-abbrev pub none_watched : Watched
+abbrev pub none_watched : Watches
 none_watched = record { this = nothing_seen; that = nothing_seen }
 
-abbrev pub turned : Watched → Watched
-turned p = record { this = p.that; that = p.this }
+abbrev pub other_way : Watches → Watches
+other_way p = record { this = p.that; that = p.this }
 
 -- a call of a user: it makes a command, or resets, which clears
 abbrev pub of_asked : Asked → PeerState → Watch → Watch
@@ -58,28 +58,28 @@ of_answer on Incomplete s w = w
 of_answer on Dead s w = w
 
 -- a note of this host, in the world before it
-abbrev pub after_told : Told → World → Watched → Watched
+abbrev pub after_told : Told → World → Watches → Watches
 after_told (Called asked reply) v p = record p { this = of_asked asked v.this p.this }
 after_told (In on message received) v p = record p { that = of_message on message v.that p.that }
 after_told (Answered on how received) v p = record p { this = of_answer on how v.this p.this }
 after_told told v p = p
 
-abbrev pub on_side : Side → Told → World → Watched → Watched
+abbrev pub on_side : Side → Told → World → Watches → Watches
 on_side This told v p = after_told told v p
-on_side That told v p = turned (after_told told (swap v) (turned p))
+on_side That told v p = other_way (after_told told (swap v) (other_way p))
 
-abbrev pub if_told : Side → Option Told → World → Watched → Watched
+abbrev pub if_told : Side → Option Told → World → Watches → Watches
 if_told side None v p = p
 if_told side (Some told) v p = on_side side told v p
 
 -- the first note first
-abbrev pub watched_from : List Note → Hosts → Watched → Watched
+abbrev pub watched_from : List Note → Hosts → Watches → Watches
 watched_from [] w p = p
 watched_from (note ∷ rest) w p = watched_from rest (after_note note w) (if_told (as_rules (side_of note)) (told_of note) (seen w) p)
 
 -- Between two hosts that are up: no RST or RRP is underway, and the commands that came to that host, followed
 -- by those underway to it, are those that this host made.
-abbrev pub CommandsAgree : World → Watched → Type 0
+abbrev pub CommandsAgree : World → Watches → Type 0
 CommandsAgree v p = up v.this.peer.phase ≡ true → up v.that.peer.phase ≡ true
     → (filter is_reset (underway v.this v.going) ≡ []) × (p.that.came ++ filter is_other (underway v.this v.going) ≡ p.this.made)
 

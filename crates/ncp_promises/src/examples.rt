@@ -23,7 +23,7 @@ ghost use Rattle.ncp_world.specs.Underway.{commands_of, underway};
 ghost use Rattle.ncp_promises.specs.Judged.{ActsOnce, NoneErrs};
 ghost use Rattle.ncp_promises.specs.Resetting.{Waits, OnlyResetsAct};
 ghost use Rattle.ncp_promises.specs.Openings.{Opens, OpensOnFreeLinks};
-ghost use Rattle.ncp_promises.specs.Since.{Watched, nothing_seen, of_asked, of_message, CommandsAgree};
+ghost use Rattle.ncp_promises.specs.Since.{Watches, nothing_seen, of_asked, of_message, CommandsAgree};
 ghost use Rattle.ncp_promises.specs.Headline.{IsWithin};
 ghost use Rattle.ncp_promises.specs.Examples.{up_state, waiting_state, seen_before};
 
@@ -65,7 +65,7 @@ pub fn what_is_made_and_comes_is_seen()
     ensures resets { of_asked Asks_reset up_state seen_before ≡ nothing_seen }
     ensures cleared { (m : List Bool) → commands_of m ≡ Command.Rst ∷ [] → of_message 0 m up_state seen_before ≡ nothing_seen }
     ensures down { (m : List Bool) → commands_of m ≡ Command.Eco 65 ∷ [] → of_message 0 m waiting_state nothing_seen ≡ nothing_seen }
-    ensures lost { (v : World) (p : Watched) (c : Order) → up v.this.peer.phase ≡ true → up v.that.peer.phase ≡ true → p.this.made ≡ c ∷ [] → p.that.came ≡ [] → filter is_other (underway v.this v.going) ≡ [] → CommandsAgree v p → ⊥ }
+    ensures lost { (v : World) (p : Watches) (c : Order) → up v.this.peer.phase ≡ true → up v.that.peer.phase ≡ true → p.this.made ≡ c ∷ [] → p.that.came ≡ [] → filter is_other (underway v.this v.going) ≡ [] → CommandsAgree v p → ⊥ }
 {}
 
 /// What is used beyond the allocation is refused, of messages and of bits.

@@ -24,7 +24,7 @@ ghost use Rattle.ncp_world.specs.Seen.{had_for, seen, told};
 ghost use Rattle.ncp_world.specs.OfRules.{histories_of};
 ghost use Rattle.ncp_promises.specs.EachNote.{OfEachNote};
 ghost use Rattle.ncp_promises.specs.Judged.{ActsOnce, MakesNoErr};
-ghost use Rattle.ncp_promises.specs.Since.{none_watched, watched_from, turned, CommandsAgree};
+ghost use Rattle.ncp_promises.specs.Since.{none_watched, watched_from, other_way, CommandsAgree};
 ghost use Rattle.ncp_promises.specs.Headline.{NeverOver};
 
 use crate::promises::{commands_act_once_in_order, what_comes_acts_once_and_is_right};
@@ -59,7 +59,7 @@ pub fn the_headline()
     ensures once { (notes : List Note) (w : Hosts) (pair : Pair) → IsTranscript notes w → sends pair ≡ true → let p = histories_of notes w in (GotIsTakenOrHeld pair (seen w) p × Parted pair (seen w) p) × (GotIsTakenOrHeld pair (swap (seen w)) (turn p) × Parted pair (swap (seen w)) (turn p)) }
     ensures allocation { (notes : List Note) (w : Hosts) (pair : Pair) → IsTranscript notes w → sends pair ≡ true → let p = histories_of notes w in NeverOver pair (seen w) p × NeverOver pair (swap (seen w)) (turn p) }
     ensures order { (notes : List Note) (w : Hosts) → IsTranscript notes w → (side : Side) (on : ℕ) → IsBeginning 1 (came side on (told notes)) (sent (number_of_side w.number_a w.number_b side) side on (told notes)) }
-    ensures commands { (notes : List Note) (w : Hosts) → IsTranscript notes w → let p = watched_from notes (began w) none_watched in CommandsAgree (seen w) p × CommandsAgree (swap (seen w)) (turned p) }
+    ensures commands { (notes : List Note) (w : Hosts) → IsTranscript notes w → let p = watched_from notes (began w) none_watched in CommandsAgree (seen w) p × CommandsAgree (swap (seen w)) (other_way p) }
     ensures acts { (notes : List Note) (w : Hosts) → IsTranscript notes w → OfEachNote ActsOnce notes (began w) }
     ensures faults { (notes : List Note) (w : Hosts) → IsTranscript notes w → OfEachNote MakesNoErr notes (began w) }
 {

@@ -7,7 +7,7 @@ ghost use Rattle.ncp_promises.specs.EachNote.{OfEachNote};
 ghost use Rattle.ncp_promises.specs.Judged.{ActsOnce, MakesNoErr};
 ghost use Rattle.ncp_promises.specs.Resetting.{OnlyResetsAct};
 ghost use Rattle.ncp_promises.specs.Openings.{OpensUnderNoText};
-ghost use Rattle.ncp_promises.specs.Since.{Watched, none_watched, watched_from, turned, CommandsAgree, IsSilent};
+ghost use Rattle.ncp_promises.specs.Since.{Watches, none_watched, watched_from, other_way, CommandsAgree, IsSilent};
 ghost use Rattle.ncp_world.specs.World.{swap};
 ghost use Rattle.ncp_world.specs.Seen.{seen};
 
@@ -29,7 +29,7 @@ pub fn only_resets_act_until_the_answer()
 /// that came to one of them since it was last cleared, followed by those underway to it, are those that the
 /// other has made since that was last cleared. A host that is not up has made and heard nothing since then.
 pub fn commands_act_once_in_order()
-    ensures agree { (notes : List Note) (w : Hosts) → IsTranscript notes w → let p = watched_from notes (began w) none_watched in CommandsAgree (seen w) p × CommandsAgree (swap (seen w)) (turned p) }
+    ensures agree { (notes : List Note) (w : Hosts) → IsTranscript notes w → let p = watched_from notes (began w) none_watched in CommandsAgree (seen w) p × CommandsAgree (swap (seen w)) (other_way p) }
     ensures silent { (notes : List Note) (w : Hosts) → IsTranscript notes w → let p = watched_from notes (began w) none_watched in IsSilent (seen w).this p.this × IsSilent (seen w).that p.that }
 {}
 
