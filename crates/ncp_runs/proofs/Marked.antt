@@ -65,11 +65,11 @@ or-true : (b : Bool) → (b || true) ≡ true
 or-true true = refl
 or-true false = refl
 
-sender-asked : (it : Bool) (of_size : ℕ) (m : Marks) → it ≡ true → ((asked_size it of_size m).asked ≡ true) × ((asked_size it of_size m).size ≡ of_size)
-sender-asked it of_size m e = subst (λ (b : Bool). ((asked_size b of_size m).asked ≡ true) × ((asked_size b of_size m).size ≡ of_size)) (sym e) (or-true m.asked, refl)
+sender-asked : (it : Bool) (of_size room : ℕ) (m : Marks) → it ≡ true → ((asked_size it of_size room m).asked ≡ true) × ((asked_size it of_size room m).size ≡ of_size)
+sender-asked it of_size room m e = subst (λ (b : Bool). ((asked_size b of_size room m).asked ≡ true) × ((asked_size b of_size room m).size ≡ of_size)) (sym e) (or-true m.asked, refl)
 
-receiver-asked : (it : Bool) (on : ℕ) (m : Marks) → it ≡ true → (asked_link it on m).asked ≡ true
-receiver-asked it on m e = ap (λ (b : Bool). m.asked || b) e ∙ or-true m.asked
+receiver-asked : (it : Bool) (on room : ℕ) (m : Marks) → it ≡ true → (asked_link it on room m).asked ≡ true
+receiver-asked it on room m e = ap (λ (b : Bool). m.asked || b) e ∙ or-true m.asked
 
 -- a pair that was closed is not open, whether its CLS was made, ended it, or is due
 close-shut : (it b : Bool) (m : Marks) → it ≡ true → is_open (cls_made b (closed it m)) ≡ false
@@ -95,7 +95,7 @@ sender-marked me ns before after n p of_size room from =
     marks-more p n before note (itself n)
     ∙ ap (λ (xs : List Acted). marks_from xs m) (acts-up p (Ask_to_send of_size room) s w.is_up)
     ∙ ap (λ (c : Bool). marks_from (act ∷ (if c then [] else was_cleared ∷ [])) m) (sender-stays p of_size room s.peer w.is_up w.fine) in
-    subst (λ (x : Marks). (x.asked ≡ true) × (x.size ≡ of_size)) (sym is) (sender-asked (is_accepted act.outcome) of_size m (accepted _ w.fine))
+    subst (λ (x : Marks). (x.asked ≡ true) × (x.size ≡ of_size)) (sym is) (sender-asked (is_accepted act.outcome) of_size room m (accepted _ w.fine))
 
 pub receiver-marked : (me : ℕ) (ns : List ℕ) (before after : List HostNote) (n : ℕ) (p : Pair) (room : ℕ) → FromBeginning me ns (before ++ notes.Done (calls_of.AskReceive n p room) ∷ after)
     → (marks_of p (notes_of n (before ++ notes.Done (calls_of.AskReceive n p room) ∷ []))).asked ≡ true
@@ -110,7 +110,7 @@ receiver-marked me ns before after n p room from =
     (marks-more p n before note (itself n)
     ∙ ap (λ (xs : List Acted). marks_from xs m) (acts-up p (Ask_to_receive room) s w.is_up)
     ∙ ap (λ (c : Bool). marks_from (act ∷ (if c then [] else was_cleared ∷ [])) m) (receiver-stays p room s.peer w.is_up w.fine))
-    ∙ receiver-asked (is_accepted act.outcome) (link_asked act.made) m (accepted _ w.fine)
+    ∙ receiver-asked (is_accepted act.outcome) (link_asked act.made) room m (accepted _ w.fine)
 
 pub close-marked : (me : ℕ) (ns : List ℕ) (before after : List HostNote) (n : ℕ) (p : Pair) → FromBeginning me ns (before ++ notes.Done (calls_of.Close n p) ∷ after)
     → is_open (marks_of p (notes_of n (before ++ notes.Done (calls_of.Close n p) ∷ []))) ≡ false

@@ -27,6 +27,7 @@ IsMarked e m = record {
   shut : m.opened ≡ false → m.shut ≡ false;
   link : e.link ≡ m.link;
   size : e.size ≡ m.size;
+  room : e.room ≡ m.room;
   busy : e.busy ≡ m.busy;
   recall : e.recall ≡ m.recall;
   interrupts : e.interrupts ≡ m.interrupts;

@@ -1,11 +1,11 @@
 -- The record of a pair is the one that its marks and sums tell.
-use Rattle.std.proofs.Common.{◌≡◌, ℕ, Bool, true, if◌then◌else◌, List, ◌∷◌, ◌++◌, Option, None, Some, refl, sym, ap, ◌∙◌, subst, arith}
-use Rattle.std.proofs.lemmas.List.{length-append}
+use Rattle.std.proofs.Common.{◌≡◌, ℕ, Bool, true, false, if◌then◌else◌, List, [], ◌∷◌, ◌++◌, length, drop, Option, None, Some, refl, sym, ap, ◌∙◌, subst, arith}
+use Rattle.std.proofs.Math.Seq.{drop-append_seam}
 use Rattle.std.specs.FinMap.{get}
 use Rattle.ncp_model.specs.declared.pair.Pair.{Pair}
 use Rattle.ncp_model.specs.End.{End}
 use Rattle.ncp_conn.specs.declared.record.Record.{Record}
-use Rattle.ncp_conn.specs.Records.{record_of, record_if_any, record_in}
+use Rattle.ncp_conn.specs.Records.{record_if_any, record_in}
 use Rattle.ncp_host.specs.PeerState.{PeerState, new_state}
 use Rattle.ncp_host.specs.Host.{Host, state_of, new_host, if_known}
 use Rattle.ncp_host.specs.Calls.{record_answer}
@@ -17,22 +17,26 @@ use Rattle.ncp_transcript.specs.Notes.{told_or_refused}
 use Rattle.ncp_transcript.specs.After.{after_notes}
 use Rattle.ncp_runs.specs.Peers.{FromBeginning, notes_of, notes_for}
 use Rattle.ncp_runs.specs.Acts.{acts_of}
-use Rattle.ncp_runs.specs.Marks.{Marks, no_marks, is_there, record_told, record_marked, marks_of}
+use Rattle.ncp_runs.specs.Marks.{Marks, no_marks, is_there, is_dropped, end_told, end_marked, record_marked, marks_of}
 use Rattle.ncp_runs.proofs.InRuns.{before_note, kept_as_noted}
 use Rattle.ncp_runs.proofs.ActsOfRuns.{acts-from-nothing}
 use Rattle.ncp_runs.proofs.MarksKept.{IsMarked, IsSummed, IsSummedAt, Told, told-from}
 
-record-told : (pair : Pair) (e : End) (m : Marks) → IsMarked e m → IsSummed pair e m → record_of pair e ≡ record_told pair m
-record-told pair e m k q = grind (arith, length-append)
+end-told : (pair : Pair) (e : End) (m : Marks) → IsMarked e m → IsSummed pair e m → e ≡ end_told pair m
+end-told pair e m k q = let s = stored (is_dropped pair m) refl in grind arith
+  where
+    stored : (b : Bool) → is_dropped pair m ≡ b → e.stored ≡ (if b then [] else drop (length m.drawn) m.entered)
+    stored true d = q.dropped d
+    stored false d = sym (ap (λ (xs : List Bool). drop (length m.drawn) xs) (q.kept d) ∙ drop-append_seam m.drawn e.stored)
 
 is-there : (e : End) (m : Marks) → IsMarked e m → is_there m ≡ true
 is-there e m k = grind arith
 
-pub record-marked : (pair : Pair) (o : Option End) (m : Marks) → Told pair o m → record_if_any pair o ≡ record_marked pair m
-record-marked pair None m t = ap (record_marked pair) (sym t.marked)
-record-marked pair (Some e) m t =
-    ap (λ (r : Record). Some r) (record-told pair e m t.marked t.summed)
-    ∙ ap (λ (b : Bool). if b then Some (record_told pair m) else None) (sym (is-there e m t.marked))
+pub end-marked : (pair : Pair) (o : Option End) (m : Marks) → Told pair o m → o ≡ end_marked pair m
+end-marked pair None m t = ap (end_marked pair) (sym t.marked)
+end-marked pair (Some e) m t =
+    ap (λ (x : End). Some x) (end-told pair e m t.marked t.summed)
+    ∙ ap (λ (b : Bool). if b then Some (end_told pair m) else None) (sym (is-there e m t.marked))
 
 -- after any run
 pub told-there : (me : ℕ) (ns : List ℕ) (all : List HostNote) (n : ℕ) (s : PeerState) (pair : Pair) → FromBeginning me ns all → state_of (after_notes all (new_host me ns)) n ≡ Some s
@@ -42,9 +46,13 @@ told-there me ns all n s pair from there =
     let t = told-from pair (acts_of pair (notes_of n all)) None (get (notes_for (notes_of n all) new_state).peer.ends pair) no_marks acts (record { sound = tt; marked = refl; summed = tt }) in
     subst (λ (x : PeerState). Told pair (get x.peer.ends pair) (marks_of pair (notes_of n all))) (sym (kept_as_noted me ns all n s from there)) t
 
+pub end-there : (me : ℕ) (ns : List ℕ) (all : List HostNote) (n : ℕ) (s : PeerState) (pair : Pair) → FromBeginning me ns all → state_of (after_notes all (new_host me ns)) n ≡ Some s
+    → get s.peer.ends pair ≡ end_marked pair (marks_of pair (notes_of n all))
+end-there me ns all n s pair from there = end-marked pair (get s.peer.ends pair) (marks_of pair (notes_of n all)) (told-there me ns all n s pair from there)
+
 pub record-there : (me : ℕ) (ns : List ℕ) (all : List HostNote) (n : ℕ) (s : PeerState) (pair : Pair) → FromBeginning me ns all → state_of (after_notes all (new_host me ns)) n ≡ Some s
     → record_in pair s.peer.ends ≡ record_marked pair (marks_of pair (notes_of n all))
-record-there me ns all n s pair from there = record-marked pair (get s.peer.ends pair) (marks_of pair (notes_of n all)) (told-there me ns all n s pair from there)
+record-there me ns all n s pair from there = ap (record_if_any pair) (end-there me ns all n s pair from there)
 
 pub stored-there : (me : ℕ) (ns : List ℕ) (all : List HostNote) (n : ℕ) (s : PeerState) (pair : Pair) (e : End) → FromBeginning me ns all → state_of (after_notes all (new_host me ns)) n ≡ Some s → get s.peer.ends pair ≡ Some e
     → IsSummed pair e (marks_of pair (notes_of n all))

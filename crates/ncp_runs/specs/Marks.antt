@@ -2,7 +2,7 @@
 -- clearing. Marks know no rule: they look at what was done or came, how it was answered, and which commands
 -- were made (NIC 8246, establishment, termination, allocation; that each counts since the last end is this
 -- profile's).
-use Rattle.std.specs.Prelude.{ℕ, ◌+◌, ◌-◌, min, Bool, true, false, not, ◌&&◌, ◌||◌, if◌then◌else◌, List, [], ◌∷◌, ◌++◌, length, Option, None, Some}
+use Rattle.std.specs.Prelude.{ℕ, ◌+◌, ◌-◌, min, Bool, true, false, not, ◌&&◌, ◌||◌, if◌then◌else◌, List, [], ◌∷◌, ◌++◌, length, drop, Option, None, Some}
 use Rattle.ncp_control.specs.declared.command.Command.{Command}
 use Rattle.ncp_control.specs.declared.command.Command.TheVariants as commands
 use Rattle.ncp_model.specs.declared.pair.Pair.{Pair}
@@ -10,11 +10,12 @@ use Rattle.ncp_model.specs.declared.limits.TheConstants.{MAX_COUNT}
 use Rattle.ncp_model.specs.Amounts.{returned_messages, returned_bits}
 use Rattle.ncp_model.specs.Texts.{Rfnm, Incomplete, Dead}
 use Rattle.ncp_model.specs.Pairs.{sends}
+use Rattle.ncp_model.specs.End.{End}
 use Rattle.ncp_model.specs.Happenings.{Happening, Outcome}
 use Rattle.ncp_model.specs.Happenings as all
 use Rattle.ncp_watch.specs.Histories.{is_accepted, is_admitted, taken_out}
 use Rattle.ncp_conn.specs.declared.record.Record.{Record}
-use Rattle.ncp_conn.specs.Records.{end_here}
+use Rattle.ncp_conn.specs.Records.{record_if_any}
 use Rattle.ncp_transcript.specs.declared.note.HostNote.{HostNote}
 use Rattle.ncp_runs.specs.Acts.{Acted, acts_of}
 
@@ -27,6 +28,7 @@ pub record Marks : Type 0 where
   pub cls : Bool  -- the peer's CLS came, and got no ERR
   pub link : ℕ  -- as RTS said
   pub size : ℕ  -- as STR said
+  pub room : ℕ  -- for so many bits, as the own request said
   pub busy : Bool  -- a text went out, and had no RFNM
   pub recall : Bool  -- a GVB was made, and no RET came that got no ERR
   pub granted_messages : ℕ  -- by ALL, made or come
@@ -49,6 +51,7 @@ no_marks = record {
   cls = false;
   link = 0;
   size = 0;
+  room = 0;
   busy = false;
   recall = false;
   granted_messages = 0;
@@ -67,11 +70,11 @@ no_marks = record {
 abbrev pub met : Marks → Marks
 met m = record m { opened = m.opened || (m.asked && m.heard && not m.left) }
 
-abbrev pub asked_size : Bool → ℕ → Marks → Marks
-asked_size it of_size m = met (record m { asked = m.asked || it; size = if it then of_size else m.size })
+abbrev pub asked_size : Bool → ℕ → ℕ → Marks → Marks
+asked_size it of_size with_room m = met (record m { asked = m.asked || it; size = if it then of_size else m.size; room = if it then with_room else m.room })
 
-abbrev pub asked_link : Bool → ℕ → Marks → Marks
-asked_link it on m = met (record m { asked = m.asked || it; link = if it then on else m.link })
+abbrev pub asked_link : Bool → ℕ → ℕ → Marks → Marks
+asked_link it on with_room m = met (record m { asked = m.asked || it; link = if it then on else m.link; room = if it then with_room else m.room })
 
 abbrev pub heard_size : Bool → ℕ → Marks → Marks
 heard_size it of_size m = met (record m { heard = m.heard || it; size = if it then of_size else m.size })
@@ -151,8 +154,8 @@ bits_back (c ∷ cs) = returned_bits c
 
 -- By each act. A close that is accepted makes its CLS, or has it due.
 abbrev pub marks_by : Happening → Outcome → List Command → Marks → Marks
-marks_by (all.Asks_to_send of_size with_room own full) o made m = asked_size (is_accepted o) of_size m
-marks_by (all.Asks_to_receive with_room on own full) o made m = asked_link (is_accepted o) (link_asked made) m
+marks_by (all.Asks_to_send of_size with_room own full) o made m = asked_size (is_accepted o) of_size with_room m
+marks_by (all.Asks_to_receive with_room on own full) o made m = asked_link (is_accepted o) (link_asked made) with_room m
 marks_by (all.Closes full) o made m = cls_made (makes_cls made) (closed (is_accepted o) m)
 marks_by (all.Gives text) o made m = record m { entered = m.entered ++ (if is_accepted o then text else []) }
 marks_by (all.Takes bytes) o made m = cls_made (makes_cls made) (record m { drawn = m.drawn ++ taken_out o })
@@ -200,11 +203,10 @@ is_leaving m = m.opened && not (is_open m) && not m.left
 abbrev pub is_dropped : Pair → Marks → Bool
 is_dropped pair m = m.left || (sends pair && m.shut)
 
--- The record of a pair, as its marks and sums say.
+-- The end of a pair, and what a user is told of it, as its marks and sums say.
 
-abbrev pub record_told : Pair → Marks → Record
-record_told pair m = record {
-  end = end_here pair;
+abbrev pub end_told : Pair → Marks → End
+end_told pair m = record {
   asked = m.asked;
   heard = m.heard;
   opened = m.opened;
@@ -215,11 +217,15 @@ record_told pair m = record {
   size = m.size;
   messages = m.granted_messages - m.returned_messages - m.used_messages;
   bits = m.granted_bits - m.returned_bits - m.used_bits;
-  stored = if is_dropped pair m then 0 else length m.entered - length m.drawn;
+  stored = if is_dropped pair m then [] else drop (length m.drawn) m.entered;
+  room = m.room;
   busy = m.busy;
   recall = m.recall;
   interrupts = m.interrupts;
 }
 
+abbrev pub end_marked : Pair → Marks → Option End
+end_marked pair m = if is_there m then Some (end_told pair m) else None
+
 abbrev pub record_marked : Pair → Marks → Option Record
-record_marked pair m = if is_there m then Some (record_told pair m) else None
+record_marked pair m = record_if_any pair (end_marked pair m)

@@ -12,7 +12,7 @@ ghost use Rattle.ncp_transcript.specs.declared.note.HostNote.{HostNote as Note};
 ghost use Rattle.ncp_transcript.specs.After.{after_notes};
 ghost use Rattle.ncp_runs.specs.Peers.{FromBeginning, notes_of};
 ghost use Rattle.ncp_runs.specs.Acts.{AreActs, was_cleared, acts_of};
-ghost use Rattle.ncp_runs.specs.Marks.{no_marks, is_open, is_leaving, is_dropped, record_marked, marks_from, marks_of};
+ghost use Rattle.ncp_runs.specs.Marks.{no_marks, is_open, is_leaving, is_dropped, end_marked, record_marked, marks_from, marks_of};
 ghost use Rattle.ncp_runs.specs.Examples.{asks, is_asked, allocates, gets, cls_comes, takes, closes, asked_wrongly, gives_back};
 
 use ncp_host::Pair;
@@ -25,15 +25,16 @@ pub fn acts_are_those_of_the_rules()
     ensures { (me : ℕ) (ns : List ℕ) (all : List Note) (n : ℕ) (s : PeerState) (pair : Pair) → FromBeginning me ns all → state_of (after_notes all (new_host me ns)) n ≡ Some s → AreActs pair None (acts_of pair (notes_of n all)) (get s.peer.ends pair) }
 {}
 
-/// The record that a host keeps of a pair, and whether it keeps one, are what the marks and sums of the notes
-/// say, after any run: so of the own request and the peer's, the opening, leaving and both CLSs, the link and
-/// the size, of a text that has had no RFNM and a GVB that has had no RET; and so of the counters or what is
-/// outstanding, of the bits that are stored, and of the interrupts. What is stored is what was given or got,
-/// less what went out or was taken, unless it was dropped. A note that reads a record says the same.
+/// The end that a host keeps of a pair, and whether it keeps one, are what the marks and sums of the notes
+/// say, after any run: so of the own request and the peer's, the opening, leaving and both CLSs, the link, the
+/// size and the room, of a text that has had no RFNM and a GVB that has had no RET; and so of the counters or
+/// what is outstanding, of the bits that are stored, and of the interrupts. What is stored is what was given
+/// or got, less what went out or was taken, unless it was dropped. So is the record that a user is told; and a
+/// note that reads it says the same.
 pub fn records_are_what_marks_and_sums_say()
+    ensures end { (me : ℕ) (ns : List ℕ) (all : List Note) (n : ℕ) (s : PeerState) (pair : Pair) → FromBeginning me ns all → state_of (after_notes all (new_host me ns)) n ≡ Some s → get s.peer.ends pair ≡ end_marked pair (marks_of pair (notes_of n all)) }
     ensures record { (me : ℕ) (ns : List ℕ) (all : List Note) (n : ℕ) (s : PeerState) (pair : Pair) → FromBeginning me ns all → state_of (after_notes all (new_host me ns)) n ≡ Some s → record_in pair s.peer.ends ≡ record_marked pair (marks_of pair (notes_of n all)) }
     ensures stored { (me : ℕ) (ns : List ℕ) (all : List Note) (n : ℕ) (s : PeerState) (pair : Pair) (e : Held) → FromBeginning me ns all → state_of (after_notes all (new_host me ns)) n ≡ Some s → get s.peer.ends pair ≡ Some e → is_dropped pair (marks_of pair (notes_of n all)) ≡ false → (marks_of pair (notes_of n all)).entered ≡ (marks_of pair (notes_of n all)).drawn ++ e.stored }
-    ensures dropped { (me : ℕ) (ns : List ℕ) (all : List Note) (n : ℕ) (s : PeerState) (pair : Pair) (e : Held) → FromBeginning me ns all → state_of (after_notes all (new_host me ns)) n ≡ Some s → get s.peer.ends pair ≡ Some e → is_dropped pair (marks_of pair (notes_of n all)) ≡ true → e.stored ≡ [] }
     ensures noted { (me : ℕ) (ns : List ℕ) (before after : List Note) (n : ℕ) (pair : Pair) (r : Known) → FromBeginning me ns (before ++ HostNote.State n pair r ∷ after) → record_marked pair (marks_of pair (notes_of n before)) ≡ Some r }
 {}
 
@@ -51,10 +52,10 @@ pub fn what_was_done_is_marked()
 /// holds bits is leaving once the peer's CLS came, and with its own, which a taking makes, nothing is left.
 /// What is called back is no longer there, and a clearing leaves nothing.
 pub fn a_connection_is_marked()
-    ensures opened { marks_from (asks ∷ is_asked ∷ []) no_marks ≡ record no_marks { asked = true; heard = true; opened = true; link = 2; size = 8 } }
+    ensures opened { marks_from (asks ∷ is_asked ∷ []) no_marks ≡ record no_marks { asked = true; heard = true; opened = true; link = 2; size = 8; room = 64 } }
     ensures either { marks_from (is_asked ∷ asks ∷ []) no_marks ≡ marks_from (asks ∷ is_asked ∷ []) no_marks }
-    ensures refused { marks_from (asks ∷ asked_wrongly ∷ []) no_marks ≡ record no_marks { asked = true; link = 2 } }
-    ensures left { marks_from (asks ∷ closes ∷ is_asked ∷ []) no_marks ≡ record no_marks { asked = true; heard = true; left = true; link = 2; size = 8 } }
+    ensures refused { marks_from (asks ∷ asked_wrongly ∷ []) no_marks ≡ record no_marks { asked = true; link = 2; room = 64 } }
+    ensures left { marks_from (asks ∷ closes ∷ is_asked ∷ []) no_marks ≡ record no_marks { asked = true; heard = true; left = true; link = 2; size = 8; room = 64 } }
     ensures got { record_marked inward (marks_from (asks ∷ is_asked ∷ allocates ∷ gets ∷ []) no_marks) ≡ Some (record { end = Receive; asked = true; heard = true; opened = true; leaving = false; left = false; cls = false; link = 2; size = 8; messages = 2; bits = 16; stored = 16; busy = false; recall = false; interrupts = 0 }) }
     ensures leaving { (is_leaving (marks_from (asks ∷ is_asked ∷ allocates ∷ gets ∷ cls_comes ∷ []) no_marks) ≡ true) × (is_open (marks_from (asks ∷ is_asked ∷ allocates ∷ gets ∷ cls_comes ∷ []) no_marks) ≡ false) }
     ensures over { marks_from (asks ∷ is_asked ∷ allocates ∷ gets ∷ cls_comes ∷ takes ∷ []) no_marks ≡ no_marks }
