@@ -137,7 +137,8 @@ static void ask(unsigned on, uint8_t peer, uint32_t local, uint32_t remote, uint
     } else if (which == 2) {
         mix(ncp_ask_receive(host, peer, local, remote, mostly(4096, 8)));
     } else if (which == 3) {
-        mix(ncp_allocate(host, peer, local, remote, (uint16_t)pick(4), mostly(600, 16)));
+        uint16_t messages = (uint16_t)pick(4);
+        mix(ncp_allocate(host, peer, local, remote, messages, mostly(600, 16)));
     } else if (which == 4) {
         uint8_t fm = (uint8_t)pick(256);
         mix(ncp_call_back(host, peer, local, remote, fm, (uint8_t)pick(256)));

@@ -3,6 +3,7 @@
 use Rattle.std.specs.Prelude.{ℕ, ◌≡◌, ◌⊎◌, ◌++◌, Bool, nat_lt, if◌then◌else◌, List, length, drop, slice_get, Option, None, Some, Result, Ok, Err}
 use Rattle.ncp_bits.specs.declared.bits.BitsFault.{BitsFault}
 use Rattle.ncp_bits.specs.Bits.{bytes_for, bytes_of}
+use Rattle.ncp_leader.specs.Leader.{leader_in}
 use Rattle.ncp_control.specs.declared.command.Command.{Command}
 use Rattle.ncp_control.specs.Spelling.{spelling}
 use Rattle.ncp_model.specs.declared.pair.Pair.{Pair}
@@ -11,7 +12,7 @@ use Rattle.ncp_model.specs.declared.outcomes.Error.{Error}
 use Rattle.ncp_host.specs.Host.{Host}
 use Rattle.ncp_host.specs.declared.counts.Ignored.{Ignored}
 use Rattle.ncp_host.specs.Calls.{errors_told}
-use Rattle.ncp_host.specs.Arrivals.{received_in}
+use Rattle.ncp_host.specs.Arrivals.{received_in, OnlyNamedPeerChanges}
 use Rattle.ncp_embed.specs.declared.handle.held.Held.{Held}
 use Rattle.ncp_embed.specs.declared.told.Arrived.{Arrived}
 use Rattle.ncp_embed.specs.declared.codes.TheConstants.{DONE, NO_HOST, NOTHING}
@@ -149,3 +150,11 @@ error_of place (Err fault) = Err fault
 
 abbrev pub error_told : ℕ → ℕ → Host → Result (Option Error) CallFault
 error_told peer place h = error_of place (errors_told peer h)
+
+-- whatever the bits are, they change what the host has for the peer that their leader names, or one count of
+-- messages that are of no peer, and nothing else
+abbrev pub TouchesOnePeer : Result (List Bool) BitsFault → Option Held → Option Held → Type 0
+TouchesOnePeer (Err fault) before now = now ≡ before
+TouchesOnePeer (Ok bits) None now = now ≡ None
+TouchesOnePeer (Ok bits) (Some before) None = ⊥
+TouchesOnePeer (Ok bits) (Some before) (Some now) = OnlyNamedPeerChanges (leader_in bits) before.host now.host

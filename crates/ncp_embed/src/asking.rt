@@ -1,9 +1,10 @@
 //! The calls of a user that take memory.
+ghost use Rattle.std.specs.Prelude.{◌≡◌, ◌≢◌};
 ghost use Rattle.ncp_model.specs.Peers.{Ask_to_send, Ask_to_receive};
 ghost use Rattle.ncp_host.specs.Calls.{call_reply, after_call};
 ghost use Rattle.ncp_embed.specs.Exports.{pair_of, code_in, host_in, DoneOrNoMemory};
 
-use crate::codes::{NO_HOST, code_of};
+use crate::codes::{DONE, NO_HOST, code_of};
 use crate::handle::{Handle, put, take};
 use ncp_model::Pair;
 use std::alloc::Global;
@@ -20,6 +21,7 @@ pub extern "C" fn ncp_embed_ask_send(
     room: u32,
 ) -> u32
     ensures done { DoneOrNoMemory (code_in (call_reply peer (pair_of local remote) (Ask_to_send size room)) handle.old.host) (host_in (after_call peer (pair_of local remote) (Ask_to_send size room)) handle.old.host) result handle.old.host handle.new.host }
+    ensures err { result ≢ DONE → handle.new.host ≡ handle.old.host }
 {
     let Some(mut held) = take(alloc, handle) else {
         return NO_HOST;
@@ -40,6 +42,7 @@ pub extern "C" fn ncp_embed_ask_receive(
     room: u32,
 ) -> u32
     ensures done { DoneOrNoMemory (code_in (call_reply peer (pair_of local remote) (Ask_to_receive room)) handle.old.host) (host_in (after_call peer (pair_of local remote) (Ask_to_receive room)) handle.old.host) result handle.old.host handle.new.host }
+    ensures err { result ≢ DONE → handle.new.host ≡ handle.old.host }
 {
     let Some(mut held) = take(alloc, handle) else {
         return NO_HOST;

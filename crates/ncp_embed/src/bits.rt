@@ -1,11 +1,15 @@
 //! Messages come and go.
-ghost use Rattle.std.specs.Prelude.{◌≡◌, ◌<◌, length};
+ghost use Rattle.std.specs.Prelude.{◌≡◌, ◌≢◌, ◌<◌, ◌≤◌, length};
 ghost use Rattle.ncp_bits.specs.Bits.{read_bytes};
 ghost use Rattle.ncp_model.specs.Peers.{Give, Take};
 ghost use Rattle.ncp_host.specs.Calls.{call_reply, after_call, take_reply};
 ghost use Rattle.ncp_host.specs.Arrivals.{after_received};
+ghost use Rattle.ncp_host.specs.Host.{Host};
+ghost use Rattle.ncp_host.specs.Readiness.{IsNext};
+ghost use Rattle.ncp_host.specs.Running.{HasLived};
+ghost use Rattle.std.specs.declared.option.Option.TheVariants.{Some};
 ghost use Rattle.ncp_host.specs.Turns.{next_output, after_next_output};
-ghost use Rattle.ncp_embed.specs.Exports.{pair_of, code_in, host_in, any_code_in, any_in, told_in, with_room, message_over, size_of_message, code_of_bits, after_bits, receive_code, arrived_in, told_over};
+ghost use Rattle.ncp_embed.specs.Exports.{TouchesOnePeer, held, pair_of, code_in, host_in, any_code_in, any_in, told_in, with_room, message_over, size_of_message, code_of_bits, after_bits, receive_code, arrived_in, told_over};
 
 use crate::codes::{
     DONE, LONGEST_MESSAGE, NO_HOST, NOTHING, SHORT_BUFFER, bits_code, code_of, fault_code,
@@ -28,6 +32,8 @@ pub extern "C" fn ncp_embed_receive(
 ) -> u32
     ensures code { result ≡ code_of_bits (read_bytes bytes.now bits) (λ came. receive_code came handle.old.host) }
     ensures host { handle.new.host ≡ after_bits (read_bytes bytes.now bits) (λ came. host_in (after_received came) handle.old.host) handle.old.host }
+    ensures err { result ≢ DONE → handle.new.host ≡ handle.old.host }
+    ensures bits_touch_one_peer_alone { TouchesOnePeer (read_bytes bytes.now bits) handle.old.host handle.new.host }
     ensures arrived { arrived.new ≡ after_bits (read_bytes bytes.now bits) (λ came. arrived_in came handle.old.host arrived.old) arrived.old }
 {
     let came = match Bits::from_bytes(bytes, bits) {
@@ -45,6 +51,7 @@ pub extern "C" fn ncp_embed_receive(
 
 /// `Host::next_output`. `NOTHING` where none is ready.
 #[unsafe(no_mangle)]
+#[tactic(auto, using(crate::proofs::Quiet::output_stays))]
 pub extern "C" fn ncp_embed_next_output(
     alloc: Global,
     handle: &mut Handle,
@@ -53,6 +60,8 @@ pub extern "C" fn ncp_embed_next_output(
 ) -> u32
     ensures code { result ≡ with_room LONGEST_MESSAGE out.old SHORT_BUFFER (any_code_in next_output handle.old.host) }
     ensures host { handle.new.host ≡ with_room LONGEST_MESSAGE out.old handle.old.host (host_in after_next_output handle.old.host) }
+    ensures err { result ≢ DONE → handle.new.host ≡ handle.old.host }
+    ensures first_ready { LONGEST_MESSAGE ≤ length out.old → (h : Host) → handle.old.host ≡ Some (held h) → HasLived h → IsNext (next_output h) h.peers }
     ensures message { out.new ≡ with_room LONGEST_MESSAGE out.old out.old (any_in message_over next_output handle.old.host out.old) }
     ensures bits { bits.new ≡ with_room LONGEST_MESSAGE out.old bits.old (any_in size_of_message next_output handle.old.host bits.old) }
 {
@@ -86,6 +95,7 @@ pub extern "C" fn ncp_embed_give(
 ) -> u32
     ensures code { result ≡ code_of_bits (read_bytes bytes.now bits) (λ text. code_in (call_reply peer (pair_of local remote) (Give text)) handle.old.host) }
     ensures host { handle.new.host ≡ after_bits (read_bytes bytes.now bits) (λ text. host_in (after_call peer (pair_of local remote) (Give text)) handle.old.host) handle.old.host }
+    ensures err { result ≢ DONE → handle.new.host ≡ handle.old.host }
 {
     let text = match Bits::from_bytes(bytes, bits) {
         Ok(text) => text,
@@ -113,6 +123,7 @@ pub extern "C" fn ncp_embed_take(
 ) -> u32
     ensures code { result ≡ with_room LONGEST_MESSAGE out.old SHORT_BUFFER (code_in (take_reply peer (pair_of local remote) bytes) handle.old.host) }
     ensures host { handle.new.host ≡ with_room LONGEST_MESSAGE out.old handle.old.host (host_in (after_call peer (pair_of local remote) (Take bytes)) handle.old.host) }
+    ensures err { result ≢ DONE → handle.new.host ≡ handle.old.host }
     ensures text { out.new ≡ with_room LONGEST_MESSAGE out.old out.old (told_over message_over (take_reply peer (pair_of local remote) bytes) handle.old.host out.old) }
     ensures bits { bits.new ≡ with_room LONGEST_MESSAGE out.old bits.old (told_over size_of_message (take_reply peer (pair_of local remote) bytes) handle.old.host bits.old) }
 {

@@ -1,10 +1,10 @@
 //! The calls of a user that take no memory.
-ghost use Rattle.std.specs.Prelude.{◌≡◌};
+ghost use Rattle.std.specs.Prelude.{◌≡◌, ◌≢◌};
 ghost use Rattle.ncp_model.specs.Peers.{Close, Allocate, Call_back, Interrupt};
 ghost use Rattle.ncp_host.specs.Calls.{call_reply, after_call, reset_reply, after_reset, echo_reply, after_echo, wake_reply, after_wake};
 ghost use Rattle.ncp_embed.specs.Exports.{pair_of, code_in, host_in};
 
-use crate::codes::{NO_HOST, code_of};
+use crate::codes::{DONE, NO_HOST, code_of};
 use crate::handle::{Handle, put, take};
 use ncp_model::Pair;
 use std::alloc::Global;
@@ -14,6 +14,7 @@ use std::alloc::Global;
 pub extern "C" fn ncp_embed_reset(alloc: Global, handle: &mut Handle, peer: u8) -> u32
     ensures code { result ≡ code_in (reset_reply peer) handle.old.host }
     ensures host { handle.new.host ≡ host_in (after_reset peer) handle.old.host }
+    ensures err { result ≢ DONE → handle.new.host ≡ handle.old.host }
 {
     let Some(mut held) = take(alloc, handle) else {
         return NO_HOST;
@@ -36,6 +37,7 @@ pub extern "C" fn ncp_embed_allocate(
 ) -> u32
     ensures code { result ≡ code_in (call_reply peer (pair_of local remote) (Allocate messages bits)) handle.old.host }
     ensures host { handle.new.host ≡ host_in (after_call peer (pair_of local remote) (Allocate messages bits)) handle.old.host }
+    ensures err { result ≢ DONE → handle.new.host ≡ handle.old.host }
 {
     let Some(mut held) = take(alloc, handle) else {
         return NO_HOST;
@@ -60,6 +62,7 @@ pub extern "C" fn ncp_embed_call_back(
 ) -> u32
     ensures code { result ≡ code_in (call_reply peer (pair_of local remote) (Call_back fm fb)) handle.old.host }
     ensures host { handle.new.host ≡ host_in (after_call peer (pair_of local remote) (Call_back fm fb)) handle.old.host }
+    ensures err { result ≢ DONE → handle.new.host ≡ handle.old.host }
 {
     let Some(mut held) = take(alloc, handle) else {
         return NO_HOST;
@@ -80,6 +83,7 @@ pub extern "C" fn ncp_embed_interrupt(
 ) -> u32
     ensures code { result ≡ code_in (call_reply peer (pair_of local remote) Interrupt) handle.old.host }
     ensures host { handle.new.host ≡ host_in (after_call peer (pair_of local remote) Interrupt) handle.old.host }
+    ensures err { result ≢ DONE → handle.new.host ≡ handle.old.host }
 {
     let Some(mut held) = take(alloc, handle) else {
         return NO_HOST;
@@ -100,6 +104,7 @@ pub extern "C" fn ncp_embed_close(
 ) -> u32
     ensures code { result ≡ code_in (call_reply peer (pair_of local remote) Close) handle.old.host }
     ensures host { handle.new.host ≡ host_in (after_call peer (pair_of local remote) Close) handle.old.host }
+    ensures err { result ≢ DONE → handle.new.host ≡ handle.old.host }
 {
     let Some(mut held) = take(alloc, handle) else {
         return NO_HOST;
@@ -114,6 +119,7 @@ pub extern "C" fn ncp_embed_close(
 pub extern "C" fn ncp_embed_echo(alloc: Global, handle: &mut Handle, peer: u8, byte: u8) -> u32
     ensures code { result ≡ code_in (echo_reply peer byte) handle.old.host }
     ensures host { handle.new.host ≡ host_in (after_echo peer byte) handle.old.host }
+    ensures err { result ≢ DONE → handle.new.host ≡ handle.old.host }
 {
     let Some(mut held) = take(alloc, handle) else {
         return NO_HOST;
@@ -128,6 +134,7 @@ pub extern "C" fn ncp_embed_echo(alloc: Global, handle: &mut Handle, peer: u8, b
 pub extern "C" fn ncp_embed_wake(alloc: Global, handle: &mut Handle, peer: u8) -> u32
     ensures code { result ≡ code_in (wake_reply peer) handle.old.host }
     ensures host { handle.new.host ≡ host_in (after_wake peer) handle.old.host }
+    ensures err { result ≢ DONE → handle.new.host ≡ handle.old.host }
 {
     let Some(mut held) = take(alloc, handle) else {
         return NO_HOST;

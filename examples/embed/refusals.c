@@ -1,0 +1,184 @@
+/* Null handles and null pointers, short buffers, and a lack of memory at each place: what is answered, and that
+ * nothing is touched. It prints nothing where all is as it should be. To be linked with -Wl,--wrap=malloc. */
+#include "ncp.h"
+#include <stdio.h>
+#include <stdlib.h>
+#include <string.h>
+
+enum { ME = 1, PEER = 2, ODD = 3, EVEN = 2, MARK = 0xee };
+
+static const uint8_t peers[] = {PEER};
+static uint8_t out[NCP_LONGEST_MESSAGE];
+static size_t size;
+static long left = -1; /* how many blocks may still be had; below 0 any number */
+
+#ifdef __cplusplus
+extern "C" {
+#endif
+void *__real_malloc(size_t bytes);
+void *__wrap_malloc(size_t bytes);
+#ifdef __cplusplus
+}
+#endif
+
+void *__wrap_malloc(size_t bytes)
+{
+    if (left == 0) return NULL;
+    if (left > 0) left--;
+    return __real_malloc(bytes);
+}
+
+static void is(uint32_t wanted, uint32_t answered, int line)
+{
+    if (wanted == answered) return;
+    printf("line %d: %u in place of %u\n", line, (unsigned)answered, (unsigned)wanted);
+    exit(1);
+}
+#define IS(wanted, answered) is(wanted, answered, __LINE__)
+
+static void is_untouched(int line)
+{
+    for (size_t place = 0; place < sizeof out; place++) is(MARK, out[place], line);
+    is(MARK, (uint32_t)size, line);
+}
+
+/* Of no host, and of a null handle. */
+static void no_host(struct ncp_host *host)
+{
+    struct ncp_arrived arrived;
+    struct ncp_connection state;
+    struct ncp_flags flags;
+    struct ncp_counted counted;
+    struct ncp_discarded discarded;
+    struct ncp_noted noted;
+    ncp_free(host);
+    IS(NCP_NO_HOST, ncp_receive(host, out, sizeof out, 32, &arrived));
+    IS(NCP_NO_HOST, ncp_next_output(host, out, sizeof out, &size));
+    IS(NCP_NO_HOST, ncp_reset(host, PEER));
+    IS(NCP_NO_HOST, ncp_ask_send(host, PEER, ODD, EVEN, 8, 64));
+    IS(NCP_NO_HOST, ncp_ask_receive(host, PEER, EVEN, ODD, 64));
+    IS(NCP_NO_HOST, ncp_give(host, PEER, ODD, EVEN, out, sizeof out, 8));
+    IS(NCP_NO_HOST, ncp_take(host, PEER, EVEN, ODD, 1, out, sizeof out, &size));
+    IS(NCP_NO_HOST, ncp_allocate(host, PEER, EVEN, ODD, 1, 8));
+    IS(NCP_NO_HOST, ncp_call_back(host, PEER, EVEN, ODD, 1, 1));
+    IS(NCP_NO_HOST, ncp_interrupt(host, PEER, EVEN, ODD));
+    IS(NCP_NO_HOST, ncp_close(host, PEER, EVEN, ODD));
+    IS(NCP_NO_HOST, ncp_echo(host, PEER, 65));
+    IS(NCP_NO_HOST, ncp_wake(host, PEER));
+    IS(NCP_NO_HOST, ncp_state(host, PEER, EVEN, ODD, &state));
+    IS(NCP_NO_HOST, ncp_phase(host, PEER, &flags));
+    IS(NCP_NO_HOST, ncp_echoed(host, PEER, out));
+    IS(NCP_NO_HOST, ncp_error(host, PEER, 0, &noted));
+    IS(NCP_NO_HOST, ncp_counts(host, PEER, &counted));
+    IS(NCP_NO_HOST, ncp_ignored(host, &discarded));
+    IS(NCP_NO_HOST, ncp_waiting(host, PEER, 0, out, sizeof out, &size));
+    IS(NCP_NO_HOST, ncp_kept(host, PEER, 0, out, sizeof out, &size));
+    is_untouched(__LINE__);
+}
+
+/* A host with something to send, so that a call that is not refused would take it. */
+static void no_pointer(struct ncp_host *host)
+{
+    struct ncp_arrived arrived;
+    char *text = (char *)out;
+    IS(NCP_NO_POINTER, ncp_new(host, ME, NULL, 1));
+    IS(NCP_NO_POINTER, ncp_receive(host, NULL, 4, 32, &arrived));
+    IS(NCP_NO_POINTER, ncp_receive(host, out, sizeof out, 32, NULL));
+    IS(NCP_NO_POINTER, ncp_next_output(host, NULL, sizeof out, &size));
+    IS(NCP_NO_POINTER, ncp_next_output(host, out, sizeof out, NULL));
+    IS(NCP_NO_POINTER, ncp_give(host, PEER, ODD, EVEN, NULL, 1, 8));
+    IS(NCP_NO_POINTER, ncp_take(host, PEER, EVEN, ODD, 1, NULL, sizeof out, &size));
+    IS(NCP_NO_POINTER, ncp_take(host, PEER, EVEN, ODD, 1, out, sizeof out, NULL));
+    IS(NCP_NO_POINTER, ncp_state(host, PEER, EVEN, ODD, NULL));
+    IS(NCP_NO_POINTER, ncp_phase(host, PEER, NULL));
+    IS(NCP_NO_POINTER, ncp_echoed(host, PEER, NULL));
+    IS(NCP_NO_POINTER, ncp_error(host, PEER, 0, NULL));
+    IS(NCP_NO_POINTER, ncp_counts(host, PEER, NULL));
+    IS(NCP_NO_POINTER, ncp_ignored(host, NULL));
+    IS(NCP_NO_POINTER, ncp_waiting(host, PEER, 0, NULL, sizeof out, &size));
+    IS(NCP_NO_POINTER, ncp_waiting(host, PEER, 0, out, sizeof out, NULL));
+    IS(NCP_NO_POINTER, ncp_kept(host, PEER, 0, NULL, sizeof out, &size));
+    IS(NCP_NO_POINTER, ncp_kept(host, PEER, 0, out, sizeof out, NULL));
+    IS(NCP_NO_POINTER, ncp_name(0, NULL, 12, &size));
+    IS(NCP_NO_POINTER, ncp_new_name(0, text, 12, NULL));
+    is_untouched(__LINE__);
+}
+
+static void short_buffers(struct ncp_host *host)
+{
+    struct ncp_arrived arrived = {MARK, MARK};
+    IS(NCP_SHORT_BUFFER, ncp_next_output(host, out, NCP_LONGEST_MESSAGE - 1, &size));
+    IS(NCP_SHORT_BUFFER, ncp_take(host, PEER, EVEN, ODD, 1, out, 0, &size));
+    IS(NCP_SHORT_BUFFER, ncp_kept(host, PEER, 0, out, NCP_LONGEST_MESSAGE - 1, &size));
+    IS(NCP_SHORT_BUFFER, ncp_waiting(host, PEER, 0, out, NCP_LONGEST_COMMAND - 1, &size));
+    IS(NCP_SHORT_BUFFER, ncp_name(NCP_NO_ENTRY, (char *)out, 6, &size));
+    IS(NCP_NOTHING, ncp_name(18, (char *)out, sizeof out, &size));
+    IS(NCP_NOTHING, ncp_new_name(3, (char *)out, sizeof out, &size));
+    IS(NCP_TOO_LONG, ncp_receive(host, out, sizeof out, 8193, &arrived));
+    IS(NCP_SHORT_BYTES, ncp_receive(host, out, 4, 33, &arrived));
+    IS(NCP_SPARE_NOT_ZERO, ncp_receive(host, out, 4, 30, &arrived));
+    is_untouched(__LINE__);
+    IS(MARK, arrived.what);
+}
+
+/* The first blocks of memory are had, and the next is not: there is no host then, or no connection. */
+static void no_memory(void)
+{
+    for (long had = 0; had < 64; had++) {
+        struct ncp_host host = NCP_EMPTY;
+        uint32_t answered;
+        left = had;
+        answered = ncp_new(&host, ME, peers, 1);
+        left = -1;
+        if (answered == NCP_DONE) {
+            IS(1, had > 0);
+            ncp_free(&host);
+            return;
+        }
+        IS(NCP_NEW_OUT_OF_MEMORY, answered);
+        IS(NCP_NO_HOST, ncp_reset(&host, PEER));
+    }
+    IS(0, 1);
+}
+
+/* A host that has sent its RST comes up, and asks where there is no memory for the room. */
+static void no_room_for_text(struct ncp_host *host)
+{
+    const uint8_t rfnm[] = {5, PEER, 0, 0};
+    const uint8_t rrp[] = {0, PEER, 0, 0, 0, 8, 0, 1, 0, 13};
+    struct ncp_arrived arrived;
+    IS(NCP_DONE, ncp_receive(host, rfnm, sizeof rfnm, 8 * sizeof rfnm, &arrived));
+    IS(NCP_DONE, ncp_receive(host, rrp, sizeof rrp, 8 * sizeof rrp, &arrived));
+    left = 0;
+    IS(NCP_OUT_OF_MEMORY, ncp_ask_send(host, PEER, ODD, EVEN, 8, 64));
+    IS(NCP_OUT_OF_MEMORY, ncp_ask_receive(host, PEER, EVEN, ODD, 64));
+    left = -1;
+    IS(NCP_NOTHING, ncp_waiting(host, PEER, 0, out, sizeof out, &size));
+    IS(NCP_DONE, ncp_ask_send(host, PEER, ODD, EVEN, 8, 64));
+    IS(NCP_DONE, ncp_ask_receive(host, PEER, EVEN, ODD, 64));
+}
+
+int main(void)
+{
+    struct ncp_host host = NCP_EMPTY;
+    memset(out, MARK, sizeof out);
+    size = MARK;
+    no_host(NULL);
+    no_host(&host);
+    IS(NCP_NO_HOST, ncp_new(NULL, ME, peers, 1));
+    IS(NCP_NEW_BAD_PEERS, ncp_new(&host, PEER, peers, 1));
+    IS(NCP_NEW_BAD_PEERS, ncp_new(&host, ME, peers, 0));
+    no_host(&host);
+    IS(NCP_DONE, ncp_new(&host, ME, peers, 1));
+    IS(NCP_DONE, ncp_reset(&host, PEER));
+    no_pointer(&host);
+    short_buffers(&host);
+    IS(NCP_DONE, ncp_next_output(&host, out, sizeof out, &size));
+    IS(80, (uint32_t)size);
+    IS(NCP_UNKNOWN_PEER, ncp_reset(&host, 9));
+    no_room_for_text(&host);
+    ncp_free(&host);
+    ncp_free(&host);
+    no_memory();
+    return 0;
+}
