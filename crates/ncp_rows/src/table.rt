@@ -84,30 +84,6 @@ fn err(code: u8, front: &[u8]) -> Heard {
     Heard::Reply(Command::Err { code, bytes })
 }
 
-/// What the peer of a pair makes.
-fn str_for(pair: Pair, size: u8) -> Command {
-    Command::Str {
-        send: pair.remote,
-        receive: pair.local,
-        size,
-    }
-}
-
-fn rts_for(pair: Pair, link: u8) -> Command {
-    Command::Rts {
-        receive: pair.remote,
-        send: pair.local,
-        link,
-    }
-}
-
-fn cls_for(pair: Pair) -> Command {
-    Command::Cls {
-        my: pair.remote,
-        your: pair.local,
-    }
-}
-
 /// What is made here for a pair.
 fn str_of(pair: Pair, size: u8) -> Command {
     Command::Str {
@@ -130,6 +106,27 @@ fn cls_of(pair: Pair) -> Command {
         my: pair.local,
         your: pair.remote,
     }
+}
+
+/// A pair as its peer names it.
+fn turned(pair: Pair) -> Pair {
+    Pair {
+        local: pair.remote,
+        remote: pair.local,
+    }
+}
+
+/// What the peer of a pair makes.
+fn str_for(pair: Pair, size: u8) -> Command {
+    str_of(turned(pair), size)
+}
+
+fn rts_for(pair: Pair, link: u8) -> Command {
+    rts_of(turned(pair), link)
+}
+
+fn cls_for(pair: Pair) -> Command {
+    cls_of(turned(pair))
 }
 
 /// What a receiver makes on link 2, and a sender.
