@@ -6,9 +6,10 @@
 mod noted;
 mod tried;
 
-use ncp_bits::{Bits, PackedStore, PlainStore};
+use crate::known::{DOWN, LINK, ME, NO_COUNTS, OUTWARD, PEER, SENDER, UP, bits_of};
+use ncp_bits::{PackedStore, PlainStore};
 use ncp_control::Command;
-use ncp_host::{CallFault, Counts, End, Flags, Ignored, Pair, Received, Record, Took};
+use ncp_host::{CallFault, Counts, Ignored, Pair, Received, Took};
 use ncp_slot::Answer;
 use ncp_transcript::{Call, Input, Message};
 use noted::{Step, Want};
@@ -17,35 +18,11 @@ use std::process::Abort;
 use std::test::Fail;
 use tried::Tried;
 
-/// The host of the examples, and its peer.
-const ME: u8 = 1;
-
-const PEER: u8 = 2;
-
-/// A connection on which the host sends, and one on which it receives, both on this link.
-const OUTWARD: Pair = Pair {
-    local: 3,
-    remote: 2,
-};
-
+/// A connection on which the host receives, on the link of the one on which it sends.
 const INWARD: Pair = Pair {
     local: 4,
     remote: 5,
 };
-
-const LINK: u8 = 2;
-
-/// No flag is set: the host is up with the peer.
-const UP: Flags = Flags {
-    down: false,
-    want: false,
-    owe: false,
-    wait: false,
-};
-
-fn bits_of(rt: &impl Abort, bytes: &[u8]) -> Bits {
-    Bits::from_bytes(bytes, bytes.len().saturating_mul(8)).expect(rt, "room")
-}
 
 /// A message of these bytes.
 fn message_of(rt: &impl Abort, alloc: Global, bytes: &[u8]) -> Result<Message, AllocError> {
@@ -80,11 +57,24 @@ fn output(want: Want<'_>) -> Step<'_> {
     }
 }
 
-/// A new host with one peer goes through these steps, over both stores.
-fn goes(rt: &impl Abort, alloc: Global, steps: &[Step<'_>]) -> Result<(), Fail> {
-    Tried::<PlainStore>::new(alloc, ME, PEER)?.goes(rt, steps);
-    Tried::<PackedStore>::new(alloc, ME, PEER)?.goes(rt, steps);
+/// A new host with one peer goes through the first steps and then the others, over both stores.
+fn goes_on(
+    rt: &impl Abort,
+    alloc: Global,
+    first: &[Step<'_>],
+    steps: &[Step<'_>],
+) -> Result<(), Fail> {
+    let mut plain = Tried::<PlainStore>::new(alloc, ME, PEER)?;
+    plain.goes(rt, first);
+    plain.goes(rt, steps);
+    let mut packed = Tried::<PackedStore>::new(alloc, ME, PEER)?;
+    packed.goes(rt, first);
+    packed.goes(rt, steps);
     Ok(())
+}
+
+fn goes(rt: &impl Abort, alloc: Global, steps: &[Step<'_>]) -> Result<(), Fail> {
+    goes_on(rt, alloc, &[], steps)
 }
 
 /// So does one whose connections are open, and whose sender may send.
@@ -130,35 +120,23 @@ fn goes_open(rt: &impl Abort, alloc: Global, steps: &[Step<'_>]) -> Result<(), F
             Want::In(Received::Control(1)),
         ),
     ];
-    let mut plain = Tried::<PlainStore>::new(alloc, ME, PEER)?;
-    plain.goes(rt, &opening);
-    plain.goes(rt, steps);
-    let mut packed = Tried::<PackedStore>::new(alloc, ME, PEER)?;
-    packed.goes(rt, &opening);
-    packed.goes(rt, steps);
-    Ok(())
+    goes_on(rt, alloc, &opening, steps)
 }
 
 // An echo before the host is up, a stray answer, and a second echo before the first is answered.
 #[test]
 fn a_stray_answer_and_an_echo_are_noted(rt: HostRuntime) -> Result<(), Fail> {
     let peer = PEER;
-    let down = Flags { down: true, ..UP };
     let counts = Counts {
         stray: 1,
-        faults: 0,
-        wrong_link: 0,
-        wrong_size: 0,
-        not_up: 0,
-        late: 0,
-        over: 0,
+        ..NO_COUNTS
     };
     let replies = [0, 2, 0, 0, 0, 8, 0, 3, 0, 13, 9, 65];
     goes(
         &rt,
         rt.alloc(),
         &[
-            call(Call::Phase { peer }, Want::Phase(down)),
+            call(Call::Phase { peer }, Want::Phase(DOWN)),
             call(
                 Call::Echo { peer, byte: 64 },
                 Want::Refused(CallFault::NotUp),
@@ -246,32 +224,6 @@ fn calls_are_noted(rt: HostRuntime) -> Result<(), Fail> {
 #[test]
 fn what_is_read_is_noted(rt: HostRuntime) -> Result<(), Fail> {
     let peer = PEER;
-    let sender = Record {
-        end: End::Send,
-        asked: true,
-        heard: true,
-        opened: true,
-        leaving: false,
-        left: false,
-        cls: false,
-        link: LINK,
-        size: 8,
-        messages: 2,
-        bits: 16,
-        stored: 0,
-        busy: false,
-        recall: false,
-        interrupts: 0,
-    };
-    let counts = Counts {
-        stray: 0,
-        faults: 0,
-        wrong_link: 0,
-        wrong_size: 0,
-        not_up: 0,
-        late: 0,
-        over: 0,
-    };
     let ignored = Ignored {
         short: 1,
         other: 0,
@@ -299,10 +251,10 @@ fn what_is_read_is_noted(rt: HostRuntime) -> Result<(), Fail> {
                 &[0, 2, 0, 0, 0, 8, 0, 2, 0, 10, 65],
                 Want::In(Received::Control(1)),
             ),
-            call(state, Want::State(sender)),
+            call(state, Want::State(SENDER)),
             call(Call::Echoed { peer }, Want::Echoed(Some(65))),
             call(Call::Errors { peer }, Want::Errors(1)),
-            call(Call::Counts { peer }, Want::Counts(counts)),
+            call(Call::Counts { peer }, Want::Counts(NO_COUNTS)),
             call(
                 Call::Waiting { peer, place: 0 },
                 Want::Waiting(Some(Command::Rst)),

@@ -6,3 +6,5 @@
 mod alone;
 #[cfg(test)]
 mod host;
+#[cfg(test)]
+mod known;

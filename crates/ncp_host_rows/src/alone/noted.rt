@@ -1,5 +1,5 @@
 //! What is wanted of a note.
-use super::bits_of;
+use crate::known::bits_of;
 use ncp_control::Command;
 use ncp_host::{CallFault, Counts, Flags, Ignored, Received, Record};
 use ncp_slot::Answer;

@@ -1,6 +1,7 @@
 //! A host with its transcript that goes through the steps of an example.
+use super::INWARD;
 use super::noted::{Step, says};
-use super::{INWARD, LINK, OUTWARD};
+use crate::known::{LINK, OUTWARD};
 use ncp_bits::BitStore;
 use ncp_control::Command;
 use ncp_host::{CallFault, Counts, Flags, HostFault, Ignored, Record};

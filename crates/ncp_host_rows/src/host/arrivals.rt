@@ -1,9 +1,7 @@
 //! Any bits that come.
 use super::steps::{Call, Step};
-use super::{
-    DEAD, INCOMPLETE, INWARD, LINK, ME, NO_COUNTS, OTHER, OUTWARD, PEER, RECEIVER, RFNM, ROOM, RTS,
-    SENDER, STR, Tried, UP, bits_of, goes,
-};
+use super::{DEAD, INCOMPLETE, INWARD, OTHER, RFNM, ROOM, RTS, STR, Tried, goes, goes_up};
+use crate::known::{LINK, ME, NO_COUNTS, OUTWARD, PEER, RECEIVER, SENDER, UP, bits_of};
 use ncp_bits::{BitStore, PackedStore, PlainStore};
 use ncp_host::{CallFault, Counts, Flags, Ignored, Received, Record, Took};
 use ncp_leader::MessageFault;
@@ -56,12 +54,10 @@ fn cut_texts_are_judged(rt: HostRuntime) -> Result<(), Fail> {
     for len in 1..10usize {
         let mut reply = [11, 2, 0, 0, 0, 0, 0, 0, 0, 0, 0, 0];
         reply[2..2 + len].copy_from_slice(&RTS[..len]);
-        goes(
+        goes_up(
             &rt,
             rt.alloc(),
-            &[PEER],
             &[
-                Step::ComesUp,
                 Step::Hears(&RTS[..len], 0),
                 Step::Says(&reply),
                 Step::IsSilent,
@@ -76,12 +72,10 @@ fn cut_texts_are_judged(rt: HostRuntime) -> Result<(), Fail> {
         bits: 0,
         ..SENDER
     };
-    goes(
+    goes_up(
         &rt,
         rt.alloc(),
-        &[PEER],
         &[
-            Step::ComesUp,
             Step::Hears(&[], 0),
             Step::Hears(&RTS, 1),
             Step::IsSilent,
@@ -135,12 +129,10 @@ fn texts_are_judged(rt: HostRuntime) -> Result<(), Fail> {
         wrong_size: 1,
         ..NO_COUNTS
     };
-    goes(
+    goes_up(
         &rt,
         rt.alloc(),
-        &[PEER],
         &[
-            Step::ComesUp,
             Step::OpensReceiver,
             Step::Text(LINK, &[0x61], Received::Text(Took::Over)),
             Step::Does(Call::Allocate(INWARD, 2, 16)),
@@ -167,12 +159,10 @@ fn texts_go_out_again(rt: HostRuntime) -> Result<(), Fail> {
         stored: 8,
         ..SENDER
     };
-    goes(
+    goes_up(
         &rt,
         rt.alloc(),
-        &[PEER],
         &[
-            Step::ComesUp,
             Step::OpensSender,
             Step::Does(Call::Give(OUTWARD, &[0x61, 0x62, 0x63])),
             Step::Sends(LINK, &[0x61, 0x62]),
@@ -202,12 +192,10 @@ fn resets_wait_until_links_are_quiet(rt: HostRuntime) -> Result<(), Fail> {
         owe: true,
         ..UP
     };
-    goes(
+    goes_up(
         &rt,
         rt.alloc(),
-        &[PEER],
         &[
-            Step::ComesUp,
             Step::OpensSender,
             Step::Does(Call::Give(OUTWARD, &[0x61])),
             Step::Sends(LINK, &[0x61]),

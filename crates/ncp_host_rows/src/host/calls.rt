@@ -1,8 +1,7 @@
 //! The calls of a user, each once where it is good, and what is made of it.
 use super::steps::{Call, Step};
-use super::{
-    INWARD, LINK, NO_COUNTS, OUTWARD, PEER, RECEIVER, RECEIVER_CLS, ROOM, RTS, SENDER, STR, goes,
-};
+use super::{INWARD, RECEIVER_CLS, goes, goes_up};
+use crate::known::{LINK, NO_COUNTS, OUTWARD, PEER, RECEIVER, SENDER};
 use ncp_host::{CallFault, Counts, Received, Record, Took};
 use ncp_model::MAX_CALLED;
 use std::test::Fail;
@@ -21,15 +20,11 @@ fn a_receiver_is_served(rt: HostRuntime) -> Result<(), Fail> {
         left: true,
         ..calling_back
     };
-    goes(
+    goes_up(
         &rt,
         rt.alloc(),
-        &[PEER],
         &[
-            Step::ComesUp,
-            Step::Does(Call::AskReceive(INWARD, ROOM)),
-            Step::Hears(&STR, 1),
-            Step::Says(&RTS),
+            Step::OpensReceiver,
             Step::Does(Call::Allocate(INWARD, 2, 16)),
             Step::Does(Call::CallBack(INWARD, 64, 1)),
             Step::Refuses(Call::CallBack(INWARD, 64, 1), CallFault::Busy),
@@ -51,16 +46,11 @@ fn a_sender_is_served(rt: HostRuntime) -> Result<(), Fail> {
         interrupts: 1,
         ..SENDER
     };
-    goes(
+    goes_up(
         &rt,
         rt.alloc(),
-        &[PEER],
         &[
-            Step::ComesUp,
-            Step::Does(Call::AskSend(OUTWARD, 8, ROOM)),
-            Step::Says(&STR),
-            Step::Hears(&RTS, 1),
-            Step::Hears(&[4, 2, 0, 2, 0, 0, 0, 16], 1),
+            Step::OpensSender,
             Step::Does(Call::Interrupt(OUTWARD)),
             Step::Says(&[8, 2]),
             Step::Hears(&[7, 2], 1),
@@ -76,12 +66,10 @@ fn echoes_are_answered(rt: HostRuntime) -> Result<(), Fail> {
         stray: 1,
         ..NO_COUNTS
     };
-    goes(
+    goes_up(
         &rt,
         rt.alloc(),
-        &[PEER],
         &[
-            Step::ComesUp,
             Step::OpensReceiver,
             Step::Does(Call::Echo(65)),
             Step::Repeats(Call::Interrupt(INWARD), MAX_CALLED - 1),

@@ -1,9 +1,7 @@
 //! How connections end: by both CLSs, by a reset of both hosts, and by going down.
 use super::steps::{Call, Step};
-use super::{
-    CONTROL, DOWN, INWARD, LINK, NO_COUNTS, OUTWARD, PEER, RECEIVER, RECEIVER_CLS, RFNM, ROOM,
-    SENDER, SENDER_CLS, UP, goes,
-};
+use super::{CONTROL, INWARD, RECEIVER_CLS, RFNM, ROOM, SENDER_CLS, goes, goes_on, goes_up};
+use crate::known::{DOWN, LINK, NO_COUNTS, OUTWARD, PEER, RECEIVER, SENDER, UP};
 use ncp_control::Command;
 use ncp_host::{CallFault, Counts, Flags, Received, Record, Took};
 use std::test::Fail;
@@ -11,12 +9,10 @@ use std::test::Fail;
 // A reset of both hosts, the request of one not yet out: it never goes out, and no end is left.
 #[test]
 fn both_sides_reset(rt: HostRuntime) -> Result<(), Fail> {
-    goes(
+    goes_up(
         &rt,
         rt.alloc(),
-        &[PEER],
         &[
-            Step::ComesUp,
             Step::Does(Call::AskReceive(INWARD, ROOM)),
             Step::Does(Call::Reset),
             Step::Puts(&[0, 2, 0, 0, 0, 8, 0, 1, 0, 12]),
@@ -33,12 +29,10 @@ fn both_sides_reset(rt: HostRuntime) -> Result<(), Fail> {
 // An RST comes to a sender whose text is out: nothing goes out until the text is taken, then RRP.
 #[test]
 fn a_reset_comes_with_text_out(rt: HostRuntime) -> Result<(), Fail> {
-    goes(
+    goes_up(
         &rt,
         rt.alloc(),
-        &[PEER],
         &[
-            Step::ComesUp,
             Step::OpensSender,
             Step::Does(Call::Give(OUTWARD, &[0x61, 0x62])),
             Step::Sends(LINK, &[0x61, 0x62]),
@@ -59,12 +53,10 @@ fn a_receiver_resets_with_text_underway(rt: HostRuntime) -> Result<(), Fail> {
         not_up: 1,
         ..NO_COUNTS
     };
-    goes(
+    goes_up(
         &rt,
         rt.alloc(),
-        &[PEER],
         &[
-            Step::ComesUp,
             Step::OpensReceiver,
             Step::Does(Call::Allocate(INWARD, 2, 16)),
             Step::Says(&[4, 2, 0, 2, 0, 0, 0, 16]),
@@ -79,6 +71,27 @@ fn a_receiver_resets_with_text_underway(rt: HostRuntime) -> Result<(), Fail> {
     )
 }
 
+// A CLS comes to a sender whose text of two bytes is out.
+fn leaving_sender() -> [Step<'static>; 4] {
+    [
+        Step::OpensSender,
+        Step::Does(Call::Give(OUTWARD, &[0x61, 0x62, 0x63])),
+        Step::Sends(LINK, &[0x61, 0x62]),
+        Step::Hears(&RECEIVER_CLS, 1),
+    ]
+}
+
+// A CLS comes to a receiver that holds six bytes.
+fn leaving_receiver() -> [Step<'static>; 5] {
+    [
+        Step::OpensReceiver,
+        Step::Does(Call::Allocate(INWARD, 1, 48)),
+        Step::Says(&[4, 2, 0, 1, 0, 0, 0, 48]),
+        Step::Text(LINK, &[1, 2, 3, 4, 5, 6], Received::Text(Took::Admitted)),
+        Step::Hears(&SENDER_CLS, 1),
+    ]
+}
+
 // A CLS comes to a sender whose text is out: its own goes out after the RFNM, and the end is over.
 #[test]
 fn a_sender_leaves_once_answered(rt: HostRuntime) -> Result<(), Fail> {
@@ -90,16 +103,11 @@ fn a_sender_leaves_once_answered(rt: HostRuntime) -> Result<(), Fail> {
         bits: 0,
         ..SENDER
     };
-    goes(
+    goes_on(
         &rt,
         rt.alloc(),
-        &[PEER],
+        &leaving_sender(),
         &[
-            Step::ComesUp,
-            Step::OpensSender,
-            Step::Does(Call::Give(OUTWARD, &[0x61, 0x62, 0x63])),
-            Step::Sends(LINK, &[0x61, 0x62]),
-            Step::Hears(&RECEIVER_CLS, 1),
             Step::Knows(OUTWARD, leaving),
             Step::Refuses(Call::Close(OUTWARD), CallFault::Closing),
             Step::IsSilent,
@@ -119,17 +127,11 @@ fn a_receiver_leaves_once_emptied(rt: HostRuntime) -> Result<(), Fail> {
         stored: 16,
         ..RECEIVER
     };
-    goes(
+    goes_on(
         &rt,
         rt.alloc(),
-        &[PEER],
+        &leaving_receiver(),
         &[
-            Step::ComesUp,
-            Step::OpensReceiver,
-            Step::Does(Call::Allocate(INWARD, 1, 48)),
-            Step::Says(&[4, 2, 0, 1, 0, 0, 0, 48]),
-            Step::Text(LINK, &[1, 2, 3, 4, 5, 6], Received::Text(Took::Admitted)),
-            Step::Hears(&SENDER_CLS, 1),
             Step::Takes(INWARD, 4, &[1, 2, 3, 4]),
             Step::IsSilent,
             Step::Knows(INWARD, leaving),
@@ -147,12 +149,10 @@ fn what_comes_late_is_counted(rt: HostRuntime) -> Result<(), Fail> {
         late: 2,
         ..NO_COUNTS
     };
-    goes(
+    goes_up(
         &rt,
         rt.alloc(),
-        &[PEER],
         &[
-            Step::ComesUp,
             Step::OpensReceiver,
             Step::Does(Call::Close(INWARD)),
             Step::Says(&RECEIVER_CLS),
@@ -198,17 +198,11 @@ fn resets_wait_once(rt: HostRuntime) -> Result<(), Fail> {
 // same.
 #[test]
 fn a_take_takes_the_host_down(rt: HostRuntime) -> Result<(), Fail> {
-    goes(
+    goes_on(
         &rt,
         rt.alloc(),
-        &[PEER],
+        &leaving_receiver(),
         &[
-            Step::ComesUp,
-            Step::OpensReceiver,
-            Step::Does(Call::Allocate(INWARD, 1, 48)),
-            Step::Says(&[4, 2, 0, 1, 0, 0, 0, 48]),
-            Step::Text(LINK, &[1, 2, 3, 4, 5, 6], Received::Text(Took::Admitted)),
-            Step::Hears(&SENDER_CLS, 1),
             Step::FillsPlaces,
             Step::Takes(INWARD, 9, &[1, 2, 3, 4, 5, 6]),
             Step::HasFlags(DOWN),
@@ -221,16 +215,11 @@ fn a_take_takes_the_host_down(rt: HostRuntime) -> Result<(), Fail> {
 // So would the CLS of a sender whose text is taken.
 #[test]
 fn an_answer_takes_the_host_down(rt: HostRuntime) -> Result<(), Fail> {
-    goes(
+    goes_on(
         &rt,
         rt.alloc(),
-        &[PEER],
+        &leaving_sender(),
         &[
-            Step::ComesUp,
-            Step::OpensSender,
-            Step::Does(Call::Give(OUTWARD, &[0x61, 0x62])),
-            Step::Sends(LINK, &[0x61, 0x62]),
-            Step::Hears(&RECEIVER_CLS, 1),
             Step::FillsPlaces,
             Step::Answered(RFNM, LINK, Received::Answered),
             Step::HasFlags(DOWN),
@@ -249,12 +238,10 @@ fn a_request_takes_the_host_down(rt: HostRuntime) -> Result<(), Fail> {
         link: 0,
         ..RECEIVER
     };
-    goes(
+    goes_up(
         &rt,
         rt.alloc(),
-        &[PEER],
         &[
-            Step::ComesUp,
             Step::HearsRequests(64),
             Step::Knows(INWARD, heard),
             Step::IsSilent,

@@ -1,8 +1,7 @@
 //! The peers of a host.
 use super::steps::{Call, Step};
-use super::{
-    DOWN, INCOMPLETE, INWARD, ME, NO_COUNTS, NOBODY, OTHER, OUTWARD, PEER, Tried, UP, goes,
-};
+use super::{INCOMPLETE, INWARD, NOBODY, OTHER, Tried, goes};
+use crate::known::{DOWN, ME, NO_COUNTS, OUTWARD, PEER, UP};
 use ncp_bits::{BitStore, PackedStore, PlainStore};
 use ncp_host::{CallFault, Counts, HostFault, Ignored, MAX_PEERS, Received};
 use std::alloc::Global;

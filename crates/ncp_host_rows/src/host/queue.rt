@@ -1,8 +1,7 @@
 //! The commands that wait, and what goes out of them.
 use super::steps::{Call, Step};
-use super::{
-    CONTROL, DOWN, INWARD, LINK, ME, NO_COUNTS, OTHER, PEER, RECEIVER, RFNM, Tried, UP, goes,
-};
+use super::{CONTROL, INWARD, OTHER, RFNM, Tried, goes, goes_up};
+use crate::known::{DOWN, LINK, ME, NO_COUNTS, PEER, RECEIVER, UP};
 use ncp_bits::{BitStore, PackedStore, PlainStore};
 use ncp_control::{Command, ERROR_DATA, SOCKET_NOT_CONNECTED};
 use ncp_host::{CallFault, Counts, Received, Record};
@@ -19,12 +18,10 @@ fn a_user_fills_256_places(rt: HostRuntime) -> Result<(), Fail> {
         text[8 * place + 1] = LINK;
         text[8 * place + 3] = 1;
     }
-    goes(
+    goes_up(
         &rt,
         rt.alloc(),
-        &[PEER],
         &[
-            Step::ComesUp,
             Step::OpensReceiver,
             Step::Repeats(Call::Allocate(INWARD, 1, 0), 256),
             Step::Refuses(Call::Allocate(INWARD, 1, 0), CallFault::QueueFull),
@@ -38,12 +35,10 @@ fn a_user_fills_256_places(rt: HostRuntime) -> Result<(), Fail> {
 // RETs on a link that is not connected are answered by ERRs: as many as have a place leave the host up.
 #[test]
 fn replies_fill_512_places(rt: HostRuntime) -> Result<(), Fail> {
-    goes(
+    goes_up(
         &rt,
         rt.alloc(),
-        &[PEER],
         &[
-            Step::ComesUp,
             Step::FillsPlaces,
             Step::Wait(512),
             Step::HasFlags(UP),
@@ -131,12 +126,10 @@ fn replies_go_out_in_order(rt: HostRuntime) -> Result<(), Fail> {
         stray: 1,
         ..NO_COUNTS
     };
-    goes(
+    goes_up(
         &rt,
         rt.alloc(),
-        &[PEER],
         &[
-            Step::ComesUp,
             Step::Hears(&[0, 9, 0x41, 0x0e], 2),
             Step::Says(&[10, 0x41, 11, 1, 0x0e, 0, 0, 0, 0, 0, 0, 0, 0, 0]),
             Step::Hears(&[0x0e, 0], 0),

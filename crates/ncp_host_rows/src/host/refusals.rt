@@ -1,6 +1,7 @@
 //! The refusals of calls where two reasons compete: the first in the order of the numbers is answered.
 use super::steps::{Call, Step};
-use super::{INWARD, OUTWARD, PEER, ROOM, RTS, SENDER, STR, goes};
+use super::{INWARD, ROOM, RTS, STR, goes_up};
+use crate::known::{OUTWARD, SENDER};
 use ncp_host::{CallFault, Pair, Record};
 use ncp_model::{MAX_CALLED, MAX_ROOM};
 use std::test::Fail;
@@ -12,12 +13,10 @@ fn pair(local: u32, remote: u32) -> Pair {
 // Each reason of a request before the next.
 #[test]
 fn requests_are_refused(rt: HostRuntime) -> Result<(), Fail> {
-    goes(
+    goes_up(
         &rt,
         rt.alloc(),
-        &[PEER],
         &[
-            Step::ComesUp,
             Step::OpensSender,
             Step::Refuses(Call::AskSend(INWARD, 0, 0), CallFault::BadSex),
             Step::Refuses(Call::AskSend(OUTWARD, 0, 0), CallFault::BadSize),
@@ -36,12 +35,10 @@ fn requests_are_refused(rt: HostRuntime) -> Result<(), Fail> {
 // No entry is judged before what a call says.
 #[test]
 fn calls_are_refused_where_there_is_no_entry(rt: HostRuntime) -> Result<(), Fail> {
-    goes(
+    goes_up(
         &rt,
         rt.alloc(),
-        &[PEER],
         &[
-            Step::ComesUp,
             Step::Refuses(Call::Give(OUTWARD, &[]), CallFault::NoEntry),
             Step::Refuses(Call::Take(INWARD, 1), CallFault::NoEntry),
             Step::Refuses(Call::Allocate(INWARD, 1, MAX_ROOM + 1), CallFault::NoEntry),
@@ -56,12 +53,10 @@ fn calls_are_refused_where_there_is_no_entry(rt: HostRuntime) -> Result<(), Fail
 #[test]
 fn calls_are_refused_where_left(rt: HostRuntime) -> Result<(), Fail> {
     let closing = CallFault::Closing;
-    goes(
+    goes_up(
         &rt,
         rt.alloc(),
-        &[PEER],
         &[
-            Step::ComesUp,
             Step::Does(Call::AskReceive(INWARD, ROOM)),
             Step::Does(Call::Close(INWARD)),
             Step::Refuses(Call::AskReceive(INWARD, ROOM), closing),
@@ -79,12 +74,10 @@ fn calls_are_refused_where_left(rt: HostRuntime) -> Result<(), Fail> {
 #[test]
 fn calls_are_refused_where_not_open(rt: HostRuntime) -> Result<(), Fail> {
     let not_open = CallFault::NotOpen;
-    goes(
+    goes_up(
         &rt,
         rt.alloc(),
-        &[PEER],
         &[
-            Step::ComesUp,
             Step::Does(Call::AskSend(OUTWARD, 8, ROOM)),
             Step::Does(Call::AskReceive(INWARD, ROOM)),
             Step::Refuses(Call::GiveBits(INWARD, 4), not_open),
@@ -105,12 +98,10 @@ fn calls_are_refused_at_the_wrong_end(rt: HostRuntime) -> Result<(), Fail> {
         bits: 0,
         ..SENDER
     };
-    goes(
+    goes_up(
         &rt,
         rt.alloc(),
-        &[PEER],
         &[
-            Step::ComesUp,
             Step::Does(Call::AskSend(OUTWARD, 8, 16)),
             Step::Says(&STR),
             Step::Hears(&RTS, 1),
@@ -131,12 +122,10 @@ fn calls_are_refused_at_the_wrong_end(rt: HostRuntime) -> Result<(), Fail> {
 #[test]
 fn calls_are_refused_where_no_place_is_left(rt: HostRuntime) -> Result<(), Fail> {
     let full = CallFault::QueueFull;
-    goes(
+    goes_up(
         &rt,
         rt.alloc(),
-        &[PEER],
         &[
-            Step::ComesUp,
             Step::OpensReceiver,
             Step::Does(Call::CallBack(INWARD, 1, 1)),
             Step::Repeats(Call::Interrupt(INWARD), MAX_CALLED - 1),
@@ -157,12 +146,10 @@ fn calls_are_refused_where_no_place_is_left(rt: HostRuntime) -> Result<(), Fail>
 #[test]
 fn requests_are_refused_where_no_entry_is_left(rt: HostRuntime) -> Result<(), Fail> {
     let full = CallFault::TableFull;
-    goes(
+    goes_up(
         &rt,
         rt.alloc(),
-        &[PEER],
         &[
-            Step::ComesUp,
             Step::OpensReceiver,
             Step::AsksOften(63),
             Step::Refuses(Call::AskSend(pair(999, 2), 8, 1), full),

@@ -1,6 +1,7 @@
 //! A host that goes through the steps of an example.
 use super::steps::{Call, Step};
-use super::{CONTROL, INWARD, OUTWARD, REGULAR, RFNM, ROOM, RTS, STR, UP, bits_of};
+use super::{CONTROL, INWARD, REGULAR, RFNM, ROOM, RTS, STR};
+use crate::known::{OUTWARD, UP, bits_of};
 use ncp_bits::{BitStore, Bits};
 use ncp_host::{CallFault, Host, HostFault, Pair, Received};
 use std::alloc::Global;
