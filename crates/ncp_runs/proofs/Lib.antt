@@ -22,3 +22,4 @@ pub mod ActsOfRuns
 pub mod MarksKept
 pub mod Recorded
 pub mod Marked
+pub mod LinksMarked

@@ -1,7 +1,9 @@
 //! The record that a host keeps of a pair of sockets is what the marks and sums of its notes say.
 ghost use Rattle.std.specs.Prelude.{◌≡◌, ℕ, true, false, List, [], ◌∷◌, ◌++◌, None, Some};
 ghost use Rattle.std.specs.FinMap.{get};
+ghost use Rattle.ncp_model.specs.Pairs.{sends, receives};
 ghost use Rattle.ncp_model.specs.End.{End as Held};
+ghost use Rattle.ncp_model.specs.Ends.{pair_of, sender_on, receiver_on};
 ghost use Rattle.ncp_model.specs.Rows.{inward};
 ghost use Rattle.ncp_conn.specs.declared.record.End.TheVariants.{Receive};
 ghost use Rattle.ncp_conn.specs.declared.record.Record.{Record as Known};
@@ -36,6 +38,13 @@ pub fn records_are_what_marks_and_sums_say()
     ensures record { (me : ℕ) (ns : List ℕ) (all : List Note) (n : ℕ) (s : PeerState) (pair : Pair) → FromBeginning me ns all → state_of (after_notes all (new_host me ns)) n ≡ Some s → record_in pair s.peer.ends ≡ record_marked pair (marks_of pair (notes_of n all)) }
     ensures stored { (me : ℕ) (ns : List ℕ) (all : List Note) (n : ℕ) (s : PeerState) (pair : Pair) (e : Held) → FromBeginning me ns all → state_of (after_notes all (new_host me ns)) n ≡ Some s → get s.peer.ends pair ≡ Some e → is_dropped pair (marks_of pair (notes_of n all)) ≡ false → (marks_of pair (notes_of n all)).entered ≡ (marks_of pair (notes_of n all)).drawn ++ e.stored }
     ensures noted { (me : ℕ) (ns : List ℕ) (before after : List Note) (n : ℕ) (pair : Pair) (r : Known) → FromBeginning me ns (before ++ HostNote.State n pair r ∷ after) → record_marked pair (marks_of pair (notes_of n before)) ≡ Some r }
+{}
+
+/// A link leads to a pair that is marked with it: to one that sends, whose RTS came with it, or to one that
+/// receives and asked with it.
+pub fn links_lead_to_pairs_that_are_marked()
+    ensures sender { (me : ℕ) (ns : List ℕ) (all : List Note) (n on : ℕ) (s : PeerState) (pair : Pair) → FromBeginning me ns all → state_of (after_notes all (new_host me ns)) n ≡ Some s → pair_of (sender_on on s.peer.ends) ≡ Some pair → (sends pair ≡ true) × ((marks_of pair (notes_of n all)).heard ≡ true) × ((marks_of pair (notes_of n all)).link ≡ on) }
+    ensures receiver { (me : ℕ) (ns : List ℕ) (all : List Note) (n on : ℕ) (s : PeerState) (pair : Pair) → FromBeginning me ns all → state_of (after_notes all (new_host me ns)) n ≡ Some s → pair_of (receiver_on on s.peer.ends) ≡ Some pair → (receives pair ≡ true) × ((marks_of pair (notes_of n all)).asked ≡ true) × ((marks_of pair (notes_of n all)).link ≡ on) }
 {}
 
 /// What a note says that was done is marked: a request, with its byte size, and a close, since when the pair is
