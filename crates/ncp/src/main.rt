@@ -1,14 +1,24 @@
-//! The program `ncp`: message files of an ARPANET host, read from standard input.
+//! The program `ncp`: message files and scripts of an ARPANET host, read from standard input.
 #![tactic(auto)]
 
 use anyhow::Result;
-use ncp_player::{FromRead, Order, ToWrite, check, order, show, status};
+use ncp_player::{
+    FileFault, FromRead, Order, PackedStore, PlayFault, ToWrite, check, order, play_host, show,
+    status,
+};
 use std::alloc::AllocGlobal;
 use std::env::{self, Env};
 use std::process::ExitCode;
 
 // The status of a command-line fault.
 const FAULT: u8 = 2;
+
+// Why an order was not carried out to its end.
+#[derive(Drop)]
+enum Fault {
+    File(FileFault),
+    Play(PlayFault),
+}
 
 // The words of the command line, which are text.
 fn words_in<R: Env + AllocGlobal>(rt: &R) -> Result<Vec<String>> {
@@ -34,14 +44,24 @@ fn main(rt: HostRuntime) -> Result<ExitCode> {
     let mut source = FromRead::new(rt.stdin());
     let mut sink = ToWrite::new(rt.stdout());
     let outcome = match order {
-        Order::Show => show(&mut source, &mut sink).map(|()| true),
-        Order::Check => check(&mut source, &mut sink),
+        Order::Show => match show(&mut source, &mut sink) {
+            Ok(()) => Ok(true),
+            Err(fault) => Err(Fault::File(fault)),
+        },
+        Order::Check => check(&mut source, &mut sink).map_err(|fault| Fault::File(fault)),
+        Order::Host => play_host::<PackedStore, _, _>(alloc, &mut source, &mut sink).map_err(
+            |fault| Fault::Play(fault),
+        ),
     };
     let outcome = match outcome {
         Ok(good) => Ok(good),
-        Err(fault) => {
-            // The status tells the fault, even where nothing can be told on standard error.
+        // The status tells the fault, even where nothing can be told on standard error.
+        Err(Fault::File(fault)) => {
             let _untold = eprintln!(rt; "ncp: {}", fault.name());
+            Err(())
+        }
+        Err(Fault::Play(fault)) => {
+            let _untold = fault.tell(&mut ToWrite::new(rt.stderr()));
             Err(())
         }
     };

@@ -17,14 +17,16 @@ const SHOW: &str = "show";
 
 const CHECK: &str = "check";
 
+const HOST: &str = "host";
+
 // The order that a subcommand is: `show` where there is none.
 fn order_named(name: Option<&str>) -> Order
     ensures { result ≡ named (option_map (λ name. name.now) name.entry) }
 {
-    if name == Some(CHECK) {
-        Order::Check
-    } else {
-        Order::Show
+    match name {
+        Some(name) if name == CHECK => Order::Check,
+        Some(name) if name == HOST => Order::Host,
+        _ => Order::Show,
     }
 }
 
@@ -38,10 +40,14 @@ fn command_line<'a>(alloc: Global) -> Result<Command<'a>, AllocError>
     let check = Command::new(alloc, CHECK).about(
         "Counts the messages of a message file, and says whether all are sound",
     );
+    let host = Command::new(alloc, HOST).about(
+        "Plays a script of one host, read from standard input",
+    );
     Command::new(alloc, PROGRAM)
-        .about("Reads the messages of an ARPANET host")
+        .about("Reads the messages of an ARPANET host, and plays hosts")
         .subcommand(show)?
-        .subcommand(check)
+        .subcommand(check)?
+        .subcommand(host)
 }
 
 /// Reads the words of a command line, the program's name first. Without a subcommand it is `show`.

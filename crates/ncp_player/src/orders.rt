@@ -7,4 +7,6 @@ pub enum Order {
     Show,
     /// Say whether a file is sound.
     Check,
+    /// Play a script of one host.
+    Host,
 }
