@@ -1,0 +1,12 @@
+//! Scripts of two hosts with their lines, byte for byte, as tests of the public call. They stand in a
+//! crate of their own, since a crate with tests is proved twice.
+#![tactic(auto)]
+
+#[cfg(test)]
+mod faults;
+#[cfg(test)]
+mod opening;
+#[cfg(test)]
+mod played;
+#[cfg(test)]
+mod scripts;
