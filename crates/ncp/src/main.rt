@@ -3,8 +3,8 @@
 
 use anyhow::Result;
 use ncp_player::{
-    FileFault, FromRead, Order, PackedStore, PlayFault, ToWrite, check, order, play_host, show,
-    status,
+    FileFault, FromRead, Order, PackedStore, PlayFault, ToWrite, check, order, play_host,
+    play_world, show, status,
 };
 use std::alloc::AllocGlobal;
 use std::env::{self, Env};
@@ -50,6 +50,9 @@ fn main(rt: HostRuntime) -> Result<ExitCode> {
         },
         Order::Check => check(&mut source, &mut sink).map_err(|fault| Fault::File(fault)),
         Order::Host => play_host::<PackedStore, _, _>(alloc, &mut source, &mut sink).map_err(
+            |fault| Fault::Play(fault),
+        ),
+        Order::World => play_world::<PackedStore, _, _>(alloc, &mut source, &mut sink).map_err(
             |fault| Fault::Play(fault),
         ),
     };

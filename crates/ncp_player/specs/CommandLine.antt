@@ -4,16 +4,22 @@ use Rattle.std.specs.Str.{bytes_eq}
 use Rattle.clap.specs.Simple.{App, new_app, new_shape, with_subcommand, subcommand_of}
 use Rattle.clap.specs.Walk.{Text}
 use Rattle.ncp_player.specs.declared.orders.Order.{Order}
-use Rattle.ncp_player.specs.declared.orders.Order.TheVariants.{Show, Check, Host}
+use Rattle.ncp_player.specs.declared.orders.Order.TheVariants.{Show, Check, Host, World}
 
 -- the program and its subcommands
 abbrev pub program : App
-program = with_subcommand (with_subcommand (with_subcommand (new_app (codes "ncp")) (new_shape (codes "show"))) (new_shape (codes "check"))) (new_shape (codes "host"))
+program =
+    with_subcommand (with_subcommand (with_subcommand (with_subcommand (new_app (codes "ncp")) (new_shape (codes "show"))) (new_shape (codes "check"))) (new_shape (codes "host")))
+    (new_shape (codes "world"))
 
 -- the order that a subcommand is: `show` where there is none
 abbrev pub named : Option Text → Order
 named None = Show
-named (Some name) = if bytes_eq name (codes "check") then Check else if bytes_eq name (codes "host") then Host else Show
+named (Some name) =
+    if bytes_eq name (codes "check") then Check
+    else if bytes_eq name (codes "host") then Host
+    else if bytes_eq name (codes "world") then World
+    else Show
 
 -- the order that clap reads in words
 abbrev pub order_in : List Text → Order

@@ -19,6 +19,8 @@ const CHECK: &str = "check";
 
 const HOST: &str = "host";
 
+const WORLD: &str = "world";
+
 // The order that a subcommand is: `show` where there is none.
 fn order_named(name: Option<&str>) -> Order
     ensures { result ≡ named (option_map (λ name. name.now) name.entry) }
@@ -26,6 +28,7 @@ fn order_named(name: Option<&str>) -> Order
     match name {
         Some(name) if name == CHECK => Order::Check,
         Some(name) if name == HOST => Order::Host,
+        Some(name) if name == WORLD => Order::World,
         _ => Order::Show,
     }
 }
@@ -43,11 +46,15 @@ fn command_line<'a>(alloc: Global) -> Result<Command<'a>, AllocError>
     let host = Command::new(alloc, HOST).about(
         "Plays a script of one host, read from standard input",
     );
+    let world = Command::new(alloc, WORLD).about(
+        "Plays a script of two hosts and the subnet between them, read from standard input",
+    );
     Command::new(alloc, PROGRAM)
         .about("Reads the messages of an ARPANET host, and plays hosts")
         .subcommand(show)?
         .subcommand(check)?
-        .subcommand(host)
+        .subcommand(host)?
+        .subcommand(world)
 }
 
 /// Reads the words of a command line, the program's name first. Without a subcommand it is `show`.

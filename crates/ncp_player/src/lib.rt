@@ -13,4 +13,5 @@ pub use ncp_play::PlayFault;
 pub use ncp_stream::{
     Failed, FromRead, LEAST_PIECE, MemorySink, MemorySource, Sink, Source, ToWrite,
 };
+pub use ncp_world_player::play_world;
 pub use orders::Order;

@@ -9,4 +9,6 @@ pub enum Order {
     Check,
     /// Play a script of one host.
     Host,
+    /// Play a script of two hosts and the subnet between them.
+    World,
 }
