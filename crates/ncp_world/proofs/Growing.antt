@@ -17,7 +17,7 @@ run_append [] more w r rest = rest
 run_append (n ∷ ns) more w r rest = (r.0, run_append ns more (after_note n w) r.1 rest)
 
 -- the numbers of the hosts stay
-began_noted : (note : Note) (w : Hosts) → began (after_note note w) ≡ began w
+pub began_noted : (note : Note) (w : Hosts) → began (after_note note w) ≡ began w
 began_noted (notes.Called A note) w = refl
 began_noted (notes.Called B note) w = refl
 began_noted (notes.Out A note) w = refl

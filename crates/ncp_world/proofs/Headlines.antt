@@ -44,7 +44,7 @@ module _ (ns : List Note) (w : Hosts) (t : IsTranscript ns w) where
   abbrev first : World
   first = seen (began w)
 
-  stands : Stand (began w)
+  pub stands : Stand (began w)
   stands = record {
     differ = t.differ;
     fits_a = t.fits_a;
@@ -55,7 +55,7 @@ module _ (ns : List Note) (w : Hosts) (t : IsTranscript ns w) where
     to_a = back w.number_a w.number_b t.differ;
   }
 
-  new : IsNewWorld first
+  pub new : IsNewWorld first
   new = record {
     here = t.fits_a;
     there = t.fits_b;

@@ -30,3 +30,4 @@ pub mod Vain
 pub mod Sums
 pub mod Waiting
 pub mod Ledgers
+pub mod Naming

@@ -54,7 +54,7 @@ use Rattle.ncp_world.proofs.SeenSteps.{Stand, Does, seen_with}
 
 -- The leader of a message that the subnet has, as it was sent and as it comes.
 
-sent-led : (on : ℕ) (x : hosts.World) (v : World) (m : List Bool) → Tied x v → v.going on ≡ Accepted m → (leader_in m ≡ Ok (leader_to v.there on)) × (leader_in (from_host v.here m) ≡ Ok (leader_to v.here on))
+pub sent-led : (on : ℕ) (x : hosts.World) (v : World) (m : List Bool) → Tied x v → v.going on ≡ Accepted m → (leader_in m ≡ Ok (leader_to v.there on)) × (leader_in (from_host v.here m) ≡ Ok (leader_to v.here on))
 sent-led on x v m t e = go (on == 0) refl
   where
     by_control : v.going 0 ≡ Accepted m → (leader_in m ≡ Ok (leader_to v.there 0)) × (leader_in (from_host v.here m) ≡ Ok (leader_to v.here 0))
@@ -73,7 +73,7 @@ sent-led on x v m t e = go (on == 0) refl
           ap (λ (b : List Bool). leader_in (from_host v.here b)) c.written ∙ ap leader_in (from_host-message v.here v.there on c.what.of_size c.what.bits) ∙ led v.here on c.what.of_size c.what.bits t.that.number (small on c.fits.0) c.fits.1,
         )
 
-leader-parts : (m : List Bool) (l : Leader) → leader_in m ≡ Ok l → (nat_le LEADER_BITS (length m) ≡ true) × (leader_at m ≡ l)
+pub leader-parts : (m : List Bool) (l : Leader) → leader_in m ≡ Ok l → (nat_le LEADER_BITS (length m) ≡ true) × (leader_at m ≡ l)
 leader-parts m l e = go (nat_lt (length m) LEADER_BITS) refl e
   where
     go : (b : Bool) → nat_lt (length m) LEADER_BITS ≡ b → ◌≡◌ {A = Result Leader Short} (if b then Err (record {}) else Ok (leader_at m)) (Ok l) → (nat_le LEADER_BITS (length m) ≡ true) × (leader_at m ≡ l)

@@ -97,10 +97,10 @@ on-that : (o : Option Told) (v x : World) → Does o (swap v) (swap x) → DoesO
 on-that None v x d = ap swap d
 on-that (Some t) v x (st, ok, is) = (st, ok, ap turned_back is)
 
-abbrev turned : Hosts → Hosts
+abbrev pub turned : Hosts → Hosts
 turned w = record { number_a = w.number_b; number_b = w.number_a; a = w.b; b = w.a; subnet = w.subnet }
 
-stand-turned : (w : Hosts) → Stand w → Stand (turned w)
+pub stand-turned : (w : Hosts) → Stand w → Stand (turned w)
 stand-turned w k = record { differ = λ e. k.differ (sym e); fits_a = k.fits_b; fits_b = k.fits_a; a = k.b; b = k.a; to_b = k.to_a; to_a = k.to_b }
 
 module _ (w : Hosts) (k : Stand w) (x : hosts.World) (t : Tied x (seen w)) where
@@ -218,3 +218,9 @@ follows (note ∷ ns) w run k m =
     go : (o : Option Told) → told_of note ≡ o → DoesOn (as_rules (side_of note)) o (seen w) (seen (after_note note w)) → Follows ns (after_note note w) (seen (after_note note w)) → Follows (note ∷ ns) w (seen w)
     go None e d rest = quiet-follows note ns w e d rest
     go (Some t) e d rest = told-follows note ns w t e d rest
+
+-- the hosts after notes are each other's only peers, and what is seen of them is of the model
+pub stands-at : (ns : List Note) (w : Hosts) → IsRun ns w → Stand w → IsOfModel (seen w) → Stand (after_notes ns w) × IsOfModel (seen (after_notes ns w))
+stands-at [] w run k m = (k, m)
+stands-at (note ∷ ns) w run k m =
+    stands-at ns (after_note note w) run.1 (stand-after note w k) (of-model-after note w (told_of note) (event-does w k m.0 m.1 run.0.0 note run.0.1) m)

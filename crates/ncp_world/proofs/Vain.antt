@@ -33,6 +33,11 @@ pub said_at : (before after : List Note) (note : Note) (w : Hosts) → IsRun (be
 said_at [] after note w r = r.0
 said_at (first ∷ before) after note w r = said_at before after note (after_note first w) r.1
 
+-- and the notes before it are a run
+pub run_before : (before more : List Note) (w : Hosts) → IsRun (before ++ more) w → IsRun before w
+run_before [] more w r = tt
+run_before (first ∷ before) more w r = (r.0, run_before before more (after_note first w) r.1)
+
 -- what the note of an event is not
 
 cannot_come : (from : ℕ) (t : OnLink) → arriving from t ≡ None → is_accepted t ≡ false

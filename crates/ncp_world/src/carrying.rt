@@ -22,9 +22,11 @@ const CONTROL_SIZE: u8 = 8;
 pub(crate) enum Quantity {
     /// The messages that ALL grants.
     GrantedMessages,
+    /// The bits that ALL grants.
     GrantedBits,
     /// The messages that RET gives back.
     ReturnedMessages,
+    /// The bits that RET gives back.
     ReturnedBits,
 }
 

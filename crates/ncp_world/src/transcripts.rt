@@ -12,12 +12,14 @@ ghost use Rattle.ncp_world.specs.Underway.{MessagesAgree, BitsAgree, Parted, NoR
 ghost use Rattle.ncp_world.specs.declared.event.Event.{Event};
 ghost use Rattle.ncp_world.specs.declared.note.Note.{Note};
 ghost use Rattle.ncp_host.specs.Turns.{next_output};
+ghost use Rattle.ncp_transcript.specs.declared.note.HostNote.{HostNote};
 ghost use Rattle.ncp_transcript.specs.declared.note.HostNote.TheVariants as of_host;
 ghost use Rattle.ncp_world.specs.declared.note.Move.{Move};
 ghost use Rattle.ncp_world.specs.declared.note.Note.TheVariants as of_world;
-ghost use Rattle.ncp_world.specs.Between.{Hosts, host_of, transit_of, after_notes};
+ghost use Rattle.ncp_world.specs.Between.{Hosts, other, number_of, host_of, transit_of, after_notes};
 ghost use Rattle.ncp_world.specs.Transcript.{IsRun, AreNotes, began, IsTranscript};
 ghost use Rattle.ncp_world.specs.Vain.{CannotBe};
+ghost use Rattle.ncp_world.specs.Naming.{IsMessageFrom, IsAnswerAbout};
 ghost use Rattle.ncp_world.specs.Seen.{seen, told};
 ghost use Rattle.ncp_world.specs.OfRules.{histories_of, IsOfRules, IsOfModelsHosts};
 ghost use Rattle.ncp_world.specs.declared.side.Side as sides;
@@ -85,4 +87,11 @@ pub fn nothing_is_noted_only_where_nothing_can_be()
     ensures called { (before after : List Note) (w : Hosts) (side : sides.Side) → IsTranscript (before ++ of_world.Called side of_host.Nothing ∷ after) w → ⊥ }
     ensures came { (before after : List Note) (w : Hosts) (side : sides.Side) (link : ℕ) → IsTranscript (before ++ of_world.Came side link of_host.Nothing ∷ after) w → ⊥ }
     ensures answered { (before after : List Note) (w : Hosts) (side : sides.Side) (link : ℕ) → IsTranscript (before ++ of_world.Answered side link of_host.Nothing ∷ after) w → ⊥ }
+{}
+
+/// What came from the subnet is noted with the host and the link of the note: a message as one from the host
+/// of the side, on this link; an answer as one about a message to the other host, on this link.
+pub fn what_came_has_the_host_and_the_link_of_its_note()
+    ensures came { (before after : List Note) (w : Hosts) (side : sides.Side) (link : ℕ) (note : HostNote) → IsTranscript (before ++ of_world.Came side link note ∷ after) w → IsMessageFrom (number_of side w) link note }
+    ensures answered { (before after : List Note) (w : Hosts) (side : sides.Side) (link : ℕ) (note : HostNote) → IsTranscript (before ++ of_world.Answered side link note ∷ after) w → IsAnswerAbout (number_of (other side) w) link note }
 {}

@@ -1,0 +1,15 @@
+-- What came from the subnet, as the note of a host names it.
+use Rattle.std.specs.Prelude.{◌≡◌, ℕ, Bool, List}
+use Rattle.ncp_slot.specs.declared.slot.Answer.{Answer}
+use Rattle.ncp_host.specs.declared.received.Received.{Received}
+use Rattle.ncp_subnet.specs.Messages.{host_in, link_in}
+use Rattle.ncp_transcript.specs.declared.note.HostNote.{HostNote}
+use Rattle.ncp_transcript.specs.declared.note.HostNote.TheVariants.{In, Answered}
+
+-- a message from the host of a number, on a link
+abbrev pub IsMessageFrom : ℕ → ℕ → HostNote → Type 0
+IsMessageFrom number link note = (message : List Bool) × (received : Received) × (note ≡ In message received) × (host_in message ≡ number) × (link_in message ≡ link)
+
+-- the answer to a message that went to the host of a number, on a link
+abbrev pub IsAnswerAbout : ℕ → ℕ → HostNote → Type 0
+IsAnswerAbout number link note = (how : Answer) × (received : Received) × (note ≡ Answered number link how received)
