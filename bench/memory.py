@@ -8,23 +8,28 @@ import tempfile
 
 HERE = os.path.dirname(os.path.abspath(__file__))
 TOP = os.path.dirname(HERE)
-NAME = "host_memory"
-USES = ["ncp_bits", "ncp_leader", "ncp_control", "ncp_slot", "ncp_model", "ncp_conn", "ncp_host"]
-MOST = 100
+HOST = ["ncp_bits", "ncp_leader", "ncp_control", "ncp_slot", "ncp_model", "ncp_conn", "ncp_host"]
+# a program, what it tries, the crates that it names, and all that it stands on
+PROGRAMS = [
+    ("memory.txt", "a host", ["ncp_bits", "ncp_host"], HOST),
+    ("steps.txt", "a host with its transcript", ["ncp_bits", "ncp_control", "ncp_host", "ncp_transcript"], [*HOST, "ncp_transcript"]),
+]
+MOST = 300
 
 
-def made(room):
-    """The folder of `memory.txt` beside copies of the crates that it uses, without what was proved."""
+def made(room, program, names, uses):
+    """The folder of a program beside copies of the crates that it uses, without what was proved."""
+    name = "host_" + program.removesuffix(".txt")
     with open(os.path.join(TOP, "crates.txt")) as file:
-        lines = [line for line in file if line.split(":")[0] in USES]
+        lines = [line for line in file if line.split(":")[0] in uses]
     with open(os.path.join(room, "crates.txt"), "w") as file:
-        file.writelines([*lines, f"{NAME}: ncp_bits ncp_host anyhow\n"])
+        file.writelines([*lines, f"{name}: {' '.join(names)} anyhow\n"])
     shutil.copy(os.path.join(TOP, "HANDLES"), room)
-    for crate in USES:
+    for crate in uses:
         shutil.copytree(os.path.join(TOP, "crates", crate), os.path.join(room, "crates", crate), ignore=shutil.ignore_patterns("out"))
-    folder = os.path.join(room, "crates", NAME)
+    folder = os.path.join(room, "crates", name)
     os.makedirs(os.path.join(folder, "src"))
-    shutil.copy(os.path.join(HERE, "memory.txt"), os.path.join(folder, "src", "main.rt"))
+    shutil.copy(os.path.join(HERE, program), os.path.join(folder, "src", "main.rt"))
     return folder
 
 
@@ -37,14 +42,22 @@ def told(folder, number):
     return answers.pop()
 
 
-def main():
+def tried(program, what, names, uses):
+    """Refuses the requests of a program, up to the run in which none is refused."""
     with tempfile.TemporaryDirectory(prefix="ncp-memory-") as room:
-        folder = made(room)
+        folder = made(room, program, names, uses)
         for number in range(1, MOST):
             if told(folder, number) == "false true":
-                print(f"each of {number - 1} requests for memory was refused in turn, and nothing else happened")
+                print(f"{what}: each of {number - 1} requests for memory was refused in turn, and nothing else happened", flush=True)
                 return
-    sys.exit(f"more than {MOST} requests")
+    sys.exit(f"{what}: more than {MOST} requests")
 
 
-main()
+def main():
+    for program in PROGRAMS:
+        if not sys.argv[1:] or program[0] in sys.argv[1:]:
+            tried(*program)
+
+
+if __name__ == "__main__":
+    main()
