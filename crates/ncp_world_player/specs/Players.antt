@@ -99,7 +99,7 @@ abbrev pub PlaysAll : Script TwoHosts Event → Ending → List ℕ → Noted_wo
 PlaysAll script ending was now written =
     (hosts : TwoHosts) × (course : Course Event) × (script ≡ Plays hosts course) × PlayedTo course ending (new_world hosts.a hosts.b) now × WritesLines was now.notes written
 
--- its first events happened to new hosts, and this was written
+-- its first events happened to new hosts
 abbrev pub PlaysSome : Script TwoHosts Event → Noted_world → Type 0
 PlaysSome script now = (hosts : TwoHosts) × (course : Course Event) × (script ≡ Plays hosts course) × PlayedFirst course (new_world hosts.a hosts.b) now
 
