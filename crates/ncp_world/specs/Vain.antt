@@ -5,8 +5,9 @@ use Rattle.ncp_subnet.specs.Ways.{OnLink}
 use Rattle.ncp_world.specs.declared.note.Move.{Move}
 use Rattle.ncp_world.specs.declared.note.Move.TheVariants as moves
 
--- This cannot happen to what is in transit on a link: no message was accepted that has not come, and could
--- come, be lost or find its destination dead; or none came or will not come, and could be answered.
+-- This cannot happen on a link: nothing can come, be lost or find its destination dead where the subnet has
+-- no message that may still come; nothing is answered where it has none that came, was lost, or found its
+-- destination dead.
 abbrev pub CannotBe : Move → OnLink → Type 0
 CannotBe moves.Deliver transit = is_accepted transit ≡ false
 CannotBe moves.Lose transit = is_accepted transit ≡ false

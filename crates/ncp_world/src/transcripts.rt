@@ -52,13 +52,12 @@ pub fn each_host_is_by_itself()
     ensures { (notes : List Note) (w : Hosts) (side : sides.Side) → IsTranscript notes w → runs.IsTranscript (notes_at side notes) (host_of side w) }
 {}
 
-/// The headline, of transcripts. For each pair, either way: what a live receiver got is a beginning of what
-/// was given since the sender last opened; it was taken or is held until the receiver left; it is never
-/// beyond the allocation; and while both ends are open, what is outstanding at the receiver is what the
-/// sender's counters hold and what is underway. Between two hosts that are up no RST or RRP is underway, and
-/// no text is answered as not connected, of the wrong size or beyond the allocation, no message is faulty, and
-/// no answer stray. Of what commands did, and of ERRs, it says nothing: that commands act once and in order, and that none makes the other host make
-/// an ERR, are laws of the model's two hosts.
+/// What transcripts keep of streams, allocation and what is underway. For each pair, either way: what a live
+/// receiver got is a beginning of what was given since the sender last opened; it was taken or is held until
+/// the receiver left; it is never beyond the allocation; and while both ends are open, what is outstanding at
+/// the receiver is what the sender's counters hold and what is underway. Between two hosts that are up no RST
+/// or RRP is underway, and no text is answered as not connected, of the wrong size or beyond the allocation,
+/// no message is faulty, and no answer stray. Of what commands do, and of ERRs, it says nothing.
 pub fn transcripts_keep_the_headline()
     ensures beginning { (notes : List Note) (w : Hosts) (pair : Pair) → IsTranscript notes w → sends pair ≡ true → let p = histories_of notes w in GotIsBeginning pair (seen w) p × GotIsBeginning pair (swap (seen w)) (turn p) }
     ensures held { (notes : List Note) (w : Hosts) (pair : Pair) → IsTranscript notes w → sends pair ≡ true → let p = histories_of notes w in GotIsTakenOrHeld pair (seen w) p × GotIsTakenOrHeld pair (swap (seen w)) (turn p) }
