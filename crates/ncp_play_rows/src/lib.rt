@@ -10,3 +10,7 @@ mod lines;
 mod runs;
 #[cfg(test)]
 mod said;
+#[cfg(test)]
+mod scripts;
+#[cfg(test)]
+mod streams;

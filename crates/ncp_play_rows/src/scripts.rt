@@ -1,0 +1,227 @@
+//! Scripts of one host, whole: their lines, and the answer.
+use crate::streams::play;
+use ncp_files::FileFault;
+use ncp_play::PlayFault;
+use std::alloc::Global;
+use std::process::Abort;
+use std::test::Fail;
+
+/// The first script of one host.
+const FIRST: &[u8] =
+    b"host 1 2\nphase 2\nin 32 05020000\nin 80 0002000000080001000c\nphase 2\necho 2 65\necho 2 66\nout\n";
+
+/// Its lines.
+const FIRST_LINES: &[u8] =
+    b"1 phase 2 ok down\n2 in stray\n3 in control 1\n4 phase 2 ok up\n5 echo 2 ok\n6 echo 2 refused Busy\n7 out host=2 link=0 bits=96\n  size=8 count=3\n  RRP\n  ECO data=65\n";
+
+/// A script with a feed: an RST, and an RFNM where nothing is unanswered.
+const FEED: &[u8] =
+    b"host 1 2\nfeed\nNCPI\x00\x50\x00\x02\x00\x00\x00\x08\x00\x01\x00\x0c\x00\x20\x05\x02\x00\x00";
+
+/// Its lines.
+const FEED_LINES: &[u8] =
+    b"1 in control 1\n2 in stray\n3 out host=2 link=0 bits=80\n  size=8 count=1\n  RRP\n4 out nothing\n";
+
+/// Plays a script, and compares the answer and all that is written.
+fn expect(
+    rt: &impl Abort,
+    alloc: Global,
+    script: &[u8],
+    answer: Result<bool, PlayFault>,
+    lines: &[u8],
+) -> Result<(), Fail> {
+    let played = play(alloc, script, None, None)?;
+    assert!(rt; played.is(answer, lines.len(), lines));
+    Ok(())
+}
+
+#[test]
+fn scripts_are_played(rt: HostRuntime) -> Result<(), Fail> {
+    expect(&rt, rt.alloc(), FIRST, Ok(false), FIRST_LINES)?;
+    expect(&rt, rt.alloc(), FEED, Ok(true), FEED_LINES)
+}
+
+#[test]
+fn lines_are_read_as_they_stand(rt: HostRuntime) -> Result<(), Fail> {
+    let alloc = rt.alloc();
+    expect(&rt, alloc, b"host 1 2", Ok(true), b"")?;
+    expect(
+        &rt,
+        alloc,
+        b"# a remark\r\n\r\nhost 1 2\r\nphase 2\r\nout",
+        Ok(true),
+        b"1 phase 2 ok down\n2 out nothing\n",
+    )?;
+    expect(
+        &rt,
+        alloc,
+        b"host 1 2\nphase 3\nphase 2\n",
+        Ok(false),
+        b"1 phase 3 refused UnknownPeer\n2 phase 2 ok down\n",
+    )
+}
+
+#[test]
+fn no_hosts(rt: HostRuntime) -> Result<(), Fail> {
+    for script in [
+        b"".as_slice(),
+        b"# a\n\n",
+        b"phase 2\nhost 1 2\n",
+        b"host 1\n",
+        b"host 1 1\n",
+        b"host 1 2 2\n",
+        b"host 1 2 3 4 5 6 7 8 9 10\n",
+        b"hosts 1 2\n",
+    ] {
+        expect(&rt, rt.alloc(), script, Err(PlayFault::BadHosts), b"")?;
+    }
+    Ok(())
+}
+
+#[test]
+fn bad_lines(rt: HostRuntime) -> Result<(), Fail> {
+    for (script, line) in [
+        (
+            b"host 1 2\nphase 2\n\n# a\nphase  2\nout\n".as_slice(),
+            5u32,
+        ),
+        (b"host 1 2\nphase 2\nphase 2\r", 3),
+        (b"host 1 2\nphase 2\nout\r\r\n", 3),
+        (b"host 1 2\nphase 2\nfeed", 3),
+        (b"host 1 2\nphase 2\na out\n", 3),
+    ] {
+        let fault = PlayFault::BadLine(line);
+        expect(&rt, rt.alloc(), script, Err(fault), b"1 phase 2 ok down\n")?;
+    }
+    Ok(())
+}
+
+// A script with a line of so many bytes, of which each is this one.
+fn with_long_line(
+    alloc: Global,
+    front: &[u8],
+    byte: u8,
+    count: usize,
+    behind: &[u8],
+) -> Result<Vec<u8>, Fail> {
+    let mut script = Vec::new(alloc);
+    script.extend_from_slice(front)?;
+    for _ in 0..count {
+        script.push(byte)?;
+    }
+    script.extend_from_slice(behind)?;
+    Ok(script)
+}
+
+#[test]
+fn long_lines(rt: HostRuntime) -> Result<(), Fail> {
+    let alloc = rt.alloc();
+    let first = with_long_line(alloc, b"", b'a', 4097, b"\n")?;
+    expect(
+        &rt,
+        alloc,
+        first.as_slice(),
+        Err(PlayFault::LineTooLong(1)),
+        b"",
+    )?;
+    let other = with_long_line(alloc, b"host 1 2\nout\n", b'a', 4097, b"")?;
+    let fault = PlayFault::LineTooLong(3);
+    expect(&rt, alloc, other.as_slice(), Err(fault), b"1 out nothing\n")?;
+    let longest = with_long_line(alloc, b"host 1 2\nout\n", b'a', 4096, b"\r\n")?;
+    let fault = PlayFault::BadLine(3);
+    expect(
+        &rt,
+        alloc,
+        longest.as_slice(),
+        Err(fault),
+        b"1 out nothing\n",
+    )?;
+    let remark = with_long_line(alloc, b"host 1 2\n", b'#', 9000, b"\nout\nin\n")?;
+    let fault = PlayFault::BadLine(4);
+    expect(
+        &rt,
+        alloc,
+        remark.as_slice(),
+        Err(fault),
+        b"1 out nothing\n",
+    )
+}
+
+#[test]
+fn faults_of_feeds(rt: HostRuntime) -> Result<(), Fail> {
+    for (script, fault) in [
+        (b"host 1 2\nout\nfeed\n".as_slice(), FileFault::BadHeader),
+        (b"host 1 2\nout\nfeed\nNCPH", FileFault::BadHeader),
+        (b"host 1 2\nout\nfeed\r\nNCPI\x00", FileFault::Truncated),
+        (b"host 1 2\nout\nfeed\nNCPI\x20\x01", FileFault::TooLong),
+        (
+            b"host 1 2\nout\nfeed\nNCPI\x00\x01\xc0",
+            FileFault::SpareNotZero,
+        ),
+    ] {
+        let answer = Err(PlayFault::Feed(fault));
+        expect(&rt, rt.alloc(), script, answer, b"1 out nothing\n")?;
+    }
+    Ok(())
+}
+
+// How many bytes the lines have of those of the first script that are whole in its first bytes.
+fn first_lines_of_front(len: usize) -> usize {
+    match len {
+        0..17 => 0,
+        17..32 => 18,
+        32..59 => 29,
+        59..67 => 44,
+        67..77 => 60,
+        77..87 => 72,
+        87..91 => 94,
+        _ => 159,
+    }
+}
+
+// What is answered where a read fails behind the first bytes of the script with a feed, and how many bytes the
+// lines have.
+fn feed_of_front(len: usize) -> (PlayFault, usize) {
+    match len {
+        0..14 => (PlayFault::ReadFailed, 0),
+        14..30 => (PlayFault::Feed(FileFault::ReadFailed), 0),
+        30..36 => (PlayFault::Feed(FileFault::ReadFailed), 15),
+        _ => (PlayFault::Feed(FileFault::ReadFailed), 26),
+    }
+}
+
+#[test]
+fn each_failed_read_is_told(rt: HostRuntime) -> Result<(), Fail> {
+    for count in 1..93u32 {
+        let played = play(rt.alloc(), FIRST, Some(count), None)?;
+        let len = first_lines_of_front((count as usize).saturating_sub(1));
+        let answer = Err(PlayFault::ReadFailed);
+        assert!(rt; played.is(answer, len, FIRST_LINES), "at {count}");
+    }
+    let played = play(rt.alloc(), FIRST, Some(93), None)?;
+    assert!(rt; played.is(Ok(false), FIRST_LINES.len(), FIRST_LINES));
+    Ok(())
+}
+
+#[test]
+fn each_failed_read_of_a_feed_is_told(rt: HostRuntime) -> Result<(), Fail> {
+    for count in 1..38u32 {
+        let played = play(rt.alloc(), FEED, Some(count), None)?;
+        let (fault, len) = feed_of_front((count as usize).saturating_sub(1));
+        assert!(rt; played.is(Err(fault), len, FEED_LINES), "at {count}");
+    }
+    let played = play(rt.alloc(), FEED, Some(38), None)?;
+    assert!(rt; played.is(Ok(true), FEED_LINES.len(), FEED_LINES));
+    Ok(())
+}
+
+#[test]
+fn each_failed_write_is_told(rt: HostRuntime) -> Result<(), Fail> {
+    for count in 1..92u32 {
+        let played = play(rt.alloc(), FEED, None, Some(count))?;
+        let len = (count as usize).saturating_sub(1);
+        let answer = Err(PlayFault::WriteFailed);
+        assert!(rt; played.is(answer, len, FEED_LINES), "at {count}");
+    }
+    Ok(())
+}

@@ -1,0 +1,93 @@
+//! Sources and sinks that move a byte at a time, and a script that is played between two.
+use ncp_bits::PackedStore;
+use ncp_host_player::play_host;
+use ncp_play::PlayFault;
+use ncp_stream::{Failed, MemorySink, MemorySource, Sink, Source};
+use std::alloc::Global;
+use std::test::Fail;
+
+/// Room for the lines of a script.
+const ROOM: usize = 16384;
+
+/// Reads a byte at a time.
+#[derive(Drop)]
+pub(crate) struct Bytewise<'a> {
+    source: MemorySource<'a>,
+}
+
+impl Source for Bytewise<'_> {
+    ghost use Rattle.std.specs.Prelude.{Some};
+
+    ghost left = { λ slow. Some slow.source.left };
+
+    ghost reads = { λ slow. slow.source.reads };
+
+    ghost has_failed = { λ slow. slow.source.failed };
+
+    fn read(&mut self, piece: &mut [u8]) -> Result<usize, Failed> {
+        let end = piece.len().min(1);
+        self.source.read(&mut piece[..end])
+    }
+
+    fn failed(&self) -> bool {
+        self.source.failed()
+    }
+}
+
+/// Writes a byte at a time.
+#[derive(Drop)]
+pub(crate) struct Piecemeal {
+    sink: MemorySink,
+}
+
+impl Sink for Piecemeal {
+    ghost use Rattle.std.specs.Prelude.{Some};
+
+    ghost written = { λ slow. Some slow.sink.written };
+
+    ghost has_failed = { λ slow. slow.sink.failed };
+
+    fn write(&mut self, piece: &[u8]) -> Result<usize, Failed> {
+        self.sink.write(&piece[..piece.len().min(1)])
+    }
+
+    fn failed(&self) -> bool {
+        self.sink.failed()
+    }
+}
+
+/// What was answered of a script, and what was written.
+#[derive(Drop)]
+pub(crate) struct Played {
+    pub(crate) answer: Option<Result<bool, PlayFault>>,
+    sink: Piecemeal,
+}
+
+impl Played {
+    /// Whether this was answered, and these first bytes of a text written.
+    pub(crate) fn is(&self, answer: Result<bool, PlayFault>, len: usize, text: &[u8]) -> bool {
+        let written = self.sink.sink.bytes();
+        self.answer == Some(answer) && written.len() == len && text.starts_with(written)
+    }
+}
+
+/// Plays a script a byte at a time. The n-th read or the n-th write can be made to fail.
+pub(crate) fn play(
+    alloc: Global,
+    script: &[u8],
+    failing_read: Option<u32>,
+    failing_write: Option<u32>,
+) -> Result<Played, Fail> {
+    let mut source = Bytewise {
+        source: MemorySource::new(script, failing_read),
+    };
+    let mut sink = Piecemeal {
+        sink: MemorySink::new(alloc, ROOM, failing_write)?,
+    };
+    let answer = if source.failed() || sink.failed() {
+        None
+    } else {
+        Some(play_host::<PackedStore, _, _>(alloc, &mut source, &mut sink))
+    };
+    Ok(Played { answer, sink })
+}
