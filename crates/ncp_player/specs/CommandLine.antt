@@ -6,11 +6,13 @@ use Rattle.clap.specs.Walk.{Text}
 use Rattle.ncp_player.specs.declared.orders.Order.{Order}
 use Rattle.ncp_player.specs.declared.orders.Order.TheVariants.{Show, Check, Host, World}
 
--- the program and its subcommands
+-- the program with the subcommands that read message files
+abbrev pub of_files : App
+of_files = with_subcommand (with_subcommand (new_app (codes "ncp")) (new_shape (codes "show"))) (new_shape (codes "check"))
+
+-- and with those that play scripts
 abbrev pub program : App
-program =
-    with_subcommand (with_subcommand (with_subcommand (with_subcommand (new_app (codes "ncp")) (new_shape (codes "show"))) (new_shape (codes "check"))) (new_shape (codes "host")))
-    (new_shape (codes "world"))
+program = with_subcommand (with_subcommand of_files (new_shape (codes "host"))) (new_shape (codes "world"))
 
 -- the order that a subcommand is: `show` where there is none
 abbrev pub named : Option Text → Order

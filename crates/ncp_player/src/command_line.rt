@@ -1,6 +1,6 @@
 //! The command line of the program `ncp`.
 ghost use Rattle.std.specs.Prelude.{◌≡◌, IfOk, map, option_map};
-ghost use Rattle.ncp_player.specs.CommandLine.{program, named, order_in, status_of};
+ghost use Rattle.ncp_player.specs.CommandLine.{of_files, program, named, order_in, status_of};
 ghost use Rattle.clap.specs.Faults.{fault_of};
 ghost use Rattle.clap.specs.Simple.{app_of};
 ghost use Rattle.clap.specs.Kinds.{FailsBy};
@@ -33,9 +33,9 @@ fn order_named(name: Option<&str>) -> Order
     }
 }
 
-// The program with its subcommands, as clap knows it.
-fn command_line<'a>(alloc: Global) -> Result<Command<'a>, AllocError>
-    ensures { IfOk result (λ command. app_of command ≡ program) }
+// The program with the subcommands that read message files, as clap knows it.
+fn with_files<'a>(alloc: Global) -> Result<Command<'a>, AllocError>
+    ensures { IfOk result (λ command. app_of command ≡ of_files) }
 {
     let show = Command::new(alloc, SHOW).about(
         "Shows each message of a message file, read from standard input",
@@ -43,18 +43,23 @@ fn command_line<'a>(alloc: Global) -> Result<Command<'a>, AllocError>
     let check = Command::new(alloc, CHECK).about(
         "Counts the messages of a message file, and says whether all are sound",
     );
+    Command::new(alloc, PROGRAM)
+        .about("Reads the messages of an ARPANET host, and plays hosts")
+        .subcommand(show)?
+        .subcommand(check)
+}
+
+// The program with all its subcommands: those that play scripts too.
+fn command_line<'a>(alloc: Global) -> Result<Command<'a>, AllocError>
+    ensures { IfOk result (λ command. app_of command ≡ program) }
+{
     let host = Command::new(alloc, HOST).about(
         "Plays a script of one host, read from standard input",
     );
     let world = Command::new(alloc, WORLD).about(
         "Plays a script of two hosts and the subnet between them, read from standard input",
     );
-    Command::new(alloc, PROGRAM)
-        .about("Reads the messages of an ARPANET host, and plays hosts")
-        .subcommand(show)?
-        .subcommand(check)?
-        .subcommand(host)?
-        .subcommand(world)
+    with_files(alloc)?.subcommand(host)?.subcommand(world)
 }
 
 /// Reads the words of a command line, the program's name first. Without a subcommand it is `show`.
