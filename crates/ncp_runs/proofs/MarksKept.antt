@@ -25,6 +25,7 @@ IsMarked e m = record {
   cls : e.cls ≡ m.cls;
   there : (m.asked || m.heard) ≡ true;
   shut : m.opened ≡ false → m.shut ≡ false;
+  out : m.opened ≡ true → m.left ≡ true → m.shut ≡ true;
   link : e.link ≡ m.link;
   size : e.size ≡ m.size;
   room : e.room ≡ m.room;

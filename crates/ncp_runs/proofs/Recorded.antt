@@ -4,7 +4,9 @@ use Rattle.std.proofs.Math.Seq.{drop-append_seam}
 use Rattle.std.specs.FinMap.{get}
 use Rattle.ncp_model.specs.declared.pair.Pair.{Pair}
 use Rattle.ncp_model.specs.End.{End}
+use Rattle.ncp_model.specs.End as of_end
 use Rattle.ncp_conn.specs.declared.record.Record.{Record}
+use Rattle.ncp_watch.specs.Sound.{Sound}
 use Rattle.ncp_conn.specs.Records.{record_if_any, record_in}
 use Rattle.ncp_host.specs.PeerState.{PeerState, new_state}
 use Rattle.ncp_host.specs.Host.{Host, state_of, new_host, if_known}
@@ -17,7 +19,7 @@ use Rattle.ncp_transcript.specs.Notes.{told_or_refused}
 use Rattle.ncp_transcript.specs.After.{after_notes}
 use Rattle.ncp_runs.specs.Peers.{FromBeginning, notes_of, notes_for}
 use Rattle.ncp_runs.specs.Acts.{acts_of}
-use Rattle.ncp_runs.specs.Marks.{Marks, no_marks, is_there, is_dropped, end_told, end_marked, record_marked, marks_of}
+use Rattle.ncp_runs.specs.Marks.{Marks, no_marks, is_there, is_open, is_dropped, end_told, end_marked, record_marked, marks_of}
 use Rattle.ncp_runs.proofs.InRuns.{before_note, kept_as_noted}
 use Rattle.ncp_runs.proofs.ActsOfRuns.{acts-from-nothing}
 use Rattle.ncp_runs.proofs.MarksKept.{IsMarked, IsSummed, IsSummedAt, Told, told-from}
@@ -57,6 +59,18 @@ record-there me ns all n s pair from there = ap (record_if_any pair) (end-there 
 pub stored-there : (me : ℕ) (ns : List ℕ) (all : List HostNote) (n : ℕ) (s : PeerState) (pair : Pair) (e : End) → FromBeginning me ns all → state_of (after_notes all (new_host me ns)) n ≡ Some s → get s.peer.ends pair ≡ Some e
     → IsSummed pair e (marks_of pair (notes_of n all))
 stored-there me ns all n s pair e from there is = subst (λ (o : Option End). IsSummedAt pair o (marks_of pair (notes_of n all))) is (told-there me ns all n s pair from there).summed
+
+-- what the end says of itself
+
+end-open : (pair : Pair) (e : End) (m : Marks) → Sound pair e → IsMarked e m → of_end.is_open e ≡ is_open m
+end-open pair e m s k = grind arith
+
+pub open-there : (me : ℕ) (ns : List ℕ) (all : List HostNote) (n : ℕ) (s : PeerState) (pair : Pair) (e : End) → FromBeginning me ns all → state_of (after_notes all (new_host me ns)) n ≡ Some s → get s.peer.ends pair ≡ Some e
+    → (of_end.is_open e ≡ is_open (marks_of pair (notes_of n all))) × (e.opened ≡ (marks_of pair (notes_of n all)).opened)
+open-there me ns all n s pair e from there is =
+    let m = marks_of pair (notes_of n all) in
+    let t : Told pair (Some e) m = subst (λ (o : Option End). Told pair o m) is (told-there me ns all n s pair from there) in
+    (end-open pair e m t.sound t.marked, t.marked.opened)
 
 -- a note that reads it
 

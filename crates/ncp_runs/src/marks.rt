@@ -1,8 +1,9 @@
 //! The record that a host keeps of a pair of sockets is what the marks and sums of its notes say.
-ghost use Rattle.std.specs.Prelude.{◌≡◌, ℕ, true, false, List, [], ◌∷◌, ◌++◌, None, Some};
+ghost use Rattle.std.specs.Prelude.{◌≡◌, ℕ, ◌+◌, true, false, List, [], ◌∷◌, ◌++◌, None, Some};
 ghost use Rattle.std.specs.FinMap.{get};
 ghost use Rattle.ncp_model.specs.Pairs.{sends, receives};
 ghost use Rattle.ncp_model.specs.End.{End as Held};
+ghost use Rattle.ncp_model.specs.End.{is_open as is_open_end};
 ghost use Rattle.ncp_model.specs.Ends.{pair_of, sender_on, receiver_on};
 ghost use Rattle.ncp_model.specs.Rows.{inward};
 ghost use Rattle.ncp_conn.specs.declared.record.End.TheVariants.{Receive};
@@ -31,12 +32,16 @@ pub fn acts_are_those_of_the_rules()
 /// say, after any run: so of the own request and the peer's, the opening, leaving and both CLSs, the link, the
 /// size and the room, of a text that has had no RFNM and a GVB that has had no RET; and so of the counters or
 /// what is outstanding, of the bits that are stored, and of the interrupts. What is stored is what was given
-/// or got, less what went out or was taken, unless it was dropped. So is the record that a user is told; and a
-/// note that reads it says the same.
+/// or got, less what went out or was taken, unless it was dropped. The end is open, and live, where the marks
+/// say so; and its counters, or what is outstanding, with what was returned and used are what was granted.
+/// The record that a user is told says the same, and so does a note that reads it.
 pub fn records_are_what_marks_and_sums_say()
     ensures end { (me : ℕ) (ns : List ℕ) (all : List Note) (n : ℕ) (s : PeerState) (pair : Pair) → FromBeginning me ns all → state_of (after_notes all (new_host me ns)) n ≡ Some s → get s.peer.ends pair ≡ end_marked pair (marks_of pair (notes_of n all)) }
     ensures record { (me : ℕ) (ns : List ℕ) (all : List Note) (n : ℕ) (s : PeerState) (pair : Pair) → FromBeginning me ns all → state_of (after_notes all (new_host me ns)) n ≡ Some s → record_in pair s.peer.ends ≡ record_marked pair (marks_of pair (notes_of n all)) }
     ensures stored { (me : ℕ) (ns : List ℕ) (all : List Note) (n : ℕ) (s : PeerState) (pair : Pair) (e : Held) → FromBeginning me ns all → state_of (after_notes all (new_host me ns)) n ≡ Some s → get s.peer.ends pair ≡ Some e → is_dropped pair (marks_of pair (notes_of n all)) ≡ false → (marks_of pair (notes_of n all)).entered ≡ (marks_of pair (notes_of n all)).drawn ++ e.stored }
+    ensures open { (me : ℕ) (ns : List ℕ) (all : List Note) (n : ℕ) (s : PeerState) (pair : Pair) (e : Held) → FromBeginning me ns all → state_of (after_notes all (new_host me ns)) n ≡ Some s → get s.peer.ends pair ≡ Some e → is_open_end e ≡ is_open (marks_of pair (notes_of n all)) }
+    ensures live { (me : ℕ) (ns : List ℕ) (all : List Note) (n : ℕ) (s : PeerState) (pair : Pair) (e : Held) → FromBeginning me ns all → state_of (after_notes all (new_host me ns)) n ≡ Some s → get s.peer.ends pair ≡ Some e → e.opened ≡ (marks_of pair (notes_of n all)).opened }
+    ensures sums { (me : ℕ) (ns : List ℕ) (all : List Note) (n : ℕ) (s : PeerState) (pair : Pair) (e : Held) → FromBeginning me ns all → state_of (after_notes all (new_host me ns)) n ≡ Some s → get s.peer.ends pair ≡ Some e → (e.messages + (marks_of pair (notes_of n all)).returned_messages + (marks_of pair (notes_of n all)).used_messages ≡ (marks_of pair (notes_of n all)).granted_messages) × (e.bits + (marks_of pair (notes_of n all)).returned_bits + (marks_of pair (notes_of n all)).used_bits ≡ (marks_of pair (notes_of n all)).granted_bits) }
     ensures noted { (me : ℕ) (ns : List ℕ) (before after : List Note) (n : ℕ) (pair : Pair) (r : Known) → FromBeginning me ns (before ++ HostNote.State n pair r ∷ after) → record_marked pair (marks_of pair (notes_of n before)) ≡ Some r }
 {}
 
