@@ -1,7 +1,7 @@
 use Rattle.std.proofs.Common.{Some, ap, ◌∙◌}
 use Rattle.ncp_host.specs.Host.{Host, numbers_of}
 use Rattle.ncp_runs.proofs.Ignored.{ignored_told}
-use Rattle.ncp_runs.proofs.InOrder.{up-noted}
+use Rattle.ncp_runs.proofs.InOrder.{flags-noted, up-noted}
 use Rattle.ncp_runs.proofs.Recorded.{record-there}
 use Rattle.ncp_runs.proofs.Begun.{is_run, is_kept, peer_told}
 use Rattle.ncp_runs.proofs.transcripts.a_host_is_what_its_notes_say.Goals as goal
@@ -14,6 +14,30 @@ returns-clause-host g c = c.transcript-notes.ensures.run.state
 
 pub returns-clause-peer : goal.returns-clause-peer
 returns-clause-peer g c n e = peer_told c.args.alone.now.notes c.args.alone.now.host n c.transcript-notes.ensures.run e
+
+pub returns-clause-down : goal.returns-clause-down
+returns-clause-down g c n s there =
+    let all = c.args.alone.now.notes in
+    let h = c.args.alone.now.host in
+    (flags-noted h.me (numbers_of h.peers) all n s (is_run all h c.transcript-notes.ensures.run) (is_kept all h n (Some s) c.transcript-notes.ensures.run there)).0
+
+pub returns-clause-want : goal.returns-clause-want
+returns-clause-want g c n s there =
+    let all = c.args.alone.now.notes in
+    let h = c.args.alone.now.host in
+    (flags-noted h.me (numbers_of h.peers) all n s (is_run all h c.transcript-notes.ensures.run) (is_kept all h n (Some s) c.transcript-notes.ensures.run there)).1
+
+pub returns-clause-owe : goal.returns-clause-owe
+returns-clause-owe g c n s there =
+    let all = c.args.alone.now.notes in
+    let h = c.args.alone.now.host in
+    (flags-noted h.me (numbers_of h.peers) all n s (is_run all h c.transcript-notes.ensures.run) (is_kept all h n (Some s) c.transcript-notes.ensures.run there)).3
+
+pub returns-clause-wait : goal.returns-clause-wait
+returns-clause-wait g c n s there =
+    let all = c.args.alone.now.notes in
+    let h = c.args.alone.now.host in
+    (flags-noted h.me (numbers_of h.peers) all n s (is_run all h c.transcript-notes.ensures.run) (is_kept all h n (Some s) c.transcript-notes.ensures.run there)).2
 
 pub returns-clause-up : goal.returns-clause-up
 returns-clause-up g c n s there =
