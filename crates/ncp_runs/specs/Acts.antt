@@ -1,9 +1,9 @@
--- What the notes of a peer say of a pair of sockets: the acts on its end, in order. What a call or a message
--- is for the pair, and how it was answered, a note says only in part (of a control message it says how many
--- commands came): the rest is read off the state that the notes before it leave, and there the outcome and
--- the commands that were made, never the end. A message that comes may have several acts on one pair, and
--- after each of its commands, as after each call, the host may have gone down, which clears the pair too
--- (NIC 8246, commands; the outcomes are this profile's).
+-- What the notes of a peer say of a pair of sockets: the acts on its end, in order. A note says only in part
+-- what a call or a message is for the pair, and how it was answered: of a control message it says how many
+-- commands came. The rest is read off the state that the notes before it leave. What is read there is the
+-- outcome and what was made; the end after the act is never read. A message that comes may have several acts
+-- on one pair. After each of its commands, as after each call, the host may have gone down, which clears the
+-- pair too (NIC 8246, commands; the outcomes are this profile's).
 use Rattle.std.specs.Prelude.{◌≡◌, ℕ, ◌==◌, Bool, true, if◌then◌else◌, List, [], ◌∷◌, ◌++◌, take, Option, None, Some, Result, Ok, Err}
 use Rattle.std.specs.FinMap.{get}
 use Rattle.ncp_bits.specs.Bits.{bytes_of}

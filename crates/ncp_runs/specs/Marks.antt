@@ -31,7 +31,7 @@ pub record Marks : Type 0 where
   pub room : ℕ  -- for so many bits, as the own request said
   pub busy : Bool  -- a text went out, and had no RFNM
   pub recall : Bool  -- a GVB was made, and no RET came that got no ERR
-  pub granted_messages : ℕ  -- by ALL, made or come
+  pub granted_messages : ℕ  -- by ALL that came to a sender, or an allocate that was accepted at a receiver
   pub granted_bits : ℕ
   pub returned_messages : ℕ  -- by RET, come or made
   pub returned_bits : ℕ
