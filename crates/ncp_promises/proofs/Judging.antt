@@ -11,7 +11,7 @@ use Rattle.ncp_control.specs.declared.command.Command.{Command}
 use Rattle.ncp_control.specs.declared.command.Command.TheVariants.{Rst, Rrp, Eco}
 use Rattle.ncp_control.specs.declared.command.Command.TheVariants as commands
 use Rattle.ncp_control.specs.Spelling.{spellings, IsCommand}
-use Rattle.ncp_control.specs.Reading.{commands_in}
+use Rattle.ncp_control.specs.Reading.{commands_in, fault_in}
 use Rattle.ncp_control.proofs.Reading.{spellings_small, spelled_alone}
 use Rattle.ncp_slot.specs.Slots.{slot_at}
 use Rattle.ncp_resets.specs.Delivery as model
@@ -37,7 +37,7 @@ use Rattle.ncp_world.specs.World.{World, Told, In, Call_is_made, Goes_out, Is_de
 use Rattle.ncp_world.specs.World as worlds
 use Rattle.ncp_world.specs.Tie.{control_bits, AreCommands, Stands, Reached, Goes_on, Tied, IsMove}
 use Rattle.ncp_world.specs.Refused.{refuses}
-use Rattle.ncp_world.specs.Underway.{text_read, commands_of}
+use Rattle.ncp_world.specs.Underway.{text_read, text_of, commands_of}
 use Rattle.ncp_world.proofs.Links.{Comes, delivered}
 use Rattle.ncp_world.proofs.Written.{read, control_text, from_host-message, comes-received}
 use Rattle.ncp_world.proofs.Comings.{hears-stands, control-heard}
@@ -63,6 +63,16 @@ control-read w v m t c =
     ∙ ap commands_in (bytes_of-bits_of_bytes (spellings c.what) (spellings_small c.what c.fits.0))
     ∙ (spelled_alone c.what c.fits.0).0
 
+-- and it has no fault
+control-faultless : (w : hosts.World) (v : World) (m : List Bool) → Tied w v → (c : ControlComes w v m) → fault_in (bytes_of (text_of (from_host v.here m))) ≡ None
+control-faultless w v m t c =
+    let text : List Bool = bits_of_bytes (spellings c.what) in
+    ap (λ (x : List Bool). fault_in (bytes_of (text_of (from_host v.here x)))) c.written
+    ∙ ap (λ (x : List Bool). fault_in (bytes_of (text_of x))) (from_host-message v.here v.there 0 8 text)
+    ∙ ap (λ (r : Result Message MessageFault). fault_in (bytes_of (text_read r))) (read v.here 0 8 text t.that.number (omega arith) (control_text c.what c.fits))
+    ∙ ap fault_in (bytes_of-bits_of_bytes (spellings c.what) (spellings_small c.what c.fits.0))
+    ∙ (spelled_alone c.what c.fits.0).1
+
 control-told : (w : hosts.World) (v : World) (m : List Bool) → Tied w v → (c : ControlComes w v m) → worlds.received (from_host v.here m) v.that ≡ received.Control (length c.what)
 control-told w v m t c =
     let text : List Bool = bits_of_bytes (spellings c.what) in
@@ -72,7 +82,7 @@ control-told w v m t c =
     ∙ ap (λ (bs : List ℕ). received.Control (length (commands_in bs))) (bytes_of-bits_of_bytes (spellings c.what) (spellings_small c.what c.fits.0))
     ∙ ap (λ (cs : List Command). received.Control (length cs)) (spelled_alone c.what c.fits.0).0
 
-acts : (w : hosts.World) (v : World) (m : List Bool) → Tied w v → v.going 0 ≡ Accepted m
+pub acts : (w : hosts.World) (v : World) (m : List Bool) → Tied w v → v.going 0 ≡ Accepted m
     → (worlds.received (from_host v.here m) v.that ≡ received.Control (length (commands_of (from_host v.here m)))) × (worlds.after_received (from_host v.here m) v.that ≡ hearing.hears_all (commands_of (from_host v.here m)) v.that)
 acts w v m t e =
     let c : ControlComes w v m = control-comes w v m t e in
@@ -154,7 +164,7 @@ control-right w v m t e =
 -- Each step.
 
 deliver-acts : (on : ℕ) (w : hosts.World) (v : World) (h : Holds) → Tied w v → v.going on ≡ h → ActsOnce (delivers on h v).1 v (delivers on h v).0
-deliver-acts on w v (Accepted m) t e = λ z. acts w v m t (on_control on v m z e)
+deliver-acts on w v (Accepted m) t e = λ z. let k = acts w v m t (on_control on v m z e) in (k.0, k.1, refl)
 deliver-acts on w v Free t e = tt
 deliver-acts on w v Delivered t e = tt
 deliver-acts on w v Lost t e = tt
@@ -204,7 +214,10 @@ unrefused on x v t =
     or_left (refuses (delivers on (v.going on) v).1) false (none-refused (e ∷ []) v (tt, tt) (x, t))
 
 deliver-right : (on : ℕ) (w : hosts.World) (v : World) (h : Holds) → Tied w v → v.going on ≡ h → refuses (delivers on h v).1 ≡ false → MakesNoErr (delivers on h v).1 v (delivers on h v).0
-deliver-right on w v (Accepted m) t e r = (λ z. control-right w v m t (on_control on v m z e), r)
+deliver-right on w v (Accepted m) t e r = (
+  λ z. let f = on_control on v m z e in (control-faultless w v m t (control-comes w v m t f), control-right w v m t f),
+  r,
+)
 deliver-right on w v Free t e r = tt
 deliver-right on w v Delivered t e r = tt
 deliver-right on w v Lost t e r = tt
