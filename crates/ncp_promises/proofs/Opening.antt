@@ -58,7 +58,7 @@ use Rattle.ncp_world.proofs.Answering.{answered-is}
 use Rattle.ncp_world.proofs.Flights.{IsOut, delivered-out, lost-out, dead-out}
 use Rattle.ncp_world.proofs.Reaching.{of-reached, stands-there}
 use Rattle.ncp_promises.specs.Openings.{OpensOnFreeLinks, EachOpensOnFreeLinks, OpensNothing, OpensUnderNoText}
-use Rattle.ncp_promises.proofs.Judging.{ControlComes, control-comes, control-read, on_control}
+use Rattle.ncp_promises.proofs.Judging.{ControlComes, control-comes, control-read, on_control, acts}
 
 -- What is not live stays so.
 
@@ -320,7 +320,11 @@ out-opens None v = (refl, refl)
 out-opens (Some out) v = (opens-nothing v.this.peer.ends _ (out-shut (slot_at v.this.slots out.0) out.0 v.this.peer), refl)
 
 deliver-opens : (on : ℕ) (w : hosts.World) (v : World) (h : Holds) → Tied w v → v.going on ≡ h → OpensUnderNoText (delivers on h v).1 v (delivers on h v).0
-deliver-opens on w v (Accepted m) t e = (λ z. control-opens w v m t (on_control on v m z e), λ z. text-opens on w v m z t e, refl)
+deliver-opens on w v (Accepted m) t e = (
+  λ z. let f = on_control on v m z e in ((acts w v m t f).1, control-opens w v m t f),
+  λ z. text-opens on w v m z t e,
+  refl,
+)
 deliver-opens on w v Free t e = (refl, refl)
 deliver-opens on w v Delivered t e = (refl, refl)
 deliver-opens on w v Lost t e = (refl, refl)

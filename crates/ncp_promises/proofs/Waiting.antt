@@ -39,7 +39,7 @@ use Rattle.ncp_world.proofs.Flights.{IsOut, delivered-out, lost-out, dead-out}
 use Rattle.ncp_world.proofs.Reaching.{of-reached, stands-there}
 use Rattle.ncp_world.proofs.Runs.{moves-tie}
 use Rattle.ncp_promises.specs.Resetting.{Waits, StillWaits, DropsOthers, OnlyResetsAct}
-use Rattle.ncp_promises.proofs.Judging.{ControlComes, control-comes, control-read, on_control, hears_all-stands}
+use Rattle.ncp_promises.proofs.Judging.{ControlComes, control-comes, control-read, acts, on_control, hears_all-stands}
 
 down : (p : Phase) → p.wait ≡ true → up p ≡ false
 down p w = grind arith
@@ -167,6 +167,7 @@ deliver-acts on w v (Accepted m) t e y u = (
   λ a. (
     λ z. text-drops on w v m z t e a,
     λ z. (
+      (acts w v m t (on_control on v m z e)).1,
       drops-others (commands_of (from_host v.here m)) v.that,
       λ none.
           let c : ControlComes w v m = control-comes w v m t (on_control on v m z e) in

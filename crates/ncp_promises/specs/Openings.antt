@@ -11,7 +11,7 @@ use Rattle.ncp_model.specs.Leading.{passes}
 use Rattle.ncp_model.specs.Peers.{Peer}
 use Rattle.ncp_watch.specs.Histories.{opens}
 use Rattle.ncp_host.specs.PeerState.{PeerState, control_link}
-use Rattle.ncp_host.specs.Hearing.{hears}
+use Rattle.ncp_host.specs.Hearing.{hears, hears_all}
 use Rattle.ncp_world.specs.World.{World, Told, Called, Out, In, Answered}
 use Rattle.ncp_world.specs.Underway.{commands_of}
 
@@ -39,7 +39,7 @@ abbrev pub OpensUnderNoText : Told → World → World → Type 0
 OpensUnderNoText (Called asked reply) v after = OpensOnFreeLinks v.this v.that v.this.peer after.this.peer × (after.that ≡ v.that)
 OpensUnderNoText (Out message) v after = OpensNothing v.this.peer after.this.peer × (after.that ≡ v.that)
 OpensUnderNoText (In on message told) v after =
-    ((on == control_link) ≡ true → EachOpensOnFreeLinks (commands_of message) v.that v.this)
+    ((on == control_link) ≡ true → (after.that ≡ hears_all (commands_of message) v.that) × EachOpensOnFreeLinks (commands_of message) v.that v.this)
     × ((on == control_link) ≡ false → OpensNothing v.that.peer after.that.peer) × (after.this ≡ v.this)
 OpensUnderNoText (Answered on how told) v after = OpensNothing v.this.peer after.this.peer × (after.that ≡ v.that)
 OpensUnderNoText told v after = (after.this ≡ v.this) × (after.that ≡ v.that)

@@ -8,7 +8,7 @@ use Rattle.ncp_model.specs.Phase.{is_rrp, is_other}
 use Rattle.ncp_host.specs.declared.received.Received.{Received}
 use Rattle.ncp_host.specs.declared.received.Received.TheVariants as received
 use Rattle.ncp_host.specs.PeerState.{PeerState, control_link}
-use Rattle.ncp_host.specs.Hearing.{hears}
+use Rattle.ncp_host.specs.Hearing.{hears, hears_all}
 use Rattle.ncp_world.specs.World.{World, Told, Called, Out, In, Answered}
 use Rattle.ncp_world.specs.Underway.{commands_of}
 
@@ -26,12 +26,12 @@ abbrev pub DropsOthers : List Command → PeerState → Type 0
 DropsOthers [] s = Unit {0}
 DropsOthers (c ∷ cs) s = (Waits s → is_other c ≡ true → (hears c s).peer ≡ s.peer) × DropsOthers cs (hears c s)
 
--- a message comes to a host that waits: all but RST and RRP is dropped, and a text is told as not up. Where
--- it has no RRP the host goes on to wait
+-- a message comes to a host that waits: its commands come one after the other, of which all but RST and RRP
+-- are dropped, and a text is told as not up. Where it has no RRP the host goes on to wait
 abbrev pub Drops : ℕ → List Bool → Received → PeerState → PeerState → Type 0
 Drops on message told s after =
     ((on == control_link) ≡ false → (told ≡ received.NotUp) × (after.peer ≡ s.peer))
-    × ((on == control_link) ≡ true → DropsOthers (commands_of message) s × (list_any is_rrp (commands_of message) ≡ false → StillWaits after))
+    × ((on == control_link) ≡ true → (after ≡ hears_all (commands_of message) s) × DropsOthers (commands_of message) s × (list_any is_rrp (commands_of message) ≡ false → StillWaits after))
 
 -- of each note: what it does at a host that waits
 abbrev pub OnlyResetsAct : Told → World → World → Type 0
