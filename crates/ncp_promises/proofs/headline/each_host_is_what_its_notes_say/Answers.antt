@@ -30,6 +30,33 @@ returns-clause-up c ns w side is =
     let t = c.each_host_is_by_itself.ensures ns w side is in
     up-noted h.me (numbers_of h.peers) all n s (is_run all h t) (is_kept all h n (Some s) t (kept-for ns w side is))
 
+pub returns-clause-down : goal.returns-clause-down
+returns-clause-down c ns w side is =
+    let all : List HostNote = notes_at side ns in
+    let h : Host = host_of side w in
+    let n : ℕ = number_of (other side) w in
+    let s : PeerState = had_for n h in
+    let t = c.each_host_is_by_itself.ensures ns w side is in
+    (flags-noted h.me (numbers_of h.peers) all n s (is_run all h t) (is_kept all h n (Some s) t (kept-for ns w side is))).0
+
+pub returns-clause-want : goal.returns-clause-want
+returns-clause-want c ns w side is =
+    let all : List HostNote = notes_at side ns in
+    let h : Host = host_of side w in
+    let n : ℕ = number_of (other side) w in
+    let s : PeerState = had_for n h in
+    let t = c.each_host_is_by_itself.ensures ns w side is in
+    (flags-noted h.me (numbers_of h.peers) all n s (is_run all h t) (is_kept all h n (Some s) t (kept-for ns w side is))).1
+
+pub returns-clause-owe : goal.returns-clause-owe
+returns-clause-owe c ns w side is =
+    let all : List HostNote = notes_at side ns in
+    let h : Host = host_of side w in
+    let n : ℕ = number_of (other side) w in
+    let s : PeerState = had_for n h in
+    let t = c.each_host_is_by_itself.ensures ns w side is in
+    (flags-noted h.me (numbers_of h.peers) all n s (is_run all h t) (is_kept all h n (Some s) t (kept-for ns w side is))).3
+
 pub returns-clause-waits : goal.returns-clause-waits
 returns-clause-waits c ns w side is =
     let all : List HostNote = notes_at side ns in
