@@ -32,7 +32,10 @@ use Rattle.ncp_host.specs.Counting.{one_more}
 use Rattle.ncp_host.specs.PeerState.{PeerState, new_state, control_link, is_answered, answer_taken, answer_comes, frees_on, after_answer}
 use Rattle.ncp_host.specs.Hearing.{control_size, control_after, text_after, is_wrong_link, hears, hears_all, hears_last, message_after}
 use Rattle.ncp_host.specs.Output.{control_message, output_by, output_on, after_by}
-use Rattle.ncp_host.specs.Host.{state_of, new_host}
+use Rattle.ncp_host.specs.declared.flags.Flags.{Flags}
+use Rattle.ncp_host.specs.Calls.{flags_of, flags_told}
+use Rattle.ncp_host.specs.Host.{Host, state_of, new_host, if_known}
+use Rattle.ncp_transcript.specs.Notes.{told_or_refused}
 use Rattle.ncp_transcript.specs.declared.call.Call.{Call}
 use Rattle.ncp_transcript.specs.declared.call.Call.TheVariants as calls_of
 use Rattle.ncp_transcript.specs.declared.note.HostNote.{HostNote}
@@ -44,7 +47,7 @@ use Rattle.ncp_runs.specs.Making.{Made, reset_asked, sent, all_made_in, settling
 use Rattle.ncp_runs.proofs.Said.{IsOut, IsSaidOf, IsRunOf}
 use Rattle.ncp_runs.proofs.EachPeer.{each_peer}
 use Rattle.ncp_runs.proofs.LinksTold.{Tells, ready-is, out-free, note-tells, new-tells}
-use Rattle.ncp_runs.proofs.InRuns.{is_a_peer, kept_as_noted}
+use Rattle.ncp_runs.proofs.InRuns.{before_note, is_a_peer, kept_as_noted}
 use Rattle.ncp_runs.proofs.MadeOfRuns.{Agrees, all_made-agrees, settling-agrees, asked-agrees, command-agrees, sent-agrees}
 
 -- Notes by which no control message goes out fresh.
@@ -279,3 +282,21 @@ up-noted me ns all n s from there =
     ∙ ap (λ (b : Bool). not (not l.began || not l.did_reset || s.peer.phase.owe || b)) f.2
     ∙ ap (λ (b : Bool). not (not l.began || not l.did_reset || b || not l.got_answer)) f.3
     ∙ no-flag l.began l.did_reset l.got_answer l.gave_answer
+
+-- a note that reads them
+
+flags-read : (n : ℕ) (flags : Flags) (h : Host) → told_or_refused (calls_of.Phase n) (notes.Phase n) (flags_told n h) ≡ notes.Phase n flags → (s : PeerState) × (state_of h n ≡ Some s) × (flags_of s.peer.phase ≡ flags)
+flags-read n flags h e = go (state_of h n) refl e
+  where
+    go : (o : Option PeerState) → state_of h n ≡ o → told_or_refused (calls_of.Phase n) (notes.Phase n) (if_known o (λ s. Ok (flags_of s.peer.phase))) ≡ notes.Phase n flags → (s : PeerState) × (state_of h n ≡ Some s) × (flags_of s.peer.phase ≡ flags)
+    go None f e = absurd (cc)
+    go (Some s) f e = (s, f, cc)
+
+pub flags-said : (me : ℕ) (ns : List ℕ) (before after : List HostNote) (n : ℕ) (flags : Flags) → FromBeginning me ns (before ++ notes.Phase n flags ∷ after)
+    → (flags.down ≡ not (made_of (notes_of n before)).began) × (flags.want ≡ not (made_of (notes_of n before)).did_reset) × (flags.owe ≡ not (made_of (notes_of n before)).gave_answer) × (flags.wait ≡ not (made_of (notes_of n before)).got_answer)
+flags-said me ns before after n flags from =
+    let b = before_note me ns before after (notes.Phase n flags) from in
+    let w = flags-read n flags (after_notes before (new_host me ns)) b.said in
+    let f = flags-noted me ns before n w.0 b.from w.1 in
+    let l = made_of (notes_of n before) in
+    subst (λ (x : Flags). (x.down ≡ not l.began) × (x.want ≡ not l.did_reset) × (x.owe ≡ not l.gave_answer) × (x.wait ≡ not l.got_answer)) w.2 (f.0, f.1, f.3, f.2)

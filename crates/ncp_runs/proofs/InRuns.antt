@@ -30,6 +30,13 @@ run-cut : (before after : List HostNote) (note : HostNote) (h : Host) → IsRun 
 run-cut [] after note h r = (tt, r.0)
 run-cut (first ∷ before) after note h r = let rest = run-cut before after note (after_note first h) r.1 in ((r.0, rest.0), rest.1)
 
+run-front : (before after : List HostNote) (h : Host) → IsRun (before ++ after) h → IsRun before h
+run-front [] after h r = tt
+run-front (first ∷ before) after h r = (r.0, run-front before after (after_note first h) r.1)
+
+pub from-front : (me : ℕ) (ns : List ℕ) (before after : List HostNote) → FromBeginning me ns (before ++ after) → FromBeginning me ns before
+from-front me ns before after from = record { distinct = from.distinct; places = from.places; run = run-front before after (new_host me ns) from.run }
+
 holds-all : (ns : List ℕ) (all : List HostNote) (h : Host) → Holds ns h → IsRun all h → Holds ns (after_notes all h)
 holds-all ns [] h k r = k
 holds-all ns (note ∷ rest) h k r = holds-all ns rest (after_note note h) (holds-after ns note h k r.0) r.1

@@ -1,8 +1,9 @@
 -- The record of a pair is the one that its marks and sums tell.
-use Rattle.std.proofs.Common.{◌≡◌, ℕ, Bool, true, false, if◌then◌else◌, List, [], ◌∷◌, ◌++◌, length, drop, Option, None, Some, refl, sym, ap, ◌∙◌, subst, arith}
+use Rattle.std.proofs.Common.{◌≡◌, ℕ, Bool, true, false, if◌then◌else◌, List, [], ◌∷◌, ◌++◌, length, drop, Option, None, Some, inl, inr, refl, sym, ap, ◌∙◌, subst, arith}
 use Rattle.std.proofs.Math.Seq.{drop-append_seam}
 use Rattle.std.specs.FinMap.{get}
 use Rattle.ncp_model.specs.declared.pair.Pair.{Pair}
+use Rattle.ncp_model.specs.declared.call_fault.CallFault.TheVariants.{NoEntry}
 use Rattle.ncp_model.specs.End.{End}
 use Rattle.ncp_model.specs.End as of_end
 use Rattle.ncp_conn.specs.declared.record.Record.{Record}
@@ -17,6 +18,7 @@ use Rattle.ncp_transcript.specs.declared.note.HostNote.{HostNote}
 use Rattle.ncp_transcript.specs.declared.note.HostNote.TheVariants as notes
 use Rattle.ncp_transcript.specs.Notes.{told_or_refused}
 use Rattle.ncp_transcript.specs.After.{after_notes}
+use Rattle.ncp_transcript.specs.Runs.{IsSaid}
 use Rattle.ncp_runs.specs.Peers.{FromBeginning, notes_of, notes_for}
 use Rattle.ncp_runs.specs.Acts.{acts_of}
 use Rattle.ncp_runs.specs.Marks.{Marks, no_marks, is_there, is_open, is_dropped, end_told, end_marked, record_marked, marks_of}
@@ -90,4 +92,31 @@ pub record-noted : (me : ℕ) (ns : List ℕ) (before after : List HostNote) (n 
 record-noted me ns before after n pair r from =
     let b = before_note me ns before after (notes.State n pair r) from in
     let w = record-read n pair r (after_notes before (new_host me ns)) b.said in
+    sym (record-there me ns before n w.0 pair b.from w.1) ∙ w.2
+
+-- and one that finds none
+
+none-read : (n : ℕ) (pair : Pair) (h : Host) → told_or_refused (calls.State n pair) (notes.State n pair) (of_host.record_told n pair h) ≡ notes.Refused (calls.State n pair) NoEntry → (s : PeerState) × (state_of h n ≡ Some s) × (record_in pair s.peer.ends ≡ None)
+none-read n pair h e = go (state_of h n) refl e
+  where
+    answered : (o : Option Record) → told_or_refused (calls.State n pair) (notes.State n pair) (record_answer o) ≡ notes.Refused (calls.State n pair) NoEntry → o ≡ None
+    answered None e = refl
+    answered (Some x) e = absurd (cc)
+
+    go : (o : Option PeerState) → state_of h n ≡ o → told_or_refused (calls.State n pair) (notes.State n pair) (if_known o (λ s. record_answer (record_in pair s.peer.ends))) ≡ notes.Refused (calls.State n pair) NoEntry → (s : PeerState) × (state_of h n ≡ Some s) × (record_in pair s.peer.ends ≡ None)
+    go None f e = absurd (cc)
+    go (Some s) f e = (s, f, answered (record_in pair s.peer.ends) e)
+
+by-rules : (n : ℕ) (pair : Pair) (h : Host) → IsSaid (notes.Refused (calls.State n pair) NoEntry) h → told_or_refused (calls.State n pair) (notes.State n pair) (of_host.record_told n pair h) ≡ notes.Refused (calls.State n pair) NoEntry
+by-rules n pair h p = elim p [
+  | inl e ↦ e
+  | inr w ↦ (let memory = w.said in absurd (cc))
+]
+
+pub none-noted : (me : ℕ) (ns : List ℕ) (before after : List HostNote) (n : ℕ) (pair : Pair) → FromBeginning me ns (before ++ notes.Refused (calls.State n pair) NoEntry ∷ after)
+    → record_marked pair (marks_of pair (notes_of n before)) ≡ None
+none-noted me ns before after n pair from =
+    let h = after_notes before (new_host me ns) in
+    let b = before_note me ns before after (notes.Refused (calls.State n pair) NoEntry) from in
+    let w = none-read n pair h (by-rules n pair h b.said) in
     sym (record-there me ns before n w.0 pair b.from w.1) ∙ w.2

@@ -5,6 +5,7 @@ ghost use Rattle.ncp_control.specs.declared.command.Command.{Command as Order};
 ghost use Rattle.ncp_slot.specs.Slots.{data_links};
 ghost use Rattle.ncp_model.specs.Phase.{up, up_phase};
 ghost use Rattle.ncp_host.specs.PeerState.{PeerState, control_link};
+ghost use Rattle.ncp_host.specs.declared.flags.Flags.{Flags as Told};
 ghost use Rattle.ncp_host.specs.Host.{state_of, is_one_of, new_host};
 ghost use Rattle.ncp_transcript.specs.declared.note.HostNote.{HostNote as Note};
 ghost use Rattle.ncp_transcript.specs.After.{after_notes};
@@ -14,6 +15,7 @@ ghost use Rattle.ncp_runs.specs.Making.{is_up_told, made_in, struck, sent, settl
 ghost use Rattle.ncp_runs.specs.Examples.{message_on_0, message_on_2, lost, held, stray, woken, taken};
 
 use ncp_control::Command;
+use ncp_transcript::HostNote;
 
 /// The commands that were made for a peer in any run, less those that clearings struck, are those in the
 /// fresh messages on link 0, followed by those that wait, in order; and as many have gone as are in these
@@ -24,13 +26,15 @@ pub fn commands_go_out_as_they_were_made()
 
 /// A host is up with a peer exactly where, by the notes of that peer: since the start and the last going down
 /// it made an RST or RRP, since the last reset that was accepted an RST, since the last RST that came an RRP,
-/// and since the last RST that it made an RRP came. Each flag says that one of these is not so.
+/// and since the last RST that it made an RRP came. Each flag says that one of these is not so;
+/// and a note that reads them says the same.
 pub fn flags_are_what_was_made_and_came()
     ensures down { (me : ℕ) (ns : List ℕ) (all : List Note) (n : ℕ) (s : PeerState) → FromBeginning me ns all → state_of (after_notes all (new_host me ns)) n ≡ Some s → s.peer.phase.down ≡ not (made_of (notes_of n all)).began }
     ensures want { (me : ℕ) (ns : List ℕ) (all : List Note) (n : ℕ) (s : PeerState) → FromBeginning me ns all → state_of (after_notes all (new_host me ns)) n ≡ Some s → s.peer.phase.want ≡ not (made_of (notes_of n all)).did_reset }
     ensures owe { (me : ℕ) (ns : List ℕ) (all : List Note) (n : ℕ) (s : PeerState) → FromBeginning me ns all → state_of (after_notes all (new_host me ns)) n ≡ Some s → s.peer.phase.owe ≡ not (made_of (notes_of n all)).gave_answer }
     ensures wait { (me : ℕ) (ns : List ℕ) (all : List Note) (n : ℕ) (s : PeerState) → FromBeginning me ns all → state_of (after_notes all (new_host me ns)) n ≡ Some s → s.peer.phase.wait ≡ not (made_of (notes_of n all)).got_answer }
     ensures up { (me : ℕ) (ns : List ℕ) (all : List Note) (n : ℕ) (s : PeerState) → FromBeginning me ns all → state_of (after_notes all (new_host me ns)) n ≡ Some s → up s.peer.phase ≡ is_up_told (made_of (notes_of n all)) }
+    ensures noted { (me : ℕ) (ns : List ℕ) (before after : List Note) (n : ℕ) (flags : Told) → FromBeginning me ns (before ++ HostNote.Phase n flags ∷ after) → (flags.down ≡ not (made_of (notes_of n before)).began) × (flags.want ≡ not (made_of (notes_of n before)).did_reset) × (flags.owe ≡ not (made_of (notes_of n before)).gave_answer) × (flags.wait ≡ not (made_of (notes_of n before)).got_answer) }
 {}
 
 /// Where the data links to a peer are quiet no RRP is owed and no RST is wanted: since the last RST that came

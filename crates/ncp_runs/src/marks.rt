@@ -18,7 +18,7 @@ ghost use Rattle.ncp_runs.specs.Acts.{AreActs, was_cleared, acts_of};
 ghost use Rattle.ncp_runs.specs.Marks.{no_marks, is_open, is_leaving, is_dropped, end_marked, record_marked, marks_from, marks_of};
 ghost use Rattle.ncp_runs.specs.Examples.{asks, is_asked, allocates, gets, cls_comes, takes, closes, asked_wrongly, gives_back};
 
-use ncp_host::Pair;
+use ncp_host::{CallFault, Pair};
 use ncp_transcript::{Call, HostNote};
 
 /// The acts on a pair that the notes of its peer say, in any run, are those of the rules: each is answered
@@ -34,7 +34,8 @@ pub fn acts_are_those_of_the_rules()
 /// what is outstanding, of the bits that are stored, and of the interrupts. What is stored is what was given
 /// or got, less what went out or was taken, unless it was dropped. The end is open, and live, where the marks
 /// say so; and its counters, or what is outstanding, with what was returned and used are what was granted.
-/// The record that a user is told says the same, and so does a note that reads it.
+/// The record that a user is told says the same, and so does a note that reads it,
+/// or that finds none.
 pub fn records_are_what_marks_and_sums_say()
     ensures end { (me : ℕ) (ns : List ℕ) (all : List Note) (n : ℕ) (s : PeerState) (pair : Pair) → FromBeginning me ns all → state_of (after_notes all (new_host me ns)) n ≡ Some s → get s.peer.ends pair ≡ end_marked pair (marks_of pair (notes_of n all)) }
     ensures record { (me : ℕ) (ns : List ℕ) (all : List Note) (n : ℕ) (s : PeerState) (pair : Pair) → FromBeginning me ns all → state_of (after_notes all (new_host me ns)) n ≡ Some s → record_in pair s.peer.ends ≡ record_marked pair (marks_of pair (notes_of n all)) }
@@ -43,6 +44,7 @@ pub fn records_are_what_marks_and_sums_say()
     ensures live { (me : ℕ) (ns : List ℕ) (all : List Note) (n : ℕ) (s : PeerState) (pair : Pair) (e : Held) → FromBeginning me ns all → state_of (after_notes all (new_host me ns)) n ≡ Some s → get s.peer.ends pair ≡ Some e → e.opened ≡ (marks_of pair (notes_of n all)).opened }
     ensures sums { (me : ℕ) (ns : List ℕ) (all : List Note) (n : ℕ) (s : PeerState) (pair : Pair) (e : Held) → FromBeginning me ns all → state_of (after_notes all (new_host me ns)) n ≡ Some s → get s.peer.ends pair ≡ Some e → (e.messages + (marks_of pair (notes_of n all)).returned_messages + (marks_of pair (notes_of n all)).used_messages ≡ (marks_of pair (notes_of n all)).granted_messages) × (e.bits + (marks_of pair (notes_of n all)).returned_bits + (marks_of pair (notes_of n all)).used_bits ≡ (marks_of pair (notes_of n all)).granted_bits) }
     ensures noted { (me : ℕ) (ns : List ℕ) (before after : List Note) (n : ℕ) (pair : Pair) (r : Known) → FromBeginning me ns (before ++ HostNote.State n pair r ∷ after) → record_marked pair (marks_of pair (notes_of n before)) ≡ Some r }
+    ensures none_noted { (me : ℕ) (ns : List ℕ) (before after : List Note) (n : ℕ) (pair : Pair) → FromBeginning me ns (before ++ HostNote.Refused (Call.State n pair) CallFault.NoEntry ∷ after) → record_marked pair (marks_of pair (notes_of n before)) ≡ None }
 {}
 
 /// A link leads to a pair that is marked with it: to one that sends, whose RTS came with it, or to one that

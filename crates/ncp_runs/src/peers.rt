@@ -1,5 +1,5 @@
 //! Each peer by itself.
-ghost use Rattle.std.specs.Prelude.{◌≡◌, ℕ, true, false, List, [], ◌∷◌, Some};
+ghost use Rattle.std.specs.Prelude.{◌≡◌, ℕ, true, false, List, [], ◌∷◌, ◌++◌, Some};
 ghost use Rattle.ncp_host.specs.PeerState.{new_state};
 ghost use Rattle.ncp_host.specs.Host.{state_of, is_one_of, new_host};
 ghost use Rattle.ncp_host.specs.Counting.{none_ignored};
@@ -23,6 +23,11 @@ pub fn each_peer_is_by_itself()
 /// What is ignored after any run is what its notes say was of no peer.
 pub fn what_is_ignored_is_of_no_peer()
     ensures { (me : ℕ) (ns : List ℕ) (all : List Note) → FromBeginning me ns all → (after_notes all (new_host me ns)).ignored ≡ ignored_by all none_ignored }
+{}
+
+/// The beginning of a run is a run, from the same beginning: so every law of runs holds after each note of one.
+pub fn a_beginning_of_a_run_is_a_run()
+    ensures { (me : ℕ) (ns : List ℕ) (before after : List Note) → FromBeginning me ns (before ++ after) → FromBeginning me ns before }
 {}
 
 /// That these laws speak of something: a run of a host with two peers, and the notes of each.

@@ -1,4 +1,4 @@
-use Rattle.ncp_runs.proofs.InOrder.{flags-noted, up-noted}
+use Rattle.ncp_runs.proofs.InOrder.{flags-noted, up-noted, flags-said}
 use Rattle.ncp_runs.proofs.commands.flags_are_what_was_made_and_came.Goals as goal
 
 pub returns-clause-down : goal.returns-clause-down
@@ -15,3 +15,6 @@ returns-clause-wait c me ns all n s from there = (flags-noted me ns all n s from
 
 pub returns-clause-up : goal.returns-clause-up
 returns-clause-up c = up-noted
+
+pub returns-clause-noted : goal.returns-clause-noted
+returns-clause-noted c = flags-said

@@ -1,4 +1,4 @@
-use Rattle.ncp_runs.proofs.Recorded.{end-there, stored-there, open-there, record-there, record-noted}
+use Rattle.ncp_runs.proofs.Recorded.{end-there, stored-there, open-there, record-there, record-noted, none-noted}
 use Rattle.ncp_runs.proofs.marks.records_are_what_marks_and_sums_say.Goals as goal
 
 pub returns-clause-end : goal.returns-clause-end
@@ -21,3 +21,6 @@ returns-clause-sums c me ns all n s pair e from there is = let k = stored-there 
 
 pub returns-clause-noted : goal.returns-clause-noted
 returns-clause-noted c = record-noted
+
+pub returns-clause-none_noted : goal.returns-clause-none_noted
+returns-clause-none_noted c = none-noted
