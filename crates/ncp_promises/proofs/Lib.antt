@@ -7,3 +7,4 @@ pub mod Keeping
 pub mod Watching
 pub mod Opening
 pub mod Beginnings
+pub mod First

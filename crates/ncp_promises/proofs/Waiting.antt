@@ -68,12 +68,12 @@ none-there : (w : hosts.World) → Reached w → is_up w.that.host ≡ false →
 none-there w r = of-reached (λ (x : hosts.World). is_up x.that.host ≡ false → (x.that.ends ≡ no_ends) × (filter is_other x.that.host.phase.waiting ≡ []))
     (λ (es : List hosts.Event) e. let k = (ever es).holds.joined in (k.that.none e, k.kept.that.waiting e)) w r
 
-still-here : (w : hosts.World) (v : World) → Tied w v → Waits v.this → StillWaits v.this
+pub still-here : (w : hosts.World) (v : World) → Tied w v → Waits v.this → StillWaits v.this
 still-here w v t a =
     let k = none-here w t.reached (ap (λ (p : Peer). up p.phase) (sym t.this.peer) ∙ down v.this.peer.phase a) in
     (a, ap (λ (p : Peer). p.ends) t.this.peer ∙ k.0, ap (λ (p : Peer). filter is_other p.phase.waiting) t.this.peer ∙ k.1)
 
-still-there : (w : hosts.World) (v : World) → Tied w v → Waits v.that → StillWaits v.that
+pub still-there : (w : hosts.World) (v : World) → Tied w v → Waits v.that → StillWaits v.that
 still-there w v t a =
     let k = none-there w t.reached (ap (λ (p : Peer). up p.phase) (sym t.that.peer) ∙ down v.that.peer.phase a) in
     (a, ap (λ (p : Peer). p.ends) t.that.peer ∙ k.0, ap (λ (p : Peer). filter is_other p.phase.waiting) t.that.peer ∙ k.1)

@@ -1,18 +1,25 @@
 //! Laws of every transcript of a world, each the contract of a function that does nothing.
-ghost use Rattle.std.specs.Prelude.{List, ◌++◌};
+ghost use Rattle.std.specs.Prelude.{Bool, List, ◌∷◌, ◌++◌, None, Some};
+ghost use Rattle.ncp_host.specs.Readiness.{IsNext};
+ghost use Rattle.ncp_transcript.specs.declared.note.HostNote.TheVariants as of_host;
+ghost use Rattle.ncp_world.specs.declared.note.Note.TheVariants as of_world;
+ghost use Rattle.ncp_world.specs.declared.side.Side as sides;
 ghost use Rattle.ncp_world.specs.declared.note.Note.{Note};
-ghost use Rattle.ncp_world.specs.Between.{Hosts, after_notes};
+ghost use Rattle.ncp_world.specs.Between.{Hosts, host_of, after_notes};
 ghost use Rattle.ncp_world.specs.Transcript.{began, IsTranscript};
 ghost use Rattle.ncp_promises.specs.EachNote.{OfEachNote};
 ghost use Rattle.ncp_promises.specs.Judged.{ActsOnce, MakesNoErr};
-ghost use Rattle.ncp_promises.specs.Resetting.{OnlyResetsAct};
+ghost use Rattle.ncp_promises.specs.Resetting.{Waits, StillWaits, OnlyResetsAct};
 ghost use Rattle.ncp_promises.specs.Openings.{OpensUnderNoText};
 ghost use Rattle.ncp_promises.specs.Since.{Watches, none_watched, watched_from, other_way, CommandsAgree, IsSilent};
 ghost use Rattle.ncp_world.specs.World.{swap};
 ghost use Rattle.ncp_world.specs.Seen.{seen};
 
+use ncp_world::transcripts::each_host_is_by_itself;
+
 /// Each command of a control message that comes acts once, in order, and nothing else does; none of them
-/// is answered by an ERR, and nothing that comes is refused.
+/// is answered by an ERR, and no control text has a fault. No text is answered as not connected, of the wrong
+/// size or beyond the allocation, and no bits are a faulty message.
 pub fn what_comes_acts_once_and_is_right()
     ensures once { (notes : List Note) (w : Hosts) → IsTranscript notes w → OfEachNote ActsOnce notes (began w) }
     ensures right { (notes : List Note) (w : Hosts) → IsTranscript notes w → OfEachNote MakesNoErr notes (began w) }
@@ -20,9 +27,11 @@ pub fn what_comes_acts_once_and_is_right()
 
 /// From making an RST until an RRP came, a host acts on nothing but RST and RRP: in each note of that time no
 /// call changes what it keeps of its peer, all that comes but these two is dropped, and nothing but them
-/// waits to go out. It waits on in each note but one in which an RRP comes.
+/// waits to go out. It waits on in each note but one in which an RRP comes; and from the first, while it waits
+/// it has no connection.
 pub fn only_resets_act_until_the_answer()
-    ensures { (notes : List Note) (w : Hosts) → IsTranscript notes w → OfEachNote OnlyResetsAct notes (began w) }
+    ensures waiting { (notes : List Note) (w : Hosts) → IsTranscript notes w → (Waits (seen w).this → StillWaits (seen w).this) × (Waits (seen w).that → StillWaits (seen w).that) }
+    ensures acts { (notes : List Note) (w : Hosts) → IsTranscript notes w → OfEachNote OnlyResetsAct notes (began w) }
 {}
 
 /// Commands act once and in order: between two hosts that are up no RST or RRP is underway, and the commands
@@ -38,6 +47,15 @@ pub fn commands_act_once_in_order()
 pub fn none_opens_while_its_link_has_a_text()
     ensures { (notes : List Note) (w : Hosts) → IsTranscript notes w → OfEachNote OpensUnderNoText notes (began w) }
 {}
+
+/// Each host of a world is asked in vain for its next message only where no link to the other host is ready;
+/// and what goes out is the message on the first link that is.
+pub fn what_goes_out_is_first_of_each_host()
+    ensures nothing { (before after : List Note) (w : Hosts) (side : sides.Side) → IsTranscript (before ++ of_world.Out side of_host.Nothing ∷ after) w → IsNext None (host_of side (after_notes before (began w))).peers }
+    ensures out { (before after : List Note) (w : Hosts) (side : sides.Side) (message : List Bool) → IsTranscript (before ++ of_world.Out side (of_host.Out message) ∷ after) w → IsNext (Some message) (host_of side (after_notes before (began w))).peers }
+{
+    each_host_is_by_itself();
+}
 
 /// Each beginning of a transcript is one too, of the hosts as they were then: so what holds of every transcript
 /// holds after each of its notes.
