@@ -5,8 +5,8 @@
  * Every function but ncp_free answers a number: 0 where it was done, else why not. What is refused
  * changes nothing, neither the host nor a buffer. Refusals are judged in the order in which they are
  * listed, and first of all: NCP_NO_HOST (`host` is null, or has no host), NCP_NO_POINTER (another
- * pointer is null), then what is said of buffers and bits. No function keeps a pointer that it was
- * given: what the host keeps it has copied.
+ * pointer is null, also one to no bytes), then what is said of buffers and bits. No function keeps a
+ * pointer that it was given: what the host keeps it has copied.
  *
  * Sizes of messages and texts are in bits, lengths of buffers in bytes. A bit string stands in bytes
  * from the most significant bit of the first byte; its spare bits in the last byte are zero.
@@ -14,7 +14,8 @@
  * What the caller has to uphold, and nothing checks:
  * - A `struct ncp_host` is NCP_EMPTY before its first use. Later its content is what these functions
  *   left there: it may be moved to another place, but of two copies only one is used.
- * - One call at a time for each host, and each host on the thread that made it.
+ * - One call at a time for each host, also of those that only read, and each host on the thread that
+ *   made it.
  * - A pointer that is not null leads to as much memory as the length beside it says, no two of one
  *   call overlap, and each is aligned as its type asks.
  * - malloc, realloc and free are one allocator, which aligns to 16 bytes; no call is made in a signal
@@ -74,14 +75,18 @@ enum {
     NCP_LONGEST_NAME = 12
 };
 
-/* What became of bits that came: `what` of `struct ncp_arrived`, in the order in which it is judged. */
+/* What became of bits that came: `what` of `struct ncp_arrived`, in the order in which it is judged. Where
+ * nothing is said of `detail`, it is 0. */
 enum {
     NCP_ARRIVED_SHORT = 1,      /* fewer than 32 bits */
     NCP_ARRIVED_OTHER = 2,      /* `detail`: a type that says nothing to a host */
     NCP_ARRIVED_UNKNOWN = 3,    /* from a host that is no peer */
     NCP_ARRIVED_STRAY = 4,      /* an answer where none is waited for */
     NCP_ARRIVED_ANSWERED = 5,   /* the answer to the message that went out on its link */
-    NCP_ARRIVED_FAULT = 6,      /* `detail`: 1 to 7, why it is no regular message */
+    NCP_ARRIVED_FAULT = 6,      /* `detail`: why it is no regular message, in this order: 1 shorter than
+                                 * leader and prefix, 2 the eight bits before the byte size are not zero,
+                                 * 3 the byte size is zero, 4 the eight bits after the byte count are not
+                                 * zero, 5 the text is shorter than byte size and byte count say */
     NCP_ARRIVED_WRONG_LINK = 7, /* link 1, or over 71 */
     NCP_ARRIVED_WRONG_SIZE = 8, /* a control message whose bytes have not 8 bits */
     NCP_ARRIVED_CONTROL = 9,    /* `detail`: how many whole commands were read */

@@ -4,7 +4,7 @@
 use anyhow::Result;
 use ncp_player::{
     FileFault, FromRead, Order, PackedStore, PlayFault, ToWrite, check, order, play_host,
-    play_world, show, status,
+    play_world, record_world, show, status,
 };
 use std::alloc::AllocGlobal;
 use std::env::{self, Env};
@@ -53,6 +53,9 @@ fn main(rt: HostRuntime) -> Result<ExitCode> {
             |fault| Fault::Play(fault),
         ),
         Order::World => play_world::<PackedStore, _, _>(alloc, &mut source, &mut sink).map_err(
+            |fault| Fault::Play(fault),
+        ),
+        Order::Record => record_world::<PackedStore, _, _>(alloc, &mut source, &mut sink).map_err(
             |fault| Fault::Play(fault),
         ),
     };

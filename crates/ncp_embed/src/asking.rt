@@ -1,4 +1,5 @@
-//! The calls of a user that take memory.
+//! The calls of a user that take memory. Each answers `NO_HOST` where there is no host, and else `DONE`
+//! or the number of the refusal.
 ghost use Rattle.std.specs.Prelude.{◌≡◌, ◌≢◌};
 ghost use Rattle.ncp_model.specs.Peers.{Ask_to_send, Ask_to_receive};
 ghost use Rattle.ncp_host.specs.Calls.{call_reply, after_call};

@@ -22,6 +22,8 @@ use ncp_model::Pair;
 use std::alloc::Global;
 
 /// `Host::receive`, of the first `bits` bits of a buffer.
+///
+/// Refused, in this order: `BITS` and the number of the fault of bits, `NO_HOST`.
 #[unsafe(no_mangle)]
 pub extern "C" fn ncp_embed_receive(
     alloc: Global,
@@ -49,7 +51,10 @@ pub extern "C" fn ncp_embed_receive(
     DONE
 }
 
-/// `Host::next_output`. `NOTHING` where none is ready.
+/// `Host::next_output`, into the front of a buffer, with its length in bits.
+///
+/// Refused, in this order: `SHORT_BUFFER` (fewer than `LONGEST_MESSAGE` bytes), `NO_HOST`, `NOTHING`
+/// (none is ready).
 #[unsafe(no_mangle)]
 #[tactic(auto, using(crate::proofs::Quiet::output_stays))]
 pub extern "C" fn ncp_embed_next_output(
@@ -83,6 +88,9 @@ pub extern "C" fn ncp_embed_next_output(
 }
 
 /// `Host::give`, of the first `bits` bits of a buffer.
+///
+/// Refused, in this order: `BITS` and the number of the fault of bits, `NO_HOST`, the refusals of
+/// `Host::give`.
 #[unsafe(no_mangle)]
 pub extern "C" fn ncp_embed_give(
     alloc: Global,
@@ -109,7 +117,10 @@ pub extern "C" fn ncp_embed_give(
     code_of(answer)
 }
 
-/// `Host::take`.
+/// `Host::take`, into the front of a buffer, with its length in bits.
+///
+/// Refused, in this order: `SHORT_BUFFER` (fewer than `LONGEST_MESSAGE` bytes), `NO_HOST`, the refusals
+/// of `Host::take`.
 #[unsafe(no_mangle)]
 pub extern "C" fn ncp_embed_take(
     alloc: Global,

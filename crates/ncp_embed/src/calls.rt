@@ -1,4 +1,5 @@
-//! The calls of a user that take no memory.
+//! The calls of a user that take no memory. Each answers `NO_HOST` where there is no host, and else
+//! `DONE` or the number of the refusal.
 ghost use Rattle.std.specs.Prelude.{◌≡◌, ◌≢◌};
 ghost use Rattle.ncp_model.specs.Peers.{Close, Allocate, Call_back, Interrupt};
 ghost use Rattle.ncp_host.specs.Calls.{call_reply, after_call, reset_reply, after_reset, echo_reply, after_echo, wake_reply, after_wake};

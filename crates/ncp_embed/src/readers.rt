@@ -1,4 +1,5 @@
-//! What a user may read. The host stays as it was.
+//! What a user may read. The host stays as it was. Each answers `NO_HOST` where there is no host; a
+//! buffer that is too short is judged before that.
 ghost use Rattle.std.specs.Prelude.{◌≡◌, Ok};
 ghost use Rattle.ncp_control.specs.declared.command.TheConstants.{LONGEST_COMMAND};
 ghost use Rattle.ncp_host.specs.Host.{state_of};
@@ -112,7 +113,10 @@ pub extern "C" fn ncp_embed_ignored(alloc: Global, handle: &mut Handle, out: &mu
     DONE
 }
 
-/// `Host::waiting`, as the bytes of the command. `NOTHING` where none waits at that place.
+/// `Host::waiting`, as the bytes of the command in the front of a buffer, with their number.
+///
+/// Refused, in this order: `SHORT_BUFFER` (fewer than `LONGEST_COMMAND` bytes), `NO_HOST`, `NOTHING`
+/// (none waits at that place).
 #[unsafe(no_mangle)]
 pub extern "C" fn ncp_embed_waiting(
     alloc: Global,
@@ -144,7 +148,10 @@ pub extern "C" fn ncp_embed_waiting(
     }
 }
 
-/// `Host::kept`. `NOTHING` where none is kept on that link.
+/// `Host::kept`, into the front of a buffer, with its length in bits.
+///
+/// Refused, in this order: `SHORT_BUFFER` (fewer than `LONGEST_MESSAGE` bytes), `NO_HOST`, `NOTHING`
+/// (none is kept on that link).
 #[unsafe(no_mangle)]
 pub extern "C" fn ncp_embed_kept(
     alloc: Global,

@@ -25,6 +25,8 @@ header_ends bytes window left file.BadHeader h = (refl, subst (λ (o : Option Di
 header_ends bytes window left file.Truncated h = let e : ⊥ = cc (h.0) in absurd e
 header_ends bytes window left file.TooLong h = let e : ⊥ = cc (h.0) in absurd e
 header_ends bytes window left file.SpareNotZero h = let e : ⊥ = cc (h.0) in absurd e
+header_ends bytes window left file.BadDirection h = let e : ⊥ = cc (h.0) in absurd e
+header_ends bytes window left file.Mixed h = let e : ⊥ = cc (h.0) in absurd e
 header_ends bytes window left file.ReadFailed h = h
 header_ends bytes window left file.WriteFailed h = h
 
@@ -41,6 +43,8 @@ next_ends bytes window message left before now file.BadHeader h same = (h, same)
 next_ends bytes window message left before now file.Truncated h same = (h, same)
 next_ends bytes window message left before now file.TooLong h same = (h, same)
 next_ends bytes window message left before now file.SpareNotZero h same = (h, same)
+next_ends bytes window message left before now file.BadDirection h same = (h, same)
+next_ends bytes window message left before now file.Mixed h same = (h, same)
 next_ends bytes window message left before now file.ReadFailed h same = (h, same)
 next_ends bytes window message left before now file.WriteFailed h same = absurd h
 
@@ -69,6 +73,8 @@ from_err bytes window left before now (Feed file.BadHeader) h = no_message bytes
 from_err bytes window left before now (Feed file.Truncated) h = no_message bytes before now _ h.0 h.1
 from_err bytes window left before now (Feed file.TooLong) h = no_message bytes before now _ h.0 h.1
 from_err bytes window left before now (Feed file.SpareNotZero) h = no_message bytes before now _ h.0 h.1
+from_err bytes window left before now (Feed file.BadDirection) h = no_message bytes before now _ h.0 h.1
+from_err bytes window left before now (Feed file.Mixed) h = no_message bytes before now _ h.0 h.1
 from_err bytes window left before now (Feed file.ReadFailed) h = let cut = h.0 in (window, cut.3.0, cut.0, sym cut.3.2, cut.3.1, cut.1, ([], cut.2, h.1))
 from_err bytes window left before now (Feed file.WriteFailed) h = absurd (h.0)
 from_err bytes window left before now OutOfMemory h = let all = holds_some bytes in ([], all.0, all.1, all.2, h.3)
@@ -92,6 +98,8 @@ module _ (bytes rest : List ℕ) (message : List Bool) (before next : Alone) (h 
   from_more left (Err (Feed file.Truncated)) now k = more_hear now _ k
   from_more left (Err (Feed file.TooLong)) now k = more_hear now _ k
   from_more left (Err (Feed file.SpareNotZero)) now k = more_hear now _ k
+  from_more left (Err (Feed file.BadDirection)) now k = more_hear now _ k
+  from_more left (Err (Feed file.Mixed)) now k = more_hear now _ k
   from_more left (Err (Feed file.ReadFailed)) now k =
       let front = next_record-front bytes rest message h in
       let heard = k.6 in (

@@ -29,6 +29,8 @@ feed_ends bytes window left alone file.BadHeader h = ([], other_holds (direction
 feed_ends bytes window left alone file.Truncated h = let e : ⊥ = cc (h.0) in absurd e
 feed_ends bytes window left alone file.TooLong h = let e : ⊥ = cc (h.0) in absurd e
 feed_ends bytes window left alone file.SpareNotZero h = let e : ⊥ = cc (h.0) in absurd e
+feed_ends bytes window left alone file.BadDirection h = let e : ⊥ = cc (h.0) in absurd e
+feed_ends bytes window left alone file.Mixed h = let e : ⊥ = cc (h.0) in absurd e
 feed_ends bytes window left alone file.ReadFailed h =
     let none : FeedHolds window [] (Some file.BadHeader) = subst (λ (o : Option Direction). HoldsBehind o (drop 4 window) [] (Some file.BadHeader)) (sym (direction_of-short window h.0)) (refl, refl) in
     (window, h.1.0, [], Some file.BadHeader, sym h.1.2, h.1.1, h.0, none, refl)
@@ -51,6 +53,8 @@ module _ (bytes : List ℕ) (head : direction_of bytes ≡ Some FromImp) (before
   heard_part left now (Feed file.Truncated) h = heard_to now _ h
   heard_part left now (Feed file.TooLong) h = heard_to now _ h
   heard_part left now (Feed file.SpareNotZero) h = heard_to now _ h
+  heard_part left now (Feed file.BadDirection) h = heard_to now _ h
+  heard_part left now (Feed file.Mixed) h = heard_to now _ h
   heard_part left now (Feed file.ReadFailed) h =
       let behind = behind_header bytes h.0 h.1 FromImp head h.3 in
       let given = take 4 bytes ++ h.0 in

@@ -2,7 +2,7 @@
 use Rattle.std.proofs.Common.{◌≡◌, ℕ, Bool, List, [], ◌++◌, Option, Some, Ok, Err, sym, ap, ◌∙◌}
 use Rattle.std.proofs.lemmas.List.{append-nil}
 use Rattle.ncp_files.specs.declared.file.FileFault.{FileFault}
-use Rattle.ncp_files.specs.declared.file.FileFault.TheVariants.{BadHeader, Truncated, TooLong, SpareNotZero, ReadFailed, WriteFailed}
+use Rattle.ncp_files.specs.declared.file.FileFault.TheVariants.{BadHeader, Truncated, TooLong, SpareNotZero, ReadFailed, WriteFailed, BadDirection, Mixed}
 use Rattle.ncp_files.specs.declared.tally.Tally.{Tally}
 use Rattle.ncp_stream.specs.Streams.{SaidSoFar, SaysText, SaysBeginning}
 use Rattle.ncp_files.specs.Checked.{tally_of, tally_line, is_sound, Checked}
@@ -32,5 +32,7 @@ checked_fault bytes was left written BadHeader h e = (h.0, h.1, e)
 checked_fault bytes was left written Truncated h e = (h.0, h.1, e)
 checked_fault bytes was left written TooLong h e = (h.0, h.1, e)
 checked_fault bytes was left written SpareNotZero h e = (h.0, h.1, e)
+checked_fault bytes was left written BadDirection h e = (h.0, h.1, e)
+checked_fault bytes was left written Mixed h e = (h.0, h.1, e)
 checked_fault bytes was left written ReadFailed h e = (h.0, h.1, h.2, h.3, h.4, h.5, h.6, h.7, e)
 checked_fault bytes was left written WriteFailed h e = absurd h

@@ -1,8 +1,7 @@
 -- What bytes behind a header hold.
-use Rattle.std.proofs.Common.{◌≡◌, ℕ, suc, zero, ◌+◌, ◌≤◌, Bool, true, false, cond, ltb, List, [], ◌∷◌, ◌++◌, length, take, drop, slice_range, Option, Some, None, Result, Ok, Err, refl, sym, ap, ◌∙◌, arith, subst, All}
+use Rattle.std.proofs.Common.{◌≡◌, ℕ, suc, zero, ◌+◌, ◌<◌, ◌≤◌, Bool, true, false, cond, ltb, List, [], ◌∷◌, ◌++◌, length, take, drop, slice_range, Option, Some, None, Result, Ok, Err, refl, sym, ap, ◌∙◌, arith, subst}
 use Rattle.std.proofs.lemmas.List.{length-append, length-drop, drop-drop, take-append-drop, length-take-le, append_assoc, drop_at}
 use Rattle.std.proofs.lemmas.Bool.{ltb-false}
-use Rattle.std.specs.List.{flat_map}
 use Rattle.std.proofs.Math.ListN.{drop_of_length-le}
 use Rattle.byteorder.specs.Endian.{big_number, big_bytes}
 use Rattle.byteorder.specs.Numbers.{big_from-append, big_number-reads_back}
@@ -12,10 +11,8 @@ use Rattle.ncp_bits.specs.declared.bits.BitsFault.TheVariants as bits
 use Rattle.ncp_bits.proofs.Bytes.{read_bytes-append}
 use Rattle.ncp_bits.proofs.Joins.{length-bytes_of, read_bytes-bytes_of}
 use Rattle.ncp_files.specs.declared.file.FileFault.{FileFault}
-use Rattle.ncp_files.specs.declared.file.Direction.{Direction}
-use Rattle.ncp_files.specs.declared.file.Direction.TheVariants.{ToImp, FromImp}
-use Rattle.ncp_files.specs.File.{Next, next_record, record_of, ending, Holds, direction_of, record_bytes, file_bytes}
-use Rattle.ncp_files.specs.Checked.{FileHolds}
+use Rattle.ncp_files.specs.File.{next_record, record_of, ending, HoldsBy, Holds, record_bytes}
+use Rattle.ncp_files.specs.Steps.{Reader}
 use Rattle.ncp_files.proofs.Files.{next_none, next_read, next_whole, behind_record}
 
 -- ---- a record at the front
@@ -65,51 +62,77 @@ next_record-front bytes rest message h =
 
 -- ---- all records
 
-some_next : (n : ℕ) (bytes : List ℕ) → length bytes ≤ suc n → (r : Result (Option (List Bool × List ℕ)) FileFault) → next_record bytes ≡ r
-    → ((rest : List ℕ) → length rest ≤ n → (messages : List (List Bool)) × (fault : Option FileFault) × Holds rest messages fault)
-    → (messages : List (List Bool)) × (fault : Option FileFault) × Holds bytes messages fault
-some_next n bytes h (Ok None) e more = ([], None, e)
-some_next n bytes h (Ok (Some (message, rest))) e more =
-    let front = next_record-front bytes rest message e in
-    let behind = more rest (omega (arith, front.3, simp length-append at (ap length front.1))) in
-    (message ∷ behind.0, behind.1, (rest, e, behind.2))
-some_next n bytes h (Err fault) e more = ([], Some fault, e)
+-- what is read is a record at the front, whatever follows
+abbrev pub IsFront : {X : Type 0} → Reader X → Type 0
+IsFront {X} next = (bytes rest : List ℕ) (first : X) → next bytes ≡ Ok (Some (first, rest))
+    → (front : List ℕ) × (bytes ≡ front ++ rest) × ((tail : List ℕ) → next (front ++ tail) ≡ Ok (Some (first, tail))) × (0 < length front)
 
-some_within : (n : ℕ) (bytes : List ℕ) → length bytes ≤ n → (messages : List (List Bool)) × (fault : Option FileFault) × Holds bytes messages fault
-some_within zero bytes h = ([], None, next_none bytes (omega arith))
-some_within (suc n) bytes h = some_next n bytes h (next_record bytes) refl (some_within n)
+pub record_front : IsFront next_record
+record_front bytes rest message h = let f = next_record-front bytes rest message h in (f.0, f.1, f.2, omega (arith, f.3))
 
--- bytes hold some records, and end or have a fault behind them
+module _ {X : Type 0} (next : Reader X) (front : IsFront next) where
+  by_next : (n : ℕ) (bytes : List ℕ) → length bytes < suc n → (r : Result (Option (X × List ℕ)) FileFault) → next bytes ≡ r
+      → ((rest : List ℕ) → length rest < n → (records : List X) × (fault : Option FileFault) × HoldsBy next rest records fault)
+      → (records : List X) × (fault : Option FileFault) × HoldsBy next bytes records fault
+  by_next n bytes h (Ok None) e more = ([], None, e)
+  by_next n bytes h (Ok (Some (first, rest))) e more =
+      let f = front bytes rest first e in
+      let behind = more rest (omega (arith, f.3, simp length-append at (ap length f.1))) in
+      (first ∷ behind.0, behind.1, (rest, e, behind.2))
+  by_next n bytes h (Err fault) e more = ([], Some fault, e)
+
+  by_within : (n : ℕ) (bytes : List ℕ) → length bytes < n → (records : List X) × (fault : Option FileFault) × HoldsBy next bytes records fault
+  by_within zero bytes h = absurd (omega arith)
+  by_within (suc n) bytes h = by_next n bytes h (next bytes) refl (by_within n)
+
+  -- bytes hold some records, and end or have a fault behind them
+  pub by_some : (bytes : List ℕ) → (records : List X) × (fault : Option FileFault) × HoldsBy next bytes records fault
+  by_some bytes = by_within (suc (length bytes)) bytes (omega arith)
+
+  -- and those of more bytes begin with them
+  pub by_longer : (given rest : List ℕ) (records : List X) (fault : Option FileFault) → HoldsBy next given records fault
+      → (more : List X) × (last : Option FileFault) × HoldsBy next (given ++ rest) (records ++ more) last
+  by_longer given rest [] fault h = by_some (given ++ rest)
+  by_longer given rest (first ∷ records) fault h =
+      let longer = by_longer h.0 rest records fault h.2 in
+      let f = front given h.0 first h.1 in
+      (longer.0, longer.1, (h.0 ++ rest, ap (λ xs. next (xs ++ rest)) f.1 ∙ ap next (append_assoc f.0 h.0 rest) ∙ f.2 (h.0 ++ rest), longer.2))
+
 pub holds_some : (bytes : List ℕ) → (messages : List (List Bool)) × (fault : Option FileFault) × Holds bytes messages fault
-holds_some bytes = some_within (length bytes) bytes (omega arith)
+holds_some bytes = by_some next_record record_front bytes
 
 -- ---- one reading
 
-ends_once : (fault other : Option FileFault) (r : Result Next FileFault) → r ≡ ending fault → r ≡ ending other → fault ≡ other
-ends_once None None r h k = refl
-ends_once None (Some f) r h k = let e : ⊥ = cc in absurd e
-ends_once (Some f) None r h k = let e : ⊥ = cc in absurd e
-ends_once (Some f) (Some g) r h k = let e : f ≡ g = cc in ap Some e
+module _ {X : Type 0} where
+  ends_once : (fault other : Option FileFault) (r : Result (Option (X × List ℕ)) FileFault) → r ≡ ending fault → r ≡ ending other → fault ≡ other
+  ends_once None None r h k = refl
+  ends_once None (Some f) r h k = let e : ⊥ = cc in absurd e
+  ends_once (Some f) None r h k = let e : ⊥ = cc in absurd e
+  ends_once (Some f) (Some g) r h k = let e : f ≡ g = cc in ap Some e
 
--- no record stands where the file ends
-never_both : (fault : Option FileFault) (message : List Bool) (rest : List ℕ) (r : Result Next FileFault) → r ≡ ending fault → r ≡ Ok (Some (message, rest)) → ⊥
-never_both None message rest r h k = let e : ⊥ = cc in e
-never_both (Some f) message rest r h k = let e : ⊥ = cc in e
+  -- no record stands where the file ends
+  never_both : (fault : Option FileFault) (first : X) (rest : List ℕ) (r : Result (Option (X × List ℕ)) FileFault) → r ≡ ending fault → r ≡ Ok (Some (first, rest)) → ⊥
+  never_both None first rest r h k = let e : ⊥ = cc in e
+  never_both (Some f) first rest r h k = let e : ⊥ = cc in e
 
--- one record stands there
-same_record : (message other : List Bool) (rest more : List ℕ) (r : Result Next FileFault) → r ≡ Ok (Some (message, rest)) → r ≡ Ok (Some (other, more)) → (message ≡ other) × (rest ≡ more)
-same_record message other rest more r h k =
-    let pair : ◌≡◌ {A = List Bool × List ℕ} (message, rest) (other, more) = cc in
-    (ap (λ p. p.0) pair, ap (λ p. p.1) pair)
+  -- one record stands there
+  same_record : (first other : X) (rest more : List ℕ) (r : Result (Option (X × List ℕ)) FileFault) → r ≡ Ok (Some (first, rest)) → r ≡ Ok (Some (other, more)) → (first ≡ other) × (rest ≡ more)
+  same_record first other rest more r h k =
+      let pair : ◌≡◌ {A = X × List ℕ} (first, rest) (other, more) = cc in
+      (ap (λ p. p.0) pair, ap (λ p. p.1) pair)
+
+module _ {X : Type 0} (next : Reader X) where
+  pub by_once : (bytes : List ℕ) (records others : List X) (fault other : Option FileFault) → HoldsBy next bytes records fault → HoldsBy next bytes others other → (records ≡ others) × (fault ≡ other)
+  by_once bytes [] [] fault other h k = (refl, ends_once fault other (next bytes) h k)
+  by_once bytes [] (second ∷ others) fault other h k = absurd (never_both fault second k.0 (next bytes) h k.1)
+  by_once bytes (first ∷ records) [] fault other h k = absurd (never_both other first h.0 (next bytes) k h.1)
+  by_once bytes (first ∷ records) (second ∷ others) fault other h k =
+      let same = same_record first second h.0 k.0 (next bytes) h.1 k.1 in
+      let rest = by_once h.0 records others fault other h.2 (subst (λ xs. HoldsBy next xs others other) (sym same.1) k.2) in
+      (ap (λ m. m ∷ records) same.0 ∙ ap (λ ms. second ∷ ms) rest.0, rest.1)
 
 pub holds_once : (bytes : List ℕ) (messages others : List (List Bool)) (fault other : Option FileFault) → Holds bytes messages fault → Holds bytes others other → (messages ≡ others) × (fault ≡ other)
-holds_once bytes [] [] fault other h k = (refl, ends_once fault other (next_record bytes) h k)
-holds_once bytes [] (second ∷ others) fault other h k = absurd (never_both fault second k.0 (next_record bytes) h k.1)
-holds_once bytes (first ∷ messages) [] fault other h k = absurd (never_both other first h.0 (next_record bytes) k h.1)
-holds_once bytes (first ∷ messages) (second ∷ others) fault other h k =
-    let same = same_record first second h.0 k.0 (next_record bytes) h.1 k.1 in
-    let rest = holds_once h.0 messages others fault other h.2 (subst (λ xs. Holds xs others other) (sym same.1) k.2) in
-    (ap (λ m. m ∷ messages) same.0 ∙ ap (λ ms. second ∷ ms) rest.0, rest.1)
+holds_once bytes messages others fault other h k = by_once next_record bytes messages others fault other h k
 
 -- ---- written files
 
@@ -129,24 +152,3 @@ next_record-written message rest h =
     ∙ ap (λ xs. record_of len xs (read_bytes xs len)) behind
     ∙ ap (record_of len (bytes_of message ++ rest)) (read_bytes-append (bytes_of message) rest len long ∙ read_bytes-bytes_of message h)
     ∙ ap (λ xs. Ok (Some (message, xs))) (drop_at (bytes_of message) rest (bytes_for len) long)
-
-holds_written : (messages : List (List Bool)) → All (λ message. length message ≤ 8192) messages → Holds (flat_map record_bytes messages) messages None
-holds_written [] h = next_none [] refl
-holds_written (message ∷ messages) h =
-    let rest = flat_map record_bytes messages in
-    (rest, next_record-written message rest (h 0 message (omega arith)), holds_written messages (λ k d less. h (suc k) d (omega arith)))
-
-pub direction_of-written : (direction : Direction) (messages : List (List Bool)) → direction_of (file_bytes direction messages) ≡ Some direction
-direction_of-written ToImp messages = refl
-direction_of-written FromImp messages = refl
-
--- a file that was written holds its messages
-pub file_holds_written : (direction : Direction) (messages : List (List Bool)) → All (λ message. length message ≤ 8192) messages → FileHolds (file_bytes direction messages) messages None
-file_holds_written ToImp messages h = holds_written messages h
-file_holds_written FromImp messages h = holds_written messages h
-
--- and nothing else
-pub file_holds_only : (direction : Direction) (messages others : List (List Bool)) (fault : Option FileFault) → All (λ message. length message ≤ 8192) messages
-    → FileHolds (file_bytes direction messages) others fault → (others ≡ messages) × (fault ≡ None)
-file_holds_only ToImp messages others fault h k = holds_once (flat_map record_bytes messages) others messages fault None k (holds_written messages h)
-file_holds_only FromImp messages others fault h k = holds_once (flat_map record_bytes messages) others messages fault None k (holds_written messages h)

@@ -12,7 +12,7 @@ use Rattle.ncp_bits.specs.declared.bits.BitsFault.{BitsFault}
 use Rattle.ncp_bits.specs.declared.bits.BitsFault.TheVariants as bits
 use Rattle.ncp_bits.proofs.Bytes.{read_bytes-append}
 use Rattle.ncp_files.specs.declared.file.FileFault.TheVariants.{Truncated, TooLong}
-use Rattle.ncp_files.specs.File.{direction_of, next_record, record_of, fault_of_bits}
+use Rattle.ncp_files.specs.File.{version_of, one_direction, direction_of, next_record, record_of, fault_of_bits}
 use Rattle.ncp_stream.specs.Streams.{Ahead}
 use Rattle.ncp_files.specs.Steps.{CutOff, ReadsRecord}
 
@@ -34,17 +34,20 @@ unlike : (xs ys : List ℕ) → length xs < length ys → bytes_eq xs ys ≡ fal
 unlike xs ys h = false_unless (bytes_eq xs ys) (λ e. let same : xs ≡ ys = (bytes_eq-Decides xs ys).0 e in let l : length xs ≡ length ys = ap length same in omega arith)
 
 -- fewer than four bytes are no header
-pub direction_of-short : (bytes : List ℕ) → length bytes < 4 → direction_of bytes ≡ None
-direction_of-short bytes h =
+pub version_of-short : (bytes : List ℕ) → length bytes < 4 → version_of bytes ≡ None
+version_of-short bytes h =
     let l : length (take 4 bytes) < 4 = simp length-take (omega arith) in
-    rw (unlike (take 4 bytes) (codes "NCPH") l, unlike (take 4 bytes) (codes "NCPI") l) refl
+    rw (unlike (take 4 bytes) (codes "NCPH") l, unlike (take 4 bytes) (codes "NCPI") l, unlike (take 4 bytes) (codes "NCPJ") l) refl
+
+pub direction_of-short : (bytes : List ℕ) → length bytes < 4 → direction_of bytes ≡ None
+direction_of-short bytes h = ap one_direction (version_of-short bytes h)
 
 -- a header is its first four bytes
-pub direction_of-take : (bytes : List ℕ) → direction_of (take 4 bytes) ≡ direction_of bytes
-direction_of-take bytes = rw (take-take 4 4 bytes (omega arith)) refl
+pub version_of-take : (bytes : List ℕ) → version_of (take 4 bytes) ≡ version_of bytes
+version_of-take bytes = rw (take-take 4 4 bytes (omega arith)) refl
 
-pub direction_of-append : (bytes rest : List ℕ) → 4 ≤ length bytes → direction_of (bytes ++ rest) ≡ direction_of bytes
-direction_of-append bytes rest h = rw (take-append-le 4 bytes rest h) refl
+pub version_of-append : (bytes rest : List ℕ) → 4 ≤ length bytes → version_of (bytes ++ rest) ≡ version_of bytes
+version_of-append bytes rest h = rw (take-append-le 4 bytes rest h) refl
 
 -- ---- records
 

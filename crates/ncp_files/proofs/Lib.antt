@@ -4,7 +4,13 @@ pub mod Counting
 pub mod Choosing
 pub mod Hexadecimal
 pub mod Contents
+pub mod Placing
+pub mod Again
+pub mod Turned
+pub mod ConvertedFiles
+pub mod Returning
 pub mod Progress
+pub mod ShownFiles
 pub mod Files
 pub mod Outcomes
 pub mod Windows

@@ -13,7 +13,8 @@ use Rattle.ncp_files.specs.declared.tally.Verdict.{Verdict}
 use Rattle.ncp_files.specs.declared.tally.Verdict.TheVariants as is
 use Rattle.ncp_files.specs.declared.tally.Tally.{Tally}
 use Rattle.ncp_files.specs.Results.{MatchFault}
-use Rattle.ncp_files.specs.File.{direction_of, Holds, IsCut}
+use Rattle.ncp_files.specs.File.{version_of, HoldsBy, IsCut}
+use Rattle.ncp_files.specs.Versions.{Recorded, next_in}
 use Rattle.ncp_files.specs.Lines.{field, is_on_control_link, is_control}
 
 -- ---- one message
@@ -32,6 +33,9 @@ verdict_behind bits (Ok leader) = if leader.kind == 0 then verdict_of_message (m
 
 abbrev pub verdict_of : List Bool → Verdict
 verdict_of bits = verdict_behind bits (leader_in bits)
+
+abbrev pub verdict_of_record : Recorded → Verdict
+verdict_of_record found = verdict_of found.message
 
 abbrev pub is_short : Verdict → Bool
 is_short is.Short = true
@@ -68,17 +72,17 @@ is_bad is.Bad = true
 abbrev pub capped : ℕ → ℕ
 capped number = min number (2 ^ 32 - 1)
 
--- how many messages have a verdict that passes
-abbrev pub count_of : (Verdict → Bool) → List (List Bool) → ℕ
-count_of test messages = capped (count_by (λ message. test (verdict_of message)) messages)
+-- how many records have a verdict that passes
+abbrev pub count_of : (Verdict → Bool) → List Recorded → ℕ
+count_of test records = capped (count_by (λ found. test (verdict_of_record found)) records)
 
-abbrev pub tally_of : List (List Bool) → Tally
-tally_of messages = record {
-  messages = capped (length messages);
-  short = count_of is_short messages;
-  regular = count_of is_of_type_0 messages;
-  faults = count_of is_faulty messages;
-  bad = count_of is_bad messages;
+abbrev pub tally_of : List Recorded → Tally
+tally_of records = record {
+  messages = capped (length records);
+  short = count_of is_short records;
+  regular = count_of is_of_type_0 records;
+  faults = count_of is_faulty records;
+  bad = count_of is_bad records;
 }
 
 -- no message is short or faulty
@@ -93,31 +97,31 @@ tally_line tally =
 -- ---- the file
 
 -- a file's records before its first fault, and that fault, if there is one
-abbrev pub FileHolds : List ℕ → List (List Bool) → Option FileFault → Type 0
-FileHolds bytes messages fault =
-    MatchOption (direction_of bytes) ((messages ≡ []) × (fault ≡ Some BadHeader)) (λ direction. Holds (drop 4 bytes) messages fault)
+abbrev pub FileHolds : List ℕ → List Recorded → Option FileFault → Type 0
+FileHolds bytes records fault =
+    MatchOption (version_of bytes) ((records ≡ []) × (fault ≡ Some BadHeader)) (λ version. HoldsBy (next_in version) (drop 4 bytes) records fault)
 
 -- the file has this fault, and nothing was written
 abbrev pub ChecksNone : List ℕ → List ℕ → Option (List ℕ) → FileFault → Type 0
-ChecksNone bytes was written fault = (messages : List (List Bool)) × FileHolds bytes messages (Some fault) × (written ≡ Some was)
+ChecksNone bytes was written fault = (records : List Recorded) × FileHolds bytes records (Some fault) × (written ≡ Some was)
 
 -- the line was written, and says this
 abbrev pub ChecksAll : List ℕ → List ℕ → Option (List ℕ) → Bool → Type 0
 ChecksAll bytes was written good =
-    (messages : List (List Bool)) × FileHolds bytes messages None × (written ≡ Some (was ++ tally_line (tally_of messages)))
-    × (good ≡ is_sound (tally_of messages))
+    (records : List Recorded) × FileHolds bytes records None × (written ≡ Some (was ++ tally_line (tally_of records)))
+    × (good ≡ is_sound (tally_of records))
 
 -- a beginning of the line was written
 abbrev pub ChecksBeginning : List ℕ → List ℕ → Option (List ℕ) → Type 0
 ChecksBeginning bytes was written =
-    (messages : List (List Bool)) × (text : List ℕ) × (more : List ℕ) × FileHolds bytes messages None
-    × (tally_line (tally_of messages) ≡ text ++ more) × (written ≡ Some (was ++ text))
+    (records : List Recorded) × (text : List ℕ) × (more : List ℕ) × FileHolds bytes records None
+    × (tally_line (tally_of records) ≡ text ++ more) × (written ≡ Some (was ++ text))
 
 -- a read failed: no byte is lost, those that came before have no fault but that they end, and nothing was written
 abbrev pub ChecksRead : List ℕ → List ℕ → Option (List ℕ) → Option (List ℕ) → Type 0
 ChecksRead bytes was left written =
-    (given : List ℕ) × (rest : List ℕ) × (messages : List (List Bool)) × (fault : Option FileFault)
-    × (bytes ≡ given ++ rest) × (left ≡ Some rest) × IsCut given fault × FileHolds given messages fault × (written ≡ Some was)
+    (given : List ℕ) × (rest : List ℕ) × (records : List Recorded) × (fault : Option FileFault)
+    × (bytes ≡ given ++ rest) × (left ≡ Some rest) × IsCut given fault × FileHolds given records fault × (written ≡ Some was)
 
 -- what was written of a file, and what is answered
 abbrev pub Checked : List ℕ → List ℕ → Option (List ℕ) → Option (List ℕ) → Result Bool FileFault → Type 0

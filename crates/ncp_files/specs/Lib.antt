@@ -1,9 +1,13 @@
 pub mod Windows
 pub mod File
+pub mod Versions
 pub mod Reasons
 pub mod Results
 pub mod Lines
+pub mod Writing
 pub mod Shown
+pub mod Converted
 pub mod Steps
+pub mod Turning
 pub mod Checked
 pub mod Tallies

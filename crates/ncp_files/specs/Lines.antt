@@ -1,5 +1,5 @@
 -- The lines that are shown of a record, as functions of its message.
-use Rattle.std.specs.Prelude.{ℕ, ◌+◌, ◌-◌, ◌/◌, ◌%◌, ◌^◌, ◌==◌, ◌&&◌, min, nat_lt, Bool, false, List, [], ◌∷◌, ◌++◌, length, Result, Ok, codes, decimal, if◌then◌else◌}
+use Rattle.std.specs.Prelude.{ℕ, ◌+◌, ◌-◌, ◌/◌, ◌%◌, ◌^◌, ◌==◌, ◌&&◌, min, nat_lt, Bool, false, List, [], ◌∷◌, ◌++◌, length, Option, Some, None, Result, Ok, codes, decimal, if◌then◌else◌}
 use Rattle.std.specs.declared.result.Result.TheVariants.{Err as Fault}
 use Rattle.std.specs.List.{flat_map}
 use Rattle.ncp_bits.specs.Bits.{bytes_of}
@@ -16,6 +16,8 @@ use Rattle.ncp_control.specs.Texts.{items_of}
 use Rattle.ncp_control.specs.Reading.{commands_in, fault_in}
 use Rattle.ncp_files.specs.declared.file.Direction.{Direction}
 use Rattle.ncp_files.specs.declared.file.Direction.TheVariants.{ToImp, FromImp}
+use Rattle.ncp_files.specs.declared.version.Passage.{Passage}
+use Rattle.ncp_files.specs.Versions.{Recorded}
 
 -- ---- words
 
@@ -70,9 +72,18 @@ summary direction (Ok leader) =
     codes " " ++ kind_name direction leader.kind ++ field (codes " host=") leader.host ++ field (codes " link=") leader.link ++ extras leader
     ++ codes "\n"
 
+-- which way a message went and at which host, where the file names the host
+abbrev pub way_words : Direction → Option ℕ → List ℕ
+way_words direction None = []
+way_words ToImp (Some host) = field (codes " to-imp at=") host
+way_words FromImp (Some host) = field (codes " from-imp at=") host
+
+abbrev pub passage_words : Passage → List ℕ
+passage_words passage = way_words passage.direction passage.at
+
 -- the first line of the record with this number
-abbrev pub first_line : Direction → ℕ → List Bool → List ℕ
-first_line direction number message = decimal number ++ summary direction (leader_in message)
+abbrev pub first_line : Passage → ℕ → List Bool → List ℕ
+first_line passage number message = decimal number ++ passage_words passage ++ summary passage.direction (leader_in message)
 
 -- ---- the detail lines of a regular message
 
@@ -148,15 +159,18 @@ abbrev pub details : List Bool → List ℕ
 details message = if is_regular (leader_in message) then message_lines (message_in message) else []
 
 -- the lines of the record with this number
-abbrev pub record_lines : Direction → ℕ → List Bool → List ℕ
-record_lines direction number message = first_line direction number message ++ details message
+abbrev pub record_lines : ℕ → Recorded → List ℕ
+record_lines number shown = first_line shown.passage number shown.message ++ details shown.message
 
 -- the number behind this one; it stays at the largest
 abbrev pub number_after : ℕ → ℕ
 number_after number = min (number + 1) (2 ^ 32 - 1)
 
+-- what is told of each record, one after the other, from this number on
+abbrev pub told_from : {X : Type 0} → (ℕ → X → List ℕ) → ℕ → List X → List ℕ
+told_from lines number [] = []
+told_from lines number (first ∷ more) = lines number first ++ told_from lines (number_after number) more
+
 -- the lines of records from this number on
-abbrev pub lines_from : Direction → ℕ → List (List Bool) → List ℕ
-lines_from direction number [] = []
-lines_from direction number (message ∷ messages) =
-    record_lines direction number message ++ lines_from direction (number_after number) messages
+abbrev pub lines_from : ℕ → List Recorded → List ℕ
+lines_from number records = told_from record_lines number records

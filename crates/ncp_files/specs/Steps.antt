@@ -1,19 +1,28 @@
--- What the parts of `show` do to the bytes that are to come and to the text that was said.
+-- What the parts of `show` and `convert` do to the bytes that are to come and to the text that was said.
 use Rattle.std.specs.Prelude.{◌≡◌, ◌<◌, ℕ, Bool, true, false, List, length, drop, ◌++◌, Option, Some, None, Result, Ok, Err}
 use Rattle.ncp_files.specs.declared.file.Direction.{Direction}
 use Rattle.ncp_files.specs.declared.file.FileFault.{FileFault}
 use Rattle.ncp_files.specs.declared.file.FileFault.TheVariants.{BadHeader, Truncated}
 use Rattle.ncp_files.specs.Results.{MatchFault}
-use Rattle.ncp_files.specs.File.{direction_of, next_record, ending, Holds, IsCut}
-use Rattle.ncp_files.specs.Lines.{record_lines, lines_from}
+use Rattle.ncp_files.specs.declared.version.Version.{Version}
+use Rattle.ncp_files.specs.declared.version.Passage.{Passage}
+use Rattle.ncp_files.specs.File.{direction_of, version_of, next_record, ending, HoldsBy}
+use Rattle.ncp_files.specs.Versions.{next_in}
+use Rattle.ncp_files.specs.Lines.{told_from}
+use Rattle.ncp_files.specs.Writing.{Told, ToldCut}
 use Rattle.ncp_stream.specs.Streams.{Ahead, SaidSoFar}
-use Rattle.ncp_files.specs.Shown.{ShownAs}
 
 -- a read failed inside the header: no byte is lost
 abbrev pub CutInHeader : List ℕ → List ℕ → Option (List ℕ) → Type 0
 CutInHeader bytes window left = (length window < 4) × Ahead window left bytes
 
 -- a header was read, or none stands there
+abbrev pub ReadsVersion : List ℕ → Result Version FileFault → List ℕ → Option (List ℕ) → Type 0
+ReadsVersion bytes (Ok version) window left = (version_of bytes ≡ Some version) × Ahead window left (drop 4 bytes)
+ReadsVersion bytes (Err fault) window left =
+    MatchFault (λ f. (f ≡ BadHeader) × (version_of bytes ≡ None)) (CutInHeader bytes window left) ⊥ fault
+
+-- a header of version 1 was read, or none stands there
 abbrev pub ReadsHeader : List ℕ → Result Direction FileFault → List ℕ → Option (List ℕ) → Type 0
 ReadsHeader bytes (Ok direction) window left = (direction_of bytes ≡ Some direction) × Ahead window left (drop 4 bytes)
 ReadsHeader bytes (Err fault) window left =
@@ -36,69 +45,102 @@ ReadsRecord bytes (Ok true) message window left =
 ReadsRecord bytes (Ok false) message window left = next_record bytes ≡ Ok None
 ReadsRecord bytes (Err fault) message window left = MatchFault (λ f. next_record bytes ≡ Err f) (CutOff bytes window left) ⊥ fault
 
--- no line was said, since no record begins
-abbrev pub EndsWith : List ℕ → Option FileFault → List ℕ → List ℕ → List ℕ → Option (List ℕ) → Type 0
-EndsWith bytes fault was said page written = (next_record bytes ≡ ending fault) × SaidSoFar was page written said
+-- ---- records of both versions
 
--- the next record's lines were said
-abbrev pub SaysRecord : Direction → ℕ → List ℕ → List ℕ → List ℕ → List ℕ → Option (List ℕ) → List ℕ → Option (List ℕ) → Type 0
-SaysRecord direction number bytes was said window left page written =
-    (message : List Bool) × (rest : List ℕ) × (next_record bytes ≡ Ok (Some (message, rest))) × Ahead window left rest
-    × SaidSoFar was page written (said ++ record_lines direction number message)
+-- how the record at the front of bytes is read, and what is told of a record with its number
+abbrev pub Reader : Type 0 → Type 0
+Reader X = List ℕ → Result (Option (X × List ℕ)) FileFault
 
--- a beginning of them was said
-abbrev pub BreaksRecord : Direction → ℕ → List ℕ → List ℕ → List ℕ → Option (List ℕ) → Type 0
-BreaksRecord direction number bytes was said written =
-    (message : List Bool) × (rest : List ℕ) × (lost : List ℕ) × (next_record bytes ≡ Ok (Some (message, rest)))
-    × SaidSoFar was lost written (said ++ record_lines direction number message)
+abbrev pub Telling : Type 0 → Type 0
+Telling X = ℕ → X → List ℕ
 
--- the next record's lines were said, or there is none, or a fault stands there
-abbrev pub ShowsNext : Direction → ℕ → List ℕ → List ℕ → List ℕ → Result Bool FileFault → List ℕ → Option (List ℕ) → List ℕ → Option (List ℕ) → Type 0
-ShowsNext direction number bytes was said (Ok true) window left page written = SaysRecord direction number bytes was said window left page written
-ShowsNext direction number bytes was said (Ok false) window left page written = EndsWith bytes None was said page written
-ShowsNext direction number bytes was said (Err fault) window left page written =
-    MatchFault (λ f. EndsWith bytes (Some f) was said page written) (CutOff bytes window left × SaidSoFar was page written said)
-    (BreaksRecord direction number bytes was said written) fault
-
--- the lines were said of all records, and then the file ends, or the fault stands there
-abbrev pub SaysLines : Direction → ℕ → List ℕ → List ℕ → List ℕ → Option FileFault → List ℕ → Option (List ℕ) → Type 0
-SaysLines direction number bytes was said fault page written =
-    (messages : List (List Bool)) × Holds bytes messages fault × SaidSoFar was page written (said ++ lines_from direction number messages)
-
--- the lines were said of those records that came whole before a read failed
-abbrev pub SaysCut : Direction → ℕ → List ℕ → List ℕ → List ℕ → Option (List ℕ) → List ℕ → Option (List ℕ) → Type 0
-SaysCut direction number bytes was said left page written =
+-- a read failed: no byte is lost, and those that came are no whole record
+abbrev pub StopsShort : {X : Type 0} → Reader X → List ℕ → Option (List ℕ) → Type 0
+StopsShort next bytes left =
     (given : List ℕ) × (rest : List ℕ) × (fault : Option FileFault) × (bytes ≡ given ++ rest) × (left ≡ Some rest) × IsInside fault
-    × SaysLines direction number given was said fault page written
+    × (next given ≡ ending fault)
 
--- a beginning of the lines was said
-abbrev pub BreaksLines : Direction → ℕ → List ℕ → List ℕ → List ℕ → Option (List ℕ) → Type 0
-BreaksLines direction number bytes was said written =
-    (fault : Option FileFault) × (lost : List ℕ) × SaysLines direction number bytes was said fault lost written
+-- none was read: the fault stands there, or a read failed
+abbrev pub Stops : {X : Type 0} → Reader X → List ℕ → Option (List ℕ) → FileFault → Type 0
+Stops next bytes left fault = MatchFault (λ f. next bytes ≡ Err f) (StopsShort next bytes left) ⊥ fault
+
+-- this was read, or none was there, or the fault stands there
+abbrev pub ReadsOne : {X : Type 0} → Reader X → List ℕ → Result (Option X) FileFault → List ℕ → Option (List ℕ) → Type 0
+ReadsOne next bytes (Ok (Some first)) window left = (rest : List ℕ) × (next bytes ≡ Ok (Some (first, rest))) × Ahead window left rest
+ReadsOne next bytes (Ok None) window left = next bytes ≡ Ok None
+ReadsOne next bytes (Err fault) window left = Stops next bytes left fault
+
+-- this message was read and has this passage, or no record was there, or the fault stands there
+abbrev pub ReadsNext : Version → List ℕ → Result (Option Passage) FileFault → List Bool → List ℕ → Option (List ℕ) → Type 0
+ReadsNext version bytes (Ok (Some passage)) message window left =
+    (rest : List ℕ) × (next_in version bytes ≡ Ok (Some (record { passage = passage; message = message }, rest))) × Ahead window left rest
+ReadsNext version bytes (Ok None) message window left = next_in version bytes ≡ Ok None
+ReadsNext version bytes (Err fault) message window left = Stops (next_in version) bytes left fault
+
+-- nothing was said, since no record begins
+abbrev pub EndsWith : {X : Type 0} → Reader X → List ℕ → Option FileFault → List ℕ → List ℕ → List ℕ → Option (List ℕ) → Type 0
+EndsWith next bytes fault was said page written = (next bytes ≡ ending fault) × SaidSoFar was page written said
+
+-- what is told of the next record was said
+abbrev pub SaysRecord : {X : Type 0} → Reader X → Telling X → ℕ → List ℕ → List ℕ → List ℕ → List ℕ → Option (List ℕ) → List ℕ → Option (List ℕ) → Type 0
+SaysRecord {X} next lines number bytes was said window left page written =
+    (first : X) × (rest : List ℕ) × (next bytes ≡ Ok (Some (first, rest))) × Ahead window left rest
+    × SaidSoFar was page written (said ++ lines number first)
+
+-- a beginning of it was said
+abbrev pub BreaksRecord : {X : Type 0} → Reader X → Telling X → ℕ → List ℕ → List ℕ → List ℕ → Option (List ℕ) → Type 0
+BreaksRecord {X} next lines number bytes was said written =
+    (first : X) × (rest : List ℕ) × (lost : List ℕ) × (next bytes ≡ Ok (Some (first, rest)))
+    × SaidSoFar was lost written (said ++ lines number first)
+
+-- what is told of the next record was said, or there is none, or a fault stands there
+abbrev pub SaysNext : {X : Type 0} → Reader X → Telling X → ℕ → List ℕ → List ℕ → List ℕ → Result Bool FileFault → List ℕ → Option (List ℕ) → List ℕ → Option (List ℕ) → Type 0
+SaysNext next lines number bytes was said (Ok true) window left page written = SaysRecord next lines number bytes was said window left page written
+SaysNext next lines number bytes was said (Ok false) window left page written = EndsWith next bytes None was said page written
+SaysNext next lines number bytes was said (Err fault) window left page written =
+    MatchFault (λ f. EndsWith next bytes (Some f) was said page written) (StopsShort next bytes left × SaidSoFar was page written said)
+    (BreaksRecord next lines number bytes was said written) fault
+
+-- it was said of all records, and then the bytes end, or the fault stands there
+abbrev pub SaysLines : {X : Type 0} → Reader X → Telling X → ℕ → List ℕ → List ℕ → List ℕ → Option FileFault → List ℕ → Option (List ℕ) → Type 0
+SaysLines {X} next lines number bytes was said fault page written =
+    (records : List X) × HoldsBy next bytes records fault × SaidSoFar was page written (said ++ told_from lines number records)
+
+-- it was said of those records that came whole before a read failed
+abbrev pub SaysCut : {X : Type 0} → Reader X → Telling X → ℕ → List ℕ → List ℕ → List ℕ → Option (List ℕ) → List ℕ → Option (List ℕ) → Type 0
+SaysCut next lines number bytes was said left page written =
+    (given : List ℕ) × (rest : List ℕ) × (fault : Option FileFault) × (bytes ≡ given ++ rest) × (left ≡ Some rest) × IsInside fault
+    × SaysLines next lines number given was said fault page written
+
+-- a beginning was said
+abbrev pub BreaksLines : {X : Type 0} → Reader X → Telling X → ℕ → List ℕ → List ℕ → List ℕ → Option (List ℕ) → Type 0
+BreaksLines next lines number bytes was said written =
+    (fault : Option FileFault) × (lost : List ℕ) × SaysLines next lines number bytes was said fault lost written
 
 -- what was said of records from this number on, and what is answered
-abbrev pub ShowsFrom : Direction → ℕ → List ℕ → List ℕ → List ℕ → Result Unit FileFault → Option (List ℕ) → List ℕ → Option (List ℕ) → Type 0
-ShowsFrom direction number bytes was said (Ok done) left page written = SaysLines direction number bytes was said None page written
-ShowsFrom direction number bytes was said (Err fault) left page written =
-    MatchFault (λ f. SaysLines direction number bytes was said (Some f) page written) (SaysCut direction number bytes was said left page written)
-    (BreaksLines direction number bytes was said written) fault
+abbrev pub SaysFrom : {X : Type 0} → Reader X → Telling X → ℕ → List ℕ → List ℕ → List ℕ → Result Unit FileFault → Option (List ℕ) → List ℕ → Option (List ℕ) → Type 0
+SaysFrom next lines number bytes was said (Ok done) left page written = SaysLines next lines number bytes was said None page written
+SaysFrom next lines number bytes was said (Err fault) left page written =
+    MatchFault (λ f. SaysLines next lines number bytes was said (Some f) page written) (SaysCut next lines number bytes was said left page written)
+    (BreaksLines next lines number bytes was said written) fault
 
--- the lines of a file were said
-abbrev pub SaysFile : List ℕ → List ℕ → Option FileFault → List ℕ → Option (List ℕ) → Type 0
-SaysFile bytes was fault page written = (text : List ℕ) × ShownAs bytes text fault × SaidSoFar was page written text
+-- ---- files
 
--- the lines were said of a file that is cut off where a read failed
-abbrev pub SaysCutFile : List ℕ → List ℕ → Option (List ℕ) → List ℕ → Option (List ℕ) → Type 0
-SaysCutFile bytes was left page written =
-    (given : List ℕ) × (rest : List ℕ) × (fault : Option FileFault) × (bytes ≡ given ++ rest) × (left ≡ Some rest) × IsCut given fault
-    × SaysFile given was fault page written
+-- all that is told of a file was said
+abbrev pub SaysFile : Told → List ℕ → List ℕ → Option FileFault → List ℕ → Option (List ℕ) → Type 0
+SaysFile told bytes was fault page written = (text : List ℕ) × told bytes text fault × SaidSoFar was page written text
 
--- a beginning of a file's lines was said
-abbrev pub BreaksFile : List ℕ → List ℕ → Option (List ℕ) → Type 0
-BreaksFile bytes was written = (fault : Option FileFault) × (lost : List ℕ) × SaysFile bytes was fault lost written
+-- what is told of the bytes that came before a failed read was said
+abbrev pub SaysCutFile : ToldCut → List ℕ → List ℕ → Option (List ℕ) → List ℕ → Option (List ℕ) → Type 0
+SaysCutFile cut bytes was left page written =
+    (given : List ℕ) × (rest : List ℕ) × (text : List ℕ) × (bytes ≡ given ++ rest) × (left ≡ Some rest) × cut given text × SaidSoFar was page written text
+
+-- a beginning of what is told of a file was said
+abbrev pub BreaksFile : Told → List ℕ → List ℕ → Option (List ℕ) → Type 0
+BreaksFile told bytes was written = (fault : Option FileFault) × (lost : List ℕ) × SaysFile told bytes was fault lost written
 
 -- what was said of a file, and what is answered
-abbrev pub ShowsFile : List ℕ → List ℕ → Result Unit FileFault → Option (List ℕ) → List ℕ → Option (List ℕ) → Type 0
-ShowsFile bytes was (Ok done) left page written = SaysFile bytes was None page written
-ShowsFile bytes was (Err fault) left page written =
-    MatchFault (λ f. SaysFile bytes was (Some f) page written) (SaysCutFile bytes was left page written) (BreaksFile bytes was written) fault
+abbrev pub Says : Told → ToldCut → List ℕ → List ℕ → Result Unit FileFault → Option (List ℕ) → List ℕ → Option (List ℕ) → Type 0
+Says told cut bytes was (Ok done) left page written = SaysFile told bytes was None page written
+Says told cut bytes was (Err fault) left page written =
+    MatchFault (λ f. SaysFile told bytes was (Some f) page written) (SaysCutFile cut bytes was left page written) (BreaksFile told bytes was written) fault

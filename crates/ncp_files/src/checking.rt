@@ -6,23 +6,28 @@ ghost use Rattle.ncp_stream.specs.Streams.{Ahead};
 ghost use Rattle.ncp_files.specs.Tallies.{no_messages, TalliesFrom, TalliesFile};
 ghost use Rattle.ncp_files.specs.Checked.{Checked};
 
-use crate::file::{FileFault, read_header, read_record};
+use crate::file::FileFault;
 use crate::page::Page;
 use crate::tally::{Tally, push_tally};
+use crate::version::{Version, read_next, read_version};
 use crate::window::Window;
 use ncp_bits::Bits;
 use ncp_stream::{Sink, Source};
 
 // Counts the messages behind the header.
-fn tally_records<S: Source>(window: &mut Window, source: &mut S) -> Result<Tally, FileFault>
-    ensures told { (bytes : List ℕ) → Ahead window.old (S.left source.old) bytes → TalliesFrom bytes no_messages result (S.left source.new) }
+fn tally_records<S: Source>(
+    window: &mut Window,
+    source: &mut S,
+    version: Version,
+) -> Result<Tally, FileFault>
+    ensures told { (bytes : List ℕ) → Ahead window.old (S.left source.old) bytes → TalliesFrom version bytes no_messages result (S.left source.new) }
     ensures mark { S.has_failed source.new ≡ (S.has_failed source.old || is_read_failed result) }
     ensures other { is_write_failed result ≡ false }
     ensures reads { reads_beyond S.gives_all (S.reads source.old) (S.left source.old) ≤ reads_beyond S.gives_all (S.reads source.new) (S.left source.new) + 1 }
 {
     let mut message = Bits::new();
     let mut tally = Tally::new();
-    while read_record(window, source, &mut message)? {
+    while let Some(_passage) = read_next(window, source, version, &mut message)? {
         tally = tally.count(&message);
     }
     Ok(tally)
@@ -36,8 +41,8 @@ fn tally_file<S: Source>(source: &mut S) -> Result<Tally, FileFault>
     ensures reads { reads_beyond S.gives_all (S.reads source.old) (S.left source.old) ≤ reads_beyond S.gives_all (S.reads source.new) (S.left source.new) + 1 }
 {
     let mut window = Window::new();
-    let _direction = read_header(&mut window, source)?;
-    tally_records(&mut window, source)
+    let version = read_version(&mut window, source)?;
+    tally_records(&mut window, source, version)
 }
 
 /// Reads a message file to its end, writes one line that counts its messages, and answers whether

@@ -1,12 +1,13 @@
-//! A message file: its header, its records and its faults.
+//! A message file: its faults, and the header and the records of version 1.
 ghost use Rattle.std.specs.Prelude.{◌≡◌, ℕ, ◌+◌, ◌<◌, ◌≤◌, ◌||◌, List, true, false, length, IfOk, OnOk};
-ghost use Rattle.ncp_files.specs.File.{direction_of, name_of_fault, fault_of_bits};
+ghost use Rattle.ncp_files.specs.File.{name_of_fault, fault_of_bits};
 ghost use Rattle.ncp_stream.specs.Pieces.{reads_beyond};
 ghost use Rattle.ncp_files.specs.Results.{is_read_failed, is_write_failed};
 ghost use Rattle.ncp_files.specs.Steps.{ReadsHeader, ReadsRecord};
 ghost use Rattle.ncp_files.specs.Windows.{effort};
 ghost use Rattle.ncp_stream.specs.Streams.{Ahead};
 
+use crate::version::{Version, read_version};
 use crate::window::Window;
 use byteorder::{BigEndian, ByteOrder};
 use ncp_bits::{Bits, BitsFault, MAX_BITS};
@@ -37,6 +38,10 @@ pub enum FileFault {
     ReadFailed = 5,
     #[error("a write failed")]
     WriteFailed = 6,
+    #[error("a record has neither direction")]
+    BadDirection = 7,
+    #[error("a record has another direction or host than the file can have")]
+    Mixed = 8,
 }
 
 impl FileFault {
@@ -51,6 +56,8 @@ impl FileFault {
             FileFault::SpareNotZero => "SpareNotZero",
             FileFault::ReadFailed => "ReadFailed",
             FileFault::WriteFailed => "WriteFailed",
+            FileFault::BadDirection => "BadDirection",
+            FileFault::Mixed => "Mixed",
         }
     }
 }
@@ -66,27 +73,10 @@ impl From<Failed> for FileFault {
     }
 }
 
-// How many bytes a header has.
-const HEADER: usize = 4;
-
 // How many bytes the length of a record has.
 const LENGTH: usize = 2;
 
-// The direction that a header names.
-fn direction_in(head: &[u8]) -> Option<Direction>
-    requires { length head.now ≡ HEADER }
-    ensures { result ≡ direction_of head.now }
-{
-    if head == b"NCPH".as_slice() {
-        Some(Direction::ToImp)
-    } else if head == b"NCPI".as_slice() {
-        Some(Direction::FromImp)
-    } else {
-        None
-    }
-}
-
-/// Reads the header of a file.
+/// Reads the header of a file of version 1. That of another version is a bad one.
 pub fn read_header<S: Source>(window: &mut Window, source: &mut S) -> Result<Direction, FileFault>
     ensures told { (bytes : List ℕ) → Ahead window.old (S.left source.old) bytes → ReadsHeader bytes result window.new (S.left source.new) }
     ensures mark { S.has_failed source.new ≡ (S.has_failed source.old || is_read_failed result) }
@@ -94,14 +84,10 @@ pub fn read_header<S: Source>(window: &mut Window, source: &mut S) -> Result<Dir
     ensures reads { reads_beyond S.gives_all (S.reads source.old) (S.left source.old) ≤ reads_beyond S.gives_all (S.reads source.new) (S.left source.new) + 1 }
     ensures taken { OnOk result (reads_beyond S.gives_all (S.reads source.old) (S.left source.old) ≤ reads_beyond S.gives_all (S.reads source.new) (S.left source.new)) }
 {
-    if !window.need(source, HEADER)? {
-        return Err(FileFault::BadHeader);
+    match read_version(window, source)? {
+        Version::One(direction) => Ok(direction),
+        Version::Two => Err(FileFault::BadHeader),
     }
-    let Some(direction) = direction_in(&window.unread()[..HEADER]) else {
-        return Err(FileFault::BadHeader);
-    };
-    window.skip(HEADER);
-    Ok(direction)
 }
 
 // A fault of bits, as a fault of a file.
@@ -115,7 +101,7 @@ fn fault_of(fault: BitsFault) -> FileFault
     }
 }
 
-/// Reads the next record into `message`, and answers whether there was one.
+/// Reads the next record of a file of version 1 into `message`, and answers whether there was one.
 pub fn read_record<S: Source>(
     window: &mut Window,
     source: &mut S,

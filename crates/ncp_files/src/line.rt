@@ -1,9 +1,10 @@
 //! The first line of a record.
-ghost use Rattle.std.specs.Prelude.{◌≡◌, ◌+◌, ◌≤◌, ◌++◌, length, decimal};
-ghost use Rattle.ncp_files.specs.Lines.{field, kind_name, extras, summary};
+ghost use Rattle.std.specs.Prelude.{◌≡◌, ◌+◌, ◌≤◌, ◌++◌, length, Some, decimal};
+ghost use Rattle.ncp_files.specs.Lines.{field, kind_name, extras, summary, way_words, passage_words};
 
 use crate::file::Direction;
 use crate::page::{LONGEST_NUMBER, PAGE_SIZE, Page};
+use crate::version::Passage;
 use ncp_leader::{DESTINATION_DEAD, INCOMPLETE, Leader, REGULAR, RFNM, Short};
 
 /// How many bytes a line has at most, but for a text in hexadecimal.
@@ -15,8 +16,11 @@ const GOING_DOWN: u8 = 2;
 // The type of a message without effect (BBN 1822, section 3).
 const NOP: u8 = 4;
 
-// How many bytes stand behind the number of a record at most.
-const LONGEST_SUMMARY: usize = LONGEST_LINE - LONGEST_NUMBER;
+// How many bytes the longest passage has.
+const LONGEST_PASSAGE: usize = 24;
+
+// How many bytes stand behind the number and the passage of a record at most.
+const LONGEST_SUMMARY: usize = LONGEST_LINE - LONGEST_NUMBER - LONGEST_PASSAGE;
 
 // How many bytes the longest name of a type has.
 const LONGEST_KIND: usize = 15;
@@ -77,19 +81,43 @@ fn push_leader(page: &mut Page, direction: Direction, leader: &Leader)
     page.push(b'\n');
 }
 
+// Appends which way a message went, and at which host.
+fn push_way(page: &mut Page, direction: Direction, host: u8)
+    requires { length page.old + LONGEST_PASSAGE ≤ PAGE_SIZE }
+    ensures bytes { page.new ≡ page.old ++ way_words direction (Some host) }
+    ensures len { length page.new ≤ length page.old + LONGEST_PASSAGE }
+{
+    match direction {
+        Direction::ToImp => push_field(page, b" to-imp at=", u32::from(host)),
+        Direction::FromImp => push_field(page, b" from-imp at=", u32::from(host)),
+    }
+}
+
+// Appends which way a message went and at which host, where the file names the host.
+fn push_passage(page: &mut Page, passage: Passage)
+    requires { length page.old + LONGEST_PASSAGE ≤ PAGE_SIZE }
+    ensures bytes { page.new ≡ page.old ++ passage_words passage }
+    ensures len { length page.new ≤ length page.old + LONGEST_PASSAGE }
+{
+    if let Some(host) = passage.at {
+        push_way(page, passage.direction, host);
+    }
+}
+
 /// Appends the first line of a record.
 pub(crate) fn push_first_line(
     page: &mut Page,
-    direction: Direction,
+    passage: Passage,
     number: u32,
     leader: &Result<Leader, Short>,
 )
     requires { length page.old + LONGEST_LINE ≤ PAGE_SIZE }
-    ensures { page.new ≡ page.old ++ (decimal number ++ summary direction leader.now) }
+    ensures { page.new ≡ page.old ++ (decimal number ++ passage_words passage ++ summary passage.direction leader.now) }
 {
     page.push_decimal(number);
+    push_passage(page, passage);
     match leader {
-        Ok(leader) => push_leader(page, direction, leader),
+        Ok(leader) => push_leader(page, passage.direction, leader),
         Err(_) => page.push_text(b" short\n"),
     }
 }

@@ -12,8 +12,11 @@ use std::marker::Model;
 /// How many bytes a page has room for.
 pub const PAGE_SIZE: usize = 16384;
 
-/// How many digits the longest number has.
+/// How many digits the longest number of 32 bits has.
 pub const LONGEST_NUMBER: usize = 10;
+
+/// How many digits the longest number of 64 bits has.
+pub const LONGEST_LONG: usize = 20;
 
 /// A page of bytes that are not yet written. What is appended has to find room: [`Page::make_room`]
 /// makes it.
@@ -46,7 +49,7 @@ fn put_all<W: Sink>(sink: &mut W, piece: &[u8]) -> Result<(), Failed>
 }
 
 // Appends the digits of a number in decimal.
-fn push_digits(bytes: &mut ArrayVec<u8, PAGE_SIZE>, number: u32)
+fn push_digits(bytes: &mut ArrayVec<u8, PAGE_SIZE>, number: u64)
     requires { length bytes.old.items + length (decimal number) ≤ PAGE_SIZE }
     ensures { bytes.new.items ≡ bytes.old.items ++ decimal number }
 {
@@ -131,11 +134,20 @@ impl Page {
         self.bytes.push(byte);
     }
 
-    /// Appends the digits of a number in decimal. There has to be room for the longest number.
+    /// Appends the digits of a number of 32 bits in decimal. There has to be room for the longest one.
     pub fn push_decimal(&mut self, number: u32)
         requires { length self.old + LONGEST_NUMBER ≤ PAGE_SIZE }
         ensures bytes { self.new ≡ self.old ++ decimal number }
         ensures len { length self.new ≤ length self.old + LONGEST_NUMBER }
+    {
+        push_digits(&mut self.bytes, u64::from(number));
+    }
+
+    /// Appends the digits of a number of 64 bits in decimal. There has to be room for the longest one.
+    pub fn push_long(&mut self, number: u64)
+        requires { length self.old + LONGEST_LONG ≤ PAGE_SIZE }
+        ensures bytes { self.new ≡ self.old ++ decimal number }
+        ensures len { length self.new ≤ length self.old + LONGEST_LONG }
     {
         push_digits(&mut self.bytes, number);
     }

@@ -1,13 +1,13 @@
 //! The lines of a record.
 ghost use Rattle.std.specs.Prelude.{◌≡◌, ◌+◌, ◌≤◌, ◌||◌, ◌++◌, decimal, is_err};
-ghost use Rattle.ncp_files.specs.Lines.{summary, is_regular, record_lines};
+ghost use Rattle.ncp_files.specs.Lines.{passage_words, summary, is_regular, record_lines};
 ghost use Rattle.ncp_stream.specs.Pieces.{bytes_and_writes, lost_pieces};
 ghost use Rattle.ncp_stream.specs.Streams.{SaysTextOrBeginning};
 
 use crate::detail::say_details;
-use crate::file::Direction;
 use crate::line::{LONGEST_LINE, push_first_line};
 use crate::page::Page;
+use crate::version::Passage;
 use ncp_bits::Bits;
 use ncp_leader::{Leader, REGULAR, Short, read_leader};
 use ncp_stream::{Failed, Sink};
@@ -16,16 +16,16 @@ use ncp_stream::{Failed, Sink};
 fn say_first_line<W: Sink>(
     page: &mut Page,
     sink: &mut W,
-    direction: Direction,
+    passage: Passage,
     number: u32,
     leader: &Result<Leader, Short>,
 ) -> Result<(), Failed>
-    ensures told { SaysTextOrBeginning page.old (W.written sink.old) (decimal number ++ summary direction leader.now) result page.new (W.written sink.new) }
+    ensures told { SaysTextOrBeginning page.old (W.written sink.old) (decimal number ++ passage_words passage ++ summary passage.direction leader.now) result page.new (W.written sink.new) }
     ensures writes { bytes_and_writes W.takes_all (W.writes sink.old) (W.written sink.old) ≤ bytes_and_writes W.takes_all (W.writes sink.new) (W.written sink.new) + lost_pieces (is_err result) }
     ensures mark { W.has_failed sink.new ≡ (W.has_failed sink.old || is_err result) }
 {
     page.make_room(sink, LONGEST_LINE)?;
-    push_first_line(page, direction, number, leader);
+    push_first_line(page, passage, number, leader);
     Ok(())
 }
 
@@ -43,16 +43,16 @@ fn has_details(leader: &Result<Leader, Short>) -> bool
 pub(crate) fn say_record<W: Sink>(
     page: &mut Page,
     sink: &mut W,
-    direction: Direction,
+    passage: Passage,
     number: u32,
     message: &Bits,
 ) -> Result<(), Failed>
-    ensures told { SaysTextOrBeginning page.old (W.written sink.old) (record_lines direction number message.now) result page.new (W.written sink.new) }
+    ensures told { SaysTextOrBeginning page.old (W.written sink.old) (record_lines number (record { passage = passage; message = message.now })) result page.new (W.written sink.new) }
     ensures writes { bytes_and_writes W.takes_all (W.writes sink.old) (W.written sink.old) ≤ bytes_and_writes W.takes_all (W.writes sink.new) (W.written sink.new) + lost_pieces (is_err result) }
     ensures mark { W.has_failed sink.new ≡ (W.has_failed sink.old || is_err result) }
 {
     let leader = read_leader(message);
-    say_first_line(page, sink, direction, number, &leader)?;
+    say_first_line(page, sink, passage, number, &leader)?;
     if has_details(&leader) {
         return say_details(page, sink, message);
     }

@@ -4,12 +4,15 @@ ghost use Rattle.ncp_stream.specs.Pieces.{reads_for, reads_beyond, bytes_and_wri
 ghost use Rattle.ncp_files.specs.Results.{is_read_failed, is_write_failed};
 ghost use Rattle.ncp_stream.specs.Streams.{Ahead, SaidSoFar};
 ghost use Rattle.ncp_files.specs.Windows.{effort};
-ghost use Rattle.ncp_files.specs.Steps.{ShowsNext, ShowsFrom, ShowsFile};
-ghost use Rattle.ncp_files.specs.Shown.{Shown};
+ghost use Rattle.ncp_files.specs.Versions.{next_in};
+ghost use Rattle.ncp_files.specs.Lines.{record_lines};
+ghost use Rattle.ncp_files.specs.Steps.{SaysNext, SaysFrom, Says};
+ghost use Rattle.ncp_files.specs.Shown.{ShownAs, ShownCut, Shown};
 
-use crate::file::{Direction, FileFault, read_header, read_record};
+use crate::file::FileFault;
 use crate::page::Page;
 use crate::record::say_record;
+use crate::version::{Version, read_next, read_version};
 use crate::window::Window;
 use ncp_bits::Bits;
 use ncp_stream::{LEAST_PIECE, Sink, Source};
@@ -21,12 +24,12 @@ fn show_next<S: Source, W: Sink>(
     message: &mut Bits,
     page: &mut Page,
     sink: &mut W,
-    direction: Direction,
+    version: Version,
     number: u32,
 ) -> Result<bool, FileFault>
     ensures told { (bytes : List ℕ) (was : List ℕ) (said : List ℕ)
         → Ahead window.old (S.left source.old) bytes → SaidSoFar was page.old (W.written sink.old) said
-        → ShowsNext direction number bytes was said result window.new (S.left source.new) page.new (W.written sink.new) }
+        → SaysNext (next_in version) record_lines number bytes was said result window.new (S.left source.new) page.new (W.written sink.new) }
     ensures source_mark { S.has_failed source.new ≡ (S.has_failed source.old || is_read_failed result) }
     ensures writes { bytes_and_writes W.takes_all (W.writes sink.old) (W.written sink.old) ≤ bytes_and_writes W.takes_all (W.writes sink.new) (W.written sink.new) + lost_pieces (is_write_failed result) }
     ensures sink_mark { W.has_failed sink.new ≡ (W.has_failed sink.old || is_write_failed result) }
@@ -34,10 +37,10 @@ fn show_next<S: Source, W: Sink>(
     ensures taken { IfOk result (λ more. more ≡ true → reads_beyond S.gives_all (S.reads source.old) (S.left source.old) ≤ reads_beyond S.gives_all (S.reads source.new) (S.left source.new)) }
     ensures effort { IfOk result (λ more. more ≡ true → effort (S.reads source.new) window.new < effort (S.reads source.old) window.old) }
 {
-    if !read_record(window, source, message)? {
+    let Some(passage) = read_next(window, source, version, message)? else {
         return Ok(false);
-    }
-    match say_record(page, sink, direction, number, message) {
+    };
+    match say_record(page, sink, passage, number, message) {
         Ok(()) => Ok(true),
         Err(_) => Err(FileFault::WriteFailed),
     }
@@ -49,11 +52,11 @@ fn show_records<S: Source, W: Sink>(
     source: &mut S,
     page: &mut Page,
     sink: &mut W,
-    direction: Direction,
+    version: Version,
 ) -> Result<(), FileFault>
     ensures told { (bytes : List ℕ) (was : List ℕ) (said : List ℕ)
         → Ahead window.old (S.left source.old) bytes → SaidSoFar was page.old (W.written sink.old) said
-        → ShowsFrom direction 1 bytes was said result (S.left source.new) page.new (W.written sink.new) }
+        → SaysFrom (next_in version) record_lines 1 bytes was said result (S.left source.new) page.new (W.written sink.new) }
     ensures source_mark { S.has_failed source.new ≡ (S.has_failed source.old || is_read_failed result) }
     ensures writes { bytes_and_writes W.takes_all (W.writes sink.old) (W.written sink.old) ≤ bytes_and_writes W.takes_all (W.writes sink.new) (W.written sink.new) + lost_pieces (is_write_failed result) }
     ensures sink_mark { W.has_failed sink.new ≡ (W.has_failed sink.old || is_write_failed result) }
@@ -61,7 +64,7 @@ fn show_records<S: Source, W: Sink>(
 {
     let mut message = Bits::new();
     let mut number = 1u32;
-    while show_next(window, source, &mut message, page, sink, direction, number)? {
+    while show_next(window, source, &mut message, page, sink, version, number)? {
         number = number.saturating_add(1);
     }
     Ok(())
@@ -76,15 +79,15 @@ fn show_file<S: Source, W: Sink>(
     requires { page.old ≡ [] }
     ensures told { (bytes : List ℕ) (was : List ℕ)
         → S.left source.old ≡ Some bytes → W.written sink.old ≡ Some was
-        → ShowsFile bytes was result (S.left source.new) page.new (W.written sink.new) }
+        → Says ShownAs ShownCut bytes was result (S.left source.new) page.new (W.written sink.new) }
     ensures source_mark { S.has_failed source.new ≡ (S.has_failed source.old || is_read_failed result) }
     ensures writes { bytes_and_writes W.takes_all (W.writes sink.old) (W.written sink.old) ≤ bytes_and_writes W.takes_all (W.writes sink.new) (W.written sink.new) + lost_pieces (is_write_failed result) }
     ensures sink_mark { W.has_failed sink.new ≡ (W.has_failed sink.old || is_write_failed result) }
     ensures reads { reads_beyond S.gives_all (S.reads source.old) (S.left source.old) ≤ reads_beyond S.gives_all (S.reads source.new) (S.left source.new) + 1 }
 {
     let mut window = Window::new();
-    let direction = read_header(&mut window, source)?;
-    show_records(&mut window, source, page, sink, direction)
+    let version = read_version(&mut window, source)?;
+    show_records(&mut window, source, page, sink, version)
 }
 
 /// Writes the lines of each record of a message file, up to its first fault, and answers that

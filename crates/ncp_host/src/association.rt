@@ -7,6 +7,7 @@ ghost use Rattle.ncp_model.specs.Ends.{cut_in};
 ghost use Rattle.ncp_model.specs.Sending.{next_commands};
 ghost use Rattle.ncp_control.specs.Spelling.{spellings};
 ghost use Rattle.ncp_model.specs.Peers.{new_peer, falls, makes, calls_reset, settles, frees, sends, cuts};
+ghost use Rattle.ncp_conn.specs.Cutting.{may_cut};
 ghost use Rattle.ncp_host.specs.Steps.{IsWholeIfAny};
 
 mod calls;
@@ -119,6 +120,13 @@ impl<S: BitStore> Association<S> {
         ensures peer { self.new ≡ sends self.old }
     {
         self.phase.take_text()
+    }
+
+    /// Whether a text may go out on a link.
+    pub(crate) fn may_cut(&self, link: u8) -> bool
+        ensures { result ≡ may_cut self.now.ends link }
+    {
+        self.table.may_cut(link)
     }
 
     /// The byte size and the text that goes out next on a link, if any.

@@ -23,6 +23,7 @@ use Rattle.ncp_play.specs.declared.fault.PlayFault.{PlayFault}
 use Rattle.ncp_play.specs.declared.fault.PlayFault.TheVariants.{BadLine, LineTooLong, BadHosts, Feed, ReadFailed, WriteFailed, OutOfMemory}
 use Rattle.ncp_host_player.specs.Asking.{asked_of, course_of, script_of_lines}
 use Rattle.ncp_host_player.specs.Beginning.{begun_by, IsHostOf, IsBegun, Begins}
+use Rattle.ncp_host_player.proofs.Named.{named_new}
 
 -- the script that lines are, where the first that is not skipped is found
 script_found : (lines : List Line) (found : Option Numbered) → next_from 1 lines ≡ found → script_of_lines lines ≡ script_at first_of_host (λ hosts. asked_of) found
@@ -84,7 +85,7 @@ module _ (bytes : List ℕ) (number : ℕ) (ended : Bool) (now : Lines) (left : 
 
   begun_not : (fault : PlayFault) → IsHostOf words (Err fault) → Begins bytes (Err fault) now left
   begun_not BadHosts host = script_is ∙ ap (λ (h : Option Named). begun h (λ h. course_of now.number (lines_of line.behind))) host
-  begun_not OutOfMemory host = (host.0, course_of now.number (lines_of line.behind), script_of_named host.0 host.1)
+  begun_not OutOfMemory host = (host.0, course_of now.number (lines_of line.behind), script_of_named host.0 host.1, named_new words host.0 host.1)
   begun_not (BadLine number) host = absurd host
   begun_not (LineTooLong number) host = absurd host
   begun_not (Feed fault) host = absurd host

@@ -1,3 +1,4 @@
+pub mod Named
 pub mod Asks
 pub mod Does
 pub mod Telling

@@ -5,6 +5,7 @@ use Rattle.ncp_stream.specs.Streams.{SaidSoFar, SaysText, SaysBeginning}
 use Rattle.ncp_transcript.specs.declared.input.Input.{Input}
 use Rattle.ncp_transcript.specs.declared.note.HostNote.{HostNote}
 use Rattle.ncp_transcript.specs.Alone.{Alone}
+use Rattle.ncp_transcript.specs.Runs.{IsTranscript}
 use Rattle.ncp_script.specs.FirstLines.{Named}
 use Rattle.ncp_script.specs.HostScripts.{host_script}
 use Rattle.ncp_script.specs.Scripts as scripts
@@ -33,7 +34,7 @@ pub begin_says : (bytes was : List ℕ) (fault : PlayFault) (now : Lines) (left 
 begin_says bytes was BadHosts now left page written begins said = ([], first_heading, not_begun bytes scripts.BadHosts (Err BadHosts) left begins (refl, refl), (refl, said))
 begin_says bytes was (LineTooLong line) now left page written begins said = ([], first_heading, not_begun bytes (scripts.LineTooLong line) (Err (LineTooLong line)) left begins (refl, refl), (refl, said))
 begin_says bytes was OutOfMemory now left page written begins said =
-    let some : ScriptBegins (host_script bytes) [] = subst (λ (s : Script Named Input). ScriptBegins s []) (sym begins.2) (begun_by begins.0, does_not begins.1 (begun_by begins.0) (begun_by begins.0) refl, refl) in
+    let some : ScriptBegins (host_script bytes) [] = subst (λ (s : Script Named Input). ScriptBegins s []) (sym begins.2) (begun_by begins.0, does_not begins.1 (begun_by begins.0) (begun_by begins.0) refl, refl, begins.3) in
     ([], first_heading, inr some, (refl, said))
 begin_says bytes was ReadFailed now left page written begins said =
     ([], first_heading, (begins.0, begins.1, subst (λ (s : Script Named Input). LinesCame s []) (sym begins.2) (refl, refl)), (refl, said))
@@ -53,39 +54,39 @@ module _ (bytes : List ℕ) (alone : Alone) (ended : Bool) (lines : Lines) (read
   abbrev course : Course Input
   course = course_of lines.number (lines_of behind)
 
-  all_does : (r : Result Unit PlayFault) (now : Alone) (left : Option (List ℕ)) → CourseDoes course alone r now left → ScriptDoes (host_script bytes) r now.notes left
-  all_does r now left does =
-      subst (λ (s : Script Named Input). ScriptDoes s r now.notes left) (sym begun.2) (now, subst (λ (a : Alone). CourseDoes course a r now left) begun.3 does, refl)
+  all_does : (r : Result Unit PlayFault) (now : Alone) (left : Option (List ℕ)) → IsTranscript now.notes now.host → CourseDoes course alone r now left → ScriptDoes (host_script bytes) r now.notes left
+  all_does r now left told does =
+      subst (λ (s : Script Named Input). ScriptDoes s r now.notes left) (sym begun.2) (now, subst (λ (a : Alone). CourseDoes course a r now left) begun.3 does, refl, told)
 
-  some_does : (now : Alone) → DoesFirst course alone now → ScriptBegins (host_script bytes) now.notes
-  some_does now does = subst (λ (s : Script Named Input). ScriptBegins s now.notes) (sym begun.2) (now, subst (λ (a : Alone). DoesFirst course a now) begun.3 does, refl)
+  some_does : (now : Alone) → IsTranscript now.notes now.host → DoesFirst course alone now → ScriptBegins (host_script bytes) now.notes
+  some_does now told does = subst (λ (s : Script Named Input). ScriptBegins s now.notes) (sym begun.2) (now, subst (λ (a : Alone). DoesFirst course a now) begun.3 does, refl, told)
 
-  either_does : (r : Result Unit PlayFault) (now : Alone) (left : Option (List ℕ)) → CourseDoes course alone r now left ⊎ DoesFirst course alone now → ScriptDoes (host_script bytes) r now.notes left ⊎ ScriptBegins (host_script bytes) now.notes
-  either_does r now left (inl does) = inl (all_does r now left does)
-  either_does r now left (inr does) = inr (some_does now does)
+  either_does : (r : Result Unit PlayFault) (now : Alone) (left : Option (List ℕ)) → IsTranscript now.notes now.host → CourseDoes course alone r now left ⊎ DoesFirst course alone now → ScriptDoes (host_script bytes) r now.notes left ⊎ ScriptBegins (host_script bytes) now.notes
+  either_does r now left told (inl does) = inl (all_does r now left told does)
+  either_does r now left told (inr does) = inr (some_does now told does)
 
   -- a read failed: an LF ended the first line, as behind another nothing is read
-  came_does : (lf : Bool) (now : Alone) (left : Option (List ℕ)) → ended ≡ lf → (ended ≡ false → true ≡ false) → BehindDoes lines.number behind alone (Err ReadFailed) now left → HostDoes bytes (Err ReadFailed) now.notes left
-  came_does true now left lf none does =
+  came_does : (lf : Bool) (now : Alone) (left : Option (List ℕ)) → ended ≡ lf → (ended ≡ false → true ≡ false) → IsTranscript now.notes now.host → BehindDoes lines.number behind alone (Err ReadFailed) now left → HostDoes bytes (Err ReadFailed) now.notes left
+  came_does true now left lf none told does =
       let came = begun.6 lf left does.0 does.1 in
       let rest = course_of lines.number (ended_lines (lines_of does.0)) in (
         came.0,
         came.1,
-        subst (λ (s : Script Named Input). LinesCame s now.notes) (sym came.2) (now, subst (λ (a : Alone). DoesAll rest scripts.Over a now) begun.3 does.2, refl),
+        subst (λ (s : Script Named Input). LinesCame s now.notes) (sym came.2) (now, subst (λ (a : Alone). DoesAll rest scripts.Over a now) begun.3 does.2, refl, told),
       )
-  came_does false now left lf none does = absurd (let f = none lf in cc)
+  came_does false now left lf none told does = absurd (let f = none lf in cc)
 
-  pub behind_does : (fault : PlayFault) (now : Alone) (left : Option (List ℕ)) → (ended ≡ false → is_read_failed {X = Unit {0}} (Err fault) ≡ false) → BehindDoes lines.number behind alone (Err fault) now left → HostDoes bytes (Err fault) now.notes left
-  behind_does (BadLine line) now left whole does = all_does (Err (BadLine line)) now left does
-  behind_does (LineTooLong line) now left whole does = all_does (Err (LineTooLong line)) now left does
-  behind_does BadHosts now left whole does = all_does (Err BadHosts) now left does
-  behind_does (Feed fault) now left whole does = all_does (Err (Feed fault)) now left does
-  behind_does OutOfMemory now left whole does = either_does (Err OutOfMemory) now left does
-  behind_does WriteFailed now left whole does = either_does (Err WriteFailed) now left does
-  behind_does ReadFailed now left whole does = came_does ended now left refl whole does
+  pub behind_does : (fault : PlayFault) (now : Alone) (left : Option (List ℕ)) → (ended ≡ false → is_read_failed {X = Unit {0}} (Err fault) ≡ false) → IsTranscript now.notes now.host → BehindDoes lines.number behind alone (Err fault) now left → HostDoes bytes (Err fault) now.notes left
+  behind_does (BadLine line) now left whole told does = all_does (Err (BadLine line)) now left told does
+  behind_does (LineTooLong line) now left whole told does = all_does (Err (LineTooLong line)) now left told does
+  behind_does BadHosts now left whole told does = all_does (Err BadHosts) now left told does
+  behind_does (Feed fault) now left whole told does = all_does (Err (Feed fault)) now left told does
+  behind_does OutOfMemory now left whole told does = either_does (Err OutOfMemory) now left told does
+  behind_does WriteFailed now left whole told does = either_does (Err WriteFailed) now left told does
+  behind_does ReadFailed now left whole told does = came_does ended now left refl whole told does
 
-  pub behind_done : (now : Alone) (left : Option (List ℕ)) → BehindDoes lines.number behind alone (Ok tt) now left → ScriptDoes (host_script bytes) (Ok tt) now.notes left
-  behind_done now left does = all_does (Ok tt) now left does
+  pub behind_done : (now : Alone) (left : Option (List ℕ)) → IsTranscript now.notes now.host → BehindDoes lines.number behind alone (Ok tt) now left → ScriptDoes (host_script bytes) (Ok tt) now.notes left
+  behind_done now left told does = all_does (Ok tt) now left told does
 
 -- ---- the page
 

@@ -4,6 +4,7 @@ use Rattle.ncp_stream.specs.Streams.{Ahead}
 use Rattle.ncp_host.specs.Host.{new_host}
 use Rattle.ncp_transcript.specs.declared.input.Input.{Input}
 use Rattle.ncp_transcript.specs.Alone.{Alone}
+use Rattle.ncp_transcript.specs.Runs.{IsTranscript}
 use Rattle.ncp_script.specs.FirstLines.{Named, first_of_host}
 use Rattle.ncp_script.specs.HostScripts.{host_script}
 use Rattle.ncp_script.specs.Scripts as scripts
@@ -38,12 +39,13 @@ IsBegun bytes alone ended now left =
     × (ended ≡ true → (left' : Option (List ℕ)) (given : List ℕ) → CameBefore behind left' given
     → (came : List ℕ) × CameBefore bytes left' came × (script_of_lines (ended_lines (lines_of came)) ≡ Plays named (course_of now.number (ended_lines (lines_of given)))))
 
--- how the script that bytes are begins, by the answer
+-- how the script that bytes are begins, by the answer; where there was no memory for the host, the empty list is
+-- a transcript of it
 abbrev pub Begins : List ℕ → Result (Alone × Bool) PlayFault → Lines → Option (List ℕ) → Type 0
 Begins bytes (Ok (alone, ended)) now left = IsBegun bytes alone ended now left
 Begins bytes (Err BadHosts) now left = host_script bytes ≡ NoHosts scripts.BadHosts
 Begins bytes (Err (LineTooLong line)) now left = host_script bytes ≡ NoHosts (scripts.LineTooLong line)
-Begins bytes (Err OutOfMemory) now left = (named : Named) × (course : Course Input) × (host_script bytes ≡ Plays named course)
+Begins bytes (Err OutOfMemory) now left = (named : Named) × (course : Course Input) × (host_script bytes ≡ Plays named course) × IsTranscript [] (begun_by named).host
 Begins bytes (Err ReadFailed) now left = (given : List ℕ) × CameBefore bytes left given × (script_of_lines (ended_lines (lines_of given)) ≡ NoHosts scripts.BadHosts)
 Begins bytes (Err (BadLine line)) now left = ⊥
 Begins bytes (Err (Feed fault)) now left = ⊥

@@ -5,6 +5,7 @@ use Rattle.ncp_transcript.specs.declared.input.Input.{Input}
 use Rattle.ncp_transcript.specs.declared.note.HostNote.{HostNote}
 use Rattle.ncp_transcript.specs.Alone.{Alone, AreSteps}
 use Rattle.ncp_transcript.specs.Notes.{is_refusal}
+use Rattle.ncp_transcript.specs.Runs.{IsTranscript}
 use Rattle.ncp_script.specs.FirstLines.{Named}
 use Rattle.ncp_script.specs.HostScripts.{host_script}
 use Rattle.ncp_script.specs.Scripts as scripts
@@ -54,20 +55,20 @@ BehindDoes first bytes before (Err (Feed fault)) now left = CourseDoes (course_o
 
 -- ---- its transcript
 
--- the notes of all that a script asks for, of the host that its first line names
+-- the notes of all that a script asks for: a transcript of the host that its first line names
 abbrev pub ScriptDoes : Script Named Input → Result Unit PlayFault → List HostNote → Option (List ℕ) → Type 0
 ScriptDoes (NoHosts fault) r notes left = (r ≡ Err (fault_of fault)) × (notes ≡ [])
-ScriptDoes (Plays named course) r notes left = (now : Alone) × CourseDoes course (begun_by named) r now left × (notes ≡ now.notes)
+ScriptDoes (Plays named course) r notes left = (now : Alone) × CourseDoes course (begun_by named) r now left × (notes ≡ now.notes) × IsTranscript notes now.host
 
 -- the notes of the first inputs that it asks for
 abbrev pub ScriptBegins : Script Named Input → List HostNote → Type 0
 ScriptBegins (NoHosts fault) notes = ⊥
-ScriptBegins (Plays named course) notes = (now : Alone) × DoesFirst course (begun_by named) now × (notes ≡ now.notes)
+ScriptBegins (Plays named course) notes = (now : Alone) × DoesFirst course (begun_by named) now × (notes ≡ now.notes) × IsTranscript notes now.host
 
 -- the notes of the lines of a script that came whole, in which no fault is
 abbrev pub LinesCame : Script Named Input → List HostNote → Type 0
 LinesCame (NoHosts fault) notes = (fault ≡ scripts.BadHosts) × (notes ≡ [])
-LinesCame (Plays named course) notes = (now : Alone) × DoesAll course Over (begun_by named) now × (notes ≡ now.notes)
+LinesCame (Plays named course) notes = (now : Alone) × DoesAll course Over (begun_by named) now × (notes ≡ now.notes) × IsTranscript notes now.host
 
 -- the notes of the script that bytes are, by the answer
 abbrev pub HostDoes : List ℕ → Result Unit PlayFault → List HostNote → Option (List ℕ) → Type 0

@@ -66,8 +66,10 @@ fn play_script<S: BitStore, R: Source, W: Sink>(
 {
     let mut lines = Lines::new();
     let (mut alone, ended) = begin::<S, R>(alloc, &mut lines, source)?;
-    play_behind(alloc, &mut alone, ended, &mut lines, source, page, sink)?;
-    Ok(!has_refusal(alone.transcript()))
+    let played = play_behind(alloc, &mut alone, ended, &mut lines, source, page, sink);
+    let good = !has_refusal(alone.transcript());
+    played?;
+    Ok(good)
 }
 
 /// Plays a script of one host, and writes the lines of what it did, one for each line that is played and each
@@ -77,7 +79,8 @@ fn play_script<S: BitStore, R: Source, W: Sink>(
 /// `BadHosts` is answered too where a host cannot have the peers that the first line names. After `ReadFailed`
 /// the lines that came whole were played, after `Feed(ReadFailed)` the messages that came whole; after
 /// `OutOfMemory` the first inputs; after `WriteFailed` a beginning of the lines is written. It reads and writes in
-/// pieces, in time linear in the script and in what the host does, and its memory grows with the notes alone.
+/// pieces, in time linear in the script and in what the host does, and its memory grows with the notes alone
+/// (measured, not proved).
 pub fn play_host<S: BitStore, R: Source, W: Sink>(
     alloc: Global,
     source: &mut R,
@@ -87,7 +90,8 @@ pub fn play_host<S: BitStore, R: Source, W: Sink>(
     requires sink_clean { W.has_failed sink.old ≡ false }
 
     // Of bytes that are told, the lines of the notes of one host are written, and nothing else: of the host that
-    // the first line names, and of the inputs that the lines behind it ask for.
+    // the first line names, and of the inputs that the lines behind it ask for. The notes are a transcript of that
+    // host, so all that is proved of transcripts holds of them.
     ensures told { (bytes : List ℕ) (was : List ℕ)
         → R.left source.old ≡ Some bytes → W.written sink.old ≡ Some was
         → HostPlayed bytes was result (R.left source.new) (W.written sink.new) }

@@ -4,15 +4,19 @@ use Rattle.std.specs.Str.{bytes_eq}
 use Rattle.clap.specs.Simple.{App, new_app, new_shape, with_subcommand, subcommand_of}
 use Rattle.clap.specs.Walk.{Text}
 use Rattle.ncp_player.specs.declared.orders.Order.{Order}
-use Rattle.ncp_player.specs.declared.orders.Order.TheVariants.{Show, Check, Host, World}
+use Rattle.ncp_player.specs.declared.orders.Order.TheVariants.{Show, Check, Host, World, Record}
 
 -- the program with the subcommands that read message files
 abbrev pub of_files : App
 of_files = with_subcommand (with_subcommand (new_app (codes "ncp")) (new_shape (codes "show"))) (new_shape (codes "check"))
 
 -- and with those that play scripts
+abbrev pub of_players : App
+of_players = with_subcommand (with_subcommand of_files (new_shape (codes "host"))) (new_shape (codes "world"))
+
+-- and with the one that records
 abbrev pub program : App
-program = with_subcommand (with_subcommand of_files (new_shape (codes "host"))) (new_shape (codes "world"))
+program = with_subcommand of_players (new_shape (codes "record"))
 
 -- the order that a subcommand is: `show` where there is none
 abbrev pub named : Option Text → Order
@@ -21,6 +25,7 @@ named (Some name) =
     if bytes_eq name (codes "check") then Check
     else if bytes_eq name (codes "host") then Host
     else if bytes_eq name (codes "world") then World
+    else if bytes_eq name (codes "record") then Record
     else Show
 
 -- the order that clap reads in words

@@ -1,6 +1,6 @@
 //! The command line of the program `ncp`.
 ghost use Rattle.std.specs.Prelude.{◌≡◌, IfOk, map, option_map};
-ghost use Rattle.ncp_player.specs.CommandLine.{of_files, program, named, order_in, status_of};
+ghost use Rattle.ncp_player.specs.CommandLine.{of_files, of_players, program, named, order_in, status_of};
 ghost use Rattle.clap.specs.Faults.{fault_of};
 ghost use Rattle.clap.specs.Simple.{app_of};
 ghost use Rattle.clap.specs.Kinds.{FailsBy};
@@ -21,6 +21,8 @@ const HOST: &str = "host";
 
 const WORLD: &str = "world";
 
+const RECORD: &str = "record";
+
 // The order that a subcommand is: `show` where there is none.
 fn order_named(name: Option<&str>) -> Order
     ensures { result ≡ named (option_map (λ name. name.now) name.entry) }
@@ -29,6 +31,7 @@ fn order_named(name: Option<&str>) -> Order
         Some(name) if name == CHECK => Order::Check,
         Some(name) if name == HOST => Order::Host,
         Some(name) if name == WORLD => Order::World,
+        Some(name) if name == RECORD => Order::Record,
         _ => Order::Show,
     }
 }
@@ -49,9 +52,9 @@ fn with_files<'a>(alloc: Global) -> Result<Command<'a>, AllocError>
         .subcommand(check)
 }
 
-// The program with all its subcommands: those that play scripts too.
-fn command_line<'a>(alloc: Global) -> Result<Command<'a>, AllocError>
-    ensures { IfOk result (λ command. app_of command ≡ program) }
+// The program with the subcommands that play scripts too.
+fn with_players<'a>(alloc: Global) -> Result<Command<'a>, AllocError>
+    ensures { IfOk result (λ command. app_of command ≡ of_players) }
 {
     let host = Command::new(alloc, HOST).about(
         "Plays a script of one host, read from standard input",
@@ -60,6 +63,16 @@ fn command_line<'a>(alloc: Global) -> Result<Command<'a>, AllocError>
         "Plays a script of two hosts and the subnet between them, read from standard input",
     );
     with_files(alloc)?.subcommand(host)?.subcommand(world)
+}
+
+// The program with all its subcommands: the one that records too.
+fn command_line<'a>(alloc: Global) -> Result<Command<'a>, AllocError>
+    ensures { IfOk result (λ command. app_of command ≡ program) }
+{
+    let record = Command::new(alloc, RECORD).about(
+        "Plays a script of two hosts, read from standard input, and writes its messages as a message file",
+    );
+    with_players(alloc)?.subcommand(record)
 }
 
 /// Reads the words of a command line, the program's name first. Without a subcommand it is `show`.

@@ -7,9 +7,10 @@ mod orders;
 
 pub use command_line::{order, status};
 pub use ncp_bits::PackedStore;
-pub use ncp_files::{Direction, FileFault, check, show};
+pub use ncp_files::{Direction, FileFault, check, convert, show};
 pub use ncp_host_player::play_host;
 pub use ncp_play::PlayFault;
+pub use ncp_recorder::record_world;
 pub use ncp_stream::{
     Failed, FromRead, LEAST_PIECE, MemorySink, MemorySource, Sink, Source, ToWrite,
 };

@@ -11,4 +11,6 @@ pub enum Order {
     Host,
     /// Play a script of two hosts and the subnet between them.
     World,
+    /// Play a script of two hosts, and write its messages as a message file.
+    Record,
 }

@@ -1,10 +1,10 @@
 -- A beginning of a transcript is one too.
 use Rattle.std.proofs.Common.{◌≡◌, ◌<◌, ◌^◌, ℕ, List, [], ◌∷◌, ◌++◌, refl, sym, ap, ◌∙◌, subst}
-use Rattle.ncp_world.specs.declared.side.Side.TheVariants.{A, B}
-use Rattle.ncp_world.specs.declared.note.Note.{Note}
-use Rattle.ncp_world.specs.declared.note.Note.TheVariants as notes
-use Rattle.ncp_world.specs.Between.{Hosts, after_note, after_notes}
-use Rattle.ncp_world.specs.Transcript.{IsRun, began, IsTranscript}
+use Rattle.ncp_two.specs.declared.side.Side.TheVariants.{A, B}
+use Rattle.ncp_two.specs.declared.note.Note.{Note}
+use Rattle.ncp_two.specs.declared.note.Note.TheVariants as notes
+use Rattle.ncp_two.specs.Between.{Hosts, after_note, after_notes}
+use Rattle.ncp_two.specs.Transcript.{IsRun, began, IsTranscript}
 
 -- the numbers of the hosts stay
 began-noted : (note : Note) (w : Hosts) → began (after_note note w) ≡ began w

@@ -2,18 +2,18 @@
 use Rattle.std.proofs.Common.{◌≡◌, List, [], ◌∷◌, ◌++◌, Option, None, Some, refl, subst}
 use Rattle.ncp_resets.specs.Resets.{Side, This, That}
 use Rattle.ncp_hosts.specs.Hosts as hosts
-use Rattle.ncp_world.specs.World.{World, swap, Told, Event, moves, at, step, run_from, notes_from}
-use Rattle.ncp_world.specs.World as worlds
-use Rattle.ncp_world.specs.Tie.{Tied, IsMove, AreEvents, IsOfModel}
-use Rattle.ncp_world.specs.declared.note.Note.{Note}
-use Rattle.ncp_world.specs.Between.{Hosts, after_note}
-use Rattle.ncp_world.specs.Transcript.{IsRun, began, IsTranscript}
-use Rattle.ncp_world.specs.Seen.{seen, as_rules, told_of, side_of, notes_of}
-use Rattle.ncp_world.proofs.Ties.{tied-swapped}
-use Rattle.ncp_world.proofs.Runs.{run-ties}
-use Rattle.ncp_world.proofs.SeenSteps.{Stand}
-use Rattle.ncp_world.proofs.SeenRuns.{Follows, follows}
-use Rattle.ncp_world.proofs.Headlines.{watched-all}
+use Rattle.ncp_two.specs.World.{World, swap, Told, Event, moves, at, step, run_from, notes_from}
+use Rattle.ncp_two.specs.World as worlds
+use Rattle.ncp_two.specs.Tie.{Tied, IsMove, AreEvents, IsOfModel}
+use Rattle.ncp_two.specs.declared.note.Note.{Note}
+use Rattle.ncp_two.specs.Between.{Hosts, after_note}
+use Rattle.ncp_two.specs.Transcript.{IsRun, began, IsTranscript}
+use Rattle.ncp_two.specs.Seen.{seen, as_rules, told_of, side_of, notes_of}
+use Rattle.ncp_two.proofs.Ties.{tied-swapped}
+use Rattle.ncp_two.proofs.Runs.{run-ties}
+use Rattle.ncp_two.proofs.SeenSteps.{Stand}
+use Rattle.ncp_two.proofs.SeenRuns.{Follows, follows}
+use Rattle.ncp_two.proofs.Headlines.{watched-all}
 use Rattle.ncp_promises.specs.EachNote.{OnSide, OfTold, OfEachNote}
 use Rattle.ncp_promises.proofs.Standing.{stand-after, stands-first}
 

@@ -11,13 +11,13 @@ use Rattle.ncp_transcript.proofs.Beginning.{began_noted}
 use Rattle.ncp_runs.specs.Peers.{FromBeginning}
 use Rattle.ncp_runs.proofs.Begun.{is_run}
 use Rattle.ncp_runs.proofs.First.{none-ready, out-first}
-use Rattle.ncp_world.specs.declared.side.Side.{Side}
-use Rattle.ncp_world.specs.declared.side.Side.TheVariants.{A, B}
-use Rattle.ncp_world.specs.declared.note.Note.{Note}
-use Rattle.ncp_world.specs.declared.note.Note.TheVariants as notes
-use Rattle.ncp_world.specs.Between.{Hosts, host_of, after_note, after_notes}
-use Rattle.ncp_world.specs.Transcript.{began, IsTranscript}
-use Rattle.ncp_world.specs.Sides.{note_at, notes_at}
+use Rattle.ncp_two.specs.declared.side.Side.{Side}
+use Rattle.ncp_two.specs.declared.side.Side.TheVariants.{A, B}
+use Rattle.ncp_two.specs.declared.note.Note.{Note}
+use Rattle.ncp_two.specs.declared.note.Note.TheVariants as notes
+use Rattle.ncp_two.specs.Between.{Hosts, host_of, after_note, after_notes}
+use Rattle.ncp_two.specs.Transcript.{began, IsTranscript}
+use Rattle.ncp_two.specs.Sides.{note_at, notes_at}
 use Rattle.ncp_promises.proofs.Beginnings.{begins}
 
 -- a host as it was when it began stays

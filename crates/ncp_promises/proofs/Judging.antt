@@ -32,17 +32,17 @@ use Rattle.ncp_host.specs.declared.received.Received.{Received}
 use Rattle.ncp_host.specs.declared.received.Received.TheVariants as received
 use Rattle.ncp_host.specs.PeerState.{PeerState}
 use Rattle.ncp_host.specs.Hearing as hearing
-use Rattle.ncp_world.specs.Subnet.{Holds, Free, Accepted, Delivered, Lost, Dead, Subnet, from_host}
-use Rattle.ncp_world.specs.World.{World, Told, In, Call_is_made, Goes_out, Is_delivered, Is_lost, Finds_dead, Is_answered, moves, goes, delivers, loses, dies, answers_for}
-use Rattle.ncp_world.specs.World as worlds
-use Rattle.ncp_world.specs.Tie.{control_bits, AreCommands, Stands, Reached, Goes_on, Tied, IsMove}
-use Rattle.ncp_world.specs.Refused.{refuses}
-use Rattle.ncp_world.specs.Underway.{text_read, text_of, commands_of}
-use Rattle.ncp_world.proofs.Links.{Comes, delivered}
-use Rattle.ncp_world.proofs.Written.{read, control_text, from_host-message, comes-received}
-use Rattle.ncp_world.proofs.Comings.{hears-stands, control-heard}
-use Rattle.ncp_world.proofs.Reaching.{of-reached, stands-there}
-use Rattle.ncp_world.proofs.Refusals.{none-refused}
+use Rattle.ncp_two.specs.Subnet.{Holds, Free, Accepted, Delivered, Lost, Dead, Subnet, from_host}
+use Rattle.ncp_two.specs.World.{World, Told, In, Call_is_made, Goes_out, Is_delivered, Is_lost, Finds_dead, Is_answered, moves, goes, delivers, loses, dies, answers_for}
+use Rattle.ncp_two.specs.World as worlds
+use Rattle.ncp_two.specs.Tie.{control_bits, AreCommands, Stands, Reached, Goes_on, Tied, IsMove}
+use Rattle.ncp_two.specs.Refused.{refuses}
+use Rattle.ncp_two.specs.Underway.{text_read, text_of, commands_of}
+use Rattle.ncp_two.proofs.Links.{Comes, delivered}
+use Rattle.ncp_two.proofs.Written.{read, control_text, from_host-message, comes-received}
+use Rattle.ncp_two.proofs.Comings.{hears-stands, control-heard}
+use Rattle.ncp_two.proofs.Reaching.{of-reached, stands-there}
+use Rattle.ncp_two.proofs.Refusals.{none-refused}
 use Rattle.ncp_host.specs.Output.{next_of}
 use Rattle.ncp_promises.specs.Judged.{ActsOnce, MakesNoErr, NoneErrs, is_err}
 
@@ -119,7 +119,7 @@ clean-one c n e = go (is_up n.host) e
     go true e = or_left n.violated _ e
     go false e = e
 
-clean : (cs : List Command) (n : Node) → (hosts.hears_all cs n).violated ≡ false → n.violated ≡ false
+pub clean : (cs : List Command) (n : Node) → (hosts.hears_all cs n).violated ≡ false → n.violated ≡ false
 clean [] n e = e
 clean (c ∷ cs) n e = clean-one c n (clean cs (hosts.hears c n) e)
 
@@ -137,7 +137,7 @@ no-err (heard.Reply d) c e = rw (right-reply d e) (no-echo-errs c)
 no-err heard.Late c e = no-echo-errs c
 no-err heard.Full c e = no-echo-errs c
 
-right-one : (c : Command) (n : Node) → (hosts.hears c n).violated ≡ false → up n.host.phase ≡ true → list_any is_err (made_by_hearing (answer (hear c n.ends)) ++ echo_replies c) ≡ false
+pub right-one : (c : Command) (n : Node) → (hosts.hears c n).violated ≡ false → up n.host.phase ≡ true → list_any is_err (made_by_hearing (answer (hear c n.ends)) ++ echo_replies c) ≡ false
 right-one Rst n e u = refl
 right-one Rrp n e u = refl
 right-one c n e u = no-err (answer (hear c n.ends)) c (or_right n.violated _ (ap (λ (b : Bool). (if b then hosts.hears_other c n else n).violated) (sym u) ∙ e))

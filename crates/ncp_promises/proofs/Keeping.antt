@@ -38,20 +38,20 @@ use Rattle.ncp_host.specs.PeerState as states
 use Rattle.ncp_host.specs.Hearing.{is_wrong_link}
 use Rattle.ncp_host.specs.Hearing as hearing
 use Rattle.ncp_host.specs.Output.{next_of, links, output_by, made_on, control_message, after_by}
-use Rattle.ncp_world.specs.Subnet.{Holds, Free, Accepted, Delivered, Lost, Subnet, from_host, link_in, set_at}
-use Rattle.ncp_world.specs.Subnet as subnets
-use Rattle.ncp_world.specs.World.{World, swap, Asked, Asks, Asks_echo, Asks_reset, Asks_wake, after_call, after_received, Told, Call_is_made, Goes_out, Is_delivered, Is_lost, Finds_dead, Is_answered, moves, goes, delivers, loses, dies, answers_for}
-use Rattle.ncp_world.specs.World as worlds
-use Rattle.ncp_world.specs.Tie.{control_bits, text_bits, AreCommands, IsTextOn, Tied}
-use Rattle.ncp_world.specs.Underway.{commands_of, underway}
-use Rattle.ncp_world.proofs.Links.{Comes, delivered, zero_apart}
-use Rattle.ncp_world.proofs.Ties.{quiet-is}
-use Rattle.ncp_world.proofs.Written.{read, from_host-message, answer_comes-is}
-use Rattle.ncp_world.proofs.Comings.{small, text-heard, control-heard}
-use Rattle.ncp_world.proofs.Answering.{answered-is}
-use Rattle.ncp_world.proofs.Goings.{Found, found, links-right, not_true}
-use Rattle.ncp_world.proofs.Flights.{IsOut, delivered-out, lost-out, dead-out, out-link}
-use Rattle.ncp_world.proofs.Reaching.{stands-there}
+use Rattle.ncp_two.specs.Subnet.{Holds, Free, Accepted, Delivered, Lost, Subnet, from_host, link_in, set_at}
+use Rattle.ncp_two.specs.Subnet as subnets
+use Rattle.ncp_two.specs.World.{World, swap, Asked, Asks, Asks_echo, Asks_reset, Asks_wake, after_call, after_received, Told, Call_is_made, Goes_out, Is_delivered, Is_lost, Finds_dead, Is_answered, moves, goes, delivers, loses, dies, answers_for}
+use Rattle.ncp_two.specs.World as worlds
+use Rattle.ncp_two.specs.Tie.{control_bits, text_bits, AreCommands, IsTextOn, Tied}
+use Rattle.ncp_two.specs.Underway.{commands_of, underway}
+use Rattle.ncp_two.proofs.Links.{Comes, delivered, zero_apart}
+use Rattle.ncp_two.proofs.Ties.{quiet-is}
+use Rattle.ncp_two.proofs.Written.{read, from_host-message, answer_comes-is}
+use Rattle.ncp_two.proofs.Comings.{small, text-heard, control-heard}
+use Rattle.ncp_two.proofs.Answering.{answered-is}
+use Rattle.ncp_two.proofs.Goings.{Found, found, links-right, not_true}
+use Rattle.ncp_two.proofs.Flights.{IsOut, delivered-out, lost-out, dead-out, out-link}
+use Rattle.ncp_two.proofs.Reaching.{stands-there}
 use Rattle.ncp_promises.specs.Since.{Watches, of_asked, of_text, of_message, of_answer, after_told, CommandsAgree, IsSilent}
 use Rattle.ncp_promises.proofs.Judging.{ControlComes, control-comes, control-read, hears_all-stands}
 use Rattle.ncp_promises.proofs.Lines.{line_of, line, commands-written, fitting-take, next-are, accepted-line, woken-line, other-line, failed-line, delivered-line, answered-line, apart-line, out-line}

@@ -8,3 +8,4 @@ pub mod Watching
 pub mod Opening
 pub mod Beginnings
 pub mod First
+pub mod NoErrs

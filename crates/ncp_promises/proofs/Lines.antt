@@ -19,12 +19,12 @@ use Rattle.ncp_slot.proofs.Places.{slot_at-with_slot_same}
 use Rattle.ncp_slot.proofs.Waking.{slot_at-all_woken}
 use Rattle.ncp_model.specs.Sending.{fitting, next_commands}
 use Rattle.ncp_hosts.specs.Hosts as hosts
-use Rattle.ncp_world.specs.Subnet.{Holds, Free, Accepted, Delivered, Subnet, set_at}
-use Rattle.ncp_world.specs.World.{World}
-use Rattle.ncp_world.specs.Tie.{control_bits, AreCommands, Tied}
-use Rattle.ncp_world.specs.Underway.{text_read, commands_of, not_come, commands_out}
-use Rattle.ncp_world.proofs.Links.{away, set_at-apart, with_slot-apart}
-use Rattle.ncp_world.proofs.Written.{read, control_text}
+use Rattle.ncp_two.specs.Subnet.{Holds, Free, Accepted, Delivered, Subnet, set_at}
+use Rattle.ncp_two.specs.World.{World}
+use Rattle.ncp_two.specs.Tie.{control_bits, AreCommands, Tied}
+use Rattle.ncp_two.specs.Underway.{text_read, commands_of, not_come, commands_out}
+use Rattle.ncp_two.proofs.Links.{away, set_at-apart, with_slot-apart}
+use Rattle.ncp_two.proofs.Written.{read, control_text}
 
 abbrev pub line_of : LinkSlot → Holds → List Command
 line_of s h = commands_out (not_come s h)

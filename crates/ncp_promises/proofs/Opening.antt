@@ -43,20 +43,20 @@ use Rattle.ncp_host.specs.PeerState.{PeerState, after_answer}
 use Rattle.ncp_host.specs.PeerState as states
 use Rattle.ncp_host.specs.Hearing as hearing
 use Rattle.ncp_host.specs.Output.{next_of, after_by}
-use Rattle.ncp_world.specs.Subnet.{Holds, Free, Accepted, Delivered, Lost, Subnet, from_host}
-use Rattle.ncp_world.specs.Subnet as subnets
-use Rattle.ncp_world.specs.World.{World, swap, Asked, Asks, Asks_echo, Asks_reset, Asks_wake, after_call, after_received, Told, Call_is_made, Goes_out, Is_delivered, Is_lost, Finds_dead, Is_answered, moves, goes, delivers, loses, dies, answers_for}
-use Rattle.ncp_world.specs.World as worlds
-use Rattle.ncp_world.specs.Tie.{Place, Nowhere, Waits, Goes, Came, Failed, Died, Kept, model_of, slot_of, Carries, text_bits, IsTextOn, Stands, Reached, Tied, IsMove}
-use Rattle.ncp_world.specs.Underway.{commands_of}
-use Rattle.ncp_world.proofs.Links.{Comes, delivered}
-use Rattle.ncp_world.proofs.Ties.{quiet-is}
-use Rattle.ncp_world.proofs.Unmoved.{calls-unmoved, echo-unmoved, reset-unmoved}
-use Rattle.ncp_world.proofs.Written.{answer_comes-is}
-use Rattle.ncp_world.proofs.Comings.{text-heard, hears-stands}
-use Rattle.ncp_world.proofs.Answering.{answered-is}
-use Rattle.ncp_world.proofs.Flights.{IsOut, delivered-out, lost-out, dead-out}
-use Rattle.ncp_world.proofs.Reaching.{of-reached, stands-there}
+use Rattle.ncp_two.specs.Subnet.{Holds, Free, Accepted, Delivered, Lost, Subnet, from_host}
+use Rattle.ncp_two.specs.Subnet as subnets
+use Rattle.ncp_two.specs.World.{World, swap, Asked, Asks, Asks_echo, Asks_reset, Asks_wake, after_call, after_received, Told, Call_is_made, Goes_out, Is_delivered, Is_lost, Finds_dead, Is_answered, moves, goes, delivers, loses, dies, answers_for}
+use Rattle.ncp_two.specs.World as worlds
+use Rattle.ncp_two.specs.Tie.{Place, Nowhere, Waits, Goes, Came, Failed, Died, Kept, model_of, slot_of, Carries, text_bits, IsTextOn, Stands, Reached, Tied, IsMove}
+use Rattle.ncp_two.specs.Underway.{commands_of}
+use Rattle.ncp_two.proofs.Links.{Comes, delivered}
+use Rattle.ncp_two.proofs.Ties.{quiet-is}
+use Rattle.ncp_two.proofs.Unmoved.{calls-unmoved, echo-unmoved, reset-unmoved}
+use Rattle.ncp_two.proofs.Written.{answer_comes-is}
+use Rattle.ncp_two.proofs.Comings.{text-heard, hears-stands}
+use Rattle.ncp_two.proofs.Answering.{answered-is}
+use Rattle.ncp_two.proofs.Flights.{IsOut, delivered-out, lost-out, dead-out}
+use Rattle.ncp_two.proofs.Reaching.{of-reached, stands-there}
 use Rattle.ncp_promises.specs.Openings.{OpensOnFreeLinks, EachOpensOnFreeLinks, OpensNothing, OpensUnderNoText}
 use Rattle.ncp_promises.proofs.Judging.{ControlComes, control-comes, control-read, on_control, acts}
 

@@ -9,15 +9,15 @@ use Rattle.ncp_transcript.specs.After as transcripts
 use Rattle.ncp_transcript.proofs.Beginning.{began_noted, same_peers}
 use Rattle.ncp_host.specs.PeerState.{PeerState}
 use Rattle.ncp_host.specs.Host.{numbers_of, state_in, state_of}
-use Rattle.ncp_world.specs.Seen.{state_or_new, had_for}
-use Rattle.ncp_world.specs.declared.side.Side.{Side}
-use Rattle.ncp_world.specs.declared.side.Side.TheVariants.{A, B}
-use Rattle.ncp_world.specs.declared.note.Note.{Note}
-use Rattle.ncp_world.specs.declared.note.Note.TheVariants as notes
-use Rattle.ncp_world.specs.Between.{Hosts, taken, is_taken, after_out, host_notes_it, other, number_of, host_of, after_note, after_notes}
-use Rattle.ncp_world.specs.Transcript.{began, IsTranscript}
-use Rattle.ncp_world.proofs.Accepting.{taken_yes, taken_no}
-use Rattle.ncp_world.proofs.SeenSteps.{Stand}
+use Rattle.ncp_two.specs.Seen.{state_or_new, had_for}
+use Rattle.ncp_two.specs.declared.side.Side.{Side}
+use Rattle.ncp_two.specs.declared.side.Side.TheVariants.{A, B}
+use Rattle.ncp_two.specs.declared.note.Note.{Note}
+use Rattle.ncp_two.specs.declared.note.Note.TheVariants as notes
+use Rattle.ncp_two.specs.Between.{Hosts, taken, is_taken, after_out, host_notes_it, other, number_of, host_of, after_note, after_notes}
+use Rattle.ncp_two.specs.Transcript.{began, IsTranscript}
+use Rattle.ncp_two.proofs.Accepting.{taken_yes, taken_no}
+use Rattle.ncp_two.proofs.SeenSteps.{Stand}
 
 stand-a : (w : Hosts) → Stand w → (n : HostNote) → Stand (record w { a = transcripts.after_note n w.a })
 stand-a w k n = record { differ = k.differ; fits_a = k.fits_a; fits_b = k.fits_b; a = same_peers w.a (transcripts.after_note n w.a) (began_noted n w.a) ∙ k.a; b = k.b; to_b = k.to_b; to_a = k.to_a }

@@ -25,19 +25,19 @@ use Rattle.ncp_host.specs.PeerState as states
 use Rattle.ncp_host.specs.Hearing.{is_wrong_link}
 use Rattle.ncp_host.specs.Hearing as hearing
 use Rattle.ncp_host.specs.Output.{leader_to, next_of, after_by}
-use Rattle.ncp_world.specs.Subnet.{Holds, Free, Accepted, Delivered, Lost, Subnet, from_host}
-use Rattle.ncp_world.specs.Subnet as subnets
-use Rattle.ncp_world.specs.World.{World, swap, Told, Asked, Asks, Asks_echo, Asks_reset, Asks_wake, after_call, Call_is_made, Goes_out, Is_delivered, Is_lost, Finds_dead, Is_answered, moves, goes, delivers, loses, dies, answers_for}
-use Rattle.ncp_world.specs.World as worlds
-use Rattle.ncp_world.specs.Tie.{text_bits, IsTextOn, Reached, Tied, IsMove}
-use Rattle.ncp_world.specs.Underway.{commands_of}
-use Rattle.ncp_world.proofs.Links.{Comes, delivered}
-use Rattle.ncp_world.proofs.Written.{from_host-message, comes-received, answer_comes-is}
-use Rattle.ncp_world.proofs.Comings.{small, text-heard, control-heard}
-use Rattle.ncp_world.proofs.Answering.{answered-is}
-use Rattle.ncp_world.proofs.Flights.{IsOut, delivered-out, lost-out, dead-out}
-use Rattle.ncp_world.proofs.Reaching.{of-reached, stands-there}
-use Rattle.ncp_world.proofs.Runs.{moves-tie}
+use Rattle.ncp_two.specs.Subnet.{Holds, Free, Accepted, Delivered, Lost, Subnet, from_host}
+use Rattle.ncp_two.specs.Subnet as subnets
+use Rattle.ncp_two.specs.World.{World, swap, Told, Asked, Asks, Asks_echo, Asks_reset, Asks_wake, after_call, Call_is_made, Goes_out, Is_delivered, Is_lost, Finds_dead, Is_answered, moves, goes, delivers, loses, dies, answers_for}
+use Rattle.ncp_two.specs.World as worlds
+use Rattle.ncp_two.specs.Tie.{text_bits, IsTextOn, Reached, Tied, IsMove}
+use Rattle.ncp_two.specs.Underway.{commands_of}
+use Rattle.ncp_two.proofs.Links.{Comes, delivered}
+use Rattle.ncp_two.proofs.Written.{from_host-message, comes-received, answer_comes-is}
+use Rattle.ncp_two.proofs.Comings.{small, text-heard, control-heard}
+use Rattle.ncp_two.proofs.Answering.{answered-is}
+use Rattle.ncp_two.proofs.Flights.{IsOut, delivered-out, lost-out, dead-out}
+use Rattle.ncp_two.proofs.Reaching.{of-reached, stands-there}
+use Rattle.ncp_two.proofs.Runs.{moves-tie}
 use Rattle.ncp_promises.specs.Resetting.{Waits, StillWaits, DropsOthers, OnlyResetsAct}
 use Rattle.ncp_promises.proofs.Judging.{ControlComes, control-comes, control-read, acts, on_control, hears_all-stands}
 

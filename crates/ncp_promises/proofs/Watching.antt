@@ -4,22 +4,22 @@ use Rattle.std.proofs.lemmas.Bool.{eq-eqb}
 use Rattle.ncp_control.specs.declared.command.Command.{Command}
 use Rattle.ncp_slot.specs.Slots.{LinkSlot, no_slots}
 use Rattle.ncp_slot.proofs.Places.{slot_at-no_slots}
-use Rattle.ncp_world.specs.Subnet.{Subnet}
+use Rattle.ncp_two.specs.Subnet.{Subnet}
 use Rattle.ncp_resets.specs.Resets.{Side, This, That}
 use Rattle.ncp_resets.proofs.ResetKept.{Kept}
 use Rattle.ncp_resets.proofs.ResetRuns.{starting}
 use Rattle.ncp_hosts.specs.Hosts as hosts
 use Rattle.ncp_host.specs.PeerState.{PeerState, new_state}
-use Rattle.ncp_world.specs.World.{World, swap, Told, Event, moves, at, step, run_from, notes_from}
-use Rattle.ncp_world.specs.World as worlds
-use Rattle.ncp_world.specs.Tie.{IsOfModel}
-use Rattle.ncp_world.specs.declared.note.Note.{Note}
-use Rattle.ncp_world.specs.Between.{Hosts, after_note, after_notes}
-use Rattle.ncp_world.specs.Transcript.{IsRun, began, IsTranscript}
-use Rattle.ncp_world.specs.Seen.{state_or_new, seen, as_rules, told_of, side_of, notes_of}
-use Rattle.ncp_world.proofs.Ties.{tied-swapped}
-use Rattle.ncp_world.proofs.SeenSteps.{Stand}
-use Rattle.ncp_world.proofs.SeenRuns.{Follows, follows}
+use Rattle.ncp_two.specs.World.{World, swap, Told, Event, moves, at, step, run_from, notes_from}
+use Rattle.ncp_two.specs.World as worlds
+use Rattle.ncp_two.specs.Tie.{IsOfModel}
+use Rattle.ncp_two.specs.declared.note.Note.{Note}
+use Rattle.ncp_two.specs.Between.{Hosts, after_note, after_notes}
+use Rattle.ncp_two.specs.Transcript.{IsRun, began, IsTranscript}
+use Rattle.ncp_two.specs.Seen.{state_or_new, seen, as_rules, told_of, side_of, notes_of}
+use Rattle.ncp_two.proofs.Ties.{tied-swapped}
+use Rattle.ncp_two.proofs.SeenSteps.{Stand}
+use Rattle.ncp_two.proofs.SeenRuns.{Follows, follows}
 use Rattle.ncp_promises.specs.Since.{Watches, nothing_seen, none_watched, after_told, on_side, if_told, watched_from, other_way, CommandsAgree, IsSilent}
 use Rattle.ncp_promises.proofs.Standing.{stand-after, stands-first}
 use Rattle.ncp_promises.proofs.Each.{begins-tied, tied-after}

@@ -2,10 +2,10 @@
 -- after it. It is said of this host, which sent what comes, and of that one, its peer.
 use Rattle.std.specs.Prelude.{◌≡◌, List, [], ◌∷◌, Option, None, Some}
 use Rattle.ncp_resets.specs.Resets.{Side, This, That}
-use Rattle.ncp_world.specs.World.{World, swap, Told}
-use Rattle.ncp_world.specs.declared.note.Note.{Note}
-use Rattle.ncp_world.specs.Between.{Hosts, after_note}
-use Rattle.ncp_world.specs.Seen.{seen, as_rules, told_of, side_of}
+use Rattle.ncp_two.specs.World.{World, swap, Told}
+use Rattle.ncp_two.specs.declared.note.Note.{Note}
+use Rattle.ncp_two.specs.Between.{Hosts, after_note}
+use Rattle.ncp_two.specs.Seen.{seen, as_rules, told_of, side_of}
 
 -- a note of either side, which is this host
 abbrev pub OnSide : (Told → World → World → Type 0) → Side → Told → World → World → Type 0

@@ -6,8 +6,8 @@ use Rattle.ncp_model.specs.Pairs.{turned}
 use Rattle.ncp_model.specs.End.{is_live}
 use Rattle.ncp_watch.specs.Histories.{Past}
 use Rattle.ncp_hosts.specs.Hosts.{past_of}
-use Rattle.ncp_world.specs.World.{World}
-use Rattle.ncp_world.specs.Watch.{Both}
+use Rattle.ncp_two.specs.World.{World}
+use Rattle.ncp_two.specs.Watch.{Both}
 
 -- what is used is at most what was granted less what was returned, for messages and for bits
 abbrev pub IsWithin : Past → Type 0

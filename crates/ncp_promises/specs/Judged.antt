@@ -10,9 +10,9 @@ use Rattle.ncp_model.specs.Peers.{reaction}
 use Rattle.ncp_host.specs.declared.received.Received.TheVariants as received
 use Rattle.ncp_host.specs.PeerState.{PeerState, control_link}
 use Rattle.ncp_host.specs.Hearing.{hears, hears_all}
-use Rattle.ncp_world.specs.World.{World, Told, In}
-use Rattle.ncp_world.specs.Refused.{is_refused}
-use Rattle.ncp_world.specs.Underway.{text_of, commands_of}
+use Rattle.ncp_two.specs.World.{World, Told, In}
+use Rattle.ncp_two.specs.Refused.{is_refused}
+use Rattle.ncp_two.specs.Underway.{text_of, commands_of}
 
 -- A control message that comes does to that host what its commands do, each once, in order, and nothing to
 -- this one.

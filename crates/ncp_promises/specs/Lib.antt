@@ -5,3 +5,5 @@ pub mod Since
 pub mod Openings
 pub mod Headline
 pub mod Examples
+pub mod Errless
+pub mod Promised

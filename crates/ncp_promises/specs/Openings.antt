@@ -12,8 +12,8 @@ use Rattle.ncp_model.specs.Peers.{Peer}
 use Rattle.ncp_watch.specs.Histories.{opens}
 use Rattle.ncp_host.specs.PeerState.{PeerState, control_link}
 use Rattle.ncp_host.specs.Hearing.{hears, hears_all}
-use Rattle.ncp_world.specs.World.{World, Told, Called, Out, In, Answered}
-use Rattle.ncp_world.specs.Underway.{commands_of}
+use Rattle.ncp_two.specs.World.{World, Told, Called, Out, In, Answered}
+use Rattle.ncp_two.specs.Underway.{commands_of}
 
 -- the pair opens at a host: it was not live, and is
 abbrev pub Opens : Pair → Peer → Peer → Type 0

@@ -9,8 +9,8 @@ use Rattle.ncp_host.specs.declared.received.Received.{Received}
 use Rattle.ncp_host.specs.declared.received.Received.TheVariants as received
 use Rattle.ncp_host.specs.PeerState.{PeerState, control_link}
 use Rattle.ncp_host.specs.Hearing.{hears, hears_all}
-use Rattle.ncp_world.specs.World.{World, Told, Called, Out, In, Answered}
-use Rattle.ncp_world.specs.Underway.{commands_of}
+use Rattle.ncp_two.specs.World.{World, Told, Called, Out, In, Answered}
+use Rattle.ncp_two.specs.Underway.{commands_of}
 
 -- an RST was made, and no RRP has come since
 abbrev pub Waits : PeerState → Type 0

@@ -14,11 +14,11 @@ use Rattle.ncp_model.specs.Phase.{up, is_reset, is_other, is_resetting}
 use Rattle.ncp_resets.specs.Resets.{Side, This, That}
 use Rattle.ncp_hosts.specs.Watching.{Watch, begins_anew, sees_call, sees_echo, sees_each, sees_text, sees_taken}
 use Rattle.ncp_host.specs.PeerState.{PeerState, control_link}
-use Rattle.ncp_world.specs.World.{World, swap, Asked, Asks, Asks_echo, Asks_reset, Asks_wake, Told, Called, In, Answered}
-use Rattle.ncp_world.specs.Underway.{commands_of, underway}
-use Rattle.ncp_world.specs.declared.note.Note.{Note}
-use Rattle.ncp_world.specs.Between.{Hosts, after_note}
-use Rattle.ncp_world.specs.Seen.{seen, as_rules, told_of, side_of}
+use Rattle.ncp_two.specs.World.{World, swap, Asked, Asks, Asks_echo, Asks_reset, Asks_wake, Told, Called, In, Answered}
+use Rattle.ncp_two.specs.Underway.{commands_of, underway}
+use Rattle.ncp_two.specs.declared.note.Note.{Note}
+use Rattle.ncp_two.specs.Between.{Hosts, after_note}
+use Rattle.ncp_two.specs.Seen.{seen, as_rules, told_of, side_of}
 
 -- what is watched at this host and at that one: what was made and came there
 pub record Watches : Type 0 where

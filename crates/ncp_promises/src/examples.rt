@@ -7,6 +7,7 @@ ghost use Rattle.ncp_slot.specs.Slot.{is_empty};
 ghost use Rattle.ncp_slot.specs.Slots.{slot_at};
 ghost use Rattle.ncp_model.specs.declared.outcomes.Heard.TheVariants as heard;
 ghost use Rattle.ncp_model.specs.declared.outcomes.Took.TheVariants as took;
+ghost use Rattle.ncp_model.specs.declared.outcomes.Error.{Error};
 ghost use Rattle.ncp_model.specs.Act.{answer};
 ghost use Rattle.ncp_model.specs.Ends.{hear};
 ghost use Rattle.ncp_model.specs.Phase.{up, up_phase, is_other};
@@ -18,9 +19,11 @@ ghost use Rattle.ncp_hosts.specs.Hosts.{Hears, at, run, peer_of};
 ghost use Rattle.ncp_hosts.specs.HostRuns.{meets, meets_there};
 ghost use Rattle.ncp_host.specs.declared.received.Received.TheVariants as received;
 ghost use Rattle.ncp_host.specs.PeerState.{PeerState, new_state};
-ghost use Rattle.ncp_world.specs.World.{World, Asks_echo, Asks_reset, Called, In, Reply, Asked};
-ghost use Rattle.ncp_world.specs.Underway.{commands_of, underway};
+ghost use Rattle.ncp_two.specs.World.{World, Asks_echo, Asks_reset, Called, In, Reply, Asked};
+ghost use Rattle.ncp_two.specs.Underway.{commands_of, underway};
+ghost use Rattle.ncp_two.specs.Subnet.{Subnet};
 ghost use Rattle.ncp_promises.specs.Judged.{ActsOnce, NoneErrs};
+ghost use Rattle.ncp_promises.specs.Errless.{HasNoErr};
 ghost use Rattle.ncp_promises.specs.Resetting.{Waits, OnlyResetsAct};
 ghost use Rattle.ncp_promises.specs.Openings.{Opens, OpensOnFreeLinks};
 ghost use Rattle.ncp_promises.specs.Since.{Watches, nothing_seen, of_asked, of_message, CommandsAgree};
@@ -41,10 +44,12 @@ pub fn openings_happen_and_are_seen()
     openings_and_texts_out_happen();
 }
 
-/// A command that an ERR answers is seen as one; one that comes and does nothing, or is counted as two, is
-/// refused.
+/// A command that an ERR answers is seen as one, and so is an ERR that is underway, or came; a command that comes
+/// and does nothing, or is counted as two, is refused.
 pub fn errs_and_lost_commands_are_seen()
     ensures err { (c : Order) (code : ℕ) (bytes : List ℕ) (s : PeerState) → up s.peer.phase ≡ true → answer (hear c s.peer.ends) ≡ heard.Reply (Command.Err code bytes) → NoneErrs (c ∷ []) s → ⊥ }
+    ensures going { (s : PeerState) (u : Subnet) (code : ℕ) (bytes : List ℕ) (cs : List Order) → underway s u ≡ Command.Err code bytes ∷ cs → HasNoErr s u → ⊥ }
+    ensures came { (s : PeerState) (u : Subnet) (error : Error) (errors : List Error) → s.peer.echoes.errors ≡ error ∷ errors → HasNoErr s u → ⊥ }
     ensures lost { (m : List Bool) (v after : World) → commands_of m ≡ Command.Rrp ∷ [] → Waits v.that → Waits after.that → ActsOnce (In 0 m (received.Control 1)) v after → ⊥ }
     ensures twice { (m : List Bool) (v after : World) → commands_of m ≡ Command.Rrp ∷ [] → ActsOnce (In 0 m (received.Control 2)) v after → ⊥ }
 {}

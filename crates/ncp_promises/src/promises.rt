@@ -2,27 +2,29 @@
 ghost use Rattle.std.specs.Prelude.{Bool, List, ◌∷◌, ◌++◌, None, Some};
 ghost use Rattle.ncp_host.specs.Readiness.{IsNext};
 ghost use Rattle.ncp_transcript.specs.declared.note.HostNote.TheVariants as of_host;
-ghost use Rattle.ncp_world.specs.declared.note.Note.TheVariants as of_world;
-ghost use Rattle.ncp_world.specs.declared.side.Side as sides;
-ghost use Rattle.ncp_world.specs.declared.note.Note.{Note};
-ghost use Rattle.ncp_world.specs.Between.{Hosts, host_of, after_notes};
-ghost use Rattle.ncp_world.specs.Transcript.{began, IsTranscript};
-ghost use Rattle.ncp_promises.specs.EachNote.{OfEachNote};
-ghost use Rattle.ncp_promises.specs.Judged.{ActsOnce, MakesNoErr};
-ghost use Rattle.ncp_promises.specs.Resetting.{Waits, StillWaits, OnlyResetsAct};
-ghost use Rattle.ncp_promises.specs.Openings.{OpensUnderNoText};
-ghost use Rattle.ncp_promises.specs.Since.{Watches, none_watched, watched_from, other_way, CommandsAgree, IsSilent};
-ghost use Rattle.ncp_world.specs.World.{swap};
-ghost use Rattle.ncp_world.specs.Seen.{seen};
+ghost use Rattle.ncp_two.specs.declared.note.Note.TheVariants as of_world;
+ghost use Rattle.ncp_two.specs.declared.side.Side as sides;
+ghost use Rattle.ncp_two.specs.declared.note.Note.{Note};
+ghost use Rattle.ncp_two.specs.Between.{Hosts, host_of, after_notes};
+ghost use Rattle.ncp_two.specs.Transcript.{began, IsTranscript};
+ghost use Rattle.ncp_promises.specs.Promised.{EachActedOnce, NoErrMade, NoErrUnderway, WaitsAlone, OnlyResetsActed, CommandsInOrder, OpenedUnderNoText};
+ghost use Rattle.ncp_promises.specs.Since.{none_watched, watched_from, IsSilent};
+ghost use Rattle.ncp_two.specs.Seen.{seen};
 
-use ncp_world::transcripts::each_host_is_by_itself;
+use ncp_two::transcripts::each_host_is_by_itself;
 
 /// Each command of a control message that comes acts once, in order, and nothing else does; none of them
 /// is answered by an ERR, and no control text has a fault. No text is answered as not connected, of the wrong
 /// size or beyond the allocation, and no bits are a faulty message.
 pub fn what_comes_acts_once_and_is_right()
-    ensures once { (notes : List Note) (w : Hosts) → IsTranscript notes w → OfEachNote ActsOnce notes (began w) }
-    ensures right { (notes : List Note) (w : Hosts) → IsTranscript notes w → OfEachNote MakesNoErr notes (began w) }
+    ensures once { (notes : List Note) (w : Hosts) → IsTranscript notes w → EachActedOnce notes w }
+    ensures right { (notes : List Note) (w : Hosts) → IsTranscript notes w → NoErrMade notes w }
+{}
+
+/// No host ever makes an ERR for the other: none waits to go out, or is in a message that has not come, and none
+/// ever came.
+pub fn no_err_is_ever_underway()
+    ensures { (notes : List Note) (w : Hosts) → IsTranscript notes w → NoErrUnderway notes w }
 {}
 
 /// From making an RST until an RRP came, a host acts on nothing but RST and RRP: in each note of that time no
@@ -30,22 +32,22 @@ pub fn what_comes_acts_once_and_is_right()
 /// waits to go out. It waits on in each note but one in which an RRP comes; and from the first, while it waits
 /// it has no connection.
 pub fn only_resets_act_until_the_answer()
-    ensures waiting { (notes : List Note) (w : Hosts) → IsTranscript notes w → (Waits (seen w).this → StillWaits (seen w).this) × (Waits (seen w).that → StillWaits (seen w).that) }
-    ensures acts { (notes : List Note) (w : Hosts) → IsTranscript notes w → OfEachNote OnlyResetsAct notes (began w) }
+    ensures waiting { (notes : List Note) (w : Hosts) → IsTranscript notes w → WaitsAlone notes w }
+    ensures acts { (notes : List Note) (w : Hosts) → IsTranscript notes w → OnlyResetsActed notes w }
 {}
 
 /// Commands act once and in order: between two hosts that are up no RST or RRP is underway, and the commands
 /// that came to one of them since it was last cleared, followed by those underway to it, are those that the
 /// other has made since that was last cleared. A host that is not up has made and heard nothing since then.
 pub fn commands_act_once_in_order()
-    ensures agree { (notes : List Note) (w : Hosts) → IsTranscript notes w → let p = watched_from notes (began w) none_watched in CommandsAgree (seen w) p × CommandsAgree (swap (seen w)) (other_way p) }
+    ensures agree { (notes : List Note) (w : Hosts) → IsTranscript notes w → CommandsInOrder notes w }
     ensures silent { (notes : List Note) (w : Hosts) → IsTranscript notes w → let p = watched_from notes (began w) none_watched in IsSilent (seen w).this p.this × IsSilent (seen w).that p.that }
 {}
 
 /// From the Out of a text to its RFNM no pair whose texts go from that host on that link opens at either host:
 /// no call and no command of a control message opens one, and nothing else opens any.
 pub fn none_opens_while_its_link_has_a_text()
-    ensures { (notes : List Note) (w : Hosts) → IsTranscript notes w → OfEachNote OpensUnderNoText notes (began w) }
+    ensures { (notes : List Note) (w : Hosts) → IsTranscript notes w → OpenedUnderNoText notes w }
 {}
 
 /// Each host of a world is asked in vain for its next message only where no link to the other host is ready;

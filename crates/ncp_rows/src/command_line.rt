@@ -7,7 +7,7 @@ use std::test::Fail;
 
 // What `--help` writes.
 const HELP: &str =
-    "Reads the messages of an ARPANET host, and plays hosts\n\nUsage: ncp [COMMAND]\n\nCommands:\n  show   Shows each message of a message file, read from standard input\n  check  Counts the messages of a message file, and says whether all are sound\n  host   Plays a script of one host, read from standard input\n  world  Plays a script of two hosts and the subnet between them, read from standard input\n  help   Print this message or the help of the given subcommand(s)\n\nOptions:\n  -h, --help  Print help\n";
+    "Reads the messages of an ARPANET host, and plays hosts\n\nUsage: ncp [COMMAND]\n\nCommands:\n  show    Shows each message of a message file, read from standard input\n  check   Counts the messages of a message file, and says whether all are sound\n  host    Plays a script of one host, read from standard input\n  world   Plays a script of two hosts and the subnet between them, read from standard input\n  record  Plays a script of two hosts, read from standard input, and writes its messages as a message file\n  help    Print this message or the help of the given subcommand(s)\n\nOptions:\n  -h, --help  Print help\n";
 
 // How the text of a fault ends.
 const USAGE: &str = "Usage: ncp [COMMAND]\n\nFor more information, try '--help'.\n";
@@ -37,6 +37,7 @@ fn reads_orders(rt: HostRuntime) {
     assert!(rt; matches!(order(alloc, &["ncp", "check"]), Ok(Order::Check)));
     assert!(rt; matches!(order(alloc, &["ncp", "host"]), Ok(Order::Host)));
     assert!(rt; matches!(order(alloc, &["ncp", "world"]), Ok(Order::World)));
+    assert!(rt; matches!(order(alloc, &["ncp", "record"]), Ok(Order::Record)));
 }
 
 #[test]

@@ -32,6 +32,18 @@ fn tells_faults(rt: HostRuntime) -> Result<(), Fail> {
         ),
         (FileFault::ReadFailed, 5, "ReadFailed", "a read failed"),
         (FileFault::WriteFailed, 6, "WriteFailed", "a write failed"),
+        (
+            FileFault::BadDirection,
+            7,
+            "BadDirection",
+            "a record has neither direction",
+        ),
+        (
+            FileFault::Mixed,
+            8,
+            "Mixed",
+            "a record has another direction or host than the file can have",
+        ),
     ];
     for (fault, number, name, text) in rows {
         assert_eq!(rt; fault as u8, number);

@@ -231,7 +231,8 @@ fn tells_bad_headers(rt: HostRuntime) -> Result<(), Fail> {
         &[
             faulty(b"", b"", FileFault::BadHeader),
             faulty(b"NCP", b"", FileFault::BadHeader),
-            faulty(b"NCPJ\x00\x20", b"", FileFault::BadHeader),
+            faulty(b"NCPK\x00\x20", b"", FileFault::BadHeader),
+            faulty(b"NCPj", b"", FileFault::BadHeader),
         ],
     )
 }
@@ -254,6 +255,62 @@ fn keeps_what_stands_before_a_fault(rt: HostRuntime) -> Result<(), Fail> {
                 b"NCPI\x00\x00\x00\x04\x08",
                 b"1 short\n",
                 FileFault::SpareNotZero,
+            ),
+        ],
+    )
+}
+
+#[test]
+fn shows_and_checks_passages(rt: HostRuntime) -> Result<(), Fail> {
+    expect(
+        &rt,
+        rt.alloc(),
+        &[
+            sound(
+                b"NCPJH\x01\x00\x50\x00\x02\x00\x00\x00\x08\x00\x01\x00\x0cI\x02\x00\x50\x00\x01\x00\x00\x00\x08\x00\x01\x00\x0cI\x01\x00\x20\x05\x02\x00\x00",
+                b"1 to-imp at=1 regular host=2 link=0\n  size=8 count=1\n  RST\n2 from-imp at=2 regular host=1 link=0\n  size=8 count=1\n  RST\n3 from-imp at=1 rfnm host=2 link=0\n",
+                b"messages=3 short=0 regular=2 faults=0 bad=0\n",
+                true,
+            ),
+            sound(
+                b"NCPJ",
+                b"",
+                b"messages=0 short=0 regular=0 faults=0 bad=0\n",
+                true,
+            ),
+            sound(
+                b"NCPJH\xff\x00\x20\x05\x02\x00\x00I\x00\x00\x00",
+                b"1 to-imp at=255 type-5 host=2 link=0\n2 from-imp at=0 short\n",
+                b"messages=2 short=1 regular=0 faults=0 bad=0\n",
+                false,
+            ),
+        ],
+    )
+}
+
+#[test]
+fn tells_faults_of_passages(rt: HostRuntime) -> Result<(), Fail> {
+    expect(
+        &rt,
+        rt.alloc(),
+        &[
+            faulty(b"NCPJG", b"", FileFault::BadDirection),
+            faulty(b"NCPJJ\x01\x20\x01", b"", FileFault::BadDirection),
+            faulty(b"NCPJH", b"", FileFault::Truncated),
+            faulty(b"NCPJI\x01", b"", FileFault::Truncated),
+            faulty(b"NCPJI\x01\x00", b"", FileFault::Truncated),
+            faulty(b"NCPJI\x01\x20\x01", b"", FileFault::TooLong),
+            faulty(b"NCPJI\x01\x00\x20\x05\x02", b"", FileFault::Truncated),
+            faulty(b"NCPJI\x01\x00\x04\x08", b"", FileFault::SpareNotZero),
+            faulty(
+                b"NCPJI\x01\x00\x00\x00\x01",
+                b"1 from-imp at=1 short\n",
+                FileFault::BadDirection,
+            ),
+            faulty(
+                b"NCPJI\x01\x00\x00H",
+                b"1 from-imp at=1 short\n",
+                FileFault::Truncated,
             ),
         ],
     )

@@ -6,6 +6,8 @@
 #[cfg(test)]
 mod command_line;
 #[cfg(test)]
+mod conversions;
+#[cfg(test)]
 mod failures;
 #[cfg(test)]
 mod faults;

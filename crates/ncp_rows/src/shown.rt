@@ -1,6 +1,6 @@
-//! `show` and `check` without their clauses: what they answer and write is found by running them, so
+//! `show`, `check` and `convert` without their clauses: what they answer and write is found by running them, so
 //! the prover need not follow them through a test.
-use ncp_player::{FileFault, Sink, Source, check, show};
+use ncp_player::{FileFault, Sink, Source, check, convert, show};
 
 /// What `show` answers, where neither mark is set.
 pub(crate) fn shown<R: Source, W: Sink>(
@@ -22,4 +22,16 @@ pub(crate) fn checked<R: Source, W: Sink>(
         return None;
     }
     Some(check(source, sink))
+}
+
+/// What `convert` answers, where neither mark is set.
+pub(crate) fn converted<R: Source, W: Sink>(
+    source: &mut R,
+    sink: &mut W,
+    at: u8,
+) -> Option<Result<(), FileFault>> {
+    if source.failed() || sink.failed() {
+        return None;
+    }
+    Some(convert(source, sink, at))
 }

@@ -6,7 +6,7 @@ use Rattle.ncp_host.specs.Host.{are_peers}
 use Rattle.ncp_script.specs.declared.first_lines.HostAndPeers.{HostAndPeers}
 use Rattle.ncp_script.specs.declared.first_lines.TwoHosts.{TwoHosts}
 use Rattle.ncp_script.specs.Words.{number_first, number_of, largest_u8}
-use Rattle.ncp_script.specs.Calls.{behind, all_of}
+use Rattle.ncp_script.specs.Calls.{Read, behind}
 
 -- a host and its peers, in the order in which they are named
 pub record Named : Type 0 where
@@ -52,14 +52,15 @@ abbrev pub first_of_host : List (List ℕ) → Option Named
 first_of_host words = if_peers (host_named words)
 
 -- two numbers, the first words
-abbrev pub two_first : List (List ℕ) → Option (TwoHosts × List (List ℕ))
+abbrev pub two_first : List (List ℕ) → Read TwoHosts
 two_first words = behind (number_first largest_u8 words) (λ a words. behind (number_first largest_u8 words) (λ b words. Some (record { a = a; b = b }, words)))
 
-abbrev pub if_distinct : Option TwoHosts → Option TwoHosts
+-- the hosts that are read differ
+abbrev pub if_distinct : Read TwoHosts → Read TwoHosts
 if_distinct None = None
-if_distinct (Some hosts) = if hosts.a == hosts.b then None else Some hosts
+if_distinct (Some (hosts, words)) = if hosts.a == hosts.b then None else Some (hosts, words)
 
--- the first line of a script of two hosts: the word `hosts` and two distinct numbers
-abbrev pub hosts_named : List (List ℕ) → Option TwoHosts
-hosts_named [] = None
-hosts_named (word ∷ words) = if bytes_eq (codes "hosts") word then if_distinct (all_of (two_first words)) else None
+-- the first line of a script of two hosts begins so: the word `hosts` and two distinct numbers
+abbrev pub hosts_first : List (List ℕ) → Read TwoHosts
+hosts_first [] = None
+hosts_first (word ∷ words) = if bytes_eq (codes "hosts") word then if_distinct (two_first words) else None

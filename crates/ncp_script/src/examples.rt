@@ -7,7 +7,7 @@ ghost use Rattle.ncp_script.specs.declared.host_lines.HostLine.TheVariants as li
 ghost use Rattle.ncp_script.specs.Words.{words_of};
 ghost use Rattle.ncp_script.specs.Calls.{call_of};
 ghost use Rattle.ncp_script.specs.HostLines.{host_line_of};
-ghost use Rattle.ncp_script.specs.FirstLines.{first_of_host, hosts_named};
+ghost use Rattle.ncp_script.specs.FirstLines.{first_of_host, hosts_first};
 ghost use Rattle.ncp_script.specs.Scripts.{Over, Fed, Faulty, BadLine, BadHosts, NoHosts, Plays};
 ghost use Rattle.ncp_script.specs.HostScripts.{host_script};
 
@@ -101,14 +101,14 @@ pub fn first_lines_are_read_so()
     ensures end { first_of_host (words_of (codes "host 9 3 ")) ≡ None }
 {}
 
-/// The first line of a script of two hosts: they are distinct.
+/// The first line of a script of two hosts: they are distinct, and words may stand behind them.
 pub fn first_lines_of_two_are_read_so()
-    ensures two { hosts_named (words_of (codes "hosts 0 255")) ≡ Some (record { a = 0; b = 255 }) }
-    ensures same { hosts_named (words_of (codes "hosts 3 03")) ≡ None }
-    ensures one { hosts_named (words_of (codes "hosts 3")) ≡ None }
-    ensures three { hosts_named (words_of (codes "hosts 3 4 5")) ≡ None }
-    ensures large { hosts_named (words_of (codes "hosts 3 256")) ≡ None }
-    ensures word { hosts_named (words_of (codes "host 3 4")) ≡ None }
+    ensures two { hosts_first (words_of (codes "hosts 0 255")) ≡ Some (record { a = 0; b = 255 }, []) }
+    ensures more { hosts_first (words_of (codes "hosts 3 4 5 ")) ≡ Some (record { a = 3; b = 4 }, codes "5" ∷ [] ∷ []) }
+    ensures same { hosts_first (words_of (codes "hosts 3 03")) ≡ None }
+    ensures one { hosts_first (words_of (codes "hosts 3")) ≡ None }
+    ensures large { hosts_first (words_of (codes "hosts 3 256")) ≡ None }
+    ensures word { hosts_first (words_of (codes "host 3 4")) ≡ None }
 {}
 
 /// What the bytes of a script of one host ask for.

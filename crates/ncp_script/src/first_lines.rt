@@ -1,7 +1,7 @@
 //! The first line of a script: the hosts that it names.
 ghost use Rattle.std.specs.Prelude.{◌≡◌, ◌≢◌, Some, option_map};
 ghost use Rattle.ncp_script.specs.declared.first_lines.TwoHosts.{TwoHosts as Pair_of_hosts};
-ghost use Rattle.ncp_script.specs.FirstLines.{named_in, numbers_of, few, host_named, hosts_named};
+ghost use Rattle.ncp_script.specs.FirstLines.{named_in, numbers_of, few, host_named, hosts_first};
 
 use crate::line_words::Words;
 use arrayvec::ArrayVec;
@@ -54,10 +54,10 @@ pub fn host_named(words: &mut Words<'_>) -> Option<HostAndPeers>
     Some(HostAndPeers { me, peers })
 }
 
-/// The two hosts that the words of a line name, all that are left; they are distinct. Where they
-/// name none, the words that are left are not told.
-pub fn hosts_named(words: &mut Words<'_>) -> Option<TwoHosts>
-    ensures hosts { result ≡ hosts_named words.old }
+/// The two hosts that the first words of a line name; they are distinct, and what stands behind them is
+/// left. Where they name none, the words that are left are not told.
+pub fn hosts_first(words: &mut Words<'_>) -> Option<TwoHosts>
+    ensures hosts { option_map (λ hosts. (hosts, words.new)) result ≡ hosts_first words.old }
     ensures distinct { (hosts : Pair_of_hosts) → result ≡ Some hosts → hosts.a ≢ hosts.b }
 {
     let word = words.next_word()?;
@@ -66,7 +66,7 @@ pub fn hosts_named(words: &mut Words<'_>) -> Option<TwoHosts>
     }
     let a = words.next_u8()?;
     let b = words.next_u8()?;
-    if a == b || !words.is_empty() {
+    if a == b {
         return None;
     }
     Some(TwoHosts { a, b })

@@ -1,5 +1,5 @@
 //! Calls, and the other lines of scripts.
-use ncp_script::{HostLine, Verb, Words, call, host_line, host_named, hosts_named, verb_named};
+use ncp_script::{HostLine, Verb, Words, call, host_line, host_named, hosts_first, verb_named};
 use ncp_transcript::{Call, Input};
 use std::alloc::Global;
 use std::process::Abort;
@@ -124,7 +124,7 @@ fn reads_the_hosts_of_first_lines(rt: HostRuntime) {
     );
     assert!(rt; host_named(&mut Words::new(b"host 0 1 2 3 4 5 6 7 8 9")).is_none());
     assert!(rt; host_named(&mut Words::new(b"hosts 1 2")).is_none());
-    let two = hosts_named(&mut Words::new(b"hosts 1 2"));
+    let two = hosts_first(&mut Words::new(b"hosts 1 2"));
     assert!(rt; two.is_some_and(|named| named.a == 1 && named.b == 2));
-    assert!(rt; hosts_named(&mut Words::new(b"hosts 1 1")).is_none());
+    assert!(rt; hosts_first(&mut Words::new(b"hosts 1 1")).is_none());
 }

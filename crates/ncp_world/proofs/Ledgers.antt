@@ -29,28 +29,28 @@ use Rattle.ncp_host.specs.PeerState.{PeerState}
 use Rattle.ncp_host.specs.Host.{state_of, if_known}
 use Rattle.ncp_host.specs.Calls.{record_answer, kept_for}
 use Rattle.ncp_subnet.specs.Transit.{is_delivered}
-use Rattle.ncp_world.specs.Subnet.{Holds, Subnet}
-use Rattle.ncp_world.specs.World.{World, swap}
-use Rattle.ncp_world.specs.Watch.{Both, turn}
-use Rattle.ncp_world.specs.Tie.{Place, Nowhere, Waits, Goes, Came, Failed, Died, Kept, slot_of, holds_of, OfMessage, Carries, control_bits, text_bits, AreCommands, IsTextOn, Stands, Reached}
-use Rattle.ncp_world.specs.Underway.{text_read, commands_of, not_come, commands_out, underway, how_many, bits_out, sender_at, receiver_at}
-use Rattle.ncp_world.specs.Ledgers.{amount, ledger_in, are_open, ledger_from, ledger_of, IsBalanced}
+use Rattle.ncp_two.specs.Subnet.{Holds, Subnet}
+use Rattle.ncp_two.specs.World.{World, swap}
+use Rattle.ncp_two.specs.Watch.{Both, turn}
+use Rattle.ncp_two.specs.Tie.{Place, Nowhere, Waits, Goes, Came, Failed, Died, Kept, slot_of, holds_of, OfMessage, Carries, control_bits, text_bits, AreCommands, IsTextOn, Stands, Reached}
+use Rattle.ncp_two.specs.Underway.{text_read, commands_of, not_come, commands_out, underway, how_many, bits_out, sender_at, receiver_at}
+use Rattle.ncp_two.specs.Ledgers.{amount, ledger_in, are_open, ledger_from, ledger_of, IsBalanced}
 use Rattle.ncp_world.specs.Reckoning.{control_commands, commands_kept, waiting_of, unless_came, kept_from, commands_from, if_open, ledger_with, ledger_if, ledger_read}
-use Rattle.ncp_world.specs.declared.ledger.Ledger.{Ledger}
-use Rattle.ncp_world.specs.declared.side.Side.{Side}
-use Rattle.ncp_world.specs.declared.side.Side.TheVariants.{A, B}
-use Rattle.ncp_world.specs.declared.note.Note.{Note}
-use Rattle.ncp_world.specs.Between.{Hosts, other, number_of, host_of, transit_of}
-use Rattle.ncp_world.specs.Transcript.{IsTranscript}
-use Rattle.ncp_world.specs.Seen.{state_or_new, seen}
-use Rattle.ncp_world.specs.OfRules.{histories_of}
-use Rattle.ncp_world.proofs.Written.{read, control_text}
-use Rattle.ncp_world.proofs.Reaching.{of-reached}
-use Rattle.ncp_world.proofs.Runs.{OfModelWith}
-use Rattle.ncp_world.proofs.Carried.{turned-over}
-use Rattle.ncp_world.proofs.Underway.{messages-carried, bits-carried}
-use Rattle.ncp_world.proofs.Headlines.{watched-all}
-use Rattle.ncp_world.proofs.Waiting.{few-wait}
+use Rattle.ncp_two.specs.declared.ledger.Ledger.{Ledger}
+use Rattle.ncp_two.specs.declared.side.Side.{Side}
+use Rattle.ncp_two.specs.declared.side.Side.TheVariants.{A, B}
+use Rattle.ncp_two.specs.declared.note.Note.{Note}
+use Rattle.ncp_two.specs.Between.{Hosts, other, number_of, host_of, transit_of}
+use Rattle.ncp_two.specs.Transcript.{IsTranscript}
+use Rattle.ncp_two.specs.Seen.{state_or_new, seen}
+use Rattle.ncp_two.specs.OfRules.{histories_of}
+use Rattle.ncp_two.proofs.Written.{read, control_text}
+use Rattle.ncp_two.proofs.Reaching.{of-reached}
+use Rattle.ncp_two.proofs.Runs.{OfModelWith}
+use Rattle.ncp_two.proofs.Carried.{turned-over}
+use Rattle.ncp_two.proofs.Underway.{messages-carried, bits-carried}
+use Rattle.ncp_two.proofs.Headlines.{watched-all}
+use Rattle.ncp_two.proofs.Waiting.{few-wait}
 
 -- What a host tells of a peer is what it has for it, or has when it is new.
 

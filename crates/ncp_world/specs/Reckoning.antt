@@ -19,11 +19,11 @@ use Rattle.ncp_host.specs.Calls.{record_told, kept_for}
 use Rattle.ncp_subnet.specs.Transit.{is_delivered}
 use Rattle.ncp_world.specs.declared.carrying.Quantity.{Quantity}
 use Rattle.ncp_world.specs.declared.carrying.Quantity.TheVariants.{GrantedMessages, GrantedBits, ReturnedMessages, ReturnedBits}
-use Rattle.ncp_world.specs.declared.ledger.Ledger.{Ledger}
-use Rattle.ncp_world.specs.declared.side.Side.{Side}
-use Rattle.ncp_world.specs.Between.{Hosts, other, number_of, host_of, transit_of}
-use Rattle.ncp_world.specs.Underway.{how_many, bits_out}
-use Rattle.ncp_world.specs.Ledgers.{amount}
+use Rattle.ncp_two.specs.declared.ledger.Ledger.{Ledger}
+use Rattle.ncp_two.specs.declared.side.Side.{Side}
+use Rattle.ncp_two.specs.Between.{Hosts, other, number_of, host_of, transit_of}
+use Rattle.ncp_two.specs.Underway.{how_many, bits_out}
+use Rattle.ncp_two.specs.Ledgers.{amount}
 
 -- what is counted of a command
 abbrev pub counted : Quantity → Command → ℕ

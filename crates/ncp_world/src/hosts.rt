@@ -1,19 +1,17 @@
 //! `Hosts`: two hosts and the subnet between them.
 ghost use Rattle.std.specs.Prelude.{◌≡◌, ◌≢◌, Ok, IfOk, OnErr};
-ghost use Rattle.ncp_world.specs.Between.{new_hosts, other, number_of, host_of, after_out, after_note};
-ghost use Rattle.ncp_world.specs.Tie.{IsPair};
-ghost use Rattle.ncp_world.specs.Seen.{CallFits};
-ghost use Rattle.ncp_world.specs.Happening.{IsCalled, note_of_out, note_of_delivery, note_of_loss, note_of_death, note_of_answer, Noted};
+ghost use Rattle.ncp_two.specs.Between.{new_hosts, other, number_of, host_of, after_out, after_note};
+ghost use Rattle.ncp_two.specs.Tie.{IsPair};
+ghost use Rattle.ncp_two.specs.Seen.{CallFits};
+ghost use Rattle.ncp_two.specs.Happening.{IsCalled, note_of_out, note_of_delivery, note_of_loss, note_of_death, note_of_answer, Noted};
 
 mod ledgers;
 
-use crate::event::Event;
-use crate::note::{Move, Note};
-use crate::side::Side;
 use ncp_bits::BitStore;
 use ncp_host::{Host, HostFault, Pair};
 use ncp_subnet::Subnet;
 use ncp_transcript::{Call, HostNote, Room, hear_in_room, perform, send};
+use ncp_two::{Event, Move, Note, Side};
 use std::alloc::{AllocError, Global};
 use std::marker::Model;
 
@@ -32,7 +30,7 @@ impl<S: BitStore> Model for Hosts<S> {
     ghost use Rattle.ncp_slot.specs.Slots.{coded_slots};
     ghost use Rattle.ncp_host.specs.Codes.{coded_ends};
     ghost use Rattle.ncp_subnet.specs.Codes.{coded_in_transit};
-    ghost use Rattle.ncp_world.specs.Between.{Hosts as Seen};
+    ghost use Rattle.ncp_two.specs.Between.{Hosts as Seen};
 
     ghost Value = { Seen };
 
@@ -106,7 +104,6 @@ fn numbers_fit(call: &Call)
 }
 
 // The subnet takes what a host noted that goes out.
-#[tactic(auto, using(crate::proofs::Accepting::accepting))]
 fn pass_on(subnet: &mut Subnet, from: u8, note: &HostNote)
     ensures { subnet.new ≡ after_out from note.now subnet.old }
 {

@@ -3,7 +3,6 @@ use Rattle.std.proofs.Common.{◌≡◌, ℕ, Bool, true, false, List, Option, S
 use Rattle.ncp_script.specs.declared.first_lines.TwoHosts.{TwoHosts}
 use Rattle.ncp_script.specs.declared.line_buffer.LineKind.{LineKind}
 use Rattle.ncp_script.specs.declared.line_buffer.LineKind.TheVariants as kinds
-use Rattle.ncp_script.specs.FirstLines.{hosts_named}
 use Rattle.ncp_script.specs.Words.{words_of}
 use Rattle.ncp_script.specs.Scripts.{Line, lines_of, said, Event as Asks, Over as Is_over, Faulty, ends, judged, played, number_behind, begun, first_judged, NoHosts, Plays}
 use Rattle.ncp_script.specs.Scripts.{BadLine as Is_bad_line, LineTooLong as Is_too_long, BadHosts as Are_bad_hosts}
@@ -13,9 +12,11 @@ use Rattle.ncp_reader.proofs.Courses.{course_at, course_next, script_at, script_
 use Rattle.ncp_reader.proofs.Nexts.{came_behind, last_behind}
 use Rattle.ncp_play.specs.declared.fault.PlayFault.{PlayFault}
 use Rattle.ncp_play.specs.declared.fault.PlayFault.TheVariants.{BadLine, LineTooLong, BadHosts, Feed, ReadFailed, WriteFailed, OutOfMemory}
-use Rattle.ncp_world.specs.declared.event.Event.{Event}
+use Rattle.ncp_two.specs.declared.event.Event.{Event}
 use Rattle.ncp_world_player.specs.WorldLines.{world_line_of}
-use Rattle.ncp_world_player.specs.WorldScripts.{asks}
+use Rattle.ncp_world_player.specs.declared.first_line.FirstLine.{FirstLine}
+use Rattle.ncp_world_player.specs.FirstLine.{first_line_of}
+use Rattle.ncp_world_player.specs.WorldScripts.{asks, asks_behind}
 use Rattle.ncp_world_player.specs.NextEvents.{EventIn, course_of, course_cut, with_event, AsksOne, AsksNext, script_behind}
 
 module _ (hosts : TwoHosts) (first : ℕ) (bytes : List ℕ) where
@@ -91,39 +92,39 @@ module _ (hosts : TwoHosts) (first : ℕ) (bytes : List ℕ) where
 
 -- a script by its next line
 pub script_is : (first : ℕ) (bytes : List ℕ) (kind : LineKind) (number : ℕ) (line : Line) (next : ℕ) (window : List ℕ) (left : Option (List ℕ)) → IsNext first bytes kind number line next window left
-    → script_behind first (lines_of bytes) ≡ first_judged number kind (hosts_named (words_of (said line))) (λ h. course_of h (number_behind number) line.behind) (script_behind (number_behind number) (lines_of line.behind))
+    → script_behind first (lines_of bytes) ≡ first_judged number kind (first_line_of (words_of (said line))) (λ h. course_of h.hosts (number_behind number) line.behind) (script_behind (number_behind number) (lines_of line.behind))
 script_is first bytes kind number line next window left is =
-    script_next hosts_named asks first (lines_of bytes) ∙ ap (script_at hosts_named asks) is.0
-    ∙ ap (λ k. first_judged number k (hosts_named (words_of (said line))) (λ h. course_of h (number_behind number) line.behind) (script_behind (number_behind number) (lines_of line.behind))) is.1
+    script_next first_line_of asks_behind first (lines_of bytes) ∙ ap (script_at first_line_of asks_behind) is.0
+    ∙ ap (λ k. first_judged number k (first_line_of (words_of (said line))) (λ h. course_of h.hosts (number_behind number) line.behind) (script_behind (number_behind number) (lines_of line.behind))) is.1
 
 pub no_first : (first : ℕ) (lines : List Line) → next_from first lines ≡ None → script_behind first lines ≡ NoHosts Are_bad_hosts
-no_first first lines none = script_next hosts_named asks first lines ∙ ap (script_at hosts_named asks) none
+no_first first lines none = script_next first_line_of asks_behind first lines ∙ ap (script_at first_line_of asks_behind) none
 
 pub first_long : (first : ℕ) (bytes : List ℕ) (number : ℕ) (line : Line) (now : Lines) (left : Option (List ℕ)) → IsNext first bytes kinds.TooLong number line now.number now.window left → script_behind first (lines_of bytes) ≡ NoHosts (Is_too_long number)
 first_long first bytes number line now left is = script_is first bytes kinds.TooLong number line now.number now.window left is
 
-pub first_bad : (first : ℕ) (bytes : List ℕ) (number : ℕ) (line : Line) (now : Lines) (left : Option (List ℕ)) (text : List ℕ) → IsNext first bytes kinds.Played number line now.number now.window left → text ≡ said line → hosts_named (words_of text) ≡ None
+pub first_bad : (first : ℕ) (bytes : List ℕ) (number : ℕ) (line : Line) (now : Lines) (left : Option (List ℕ)) (text : List ℕ) → IsNext first bytes kinds.Played number line now.number now.window left → text ≡ said line → first_line_of (words_of text) ≡ None
     → script_behind first (lines_of bytes) ≡ NoHosts Are_bad_hosts
 first_bad first bytes number line now left text is same none =
     script_is first bytes kinds.Played number line now.number now.window left is
-    ∙ ap (λ (h : Option TwoHosts). begun h (λ h. course_of h (number_behind number) line.behind)) (ap (λ t. hosts_named (words_of t)) (sym same) ∙ none)
+    ∙ ap (λ (h : Option FirstLine). begun h (λ h. course_of h.hosts (number_behind number) line.behind)) (ap (λ t. first_line_of (words_of t)) (sym same) ∙ none)
 
--- the course behind the line that names the hosts
-pub first_named : (first : ℕ) (bytes : List ℕ) (number : ℕ) (line : Line) (now : Lines) (left : Option (List ℕ)) (hosts : TwoHosts) → IsNext first bytes kinds.Played number line now.number now.window left → hosts_named (words_of (said line)) ≡ Some hosts
-    → script_behind first (lines_of bytes) ≡ Plays hosts (course_of hosts now.number line.behind)
-first_named first bytes number line now left hosts is some =
+-- the course behind the first line
+pub first_named : (first : ℕ) (bytes : List ℕ) (number : ℕ) (line : Line) (now : Lines) (left : Option (List ℕ)) (named : FirstLine) → IsNext first bytes kinds.Played number line now.number now.window left → first_line_of (words_of (said line)) ≡ Some named
+    → script_behind first (lines_of bytes) ≡ Plays named (course_of named.hosts now.number line.behind)
+first_named first bytes number line now left named is some =
     script_is first bytes kinds.Played number line now.number now.window left is
-    ∙ ap (λ (h : Option TwoHosts). begun h (λ h. course_of h (number_behind number) line.behind)) some ∙ ap (λ n. Plays hosts (course_of hosts n line.behind)) (sym is.2)
+    ∙ ap (λ (h : Option FirstLine). begun h (λ h. course_of h.hosts (number_behind number) line.behind)) some ∙ ap (λ n. Plays named (course_of named.hosts n line.behind)) (sym is.2)
 
 -- the same of bytes that were cut off behind that line
-pub first_cut : (first : ℕ) (bytes : List ℕ) (number : ℕ) (line : Line) (now : Lines) (left : Option (List ℕ)) (hosts : TwoHosts) → IsNext first bytes kinds.Played number line now.number now.window left → hosts_named (words_of (said line)) ≡ Some hosts → line.ended ≡ true
+pub first_cut : (first : ℕ) (bytes : List ℕ) (number : ℕ) (line : Line) (now : Lines) (left : Option (List ℕ)) (named : FirstLine) → IsNext first bytes kinds.Played number line now.number now.window left → first_line_of (words_of (said line)) ≡ Some named → line.ended ≡ true
     → (given : List ℕ) (left' : Option (List ℕ)) → CameBefore line.behind left' given
-    → (all : List ℕ) × CameBefore bytes left' all × (script_behind first (ended_lines (lines_of all)) ≡ Plays hosts (course_cut hosts now.number given))
-first_cut first bytes number line now left hosts is some ended given left' before =
+    → (all : List ℕ) × CameBefore bytes left' all × (script_behind first (ended_lines (lines_of all)) ≡ Plays named (course_cut named.hosts now.number given))
+first_cut first bytes number line now left named is some ended given left' before =
     let came = came_behind first bytes number line (lines_of line.behind) given left' is.0 ended before in (
       came.0,
       came.1,
-      script_next hosts_named asks first (ended_lines (lines_of came.0)) ∙ ap (script_at hosts_named asks) came.2
-          ∙ ap (λ k. first_judged number k (hosts_named (words_of (said line))) (λ h. course_cut h (number_behind number) given) (script_behind (number_behind number) (ended_lines (lines_of given)))) is.1
-          ∙ ap (λ (h : Option TwoHosts). begun h (λ h. course_cut h (number_behind number) given)) some ∙ ap (λ n. Plays hosts (course_cut hosts n given)) (sym is.2),
+      script_next first_line_of asks_behind first (ended_lines (lines_of came.0)) ∙ ap (script_at first_line_of asks_behind) came.2
+          ∙ ap (λ k. first_judged number k (first_line_of (words_of (said line))) (λ h. course_cut h.hosts (number_behind number) given) (script_behind (number_behind number) (ended_lines (lines_of given)))) is.1
+          ∙ ap (λ (h : Option FirstLine). begun h (λ h. course_cut h.hosts (number_behind number) given)) some ∙ ap (λ n. Plays named (course_cut named.hosts n given)) (sym is.2),
     )

@@ -4,24 +4,37 @@ use Rattle.std.proofs.Math.Seq.{get_or-append_seam}
 use Rattle.std.proofs.lemmas.List.{length-append}
 use Rattle.ncp_stream.specs.Streams.{SaidSoFar, SaysText, SaysBeginning}
 use Rattle.ncp_files.specs.Lines.{number_after}
-use Rattle.ncp_world.specs.declared.note.Note.{Note}
-use Rattle.ncp_world_player.specs.WorldNotes.{world_note_lines, world_lines_from}
+use Rattle.ncp_two.specs.declared.note.Note.{Note}
+use Rattle.ncp_two.specs.Between.{Hosts, after_note, after_notes}
+use Rattle.ncp_two.specs.Transcript.{Noted_world}
+use Rattle.ncp_world_player.specs.Telling.{Tale, told, number_behind_notes}
 use Rattle.ncp_world_player.specs.Playing.{TellsWorld, TellsWorldBeginning}
-use Rattle.ncp_world_player.proofs.MoreWorldNotes.{lines_one, number_one}
+use Rattle.ncp_world_player.proofs.MoreWorldNotes.{told_one, number_one, after_one}
 
-module _ (was : List ℕ) (number : ℕ) (before : List Note) (note : Note) (page : List ℕ) (written : Option (List ℕ)) (told : TellsWorld was before number page written) where
-  -- the lines of one note more
-  more : world_lines_from 1 before ++ world_note_lines number note ≡ world_lines_from 1 (before ++ note ∷ [])
-  more = ap (λ n. world_lines_from 1 before ++ world_note_lines n note) told.0 ∙ sym (lines_one 1 before note)
+module _ (tale : Tale) (began : Hosts) (was : List ℕ) (number : ℕ) (before now : Noted_world) (note : Note) (page : List ℕ) (written : Option (List ℕ)) (so_far : TellsWorld tale began was before number page written)
+    (longer : now.notes ≡ before.notes ++ note ∷ []) (after : now.hosts ≡ after_note note before.hosts) where
+  left_so : now.hosts ≡ after_note note (after_notes before.notes began)
+  left_so = after ∙ ap (after_note note) so_far.0
 
-  pub tells_one : (page' : List ℕ) (written' : Option (List ℕ)) → SaysText page written (world_note_lines number note) page' written' → TellsWorld was (before ++ note ∷ []) (number_after number) page' written'
+  leads : now.hosts ≡ after_notes now.notes began
+  leads = left_so ∙ sym (after_one before.notes note began) ∙ ap (λ (notes : List Note). after_notes notes began) (sym longer)
+
+  -- what is told of one note more
+  more : told tale began before.notes ++ tale.of_note number note now.hosts ≡ told tale began now.notes
+  more =
+      ap (λ n. told tale began before.notes ++ tale.of_note n note now.hosts) so_far.1
+      ∙ ap (λ (w : Hosts). told tale began before.notes ++ tale.of_note (number_behind_notes 1 before.notes) note w) left_so
+      ∙ sym (told_one tale began before.notes note) ∙ ap (told tale began) (sym longer)
+
+  pub tells_one : (page' : List ℕ) (written' : Option (List ℕ)) → SaysText page written (tale.of_note number note now.hosts) page' written' → TellsWorld tale began was now (number_after number) page' written'
   tells_one page' written' says = (
-    ap number_after told.0 ∙ sym (number_one 1 before note),
-    subst (λ text. SaidSoFar was page' written' text) more (says was (world_lines_from 1 before) told.1),
+    leads,
+    ap number_after so_far.1 ∙ sym (number_one 1 before.notes note) ∙ ap (number_behind_notes 1) (sym longer),
+    subst (λ text. SaidSoFar was page' written' text) more (says was (told tale began before.notes) so_far.2),
   )
 
-  pub tells_one_broken : (written' : Option (List ℕ)) → SaysBeginning page written (world_note_lines number note) written' → TellsWorldBeginning was (before ++ note ∷ []) written'
-  tells_one_broken written' says = (says.0, subst (λ text. SaidSoFar was says.0 written' text) more (says.1 was (world_lines_from 1 before) told.1))
+  pub tells_one_broken : (written' : Option (List ℕ)) → SaysBeginning page written (tale.of_note number note now.hosts) written' → TellsWorldBeginning tale began was now.notes written'
+  tells_one_broken written' says = (says.0, subst (λ text. SaidSoFar was says.0 written' text) more (says.1 was (told tale began before.notes) so_far.2))
 
 -- the last of notes
 pub last_note : (notes before : List Note) (note it : Note) → notes ≡ before ++ note ∷ [] → it ≡ get_or notes (length notes - 1) it → it ≡ note

@@ -1,5 +1,5 @@
 -- The events of lines, one after the other.
-use Rattle.std.proofs.Common.{◌≡◌, ◌⊎◌, inl, inr, ℕ, Bool, true, false, List, [], ◌∷◌, ◌++◌, Option, Some, None, Result, Ok, Err, refl, sym, ap, ◌∙◌, subst}
+use Rattle.std.proofs.Common.{◌≡◌, ◌≢◌, ◌<◌, ◌^◌, ◌⊎◌, inl, inr, ℕ, Bool, true, false, List, [], ◌∷◌, ◌++◌, Option, Some, None, Result, Ok, Err, refl, sym, ap, ◌∙◌, subst}
 use Rattle.std.proofs.lemmas.List.{append-nil}
 use Rattle.ncp_script.specs.declared.first_lines.TwoHosts.{TwoHosts}
 use Rattle.ncp_script.specs.Scripts.{Course, Ending, Over, ends}
@@ -8,13 +8,15 @@ use Rattle.ncp_reader.specs.declared.lines.Lines.{Lines}
 use Rattle.ncp_play.specs.Faults.{is_read_failed, is_write_failed}
 use Rattle.ncp_play.specs.declared.fault.PlayFault.{PlayFault}
 use Rattle.ncp_play.specs.declared.fault.PlayFault.TheVariants.{BadLine, LineTooLong, BadHosts, Feed, ReadFailed, WriteFailed, OutOfMemory}
-use Rattle.ncp_world.specs.declared.event.Event.{Event}
-use Rattle.ncp_world.specs.declared.note.Note.{Note}
-use Rattle.ncp_world.specs.Transcript.{Noted_world, IsStep, AreSteps}
-use Rattle.ncp_world_player.specs.WorldNotes.{world_lines_from}
+use Rattle.ncp_two.specs.declared.event.Event.{Event}
+use Rattle.ncp_two.specs.declared.note.Note.{Note}
+use Rattle.ncp_two.specs.Between.{Hosts, new_hosts}
+use Rattle.ncp_two.specs.Transcript.{Noted_world, IsStep, AreSteps, IsTranscript, new_world}
+use Rattle.ncp_two.proofs.Growing.{transcript_new, transcript_grows}
+use Rattle.ncp_world_player.specs.Telling.{Tale, told}
 use Rattle.ncp_world_player.specs.Playing.{DoesEvent, TellsWorld, TellsWorldBeginning, TellsWorldAs}
 use Rattle.ncp_world_player.specs.NextEvents.{course_of, course_cut, with_event, AsksOne, AsksNext}
-use Rattle.ncp_world_player.specs.Players.{PlayedTo, PlayedFirst, PlaysLines, GoesOn, PlaysNext, WritesLines, WritesAs}
+use Rattle.ncp_world_player.specs.Players.{PlayedTo, PlayedFirst, PlaysLines, GoesOn, PlaysNext, WritesAll, WritesAs, AnswersGood}
 
 no_events : (course : Course Event) (ending : Ending) (before : Noted_world) → course ≡ ends ending → PlayedTo course ending before before
 no_events course ending before e = (ap (λ c. c.ending) e, subst (λ (c : Course Event). AreSteps c.events before before) (sym e) refl)
@@ -48,10 +50,10 @@ module _ (hosts : TwoHosts) (first : ℕ) (bytes : List ℕ) (before : Noted_wor
   goes_on event lines left mid asks step (Err BadHosts) last left' h = absurd h
   goes_on event lines left mid asks step (Err (Feed fault)) last left' h = absurd h
 
-  pub asks_none : (lines : Lines) (left : Option (List ℕ)) → AsksNext hosts first bytes (Ok None) lines left → PlaysLines hosts first bytes before (Ok tt) before left
+  pub asks_none : (lines : Lines) (left : Option (List ℕ)) → AsksNext hosts first bytes (Ok None) lines left → PlaysLines {X = Unit} hosts first bytes before (Ok tt) before left
   asks_none lines left asks = no_events (course_of hosts first bytes) Over before asks
 
-  pub asks_err : (lines : Lines) (left : Option (List ℕ)) (fault : PlayFault) → AsksNext hosts first bytes (Err fault) lines left → PlaysLines hosts first bytes before (Err fault) before left
+  pub asks_err : (lines : Lines) (left : Option (List ℕ)) (fault : PlayFault) → AsksNext hosts first bytes (Err fault) lines left → PlaysLines {X = Unit} hosts first bytes before (Err fault) before left
   asks_err lines left (BadLine line) asks = no_events (course_of hosts first bytes) _ before asks
   asks_err lines left (LineTooLong line) asks = no_events (course_of hosts first bytes) _ before asks
   asks_err lines left ReadFailed asks = (asks.0, asks.1, no_events (course_cut hosts first asks.0) Over before asks.2, none_first (course_of hosts first bytes) before)
@@ -65,7 +67,7 @@ module _ (hosts : TwoHosts) (first : ℕ) (bytes : List ℕ) (before : Noted_wor
   course_some event false lines left asks = (ends Over, asks)
 
   pub event_err : (event : Event) (ended : Bool) (lines : Lines) (left : Option (List ℕ)) (now : Noted_world) (fault : PlayFault) → AsksNext hosts first bytes (Ok (Some (event, ended))) lines left → DoesEvent event before (Err fault) now
-      → PlaysLines hosts first bytes before (Err fault) now left
+      → PlaysLines {X = Unit} hosts first bytes before (Err fault) now left
   event_err event ended lines left now OutOfMemory asks does = subst (λ (w : Noted_world). PlayedFirst (course_of hosts first bytes) before w) (sym does) (none_first (course_of hosts first bytes) before)
   event_err event ended lines left now WriteFailed asks does =
       let some = course_some event ended lines left asks in
@@ -82,11 +84,11 @@ module _ (hosts : TwoHosts) (first : ℕ) (bytes : List ℕ) (before : Noted_wor
   event_ok event false lines left now asks step = more_to (course_of hosts first bytes) (ends Over) event before now asks step Over now (refl, refl)
 
   -- no line stands behind the first
-  pub no_lines : (left : Option (List ℕ)) → bytes ≡ [] → PlaysLines hosts first bytes before (Ok tt) before left
-  no_lines left none = no_events (course_of hosts first bytes) Over before (ap (λ b. course_of hosts first b) none)
+  pub no_lines : (good : Bool) (left : Option (List ℕ)) → bytes ≡ [] → PlaysLines hosts first bytes before (Ok good) before left
+  no_lines good left none = no_events (course_of hosts first bytes) Over before (ap (λ b. course_of hosts first b) none)
 
   -- in any case the first events happened
-  pub first_of_all : (now : Noted_world) (left : Option (List ℕ)) (r : Result Unit PlayFault) → PlaysLines hosts first bytes before r now left → PlayedFirst (course_of hosts first bytes) before now
+  pub first_of_all : {X : Type 0} (now : Noted_world) (left : Option (List ℕ)) (r : Result X PlayFault) → PlaysLines hosts first bytes before r now left → PlayedFirst (course_of hosts first bytes) before now
   first_of_all now left (Ok done) h = let all = course_of hosts first bytes in (all.events, [], sym (append-nil all.events), h.1)
   first_of_all now left (Err (BadLine line)) h = let all = course_of hosts first bytes in (all.events, [], sym (append-nil all.events), h.1)
   first_of_all now left (Err (LineTooLong line)) h = let all = course_of hosts first bytes in (all.events, [], sym (append-nil all.events), h.1)
@@ -96,9 +98,39 @@ module _ (hosts : TwoHosts) (first : ℕ) (bytes : List ℕ) (before : Noted_wor
   first_of_all now left (Err BadHosts) h = absurd h
   first_of_all now left (Err (Feed fault)) h = absurd h
 
-  pub plays_finished : (now : Noted_world) (left : Option (List ℕ)) (played r : Result Unit PlayFault) → PlaysLines hosts first bytes before played now left → (r ≡ played) ⊎ (r ≡ Err WriteFailed) → PlaysLines hosts first bytes before r now left
-  plays_finished now left played r h (inl e) = subst (λ (x : Result Unit PlayFault). PlaysLines hosts first bytes before x now left) (sym e) h
-  plays_finished now left played r h (inr e) = subst (λ (x : Result Unit PlayFault). PlaysLines hosts first bytes before x now left) (sym e) (first_of_all now left played h)
+  pub plays_finished : (now : Noted_world) (left : Option (List ℕ)) (played r : Result Bool PlayFault) → PlaysLines hosts first bytes before played now left → (r ≡ played) ⊎ (r ≡ Err WriteFailed) → PlaysLines hosts first bytes before r now left
+  plays_finished now left played r h (inl e) = subst (λ (x : Result Bool PlayFault). PlaysLines hosts first bytes before x now left) (sym e) h
+  plays_finished now left played r h (inr e) = subst (λ (x : Result Bool PlayFault). PlaysLines hosts first bytes before x now left) (sym e) (first_of_all now left played h)
+
+  -- the same fault of another kind of result
+  pub plays_err : (X Y : Type 0) (now : Noted_world) (left : Option (List ℕ)) (fault : PlayFault) → PlaysLines {X = X} hosts first bytes before (Err fault) now left → PlaysLines {X = Y} hosts first bytes before (Err fault) now left
+  plays_err X Y now left (BadLine line) h = h
+  plays_err X Y now left (LineTooLong line) h = h
+  plays_err X Y now left ReadFailed h = h
+  plays_err X Y now left OutOfMemory h = h
+  plays_err X Y now left WriteFailed h = h
+  plays_err X Y now left BadHosts h = absurd h
+  plays_err X Y now left (Feed fault) h = absurd h
+
+-- ---- the transcript
+
+steps_grow : (events : List Event) (before now : Noted_world) → IsTranscript before.notes before.hosts → AreSteps events before now → IsTranscript now.notes now.hosts
+steps_grow [] before now t e = subst (λ (x : Noted_world). IsTranscript x.notes x.hosts) (sym e) t
+steps_grow (event ∷ events) before now t (next, step, rest) =
+    steps_grow events next now (transcript_grows before.notes next.notes step.0 before.hosts next.hosts t (event, step.1) step.2 step.3) rest
+
+-- the notes of two new hosts that were played are a transcript
+pub plays_transcript : (hosts : TwoHosts) (first : ℕ) (bytes : List ℕ) (now : Noted_world) (left : Option (List ℕ)) (r : Result Bool PlayFault) → hosts.a ≢ hosts.b → hosts.a < 2 ^ 8 → hosts.b < 2 ^ 8
+    → PlaysLines hosts first bytes (new_world hosts.a hosts.b) r now left → IsTranscript now.notes now.hosts
+plays_transcript hosts first bytes now left r differ fits_a fits_b h =
+    let some = first_of_all hosts first bytes (new_world hosts.a hosts.b) now left r h in
+    steps_grow some.0 (new_world hosts.a hosts.b) now (transcript_new hosts.a hosts.b (new_hosts hosts.a hosts.b) differ fits_a fits_b refl) some.3
+
+-- ---- the answer
+
+pub good_finished : (notes : List Note) (played r : Result Bool PlayFault) → AnswersGood played notes → (r ≡ played) ⊎ (r ≡ Err WriteFailed) → AnswersGood r notes
+good_finished notes played r h (inl e) = subst (λ (x : Result Bool PlayFault). AnswersGood x notes) (sym e) h
+good_finished notes played r h (inr e) = subst (λ (x : Result Bool PlayFault). AnswersGood x notes) (sym e) tt
 
 -- an event is never blamed on reading
 pub never_reads : (event : Event) (before now : Noted_world) (r : Result Unit PlayFault) → DoesEvent event before r now → is_read_failed r ≡ false
@@ -113,84 +145,71 @@ never_reads event before now (Err (Feed fault)) does = absurd does
 
 -- ---- what is told
 
--- where all is told, a beginning is
-told_beginning : (was : List ℕ) (notes : List Note) (number : ℕ) (page : List ℕ) (written : Option (List ℕ)) → TellsWorld was notes number page written → TellsWorldBeginning was notes written
-told_beginning was notes number page written told = (page, told.1)
+module _ (tale : Tale) (began : Hosts) (was : List ℕ) (world : Noted_world) where
+  module _ {X : Type 0} (number : ℕ) (page : List ℕ) (written : Option (List ℕ)) where
+    pub tells_any : (r : Result X PlayFault) → TellsWorld tale began was world number page written → TellsWorldAs tale began was world r number page written
+    tells_any (Ok x) told = told
+    tells_any (Err WriteFailed) told = (page, told.2)
+    tells_any (Err OutOfMemory) told = told
+    tells_any (Err ReadFailed) told = told
+    tells_any (Err BadHosts) told = told
+    tells_any (Err (BadLine line)) told = told
+    tells_any (Err (LineTooLong line)) told = told
+    tells_any (Err (Feed fault)) told = told
 
-module _ {X : Type 0} (was : List ℕ) (notes : List Note) (number : ℕ) (page : List ℕ) (written : Option (List ℕ)) where
-  pub tells_any : (r : Result X PlayFault) → TellsWorld was notes number page written → TellsWorldAs was notes r number page written
-  tells_any (Ok x) told = told
-  tells_any (Err WriteFailed) told = told_beginning was notes number page written told
-  tells_any (Err OutOfMemory) told = told
-  tells_any (Err ReadFailed) told = told
-  tells_any (Err BadHosts) told = told
-  tells_any (Err (BadLine line)) told = told
-  tells_any (Err (LineTooLong line)) told = told
-  tells_any (Err (Feed fault)) told = told
+    pub tells_all : (r : Result X PlayFault) → is_write_failed r ≡ false → TellsWorldAs tale began was world r number page written → TellsWorld tale began was world number page written
+    tells_all (Ok x) other told = told
+    tells_all (Err WriteFailed) other told = let f : ⊥ = cc in absurd f
+    tells_all (Err OutOfMemory) other told = told
+    tells_all (Err ReadFailed) other told = told
+    tells_all (Err BadHosts) other told = told
+    tells_all (Err (BadLine line)) other told = told
+    tells_all (Err (LineTooLong line)) other told = told
+    tells_all (Err (Feed fault)) other told = told
 
-  pub tells_all : (r : Result X PlayFault) → is_write_failed r ≡ false → TellsWorldAs was notes r number page written → TellsWorld was notes number page written
-  tells_all (Ok x) other told = told
-  tells_all (Err WriteFailed) other told = let f : ⊥ = cc in absurd f
-  tells_all (Err OutOfMemory) other told = told
-  tells_all (Err ReadFailed) other told = told
-  tells_all (Err BadHosts) other told = told
-  tells_all (Err (BadLine line)) other told = told
-  tells_all (Err (LineTooLong line)) other told = told
-  tells_all (Err (Feed fault)) other told = told
+  -- the same fault of another kind of result
+  pub tells_err : (X Y : Type 0) (number : ℕ) (page : List ℕ) (written : Option (List ℕ)) (fault : PlayFault) → TellsWorldAs {X = X} tale began was world (Err fault) number page written
+      → TellsWorldAs {X = Y} tale began was world (Err fault) number page written
+  tells_err X Y number page written WriteFailed told = told
+  tells_err X Y number page written OutOfMemory told = told
+  tells_err X Y number page written ReadFailed told = told
+  tells_err X Y number page written BadHosts told = told
+  tells_err X Y number page written (BadLine line) told = told
+  tells_err X Y number page written (LineTooLong line) told = told
+  tells_err X Y number page written (Feed fault) told = told
 
--- the same fault of another kind of result
-pub tells_err : (X Y : Type 0) (was : List ℕ) (notes : List Note) (number : ℕ) (page : List ℕ) (written : Option (List ℕ)) (fault : PlayFault) → TellsWorldAs {X = X} was notes (Err fault) number page written
-    → TellsWorldAs {X = Y} was notes (Err fault) number page written
-tells_err X Y was notes number page written WriteFailed told = told
-tells_err X Y was notes number page written OutOfMemory told = told
-tells_err X Y was notes number page written ReadFailed told = told
-tells_err X Y was notes number page written BadHosts told = told
-tells_err X Y was notes number page written (BadLine line) told = told
-tells_err X Y was notes number page written (LineTooLong line) told = told
-tells_err X Y was notes number page written (Feed fault) told = told
+  -- the page was written
+  writes_all : (number : ℕ) (page last : List ℕ) (written now : Option (List ℕ)) → TellsWorld tale began was world number page written → last ≡ [] → SaysText page written [] last now → WritesAll tale began was world.notes now
+  writes_all number page last written now so_far none says =
+      let said = says was (told tale began world.notes) so_far.2 in
+      said.1 ∙ ap (λ text. Some (was ++ text)) (sym (append-nil said.0) ∙ ap (λ rest. said.0 ++ rest) (sym none) ∙ said.2 ∙ append-nil (told tale began world.notes))
 
-pub writes_err : (X Y : Type 0) (was : List ℕ) (notes : List Note) (written : Option (List ℕ)) (fault : PlayFault) → WritesAs {X = X} was notes (Err fault) written → WritesAs {X = Y} was notes (Err fault) written
-writes_err X Y was notes written WriteFailed told = told
-writes_err X Y was notes written OutOfMemory told = told
-writes_err X Y was notes written ReadFailed told = told
-writes_err X Y was notes written BadHosts told = told
-writes_err X Y was notes written (BadLine line) told = told
-writes_err X Y was notes written (LineTooLong line) told = told
-writes_err X Y was notes written (Feed fault) told = told
+  writes_as : (r : Result Bool PlayFault) (written : Option (List ℕ)) → is_write_failed r ≡ false → WritesAll tale began was world.notes written → WritesAs tale began was world.notes r written
+  writes_as (Ok x) written other h = h
+  writes_as (Err WriteFailed) written other h = let f : ⊥ = cc in absurd f
+  writes_as (Err OutOfMemory) written other h = h
+  writes_as (Err ReadFailed) written other h = h
+  writes_as (Err BadHosts) written other h = h
+  writes_as (Err (BadLine line)) written other h = h
+  writes_as (Err (LineTooLong line)) written other h = h
+  writes_as (Err (Feed fault)) written other h = h
 
--- the page was written
-writes_lines : (was : List ℕ) (notes : List Note) (number : ℕ) (page last : List ℕ) (written now : Option (List ℕ)) → TellsWorld was notes number page written → last ≡ [] → SaysText page written [] last now → WritesLines was notes now
-writes_lines was notes number page last written now told none says =
-    let said = says was (world_lines_from 1 notes) told.1 in
-    said.1 ∙ ap (λ text. Some (was ++ text)) (sym (append-nil said.0) ∙ ap (λ rest. said.0 ++ rest) (sym none) ∙ said.2 ∙ append-nil (world_lines_from 1 notes))
+  module _ (number : ℕ) (page : List ℕ) (written : Option (List ℕ)) (played : Result Bool PlayFault) (so_far : TellsWorldAs tale began was world played number page written) where
+    pub finish_flushed : (last : List ℕ) (now : Option (List ℕ)) → is_write_failed played ≡ false → (last ≡ []) × SaysText page written [] last now → WritesAs tale began was world.notes played now
+    finish_flushed last now other flushed = writes_as played now other (writes_all number page last written now (tells_all number page written played other so_far) flushed.0 flushed.1)
 
-writes_as : {X : Type 0} (was : List ℕ) (notes : List Note) (r : Result X PlayFault) (written : Option (List ℕ)) → is_write_failed r ≡ false → WritesLines was notes written → WritesAs was notes r written
-writes_as was notes (Ok x) written other h = h
-writes_as was notes (Err WriteFailed) written other h = let f : ⊥ = cc in absurd f
-writes_as was notes (Err OutOfMemory) written other h = h
-writes_as was notes (Err ReadFailed) written other h = h
-writes_as was notes (Err BadHosts) written other h = h
-writes_as was notes (Err (BadLine line)) written other h = h
-writes_as was notes (Err (LineTooLong line)) written other h = h
-writes_as was notes (Err (Feed fault)) written other h = h
+    pub finish_broken : (now : Option (List ℕ)) → is_write_failed played ≡ false → SaysBeginning page written [] now → TellsWorldBeginning tale began was world.notes now
+    finish_broken now other says =
+        let all = tells_all number page written played other so_far in
+        let said = says.1 was (told tale began world.notes) all.2 in
+        (says.0, subst (λ text. SaidSoFar was says.0 now text) (append-nil (told tale began world.notes)) said)
 
-module _ (was : List ℕ) (notes : List Note) (number : ℕ) (page : List ℕ) (written : Option (List ℕ)) (played : Result Unit PlayFault) (told : TellsWorldAs was notes played number page written) where
-  pub finish_flushed : (last : List ℕ) (now : Option (List ℕ)) → is_write_failed played ≡ false → (last ≡ []) × SaysText page written [] last now → WritesAs was notes played now
-  finish_flushed last now other flushed =
-      writes_as was notes played now other (writes_lines was notes number page last written now (tells_all was notes number page written played other told) flushed.0 flushed.1)
-
-  pub finish_broken : (now : Option (List ℕ)) → is_write_failed played ≡ false → SaysBeginning page written [] now → TellsWorldBeginning was notes now
-  finish_broken now other says =
-      let all = tells_all was notes number page written played other told in
-      let said = says.1 was (world_lines_from 1 notes) all.1 in
-      (says.0, subst (λ text. SaidSoFar was says.0 now text) (append-nil (world_lines_from 1 notes)) said)
-
-pub finish_failed : (was : List ℕ) (notes : List Note) (number : ℕ) (page : List ℕ) (written : Option (List ℕ)) (played : Result Unit PlayFault) → is_write_failed played ≡ true → TellsWorldAs was notes played number page written → WritesAs was notes played written
-finish_failed was notes number page written (Err WriteFailed) blamed told = told
-finish_failed was notes number page written (Ok done) blamed told = let f : ⊥ = cc in absurd f
-finish_failed was notes number page written (Err OutOfMemory) blamed told = let f : ⊥ = cc in absurd f
-finish_failed was notes number page written (Err ReadFailed) blamed told = let f : ⊥ = cc in absurd f
-finish_failed was notes number page written (Err BadHosts) blamed told = let f : ⊥ = cc in absurd f
-finish_failed was notes number page written (Err (BadLine line)) blamed told = let f : ⊥ = cc in absurd f
-finish_failed was notes number page written (Err (LineTooLong line)) blamed told = let f : ⊥ = cc in absurd f
-finish_failed was notes number page written (Err (Feed fault)) blamed told = let f : ⊥ = cc in absurd f
+  pub finish_failed : (number : ℕ) (page : List ℕ) (written : Option (List ℕ)) (played : Result Bool PlayFault) → is_write_failed played ≡ true → TellsWorldAs tale began was world played number page written → WritesAs tale began was world.notes played written
+  finish_failed number page written (Ok x) blamed told = let f : ⊥ = cc in absurd f
+  finish_failed number page written (Err WriteFailed) blamed told = told
+  finish_failed number page written (Err OutOfMemory) blamed told = let f : ⊥ = cc in absurd f
+  finish_failed number page written (Err ReadFailed) blamed told = let f : ⊥ = cc in absurd f
+  finish_failed number page written (Err BadHosts) blamed told = let f : ⊥ = cc in absurd f
+  finish_failed number page written (Err (BadLine line)) blamed told = let f : ⊥ = cc in absurd f
+  finish_failed number page written (Err (LineTooLong line)) blamed told = let f : ⊥ = cc in absurd f
+  finish_failed number page written (Err (Feed fault)) blamed told = let f : ⊥ = cc in absurd f

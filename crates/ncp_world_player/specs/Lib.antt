@@ -1,7 +1,10 @@
 pub mod Moves
 pub mod WorldLines
+pub mod FirstLine
 pub mod WorldScripts
 pub mod WorldNotes
+pub mod Telling
+pub mod LedgerLines
 pub mod Playing
 pub mod NextEvents
 pub mod Players

@@ -2,10 +2,10 @@
 -- to a message that the subnet has.
 use Rattle.std.specs.Prelude.{ℕ, List, [], ◌∷◌, Option, Some, None, codes, if◌then◌else◌}
 use Rattle.std.specs.Str.{bytes_eq}
-use Rattle.ncp_world.specs.declared.side.Side.{Side}
-use Rattle.ncp_world.specs.declared.side.Side.TheVariants.{A, B}
-use Rattle.ncp_world.specs.declared.note.Move.{Move}
-use Rattle.ncp_world.specs.declared.note.Move.TheVariants.{Deliver, Lose, Dead, Answer}
+use Rattle.ncp_two.specs.declared.side.Side.{Side}
+use Rattle.ncp_two.specs.declared.side.Side.TheVariants.{A, B}
+use Rattle.ncp_two.specs.declared.note.Move.{Move}
+use Rattle.ncp_two.specs.declared.note.Move.TheVariants.{Deliver, Lose, Dead, Answer}
 
 -- the letter of a side
 abbrev pub letter_of : Side → ℕ

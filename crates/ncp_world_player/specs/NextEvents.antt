@@ -3,7 +3,6 @@ use Rattle.std.specs.Prelude.{◌≡◌, ℕ, Bool, true, false, List, ◌∷◌
 use Rattle.ncp_stream.specs.Streams.{Ahead}
 use Rattle.ncp_script.specs.declared.first_lines.TwoHosts.{TwoHosts}
 use Rattle.ncp_script.specs.declared.line_buffer.LineKind.TheVariants.{Played}
-use Rattle.ncp_script.specs.FirstLines.{hosts_named}
 use Rattle.ncp_script.specs.Words.{words_of}
 use Rattle.ncp_script.specs.Scripts.{Line, lines_of, said, Course, Script, Over, Faulty, ends, course_from, script_from, NoHosts}
 use Rattle.ncp_script.specs.Scripts.{BadLine as Is_bad_line, LineTooLong as Is_too_long, BadHosts as Are_bad_hosts}
@@ -11,9 +10,11 @@ use Rattle.ncp_reader.specs.declared.lines.Lines.{Lines}
 use Rattle.ncp_reader.specs.NextLines.{ended_lines, CameBefore, IsNext}
 use Rattle.ncp_play.specs.declared.fault.PlayFault.{PlayFault}
 use Rattle.ncp_play.specs.declared.fault.PlayFault.TheVariants.{BadLine, LineTooLong, BadHosts, Feed, ReadFailed, WriteFailed, OutOfMemory}
-use Rattle.ncp_world.specs.declared.event.Event.{Event}
+use Rattle.ncp_two.specs.declared.event.Event.{Event}
+use Rattle.ncp_world_player.specs.declared.first_line.FirstLine.{FirstLine}
+use Rattle.ncp_world_player.specs.FirstLine.{first_line_of}
 use Rattle.ncp_world_player.specs.WorldLines.{world_line_of}
-use Rattle.ncp_world_player.specs.WorldScripts.{asks}
+use Rattle.ncp_world_player.specs.WorldScripts.{asks, asks_behind}
 
 -- what a line of this number that says this asks for; or there was no memory for its text
 abbrev pub EventIn : TwoHosts → ℕ → List ℕ → Result Event PlayFault → Type 0
@@ -68,18 +69,18 @@ may_go_on (Some (event, ended)) = ended
 -- ---- the first line
 
 -- a script from this line on
-abbrev pub script_behind : ℕ → List Line → Script TwoHosts Event
-script_behind first lines = script_from hosts_named asks first lines
+abbrev pub script_behind : ℕ → List Line → Script FirstLine Event
+script_behind first lines = script_from first_line_of asks_behind first lines
 
--- the first line names the hosts
-abbrev pub NamesHosts : ℕ → List ℕ → TwoHosts → Bool → Lines → Option (List ℕ) → Type 0
-NamesHosts first bytes hosts ended now left =
+-- the first line is this one
+abbrev pub BeginsSo : ℕ → List ℕ → FirstLine → Bool → Lines → Option (List ℕ) → Type 0
+BeginsSo first bytes named ended now left =
     (number : ℕ) × (line : Line) × IsNext first bytes Played number line now.number now.window left × (line.ended ≡ ended)
-    × (hosts_named (words_of (said line)) ≡ Some hosts)
+    × (first_line_of (words_of (said line)) ≡ Some named)
 
 -- what became of bytes whose first line is to name the hosts
-abbrev pub FindsHosts : ℕ → List ℕ → Result (TwoHosts × Bool) PlayFault → Lines → Option (List ℕ) → Type 0
-FindsHosts first bytes (Ok (hosts, ended)) now left = NamesHosts first bytes hosts ended now left
+abbrev pub FindsHosts : ℕ → List ℕ → Result (FirstLine × Bool) PlayFault → Lines → Option (List ℕ) → Type 0
+FindsHosts first bytes (Ok (named, ended)) now left = BeginsSo first bytes named ended now left
 FindsHosts first bytes (Err BadHosts) now left = script_behind first (lines_of bytes) ≡ NoHosts Are_bad_hosts
 FindsHosts first bytes (Err (LineTooLong line)) now left = script_behind first (lines_of bytes) ≡ NoHosts (Is_too_long line)
 FindsHosts first bytes (Err ReadFailed) now left =

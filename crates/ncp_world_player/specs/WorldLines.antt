@@ -5,12 +5,12 @@ use Rattle.ncp_script.specs.declared.first_lines.TwoHosts.{TwoHosts}
 use Rattle.ncp_script.specs.Words.{number_first, largest_u8}
 use Rattle.ncp_script.specs.Calls.{all_of, call_of}
 use Rattle.ncp_script.specs.HostLines.{alone}
-use Rattle.ncp_world.specs.declared.side.Side.{Side}
-use Rattle.ncp_world.specs.declared.side.Side.TheVariants.{A, B}
-use Rattle.ncp_world.specs.declared.note.Move.{Move}
-use Rattle.ncp_world.specs.declared.note.Move.TheVariants as moves
-use Rattle.ncp_world.specs.declared.event.Event.{Event}
-use Rattle.ncp_world.specs.declared.event.Event.TheVariants as events
+use Rattle.ncp_two.specs.declared.side.Side.{Side}
+use Rattle.ncp_two.specs.declared.side.Side.TheVariants.{A, B}
+use Rattle.ncp_two.specs.declared.note.Move.{Move}
+use Rattle.ncp_two.specs.declared.note.Move.TheVariants as moves
+use Rattle.ncp_two.specs.declared.event.Event.{Event}
+use Rattle.ncp_two.specs.declared.event.Event.TheVariants as events
 use Rattle.ncp_world_player.specs.Moves.{side_named, move_named}
 
 -- the peer of a side's calls, which no word names: the other host

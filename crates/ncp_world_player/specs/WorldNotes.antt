@@ -4,16 +4,16 @@ use Rattle.ncp_slot.specs.declared.slot.Answer.{Answer}
 use Rattle.ncp_slot.specs.declared.slot.Answer.TheVariants as answers
 use Rattle.ncp_transcript.specs.declared.note.HostNote.{HostNote}
 use Rattle.ncp_transcript.specs.declared.note.HostNote.TheVariants as host_notes
-use Rattle.ncp_files.specs.Lines.{field, number_after}
+use Rattle.ncp_files.specs.Lines.{field}
 use Rattle.ncp_play.specs.declared.heading.Heading.{Heading}
 use Rattle.ncp_play.specs.declared.heading.Speaker.TheVariants as speakers
 use Rattle.ncp_play.specs.Arrived.{received_words}
 use Rattle.ncp_play.specs.NoteLines.{front, note_lines}
-use Rattle.ncp_world.specs.declared.side.Side.{Side}
-use Rattle.ncp_world.specs.declared.note.Move.{Move}
-use Rattle.ncp_world.specs.declared.note.Move.TheVariants as moves
-use Rattle.ncp_world.specs.declared.note.Note.{Note}
-use Rattle.ncp_world.specs.declared.note.Note.TheVariants as notes
+use Rattle.ncp_two.specs.declared.side.Side.{Side}
+use Rattle.ncp_two.specs.declared.note.Move.{Move}
+use Rattle.ncp_two.specs.declared.note.Move.TheVariants as moves
+use Rattle.ncp_two.specs.declared.note.Note.{Note}
+use Rattle.ncp_two.specs.declared.note.Note.TheVariants as notes
 use Rattle.ncp_world_player.specs.Moves.{letter_of, word_of}
 
 -- what a line of a side begins with
@@ -56,13 +56,3 @@ abbrev pub world_note_lines : ℕ → Note → List ℕ
 world_note_lines number (notes.Called side note) = note_lines (heading_of number side) note
 world_note_lines number (notes.Out side note) = note_lines (heading_of number side) note
 world_note_lines number note = subnet_line number note
-
--- the lines of notes, the first of this number
-abbrev pub world_lines_from : ℕ → List Note → List ℕ
-world_lines_from number [] = []
-world_lines_from number (note ∷ notes) = world_note_lines number note ++ world_lines_from (number_after number) notes
-
--- the number of the note behind these
-abbrev pub number_behind_notes : ℕ → List Note → ℕ
-number_behind_notes number [] = number
-number_behind_notes number (note ∷ notes) = number_behind_notes (number_after number) notes

@@ -4,8 +4,9 @@ ghost use Rattle.ncp_script.specs.Words.{words_of};
 ghost use Rattle.ncp_script.specs.Scripts.{Over, Faulty, BadLine, BadHosts, NoHosts, Plays};
 ghost use Rattle.ncp_script.specs.declared.first_lines.TwoHosts.{TwoHosts};
 ghost use Rattle.ncp_transcript.specs.declared.call.Call.TheVariants as calls;
-ghost use Rattle.ncp_world.specs.declared.event.Event.TheVariants as events;
-ghost use Rattle.ncp_world.specs.declared.side.Side.TheVariants.{A, B};
+ghost use Rattle.ncp_two.specs.declared.event.Event.TheVariants as events;
+ghost use Rattle.ncp_two.specs.declared.side.Side.TheVariants.{A, B};
+ghost use Rattle.ncp_world_player.specs.FirstLine.{first_line_of};
 ghost use Rattle.ncp_world_player.specs.WorldLines.{world_line_of};
 ghost use Rattle.ncp_world_player.specs.WorldScripts.{world_script};
 
@@ -39,11 +40,25 @@ pub fn no_lines()
     ensures feed { (hosts : TwoHosts) → world_line_of hosts (words_of (codes "a feed")) ≡ None }
 {}
 
+/// The first line: two hosts, and a sender that is watched.
+pub fn first_lines_are_read_so()
+    ensures hosts { first_line_of (words_of (codes "hosts 0 255")) ≡ Some (record { hosts = record { a = 0; b = 255 }; watch = None }) }
+    ensures watch { first_line_of (words_of (codes "hosts 1 2 watch b 5 2")) ≡ Some (record { hosts = record { a = 1; b = 2 }; watch = Some (record { side = B; pair = record { local = 5; remote = 2 } }) }) }
+    ensures receiver { first_line_of (words_of (codes "hosts 1 2 watch a 2 3")) ≡ None }
+    ensures both_odd { first_line_of (words_of (codes "hosts 1 2 watch a 3 3")) ≡ None }
+    ensures side { first_line_of (words_of (codes "hosts 1 2 watch c 3 2")) ≡ None }
+    ensures few { first_line_of (words_of (codes "hosts 1 2 watch a 3")) ≡ None }
+    ensures many { first_line_of (words_of (codes "hosts 1 2 watch a 3 2 1")) ≡ None }
+    ensures alone { first_line_of (words_of (codes "hosts 1 2 watch")) ≡ None }
+    ensures word { first_line_of (words_of (codes "hosts 1 2 see a 3 2")) ≡ None }
+{}
+
 /// What the bytes of a script of two hosts ask for.
 pub fn scripts_are_read_so()
-    ensures whole { world_script (codes "# two\n\nhosts 1 2\r\na reset\na out\na deliver 0\na answer 0\nb out") ≡ Plays (record { a = 1; b = 2 }) (record { events = events.Call A (calls.Reset 2) ∷ events.Out A ∷ events.Deliver A 0 ∷ events.Answer A 0 ∷ events.Out B ∷ []; ending = Over }) }
-    ensures nothing { world_script (codes "hosts 1 2") ≡ Plays (record { a = 1; b = 2 }) (record { events = []; ending = Over }) }
-    ensures bad_line { world_script (codes "hosts 1 2\n#\n\na out\nout\na out\n") ≡ Plays (record { a = 1; b = 2 }) (record { events = events.Out A ∷ []; ending = Faulty (BadLine 5) }) }
+    ensures whole { world_script (codes "# two\n\nhosts 1 2\r\na reset\na out\na deliver 0\na answer 0\nb out") ≡ Plays (record { hosts = record { a = 1; b = 2 }; watch = None }) (record { events = events.Call A (calls.Reset 2) ∷ events.Out A ∷ events.Deliver A 0 ∷ events.Answer A 0 ∷ events.Out B ∷ []; ending = Over }) }
+    ensures watched { world_script (codes "hosts 1 2 watch a 3 2\nb out") ≡ Plays (record { hosts = record { a = 1; b = 2 }; watch = Some (record { side = A; pair = record { local = 3; remote = 2 } }) }) (record { events = events.Out B ∷ []; ending = Over }) }
+    ensures nothing { world_script (codes "hosts 1 2") ≡ Plays (record { hosts = record { a = 1; b = 2 }; watch = None }) (record { events = []; ending = Over }) }
+    ensures bad_line { world_script (codes "hosts 1 2\n#\n\na out\nout\na out\n") ≡ Plays (record { hosts = record { a = 1; b = 2 }; watch = None }) (record { events = events.Out A ∷ []; ending = Faulty (BadLine 5) }) }
     ensures no_line { world_script [] ≡ NoHosts BadHosts }
     ensures same_hosts { world_script (codes "hosts 1 1\na out\n") ≡ NoHosts BadHosts }
     ensures one_host { world_script (codes "host 1 2\nout\n") ≡ NoHosts BadHosts }

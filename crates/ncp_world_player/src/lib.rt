@@ -3,15 +3,21 @@
 #![tactic(auto)]
 
 pub mod examples;
+mod first_line;
 pub mod laws;
+mod ledger_lines;
 mod moves;
 mod next_event;
 mod player;
 mod playing;
+mod teller;
 mod world_lines;
 mod world_notes;
 
-pub use player::play_world;
+pub use first_line::{FirstLine, Watch, first_line_of};
+pub use ledger_lines::NoteLines;
+pub use player::{play_script, play_world};
 pub use playing::play_event;
+pub use teller::Teller;
 pub use world_lines::world_line;
 pub use world_notes::say_world_note;

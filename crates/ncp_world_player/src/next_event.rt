@@ -5,10 +5,11 @@ ghost use Rattle.ncp_files.specs.Windows.{effort};
 ghost use Rattle.ncp_play.specs.Faults.{is_read_failed, is_write_failed};
 ghost use Rattle.ncp_world_player.specs.NextEvents.{EventIn, AsksNext, FindsHosts, may_go_on};
 
+use crate::first_line::{FirstLine, first_line_of};
 use crate::world_lines::world_line;
 use ncp_play::PlayFault;
 use ncp_reader::{Lines, NextLine, next_played};
-use ncp_script::{TwoHosts, Words, hosts_named};
+use ncp_script::{TwoHosts, Words};
 use ncp_stream::Source;
 use ncp_world::Event;
 use std::alloc::Global;
@@ -50,21 +51,21 @@ pub(crate) fn next_event<R: Source>(
     }
 }
 
-/// Reads the first line that is not skipped, and answers the hosts that it names, which are distinct, and
-/// whether an LF ended it.
+/// Reads the first line that is not skipped, and answers what it says, its hosts being distinct, and whether
+/// an LF ended it.
 pub(crate) fn read_hosts<R: Source>(
     lines: &mut Lines,
     source: &mut R,
-) -> Result<(TwoHosts, bool), PlayFault>
+) -> Result<(FirstLine, bool), PlayFault>
     ensures told { (bytes : List ℕ) → Ahead lines.old.window (R.left source.old) bytes → FindsHosts lines.old.number bytes result lines.new (R.left source.new) }
-    ensures distinct { IfOk result (λ found. found.0.a ≢ found.0.b) }
+    ensures distinct { IfOk result (λ found. found.0.hosts.a ≢ found.0.hosts.b) }
     ensures mark { R.has_failed source.new ≡ (R.has_failed source.old || is_read_failed result) }
     ensures unblamed { is_write_failed result ≡ false }
 {
     match next_played(lines, source) {
         Ok(NextLine::Played { ended, .. }) => {
-            match hosts_named(&mut Words::new(lines.line.text(ended))) {
-                Some(hosts) => Ok((hosts, ended)),
+            match first_line_of(&mut Words::new(lines.line.text(ended))) {
+                Some(first) => Ok((first, ended)),
                 None => Err(PlayFault::BadHosts),
             }
         }

@@ -1,22 +1,25 @@
-//! One event of a player: it happens to the hosts and the subnet, and its note is said.
+//! One event of a player: it happens to the hosts and the subnet, and its note is told.
 ghost use Rattle.std.specs.Prelude.{◌≡◌, ◌+◌, ◌≤◌, ◌||◌, ℕ, List, is_err};
 ghost use Rattle.ncp_stream.specs.Pieces.{bytes_and_writes, lost_pieces};
 ghost use Rattle.ncp_play.specs.Faults.{is_write_failed};
+ghost use Rattle.ncp_two.specs.Between.{Hosts};
 ghost use Rattle.ncp_world_player.specs.Playing.{DoesEvent, TellsWorld, TellsWorldAs};
 
-use crate::world_notes::say_world_note;
+use crate::first_line::FirstLine;
+use crate::teller::Teller;
 use ncp_bits::BitStore;
 use ncp_files::Page;
 use ncp_play::PlayFault;
 use ncp_stream::Sink;
 use ncp_world::{Event, World};
 
-/// Does what an event says, and says the lines of its note, which has this number; then the number is
-/// that of the next note.
+/// Does what an event says in a script of this first line, and says what is told of its note, which has
+/// this number; then the number is that of the next note.
 ///
 /// After `OutOfMemory` nothing has happened, and the same event may be given again; after
-/// `WriteFailed` the event was done, and a beginning of all lines is written.
-pub fn play_event<S: BitStore, W: Sink>(
+/// `WriteFailed` the event was done, and a beginning of all that is told is written.
+pub fn play_event<T: Teller, S: BitStore, W: Sink>(
+    first: FirstLine,
     world: &mut World<S>,
     event: &Event,
     number: &mut u32,
@@ -24,7 +27,7 @@ pub fn play_event<S: BitStore, W: Sink>(
     sink: &mut W,
 ) -> Result<(), PlayFault>
     ensures event { DoesEvent event.now world.old result world.new }
-    ensures told { (was : List ℕ) → TellsWorld was world.old.notes number.old page.old (W.written sink.old) → TellsWorldAs was world.new.notes result number.new page.new (W.written sink.new) }
+    ensures told { (began : Hosts) (was : List ℕ) → TellsWorld (T.tale first) began was world.old number.old page.old (W.written sink.old) → TellsWorldAs (T.tale first) began was world.new result number.new page.new (W.written sink.new) }
     ensures writes { bytes_and_writes W.takes_all (W.writes sink.old) (W.written sink.old) ≤ bytes_and_writes W.takes_all (W.writes sink.new) (W.written sink.new) + lost_pieces (is_write_failed result) }
     ensures mark { W.has_failed sink.new ≡ (W.has_failed sink.old || is_write_failed result) }
 {
@@ -32,7 +35,7 @@ pub fn play_event<S: BitStore, W: Sink>(
         return Err(PlayFault::OutOfMemory);
     }
     let notes = world.transcript();
-    match say_world_note(page, sink, *number, &notes[notes.len() - 1]) {
+    match T::say(first, world, *number, &notes[notes.len() - 1], page, sink) {
         Ok(()) => {
             *number = number.saturating_add(1);
             Ok(())

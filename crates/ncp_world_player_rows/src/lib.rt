@@ -5,8 +5,12 @@
 #[cfg(test)]
 mod faults;
 #[cfg(test)]
+mod ledgers;
+#[cfg(test)]
 mod opening;
 #[cfg(test)]
 mod played;
 #[cfg(test)]
 mod scripts;
+#[cfg(test)]
+mod streams;

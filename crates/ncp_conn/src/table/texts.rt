@@ -149,8 +149,9 @@ impl<S: BitStore> Table<S> {
         answer
     }
 
-    // Whether a text may be cut on a link.
-    fn may_cut(&self, link: u8) -> bool
+    /// Whether [`Table::cut`] would answer a text on a link. It makes no text, and looks at one entry
+    /// at most.
+    pub fn may_cut(&self, link: u8) -> bool
         ensures { result ≡ may_cut self.now link }
     {
         match self.entries.senders.key(link) {

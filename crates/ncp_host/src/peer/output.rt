@@ -1,5 +1,7 @@
 //! What goes out to a peer.
-ghost use Rattle.std.specs.Prelude.{◌≡◌, IfNone};
+ghost use Rattle.std.specs.Prelude.{ℕ, ◌≡◌, ◌<◌, false, IfNone};
+ghost use Rattle.std.specs.declared.option.Option.TheVariants.{None};
+ghost use Rattle.ncp_host.specs.PeerState.{control_link};
 ghost use Rattle.ncp_slot.specs.declared.slot.Slot.{Slot};
 ghost use Rattle.ncp_slot.specs.Slots.{HasSlot, slot_at, with_slot};
 ghost use Rattle.ncp_model.specs.Act.{answer};
@@ -77,6 +79,19 @@ impl<S: BitStore> Peer<S> {
         Some(message)
     }
 
+    // Whether a data link may have a message that is ready. It takes no room for one, so links that
+    // have none cost little.
+    fn may_send(&self, link: u8) -> bool
+        requires slot { HasSlot link }
+        requires data { control_link < link }
+        ensures { result ≡ false → (number : ℕ) → output_on number link self.now ≡ None }
+    {
+        if !self.slots.is_empty(link) {
+            return true;
+        }
+        self.association.may_cut(link)
+    }
+
     /// The first message that is ready, on link 0 and then 2 to 71, if any. It goes out.
     pub(crate) fn next_output(&mut self, number: u8) -> Option<Bits>
         ensures message { result ≡ message_on (next_of number self.old) }
@@ -87,6 +102,9 @@ impl<S: BitStore> Peer<S> {
             return Some(message);
         }
         for link in FIRST_DATA_LINK..LAST_LINK + 1 {
+            if !self.may_send(link) {
+                continue;
+            }
             if let Some(message) = self.output_on(number, link) {
                 return Some(message);
             }

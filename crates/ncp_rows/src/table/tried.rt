@@ -108,7 +108,10 @@ impl<S: BitStore> Tried<S> {
                 None => false,
             },
             Step::CutsNone(link) => self.table.cut(*link).is_none(),
-            Step::NextCut(from, want) => self.table.next_cut(*from) == *want,
+            Step::NextCut(from, want) => {
+                self.table.next_cut(*from) == *want
+                    && self.table.may_cut(*from) == (*want == Some(*from))
+            }
             Step::Answered(link, want) => self.table.answered(*link) == *want,
             Step::Purges => {
                 self.table.purge();

@@ -2,17 +2,16 @@
 ghost use Rattle.std.specs.Prelude.{◌≡◌, length};
 ghost use Rattle.std.specs.Option.{option_copied};
 ghost use Rattle.ncp_headline.specs.Headline.{sum_on};
-ghost use Rattle.ncp_world.specs.Underway.{text_of, how_many, bits_out};
-ghost use Rattle.ncp_world.specs.Ledgers.{amount};
+ghost use Rattle.ncp_two.specs.Underway.{text_of, how_many, bits_out};
+ghost use Rattle.ncp_two.specs.Ledgers.{amount};
 ghost use Rattle.ncp_world.specs.Reckoning.{counted, kept_from, commands_from, if_open, open_at, ledger_with, ledger_read};
 
 use super::{Hosts, other};
 use crate::carrying::{Quantity, carried_by_message, carried_by_waiting};
-use crate::ledger::{Amount, Ledger};
-use crate::side::Side;
 use ncp_bits::{BitStore, Bits};
 use ncp_host::{CallFault, Pair, Record};
 use ncp_leader::read_regular;
+use ncp_two::{Amount, Ledger, Side};
 
 /// The link of control messages.
 const CONTROL_LINK: u8 = 0;

@@ -7,15 +7,15 @@ use Rattle.ncp_files.specs.Windows.{effort}
 use Rattle.ncp_files.specs.Tallies.{no_messages, TalliesFrom}
 use Rattle.ncp_files.proofs.checking.tally_records.Given as goal
 
-abbrev pub invariant-loop-tally : goal.invariant-loop-tally
-invariant-loop-tally g l =
+abbrev pub invariant-loop-passage : goal.invariant-loop-passage
+invariant-loop-passage g l =
     let s = g.S.Source in
     record {
       told : (bytes : List ℕ) → Ahead l.initial.window (s.left l.initial.source) bytes
-          → (now : List ℕ) × Ahead l.window (s.left l.source) now × ((r : Result Tally FileFault) (left : Option (List ℕ)) → TalliesFrom now l.tally r left → TalliesFrom bytes no_messages r left);
+          → (now : List ℕ) × Ahead l.window (s.left l.source) now × ((r : Result Tally FileFault) (left : Option (List ℕ)) → TalliesFrom l.version now l.tally r left → TalliesFrom l.version bytes no_messages r left);
       reads : reads_beyond s.gives_all (s.reads l.initial.source) (s.left l.initial.source) ≤ reads_beyond s.gives_all (s.reads l.source) (s.left l.source);
       mark : s.has_failed l.source ≡ s.has_failed l.initial.source;
     }
 
-abbrev pub decreases-loop-tally : goal.decreases-loop-tally
-decreases-loop-tally g l = effort (g.S.Source.reads l.source) l.window
+abbrev pub decreases-loop-passage : goal.decreases-loop-passage
+decreases-loop-passage g l = effort (g.S.Source.reads l.source) l.window

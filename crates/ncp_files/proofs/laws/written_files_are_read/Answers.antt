@@ -1,11 +1,11 @@
-use Rattle.ncp_files.proofs.Contents.{next_record-written, direction_of-written, file_holds_written, file_holds_only}
+use Rattle.ncp_files.proofs.Again.{written_again, version_of-written, file_holds_written, file_holds_only}
 use Rattle.ncp_files.proofs.laws.written_files_are_read.Goals as goal
 
 pub returns-clause-record : goal.returns-clause-record
-returns-clause-record c = next_record-written
+returns-clause-record c = written_again
 
-pub returns-clause-direction : goal.returns-clause-direction
-returns-clause-direction c = direction_of-written
+pub returns-clause-version : goal.returns-clause-version
+returns-clause-version c = version_of-written
 
 pub returns-clause-file : goal.returns-clause-file
 returns-clause-file c = file_holds_written

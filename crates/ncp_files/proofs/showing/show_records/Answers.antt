@@ -1,8 +1,10 @@
 use Rattle.std.proofs.Common.{◌∙◌, ◌++◌, ℕ, Ok, Err, subst, arith}
 use Rattle.std.proofs.Math.Bool.{or-false}
 use Rattle.std.proofs.lemmas.Result.{err_from_is_err_and}
+use Rattle.ncp_files.specs.Versions.{next_in}
 use Rattle.ncp_files.specs.Lines.{record_lines}
-use Rattle.ncp_files.specs.Steps.{ShowsFrom}
+use Rattle.ncp_files.specs.Steps.{SaysFrom}
+use Rattle.ncp_files.proofs.Placing.{in_front}
 use Rattle.ncp_files.proofs.Progress.{from_end, from_err, from_more}
 use Rattle.ncp_files.proofs.showing.show_records.Goals as goal
 
@@ -14,7 +16,7 @@ returns-in_err-show_next-clause-told g c = λ bytes was said a k.
     let one = c.in_err-show_next.ensures.told before.0 was before.1 before.2 before.3 in
     rw (p.1, p.2) (
     before.4 (Err c.in_err-show_next.field-0.0) left c.show_next.new.page written
-    (from_err c.args.direction c.loop-number.number before.0 was before.1 c.show_next.new.window c.show_next.new.page left written c.in_err-show_next.field-0.0 one))
+    (from_err (next_in c.args.version) (in_front c.args.version) record_lines c.loop-number.number before.0 was before.1 c.show_next.new.window c.show_next.new.page left written c.in_err-show_next.field-0.0 one))
 
 pub loop-number-preserved : goal.loop-number-preserved
 loop-number-preserved g c =
@@ -22,15 +24,15 @@ loop-number-preserved g c =
       told = λ bytes was said a k.
           let before = c.loop-number.invariant.told bytes was said a k in
           let one = rw c.if-branch.true at (c.in_ok-show_next.ensures.told before.0 was before.1 before.2 before.3) in
-          let more = before.1 ++ record_lines c.args.direction c.loop-number.number one.0 in (
+          let more = before.1 ++ record_lines c.loop-number.number one.0 in (
             one.1,
             more,
             one.3,
             one.4,
             λ r left page written h.
                 before.4 r left page written (
-                from_more c.args.direction c.loop-number.number before.0 one.1 was before.1 page left written one.0 r one.2
-                (subst (λ (n : ℕ). ShowsFrom c.args.direction n one.1 was more r left page written) c.saturating_add-number.ensures h)),
+                from_more (next_in c.args.version) (in_front c.args.version) record_lines c.loop-number.number before.0 one.1 was before.1 page left written one.0 r one.2
+                (subst (λ (n : ℕ). SaysFrom (next_in c.args.version) record_lines n one.1 was more r left page written) c.saturating_add-number.ensures h)),
           );
       reads = let taken = c.in_ok-show_next.ensures.taken c.if-branch.true in omega (arith, taken, c.loop-number.invariant.reads);
       source_mark = c.in_ok-show_next.ensures.source_mark ∙ or-false _ ∙ c.loop-number.invariant.source_mark;
@@ -44,4 +46,4 @@ returns-clause-told g c = λ bytes was said a k.
     let before = c.loop-number.invariant.told bytes was said a k in
     let one = rw c.if-branch.false at (c.in_ok-show_next.ensures.told before.0 was before.1 before.2 before.3) in
     before.4 (Ok tt) left c.show_next.new.page written
-    (from_end c.args.direction c.loop-number.number before.0 was before.1 c.show_next.new.window c.show_next.new.page left written one)
+    (from_end (next_in c.args.version) (in_front c.args.version) record_lines c.loop-number.number before.0 was before.1 c.show_next.new.window c.show_next.new.page left written one)

@@ -14,33 +14,33 @@ returns-in_err-alone-clause-told g c = λ bytes was e said.
     rw (p.1, p.2) (
     begin_says bytes was c.in_err-alone.field-0.0 c.begin.new.lines (g.R.Source.left c.begin.new.source) c.args.page.now (g.W.Sink.written c.args.sink.now) (c.in_err-alone.ensures.told bytes ahead) said)
 
-pub returns-in_err-play_behind-clause-told : goal.returns-in_err-play_behind-clause-told
-returns-in_err-play_behind-clause-told g c = λ bytes was e said.
-    let result = c.from_residual-in_err-play_behind.result in
-    let p = err_from_is_err_and result c.from_residual-in_err-play_behind.ensures.1 in
+pub returns-in_err-played-clause-told : goal.returns-in_err-played-clause-told
+returns-in_err-played-clause-told g c = λ bytes was e said.
+    let result = c.from_residual-in_err-played.result in
+    let p = err_from_is_err_and result c.from_residual-in_err-played.ensures.1 in
     let ahead : Ahead c.new-lines.result.window (g.R.Source.left c.args.source.now) bytes = (bytes, e, ap (λ lines. lines.window ++ bytes) c.new-lines.ensures) in
     let begun = c.in_ok-alone.ensures.told bytes ahead in
-    let now = c.play_behind.new.alone in let left = g.R.Source.left c.play_behind.new.source in
-    let does = c.in_err-play_behind.ensures.events begun.1 begun.4 begun.5 in
-    let tells = c.in_err-play_behind.ensures.told was (ap (λ (a : Alone). a.notes) begun.3) said in (
+    let now = c.play_behind-played.new.alone in let left = g.R.Source.left c.play_behind-played.new.source in
+    let does = c.in_err-played.ensures.events begun.1 begun.4 begun.5 in
+    let tells = c.in_err-played.ensures.told was (ap (λ (a : Alone). a.notes) begun.3) said in (
       now.notes,
       tells.0,
-      rw (p.1, p.2) (behind_does bytes c.in_ok-alone.alone c.in_ok-alone.ended c.begin.new.lines (g.R.Source.left c.begin.new.source) begun c.in_err-play_behind.field-0.0 now left c.in_err-play_behind.ensures.whole does),
-      tells_end (Unit {0}) Bool was first_heading now.notes result p.0 tells.0 c.play_behind.new.page (g.W.Sink.written c.play_behind.new.sink) p.1 (rw p.2 tells.1),
+      rw (p.1, p.2) (behind_does bytes c.in_ok-alone.alone c.in_ok-alone.ended c.begin.new.lines (g.R.Source.left c.begin.new.source) begun c.in_err-played.field-0.0 now left c.in_err-played.ensures.whole c.transcript.ensures.run does),
+      tells_end (Unit {0}) Bool was first_heading now.notes result p.0 tells.0 c.play_behind-played.new.page (g.W.Sink.written c.play_behind-played.new.sink) p.1 (rw p.2 tells.1),
     )
 
 pub returns-clause-told : goal.returns-clause-told
 returns-clause-told g c = λ bytes was e said.
     let ahead : Ahead c.new-lines.result.window (g.R.Source.left c.args.source.now) bytes = (bytes, e, ap (λ lines. lines.window ++ bytes) c.new-lines.ensures) in
     let begun = c.in_ok-alone.ensures.told bytes ahead in
-    let now = c.play_behind.new.alone in let left = g.R.Source.left c.play_behind.new.source in
-    let does = c.in_ok-play_behind.ensures.events begun.1 begun.4 begun.5 in
-    let tells = c.in_ok-play_behind.ensures.told was (ap (λ (a : Alone). a.notes) begun.3) said in (
+    let now = c.play_behind-played.new.alone in let left = g.R.Source.left c.play_behind-played.new.source in
+    let does = c.in_ok-played.ensures.events begun.1 begun.4 begun.5 in
+    let tells = c.in_ok-played.ensures.told was (ap (λ (a : Alone). a.notes) begun.3) said in (
       now.notes,
       tells.0,
       (
-        behind_done bytes c.in_ok-alone.alone c.in_ok-alone.ended c.begin.new.lines (g.R.Source.left c.begin.new.source) begun now left does,
-        ap (λ b. not b) (c.has_refusal.ensures ∙ ap has_refusal c.transcript.ensures.notes),
+        behind_done bytes c.in_ok-alone.alone c.in_ok-alone.ended c.begin.new.lines (g.R.Source.left c.begin.new.source) begun now left c.transcript.ensures.run does,
+        ap (λ b. not b) (c.has_refusal-good.ensures ∙ ap has_refusal c.transcript.ensures.notes),
       ),
       tells.1,
     )

@@ -4,10 +4,11 @@ use Rattle.ncp_host.specs.Host.{Host, numbers_of}
 use Rattle.ncp_runs.proofs.Begun.{is_run, is_kept}
 use Rattle.ncp_runs.proofs.InOrder.{commands-noted, flags-noted, up-noted}
 use Rattle.ncp_runs.proofs.InRuns.{slot_as_noted}
+use Rattle.ncp_runs.proofs.Recorded.{record-there}
 use Rattle.ncp_transcript.specs.declared.note.HostNote.{HostNote}
-use Rattle.ncp_world.specs.Between.{other, number_of, host_of}
-use Rattle.ncp_world.specs.Sides.{notes_at}
-use Rattle.ncp_world.specs.Seen.{had_for}
+use Rattle.ncp_two.specs.Between.{other, number_of, host_of}
+use Rattle.ncp_two.specs.Sides.{notes_at}
+use Rattle.ncp_two.specs.Seen.{had_for}
 use Rattle.ncp_promises.proofs.Standing.{kept-for}
 use Rattle.ncp_promises.proofs.headline.each_host_is_what_its_notes_say.Goals as goal
 
@@ -74,3 +75,12 @@ returns-clause-slots c ns w side on is =
     let s : PeerState = had_for n h in
     let t = c.each_host_is_by_itself.ensures ns w side is in
     slot_as_noted h.me (numbers_of h.peers) all n on s (is_run all h t) (is_kept all h n (Some s) t (kept-for ns w side is))
+
+pub returns-clause-records : goal.returns-clause-records
+returns-clause-records c ns w side pair is =
+    let all : List HostNote = notes_at side ns in
+    let h : Host = host_of side w in
+    let n : ℕ = number_of (other side) w in
+    let s : PeerState = had_for n h in
+    let t = c.each_host_is_by_itself.ensures ns w side is in
+    record-there h.me (numbers_of h.peers) all n s pair (is_run all h t) (is_kept all h n (Some s) t (kept-for ns w side is))

@@ -1,5 +1,5 @@
-use Rattle.ncp_world.specs.Seen.{seen}
-use Rattle.ncp_world.proofs.Headlines.{watched-all}
+use Rattle.ncp_two.specs.Seen.{seen}
+use Rattle.ncp_two.proofs.Headlines.{watched-all}
 use Rattle.ncp_promises.specs.Resetting.{OnlyResetsAct}
 use Rattle.ncp_promises.proofs.Each.{of-each-note}
 use Rattle.ncp_promises.proofs.Waiting.{still-here, still-there, only-resets-act}

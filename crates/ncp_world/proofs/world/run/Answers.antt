@@ -1,4 +1,4 @@
-use Rattle.ncp_world.proofs.Growing.{next_event, all_noted}
+use Rattle.ncp_two.proofs.Growing.{next_event, all_noted}
 use Rattle.ncp_world.proofs.world.run.Goals as goal
 
 pub loop-event-init : goal.loop-event-init

@@ -1,41 +1,36 @@
-use Rattle.std.proofs.Common.{Bool, not, Some, Ok, Err, sym, ap, ◌∙◌, subst}
-use Rattle.std.proofs.lemmas.List.{append-nil}
-use Rattle.std.proofs.lemmas.Result.{err_from_is_err_and}
-use Rattle.ncp_world.specs.Transcript.{Noted_world, new_world}
+use Rattle.std.proofs.Common.{[], subst, refl, Err, arith}
+use Rattle.ncp_two.proofs.Growing.{transcript_new}
+use Rattle.ncp_two.specs.Between.{new_hosts}
+use Rattle.ncp_two.specs.Transcript.{Noted_world, new_world}
+use Rattle.ncp_play.specs.declared.fault.PlayFault.TheVariants.{OutOfMemory}
 use Rattle.ncp_world_player.specs.NextEvents.{course_of}
-use Rattle.ncp_world_player.specs.Players.{any_refusal, PlaysLines}
-use Rattle.ncp_world_player.proofs.PlayedLines.{none_first, plays_finished, writes_err}
+use Rattle.ncp_world_player.specs.Players.{PlaysLines}
+use Rattle.ncp_world_player.proofs.PlayedLines.{none_first, plays_finished, plays_transcript, good_finished}
 use Rattle.ncp_world_player.proofs.PlayedScripts.{begins}
 use Rattle.ncp_world_player.proofs.player.play_behind.Goals as goal
 
 pub returns-in_default-clause-told : goal.returns-in_default-clause-told
 returns-in_default-clause-told g c = λ bytes was ahead w none.
-    let new = new_world c.args.hosts.a c.args.hosts.b in
-    (new, none_first (course_of c.args.hosts c.args.lines.now.number bytes) new, w ∙ ap Some (sym (append-nil was)))
-
-pub returns-in_err-finish-clause-told : goal.returns-in_err-finish-clause-told
-returns-in_err-finish-clause-told g c = λ bytes was ahead w none.
-    let hosts = c.args.hosts in let number = c.args.lines.now.number in
-    let left = g.R.Source.left c.play_rest-played.new.source in let written = g.W.Sink.written c.finish.new.sink in
-    let now = c.play_rest-played.new.player in let fault = c.in_err-finish.field-0.0 in
-    let p = err_from_is_err_and c.from_residual.result c.from_residual.ensures.1 in
-    let told = c.play_rest-played.ensures.told was (begins hosts.a hosts.b was c.new-2.result c.in-Ok.world (g.W.Sink.written c.args.sink.now) c.in-Ok.ensures c.new-2.ensures w) in
-    let events = subst (λ (world : Noted_world). PlaysLines hosts number bytes world c.play_rest-played.result now.world left) c.in-Ok.ensures (c.play_rest-played.ensures.events bytes ahead none) in
-    rw (p.1, p.2) (
-      now.world,
-      plays_finished hosts number bytes (new_world hosts.a hosts.b) now.world left c.play_rest-played.result (Err fault) events c.in_err-finish.ensures.same,
-      writes_err (Unit {0}) Bool was now.world.notes written fault (c.in_err-finish.ensures.told was now.world.notes now.number told),
+    let tale = g.T.Teller.tale c.args.first in let hosts = c.args.first.hosts in let number = c.args.lines.now.number in
+    let new = new_world hosts.a hosts.b in let began = new_hosts hosts.a hosts.b in let left = g.R.Source.left c.args.source.now in
+    let so_far = begins tale hosts.a hosts.b was c.begin.new.page new (g.W.Sink.written c.args.sink.now) refl c.begin.ensures w in (
+      new,
+      plays_finished hosts number bytes new new left (Err OutOfMemory) c.finish.result (none_first (course_of hosts number bytes) new) c.finish.ensures.same,
+      transcript_new hosts.a hosts.b began c.requires.distinct (omega arith) (omega arith) refl,
+      c.finish.ensures.told tale began was new 1 so_far,
+      good_finished [] (Err OutOfMemory) c.finish.result tt c.finish.ensures.same,
     )
 
 pub returns-clause-told : goal.returns-clause-told
 returns-clause-told g c = λ bytes was ahead w none.
-    let hosts = c.args.hosts in let number = c.args.lines.now.number in
-    let left = g.R.Source.left c.play_rest-played.new.source in
-    let now = c.play_rest-played.new.player in
-    let told = c.play_rest-played.ensures.told was (begins hosts.a hosts.b was c.new-2.result c.in-Ok.world (g.W.Sink.written c.args.sink.now) c.in-Ok.ensures c.new-2.ensures w) in
-    let events = subst (λ (world : Noted_world). PlaysLines hosts number bytes world c.play_rest-played.result now.world left) c.in-Ok.ensures (c.play_rest-played.ensures.events bytes ahead none) in (
+    let tale = g.T.Teller.tale c.args.first in let hosts = c.args.first.hosts in let number = c.args.lines.now.number in
+    let new = new_world hosts.a hosts.b in let began = new_hosts hosts.a hosts.b in let left = g.R.Source.left c.play_all-played.new.source in
+    let now = c.play_all-played.new.player in let played = c.play_all-played.result in
+    let so_far = c.play_all-played.ensures.told began was (begins tale hosts.a hosts.b was c.begin.new.page c.in-Ok.world (g.W.Sink.written c.args.sink.now) c.in-Ok.ensures c.begin.ensures w) in
+    let events = subst (λ (world : Noted_world). PlaysLines hosts number bytes world played now.world left) c.in-Ok.ensures (c.play_all-played.ensures.events bytes ahead none) in (
       now.world,
-      plays_finished hosts number bytes (new_world hosts.a hosts.b) now.world left c.play_rest-played.result (Ok tt) events c.in_ok-finish.ensures.same,
-      c.in_ok-finish.ensures.told was now.world.notes now.number told,
-      ap not (c.any_refusal.ensures ∙ ap any_refusal c.transcript.ensures.notes),
+      plays_finished hosts number bytes new now.world left played c.finish-2.result events c.finish-2.ensures.same,
+      plays_transcript hosts number bytes now.world left played c.requires.distinct (omega arith) (omega arith) events,
+      c.finish-2.ensures.told tale began was now.world now.number so_far,
+      good_finished now.world.notes played c.finish-2.result c.play_all-played.ensures.good c.finish-2.ensures.same,
     )

@@ -11,11 +11,11 @@ returns-in_err-play_next-clause-events g c = λ bytes ahead.
     rw (p.1, p.2) (before.2 (Err c.in_err-play_next.field-0.0) c.play_next.new.player.world (g.R.Source.left c.play_next.new.source) (c.in_err-play_next.ensures.events before.0 before.1))
 
 pub returns-in_err-play_next-clause-told : goal.returns-in_err-play_next-clause-told
-returns-in_err-play_next-clause-told g c = λ was told.
+returns-in_err-play_next-clause-told g c = λ began was told.
     let p = err_from_is_err_and c.from_residual.result c.from_residual.ensures.1 in
     rw (p.1, p.2) (
-    tells_err Bool (Unit {0}) was c.play_next.new.player.world.notes c.play_next.new.player.number c.play_next.new.player.page (g.W.Sink.written c.play_next.new.sink) c.in_err-play_next.field-0.0
-    (c.in_err-play_next.ensures.told was (c.loop.invariant.told was told)))
+    tells_err (g.T.Teller.tale c.args.first) began was c.play_next.new.player.world Bool (Unit {0}) c.play_next.new.player.number c.play_next.new.player.page (g.W.Sink.written c.play_next.new.sink) c.in_err-play_next.field-0.0
+    (c.in_err-play_next.ensures.told began was (c.loop.invariant.told began was told)))
 
 pub loop-preserved : goal.loop-preserved
 loop-preserved g c =
@@ -24,7 +24,7 @@ loop-preserved g c =
           let before = c.loop.invariant.events bytes ahead in
           let one = rw c.if-branch.true at (c.in_ok-play_next.ensures.events before.0 before.1) in
           (one.0, one.1, λ r last left h. before.2 r last left (one.2 r last left h));
-      told = λ was told. c.in_ok-play_next.ensures.told was (c.loop.invariant.told was told);
+      told = λ began was told. c.in_ok-play_next.ensures.told began was (c.loop.invariant.told began was told);
       source_mark = c.in_ok-play_next.ensures.source_mark ∙ or-false _ ∙ c.loop.invariant.source_mark;
       sink_mark = c.in_ok-play_next.ensures.sink_mark ∙ or-false _ ∙ c.loop.invariant.sink_mark;
     }
@@ -35,4 +35,4 @@ returns-clause-events g c = λ bytes ahead.
     before.2 (Ok tt) c.play_next.new.player.world (g.R.Source.left c.play_next.new.source) (rw c.if-branch.false at (c.in_ok-play_next.ensures.events before.0 before.1))
 
 pub returns-clause-told : goal.returns-clause-told
-returns-clause-told g c = λ was told. c.in_ok-play_next.ensures.told was (c.loop.invariant.told was told)
+returns-clause-told g c = λ began was told. c.in_ok-play_next.ensures.told began was (c.loop.invariant.told began was told)

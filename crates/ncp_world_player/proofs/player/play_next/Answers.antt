@@ -5,20 +5,20 @@ use Rattle.ncp_world_player.proofs.player.play_next.Goals as goal
 pub returns-in_err-event-clause-events : goal.returns-in_err-event-clause-events
 returns-in_err-event-clause-events g c = λ bytes ahead.
     let p = err_from_is_err_and c.from_residual.result c.from_residual.ensures.1 in
-    rw (p.1, p.2) (asks_err c.args.hosts c.args.lines.now.number bytes c.args.player.now.world c.next_event.new.lines (g.R.Source.left c.next_event.new.source) c.in_err-event.field-0.0 (c.in_err-event.ensures.told bytes ahead))
+    rw (p.1, p.2) (asks_err c.args.first.hosts c.args.lines.now.number bytes c.args.player.now.world c.next_event.new.lines (g.R.Source.left c.next_event.new.source) c.in_err-event.field-0.0 (c.in_err-event.ensures.told bytes ahead))
 
 pub returns-in_default-clause-events : goal.returns-in_default-clause-events
 returns-in_default-clause-events g c = λ bytes ahead.
-    asks_none c.args.hosts c.args.lines.now.number bytes c.args.player.now.world c.next_event.new.lines (g.R.Source.left c.next_event.new.source) (rw c.in_default.is at (c.in_ok-event.ensures.told bytes ahead))
+    asks_none c.args.first.hosts c.args.lines.now.number bytes c.args.player.now.world c.next_event.new.lines (g.R.Source.left c.next_event.new.source) (rw c.in_default.is at (c.in_ok-event.ensures.told bytes ahead))
 
 pub returns-in_err-play_event-clause-events : goal.returns-in_err-play_event-clause-events
 returns-in_err-play_event-clause-events g c = λ bytes ahead.
     let p = err_from_is_err_and c.from_residual-in_err-play_event.result c.from_residual-in_err-play_event.ensures.1 in
     rw (p.1, p.2) (
-    event_err c.args.hosts c.args.lines.now.number bytes c.args.player.now.world c.in-Some.event c.in-Some.ended c.next_event.new.lines (g.R.Source.left c.next_event.new.source) c.play_event.new.world c.in_err-play_event.field-0.0
+    event_err c.args.first.hosts c.args.lines.now.number bytes c.args.player.now.world c.in-Some.event c.in-Some.ended c.next_event.new.lines (g.R.Source.left c.next_event.new.source) c.play_event.new.world c.in_err-play_event.field-0.0
     (rw c.in-Some.is at (c.in_ok-event.ensures.told bytes ahead)) c.in_err-play_event.ensures.event)
 
 pub returns-clause-events : goal.returns-clause-events
 returns-clause-events g c = λ bytes ahead.
-    event_ok c.args.hosts c.args.lines.now.number bytes c.args.player.now.world c.in-Some.event c.in-Some.ended c.next_event.new.lines (g.R.Source.left c.next_event.new.source) c.play_event.new.world
+    event_ok c.args.first.hosts c.args.lines.now.number bytes c.args.player.now.world c.in-Some.event c.in-Some.ended c.next_event.new.lines (g.R.Source.left c.next_event.new.source) c.play_event.new.world
     (rw c.in-Some.is at (c.in_ok-event.ensures.told bytes ahead)) c.in_ok-play_event.ensures.event

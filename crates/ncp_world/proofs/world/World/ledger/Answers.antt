@@ -1,6 +1,6 @@
 use Rattle.std.proofs.Common.{sym, ap, ◌∙◌}
-use Rattle.ncp_world.specs.Transcript.{Noted_world}
-use Rattle.ncp_world.specs.Ledgers.{ledger_of}
+use Rattle.ncp_two.specs.Transcript.{Noted_world}
+use Rattle.ncp_two.specs.Ledgers.{ledger_of}
 use Rattle.ncp_world.proofs.Ledgers.{ledger-is, ledger-balanced, if-balanced}
 use Rattle.ncp_world.proofs.world.World.ledger.Goals as goal
 

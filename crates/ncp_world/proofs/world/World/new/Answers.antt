@@ -1,5 +1,5 @@
 use Rattle.std.proofs.Common.{◌<◌, ◌^◌, arith}
-use Rattle.ncp_world.proofs.Growing.{transcript_new}
+use Rattle.ncp_two.proofs.Growing.{transcript_new}
 use Rattle.ncp_world.proofs.world.World.new.Goals as goal
 
 pub invariant_of-result : goal.invariant_of-result

@@ -1,0 +1,26 @@
+use Rattle.std.proofs.Common.{◌∙◌, sym, ap}
+use Rattle.std.proofs.lemmas.Result.{err_from_is_err_and}
+use Rattle.ncp_files.specs.Converted.{message_at}
+use Rattle.ncp_files.proofs.Turned.{at_stops, at_accepted, at_refused}
+use Rattle.ncp_files.proofs.converting.take_next.Goals as goal
+
+pub returns-in_err-passage-clause-told : goal.returns-in_err-passage-clause-told
+returns-in_err-passage-clause-told g c = λ bytes a.
+    let p = err_from_is_err_and c.from_residual.result c.from_residual.ensures.1 in
+    rw (p.1, p.2) (at_stops c.args.turn.from c.args.turn.wanted bytes (g.S.Source.left c.read_next.new.source) c.in_err-passage.field-0.0 (c.in_err-passage.ensures.told bytes a))
+
+pub returns-in_default-clause-told : goal.returns-in_default-clause-told
+returns-in_default-clause-told g c = λ bytes a. ap (message_at c.args.turn.wanted) (rw c.in_default.is at (c.in_ok-passage.ensures.told bytes a))
+
+pub returns-then-not-is_same-clause-told : goal.returns-then-not-is_same-clause-told
+returns-then-not-is_same-clause-told g c = λ bytes a.
+    let read = rw c.in-Some.is at (c.in_ok-passage.ensures.told bytes a) in
+    ap (message_at c.args.turn.wanted) read.1 ∙ at_refused c.args.turn.wanted (record { passage = c.in-Some.passage; message = c.read_next.new.message }) read.0 (sym c.is_same.ensures ∙ c.if-not-is_same.true)
+
+pub returns-clause-told : goal.returns-clause-told
+returns-clause-told g c = λ bytes a.
+    let read = rw c.in-Some.is at (c.in_ok-passage.ensures.told bytes a) in (
+      read.0,
+      ap (message_at c.args.turn.wanted) read.1 ∙ at_accepted c.args.turn.wanted (record { passage = c.in-Some.passage; message = c.read_next.new.message }) read.0 (sym c.is_same.ensures ∙ c.if-not-is_same.false),
+      read.2,
+    )

@@ -1,0 +1,180 @@
+//! The two versions of a message file: their headers, and the records of both.
+ghost use Rattle.std.specs.Prelude.{◌≡◌, ℕ, ◌+◌, ◌<◌, ◌≤◌, ◌||◌, List, true, false, length, is_some, IfOk, OnOk};
+ghost use Rattle.ncp_files.specs.File.{version_of};
+ghost use Rattle.ncp_files.specs.Versions.{direction_by, next_passage, next_in};
+ghost use Rattle.ncp_files.specs.Results.{is_read_failed, is_write_failed};
+ghost use Rattle.ncp_files.specs.Steps.{ReadsVersion, ReadsOne, ReadsNext};
+ghost use Rattle.ncp_files.specs.Windows.{effort};
+ghost use Rattle.ncp_stream.specs.Pieces.{reads_beyond};
+ghost use Rattle.ncp_stream.specs.Streams.{Ahead};
+
+use crate::file::{Direction, FileFault, read_record};
+use crate::window::Window;
+use ncp_bits::Bits;
+use ncp_stream::Source;
+
+/// The version of a message file.
+#[derive(Clone, Copy, Debug, Drop, PartialEq, Eq)]
+pub enum Version {
+    /// Version 1: all messages go the same way.
+    One(Direction),
+    /// Version 2: each record begins with the passage of its message.
+    Two,
+}
+
+/// The passage of a message between a host and its IMP.
+#[derive(Clone, Copy, Debug, Drop, PartialEq, Eq)]
+pub struct Passage {
+    /// Which way it went.
+    pub direction: Direction,
+    /// The number of the host, where the file names it.
+    pub at: Option<u8>,
+}
+
+/// How many bytes a header has.
+pub const HEADER: usize = 4;
+
+// How many bytes a passage has.
+const PASSAGE: usize = 2;
+
+// The version that a header names.
+fn version_in(head: &[u8]) -> Option<Version>
+    requires { length head.now ≡ HEADER }
+    ensures { result ≡ version_of head.now }
+{
+    if head == b"NCPH".as_slice() {
+        Some(Version::One(Direction::ToImp))
+    } else if head == b"NCPI".as_slice() {
+        Some(Version::One(Direction::FromImp))
+    } else if head == b"NCPJ".as_slice() {
+        Some(Version::Two)
+    } else {
+        None
+    }
+}
+
+/// Reads the header of a file of either version.
+pub fn read_version<S: Source>(window: &mut Window, source: &mut S) -> Result<Version, FileFault>
+    ensures told { (bytes : List ℕ) → Ahead window.old (S.left source.old) bytes → ReadsVersion bytes result window.new (S.left source.new) }
+    ensures mark { S.has_failed source.new ≡ (S.has_failed source.old || is_read_failed result) }
+    ensures other { is_write_failed result ≡ false }
+    ensures reads { reads_beyond S.gives_all (S.reads source.old) (S.left source.old) ≤ reads_beyond S.gives_all (S.reads source.new) (S.left source.new) + 1 }
+    ensures taken { OnOk result (reads_beyond S.gives_all (S.reads source.old) (S.left source.old) ≤ reads_beyond S.gives_all (S.reads source.new) (S.left source.new)) }
+{
+    if !window.need(source, HEADER)? {
+        return Err(FileFault::BadHeader);
+    }
+    let Some(version) = version_in(&window.unread()[..HEADER]) else {
+        return Err(FileFault::BadHeader);
+    };
+    window.skip(HEADER);
+    Ok(version)
+}
+
+/// The direction that a byte names.
+pub(crate) fn direction_by(byte: u8) -> Option<Direction>
+    ensures { result ≡ direction_by byte }
+{
+    match byte {
+        b'H' => Some(Direction::ToImp),
+        b'I' => Some(Direction::FromImp),
+        _ => None,
+    }
+}
+
+// Reads the passage in front of a message, if one begins there. The direction is judged before the
+// host is read.
+fn read_passage<S: Source>(
+    window: &mut Window,
+    source: &mut S,
+) -> Result<Option<Passage>, FileFault>
+    ensures told { (bytes : List ℕ) → Ahead window.old (S.left source.old) bytes → ReadsOne next_passage bytes result window.new (S.left source.new) }
+    ensures mark { S.has_failed source.new ≡ (S.has_failed source.old || is_read_failed result) }
+    ensures other { is_write_failed result ≡ false }
+    ensures reads { reads_beyond S.gives_all (S.reads source.old) (S.left source.old) ≤ reads_beyond S.gives_all (S.reads source.new) (S.left source.new) + 1 }
+    ensures taken { IfOk result (λ found. is_some found ≡ true → reads_beyond S.gives_all (S.reads source.old) (S.left source.old) ≤ reads_beyond S.gives_all (S.reads source.new) (S.left source.new)) }
+    ensures effort { effort (S.reads source.new) window.new ≤ effort (S.reads source.old) window.old }
+{
+    if !window.need(source, 1)? {
+        return Ok(None);
+    }
+    let Some(direction) = direction_by(window.unread()[0]) else {
+        return Err(FileFault::BadDirection);
+    };
+    if !window.need(source, PASSAGE)? {
+        return Err(FileFault::Truncated);
+    }
+    let host = window.unread()[1];
+    window.skip(PASSAGE);
+    Ok(Some(Passage {
+        direction,
+        at: Some(host),
+    }))
+}
+
+// Reads the next record of version 2 into `message`, and answers its passage.
+fn read_placed<S: Source>(
+    window: &mut Window,
+    source: &mut S,
+    message: &mut Bits,
+) -> Result<Option<Passage>, FileFault>
+    ensures told { (bytes : List ℕ) → Ahead window.old (S.left source.old) bytes → ReadsNext Version.Two bytes result message.new window.new (S.left source.new) }
+    ensures mark { S.has_failed source.new ≡ (S.has_failed source.old || is_read_failed result) }
+    ensures other { is_write_failed result ≡ false }
+    ensures reads { reads_beyond S.gives_all (S.reads source.old) (S.left source.old) ≤ reads_beyond S.gives_all (S.reads source.new) (S.left source.new) + 1 }
+    ensures taken { IfOk result (λ found. is_some found ≡ true → reads_beyond S.gives_all (S.reads source.old) (S.left source.old) ≤ reads_beyond S.gives_all (S.reads source.new) (S.left source.new)) }
+    ensures effort { IfOk result (λ found. is_some found ≡ true → effort (S.reads source.new) window.new < effort (S.reads source.old) window.old) }
+{
+    let Some(passage) = read_passage(window, source)? else {
+        return Ok(None);
+    };
+    if !read_record(window, source, message)? {
+        return Err(FileFault::Truncated);
+    }
+    Ok(Some(passage))
+}
+
+// Reads the next record of version 1 into `message`, and answers its passage.
+fn read_plain<S: Source>(
+    window: &mut Window,
+    source: &mut S,
+    direction: Direction,
+    message: &mut Bits,
+) -> Result<Option<Passage>, FileFault>
+    ensures told { (bytes : List ℕ) → Ahead window.old (S.left source.old) bytes → ReadsNext (Version.One direction) bytes result message.new window.new (S.left source.new) }
+    ensures mark { S.has_failed source.new ≡ (S.has_failed source.old || is_read_failed result) }
+    ensures other { is_write_failed result ≡ false }
+    ensures reads { reads_beyond S.gives_all (S.reads source.old) (S.left source.old) ≤ reads_beyond S.gives_all (S.reads source.new) (S.left source.new) + 1 }
+    ensures taken { IfOk result (λ found. is_some found ≡ true → reads_beyond S.gives_all (S.reads source.old) (S.left source.old) ≤ reads_beyond S.gives_all (S.reads source.new) (S.left source.new)) }
+    ensures effort { IfOk result (λ found. is_some found ≡ true → effort (S.reads source.new) window.new < effort (S.reads source.old) window.old) }
+{
+    if !read_record(window, source, message)? {
+        return Ok(None);
+    }
+    Ok(Some(Passage {
+        direction,
+        at: None,
+    }))
+}
+
+/// Reads the next record of a file of this version into `message`, and answers the passage of the
+/// message, if there was one. In version 2 a byte that names no direction is judged before the host
+/// behind it is read, then the message as in version 1.
+pub fn read_next<S: Source>(
+    window: &mut Window,
+    source: &mut S,
+    version: Version,
+    message: &mut Bits,
+) -> Result<Option<Passage>, FileFault>
+    ensures told { (bytes : List ℕ) → Ahead window.old (S.left source.old) bytes → ReadsNext version bytes result message.new window.new (S.left source.new) }
+    ensures mark { S.has_failed source.new ≡ (S.has_failed source.old || is_read_failed result) }
+    ensures other { is_write_failed result ≡ false }
+    ensures reads { reads_beyond S.gives_all (S.reads source.old) (S.left source.old) ≤ reads_beyond S.gives_all (S.reads source.new) (S.left source.new) + 1 }
+    ensures taken { IfOk result (λ found. is_some found ≡ true → reads_beyond S.gives_all (S.reads source.old) (S.left source.old) ≤ reads_beyond S.gives_all (S.reads source.new) (S.left source.new)) }
+    ensures effort { IfOk result (λ found. is_some found ≡ true → effort (S.reads source.new) window.new < effort (S.reads source.old) window.old) }
+{
+    match version {
+        Version::One(direction) => read_plain(window, source, direction, message),
+        Version::Two => read_placed(window, source, message),
+    }
+}

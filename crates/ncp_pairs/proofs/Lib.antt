@@ -1,0 +1,20 @@
+pub mod Numbered
+pub mod Places
+pub mod Others
+pub mod Crowds
+pub mod ByItself
+pub mod ManyRuns
+pub mod InVain
+pub mod OnePair
+pub mod TwoOfMany
+pub mod Untouched
+pub mod Transits
+pub mod Alike
+pub mod NoteKinds
+pub mod Sayings
+pub mod Agreeing
+pub mod Stepping
+pub mod Starting
+pub mod EachPair
+mod Beginning
+pub mod EveryPair

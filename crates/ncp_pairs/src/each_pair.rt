@@ -1,0 +1,51 @@
+//! Each pair of two to eight hosts is a world of two. Each law is the contract of a function that does nothing.
+ghost use Rattle.std.specs.Prelude.{◌≡◌, ◌≢◌, ℕ, true, List};
+ghost use Rattle.ncp_two.specs.Transcript.{IsTranscript};
+ghost use Rattle.ncp_two.specs.Seen.{seen};
+ghost use Rattle.ncp_two.specs.OfRules.{IsOfModelsHosts};
+ghost use Rattle.ncp_promises.specs.Promised.{SubnetHonest, GotBegins, EachByteOnce, WithinAllocation, LedgersBalanced, CameInOrder, CommandsInOrder, EachActedOnce, NoErrMade, NoErrUnderway, OnlyResetsActed, WaitsAlone, OpenedUnderNoText};
+ghost use Rattle.ncp_pairs.specs.declared.many_note.ManyNote.{ManyNote as Noted};
+ghost use Rattle.ncp_pairs.specs.Crowd.{Crowd, is_there, between};
+ghost use Rattle.ncp_pairs.specs.ManyTranscript.{IsManyTranscript};
+ghost use Rattle.ncp_pairs.specs.Pairs.{hosts_between, ForEachPair, ForEachTwo};
+
+use ncp_promises::headline::the_headline;
+use ncp_promises::promises::{
+    no_err_is_ever_underway, none_opens_while_its_link_has_a_text, only_resets_act_until_the_answer,
+};
+use ncp_two::transcripts::transcripts_are_of_the_model;
+
+/// The notes that name both hosts of a pair are a transcript of two hosts with these numbers, whatever happens
+/// at and between the others; and what the two have for each other, and what is in transit between them, is
+/// what these notes leave of two new hosts. So what is proved of every transcript of two holds of each pair.
+pub fn each_pair_is_a_world_of_two()
+    ensures run { (notes : List Noted) (m : Crowd) → IsManyTranscript notes m → ForEachPair IsTranscript notes m }
+    ensures seen { (notes : List Noted) (m : Crowd) (a b : ℕ) → IsManyTranscript notes m → is_there a m ≡ true → is_there b m ≡ true → a ≢ b → seen (hosts_between a b notes) ≡ seen (between a b m) }
+{}
+
+/// Over every list of calls, deliveries, losses, answers and orders of two to eight hosts, each pair of them has
+/// what the headline and its parts say of two, whatever happens at and between the others. The phrases are those
+/// of two hosts, of the notes that name both and of these two as they are among all. `model`: these notes are a
+/// run of the model's two hosts, and what is seen of the two stands for them.
+pub fn the_headline_of_each_pair()
+    ensures subnet { (notes : List Noted) (m : Crowd) → IsManyTranscript notes m → ForEachTwo SubnetHonest notes m }
+    ensures beginning { (notes : List Noted) (m : Crowd) → IsManyTranscript notes m → ForEachTwo GotBegins notes m }
+    ensures once { (notes : List Noted) (m : Crowd) → IsManyTranscript notes m → ForEachTwo EachByteOnce notes m }
+    ensures allocation { (notes : List Noted) (m : Crowd) → IsManyTranscript notes m → ForEachTwo WithinAllocation notes m }
+    ensures ledger { (notes : List Noted) (m : Crowd) → IsManyTranscript notes m → ForEachTwo LedgersBalanced notes m }
+    ensures order { (notes : List Noted) (m : Crowd) → IsManyTranscript notes m → ForEachTwo CameInOrder notes m }
+    ensures commands { (notes : List Noted) (m : Crowd) → IsManyTranscript notes m → ForEachTwo CommandsInOrder notes m }
+    ensures acts { (notes : List Noted) (m : Crowd) → IsManyTranscript notes m → ForEachTwo EachActedOnce notes m }
+    ensures errs { (notes : List Noted) (m : Crowd) → IsManyTranscript notes m → ForEachTwo NoErrMade notes m }
+    ensures no_err { (notes : List Noted) (m : Crowd) → IsManyTranscript notes m → ForEachTwo NoErrUnderway notes m }
+    ensures resets { (notes : List Noted) (m : Crowd) → IsManyTranscript notes m → ForEachTwo OnlyResetsActed notes m }
+    ensures waits { (notes : List Noted) (m : Crowd) → IsManyTranscript notes m → ForEachTwo WaitsAlone notes m }
+    ensures openings { (notes : List Noted) (m : Crowd) → IsManyTranscript notes m → ForEachTwo OpenedUnderNoText notes m }
+    ensures model { (notes : List Noted) (m : Crowd) → IsManyTranscript notes m → ForEachTwo IsOfModelsHosts notes m }
+{
+    the_headline();
+    no_err_is_ever_underway();
+    only_resets_act_until_the_answer();
+    none_opens_while_its_link_has_a_text();
+    transcripts_are_of_the_model();
+}

@@ -1,0 +1,66 @@
+//! `record_world`: a script of two hosts, played line by line, and its messages recorded.
+ghost use Rattle.std.specs.Prelude.{◌≡◌, ◌||◌, ℕ, List, Some, true, false};
+ghost use Rattle.ncp_play.specs.Faults.{is_read_failed, is_write_failed};
+ghost use Rattle.ncp_world_player.specs.Players.{PlaysWorld};
+ghost use Rattle.ncp_recorder.specs.Tales.{recording_of};
+
+use crate::recording::say_world_record;
+use ncp_bits::BitStore;
+use ncp_files::{Page, Version, push_header};
+use ncp_play::PlayFault;
+use ncp_stream::{Failed, Sink, Source};
+use ncp_world::{Note, World};
+use ncp_world_player::{FirstLine, Teller, play_script};
+use std::alloc::Global;
+
+// Tells what is recorded of notes, whatever is watched.
+struct Recorder;
+
+impl Teller for Recorder {
+    ghost use Rattle.ncp_recorder.specs.Tales.{recording_of};
+
+    ghost tale = { recording_of };
+
+    fn begin(_first: FirstLine, page: &mut Page) {
+        push_header(page, Version::Two);
+    }
+
+    fn say<S: BitStore, W: Sink>(
+        first: FirstLine,
+        _world: &World<S>,
+        _number: u32,
+        note: &Note,
+        page: &mut Page,
+        sink: &mut W,
+    ) -> Result<(), Failed> {
+        say_world_record(page, sink, first.hosts, note)
+    }
+}
+
+/// Plays a script of two hosts, as [`ncp_world_player::play_world`] does, and writes in place of lines
+/// a message file of version 2: its header once the hosts are known, then each message that went out,
+/// at its sender; each that came, at its receiver, as it came; and each answer, at the host that it
+/// answers. What is watched has no effect. It answers whether no call was refused.
+///
+/// Nothing is written where the first line names no hosts. After `ReadFailed` the lines that came whole
+/// were played, after `OutOfMemory` the first events; after `WriteFailed` a beginning of the file is
+/// written.
+pub fn record_world<S: BitStore, R: Source, W: Sink>(
+    alloc: Global,
+    source: &mut R,
+    sink: &mut W,
+) -> Result<bool, PlayFault>
+    requires source_clean { R.has_failed source.old ≡ false }
+    requires sink_clean { W.has_failed sink.old ≡ false }
+
+    // Of bytes that are told, the events of the script happened in order, up to its first fault, and the
+    // file of what is recorded of their notes is written, and nothing else.
+    ensures told { (bytes : List ℕ) (was : List ℕ) → R.left source.old ≡ Some bytes → W.written sink.old ≡ Some was → PlaysWorld recording_of bytes was result (R.left source.new) (W.written sink.new) }
+
+    // Reading and writing are blamed only where they failed.
+    ensures read_failed { is_read_failed result ≡ true → R.has_failed source.new ≡ true }
+    ensures write_failed { W.has_failed sink.new ≡ is_write_failed result }
+    ensures blamed { R.has_failed source.new ≡ true → (is_read_failed result || is_write_failed result) ≡ true }
+{
+    play_script::<Recorder, S, R, W>(alloc, source, sink)
+}

@@ -1,0 +1,123 @@
+//! Records scripts. Nothing is promised of it, so that the prover does not follow a page through a long
+//! test.
+use crate::opening::{
+    COMING_UP, COMING_UP_RECORDS, GIVING, GIVING_RECORDS, SENDING, SENDING_RECORDS,
+};
+use ncp_bits::{BitStore, PackedStore, PlainStore};
+use ncp_play::PlayFault;
+use ncp_recorder::record_world;
+use ncp_stream::{MemorySink, MemorySource};
+use std::alloc::Global;
+use std::process::Abort;
+use std::test::Fail;
+
+/// Room for a recording.
+const ROOM: usize = 16384;
+
+/// The header of a recording.
+pub(crate) const HEADER: &[u8] = b"NCPJ";
+
+/// Appends these texts.
+pub(crate) fn append(all: &mut Vec<u8>, texts: &[&[u8]]) -> Result<(), Fail> {
+    for text in texts {
+        all.extend_from_slice(text)?;
+    }
+    Ok(())
+}
+
+// Compares what a script answers, and its recording.
+fn expect_with<S: BitStore>(
+    rt: &impl Abort,
+    alloc: Global,
+    script: &[u8],
+    answer: Result<bool, PlayFault>,
+    recording: &[u8],
+) -> Result<(), Fail> {
+    let mut source = MemorySource::new(script, None);
+    let mut sink = MemorySink::new(alloc, ROOM, None)?;
+    let played = record_world::<S, _, _>(alloc, &mut source, &mut sink);
+    assert!(rt; played == answer);
+    assert!(rt; sink.bytes() == recording);
+    Ok(())
+}
+
+/// Compares what a script answers, and its recording, over either store.
+pub(crate) fn expect(
+    rt: &impl Abort,
+    alloc: Global,
+    script: &[u8],
+    answer: Result<bool, PlayFault>,
+    recording: &[u8],
+) -> Result<(), Fail> {
+    expect_with::<PackedStore>(rt, alloc, script, answer, recording)?;
+    expect_with::<PlainStore>(rt, alloc, script, answer, recording)
+}
+
+/// The same of a script in parts, and of its records.
+pub(crate) fn expect_parts(
+    rt: &impl Abort,
+    alloc: Global,
+    parts: &[&[u8]],
+    good: bool,
+    records: &[&[&[u8]]],
+) -> Result<(), Fail> {
+    let mut script = Vec::new(alloc);
+    append(&mut script, parts)?;
+    let mut recording = Vec::new(alloc);
+    recording.extend_from_slice(HEADER)?;
+    for part in records {
+        append(&mut recording, part)?;
+    }
+    expect(rt, alloc, &script, Ok(good), &recording)
+}
+
+/// The same of a script behind the one by which both hosts come up.
+pub(crate) fn expect_up(
+    rt: &impl Abort,
+    alloc: Global,
+    script: &[u8],
+    good: bool,
+    records: &[&[u8]],
+) -> Result<(), Fail> {
+    expect_parts(
+        rt,
+        alloc,
+        &[COMING_UP, script],
+        good,
+        &[COMING_UP_RECORDS, records],
+    )
+}
+
+/// The same of a script behind the one by which three bytes are given.
+pub(crate) fn expect_given(
+    rt: &impl Abort,
+    alloc: Global,
+    script: &[u8],
+    good: bool,
+    records: &[&[u8]],
+) -> Result<(), Fail> {
+    expect_parts(
+        rt,
+        alloc,
+        &[COMING_UP, GIVING, script],
+        good,
+        &[COMING_UP_RECORDS, GIVING_RECORDS, records],
+    )
+}
+
+/// The same of a script behind the one by which the first message goes out.
+pub(crate) fn expect_sent(
+    rt: &impl Abort,
+    alloc: Global,
+    script: &[u8],
+    good: bool,
+    records: &[&[u8]],
+) -> Result<(), Fail> {
+    expect_parts(
+        rt,
+        alloc,
+        &[COMING_UP, GIVING, SENDING, script],
+        good,
+        &[COMING_UP_RECORDS, GIVING_RECORDS, SENDING_RECORDS, records],
+    )
+}

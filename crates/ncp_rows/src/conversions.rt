@@ -1,0 +1,159 @@
+//! Files of one version as files of the other.
+
+use crate::shown::converted;
+use ncp_player::{FileFault, MemorySink, MemorySource};
+use std::alloc::Global;
+use std::process::Abort;
+use std::test::Fail;
+
+// Room for the files below.
+const ROOM: usize = 4096;
+
+// How many reads or writes fail in turn at most: each file here takes fewer.
+const CALLS: u32 = 8;
+
+// The messages of a reset between the hosts 1 and 2: it goes out at 1, comes at 2, and its answer comes
+// at 1.
+const RESET: &[u8] =
+    b"NCPJH\x01\x00\x50\x00\x02\x00\x00\x00\x08\x00\x01\x00\x0cI\x02\x00\x50\x00\x01\x00\x00\x00\x08\x00\x01\x00\x0cI\x01\x00\x20\x05\x02\x00\x00";
+
+// The first of them.
+const FIRST: &[u8] = b"NCPH\x00\x50\x00\x02\x00\x00\x00\x08\x00\x01\x00\x0c";
+
+// Two answers at host 7.
+const ANSWERS: &[u8] = b"NCPI\x00\x20\x05\x02\x00\x00\x00\x20\x09\x02\x00\x00";
+
+const PLACED: &[u8] = b"NCPJI\x07\x00\x20\x05\x02\x00\x00I\x07\x00\x20\x09\x02\x00\x00";
+
+// A file, the host, what is written of it, and what is answered.
+type Row<'a> = (&'a [u8], u8, &'a [u8], Result<(), FileFault>);
+
+// Whether a file is converted so.
+fn is_converted(alloc: Global, row: &Row<'_>) -> Result<bool, Fail> {
+    let (file, at, written, outcome) = *row;
+    let mut sink = MemorySink::new(alloc, ROOM, None)?;
+    let answer = converted(&mut MemorySource::new(file, None), &mut sink, at);
+    Ok(answer == Some(outcome) && sink.bytes() == written)
+}
+
+// Converts each file.
+fn expect(rt: &impl Abort, alloc: Global, rows: &[Row<'_>]) -> Result<(), Fail> {
+    for (place, row) in rows.iter().enumerate() {
+        assert!(rt; is_converted(alloc, row)?, "at row {place}");
+    }
+    Ok(())
+}
+
+#[test]
+fn converts_there_and_back(rt: HostRuntime) -> Result<(), Fail> {
+    expect(
+        &rt,
+        rt.alloc(),
+        &[(ANSWERS, 7, PLACED, Ok(())), (PLACED, 7, ANSWERS, Ok(()))],
+    )
+}
+
+#[test]
+fn stops_at_another_passage(rt: HostRuntime) -> Result<(), Fail> {
+    expect(
+        &rt,
+        rt.alloc(),
+        &[
+            (RESET, 1, FIRST, Err(FileFault::Mixed)),
+            (RESET, 2, b"", Err(FileFault::Mixed)),
+            (PLACED, 8, b"", Err(FileFault::Mixed)),
+            (
+                b"NCPJH\x01\x00\x00H\x01\x00\x00H\x02\x00\x00H\x01\x00\x00",
+                1,
+                b"NCPH\x00\x00\x00\x00",
+                Err(FileFault::Mixed),
+            ),
+        ],
+    )
+}
+
+#[test]
+fn converts_files_without_records(rt: HostRuntime) -> Result<(), Fail> {
+    expect(
+        &rt,
+        rt.alloc(),
+        &[
+            (b"NCPH", 1, b"NCPJ", Ok(())),
+            (b"NCPI", 1, b"NCPJ", Ok(())),
+            (b"NCPJ", 1, b"NCPH", Ok(())),
+        ],
+    )
+}
+
+#[test]
+fn writes_nothing_of_a_fault_at_the_front(rt: HostRuntime) -> Result<(), Fail> {
+    expect(
+        &rt,
+        rt.alloc(),
+        &[
+            (b"NCP", 1, b"", Err(FileFault::BadHeader)),
+            (b"NCPI\x00", 1, b"", Err(FileFault::Truncated)),
+            (b"NCPI\x20\x01", 1, b"", Err(FileFault::TooLong)),
+            (b"NCPI\x00\x04\x08", 1, b"", Err(FileFault::SpareNotZero)),
+            (b"NCPJG\x01", 1, b"", Err(FileFault::BadDirection)),
+            (b"NCPJH", 1, b"", Err(FileFault::Truncated)),
+            (b"NCPJI\x02\x20\x01", 1, b"", Err(FileFault::TooLong)),
+            (
+                b"NCPJI\x02\x00\x04\x08",
+                1,
+                b"",
+                Err(FileFault::SpareNotZero),
+            ),
+        ],
+    )
+}
+
+#[test]
+fn keeps_the_messages_before_a_fault(rt: HostRuntime) -> Result<(), Fail> {
+    expect(
+        &rt,
+        rt.alloc(),
+        &[
+            (
+                b"NCPI\x00\x00\x00",
+                9,
+                b"NCPJI\x09\x00\x00",
+                Err(FileFault::Truncated),
+            ),
+            (
+                b"NCPJI\x09\x00\x00J",
+                9,
+                b"NCPI\x00\x00",
+                Err(FileFault::BadDirection),
+            ),
+            (
+                b"NCPJI\x09\x00\x00H\x09\x00",
+                9,
+                b"NCPI\x00\x00",
+                Err(FileFault::Truncated),
+            ),
+        ],
+    )
+}
+
+// Whether a file is converted with its n-th read or write failing: all of it, or a beginning.
+fn is_broken_off(alloc: Global, read: Option<u32>, write: Option<u32>) -> Result<bool, Fail> {
+    let mut sink = MemorySink::new(alloc, ROOM, write)?;
+    let answer = converted(&mut MemorySource::new(PLACED, read), &mut sink, 7);
+    let is_told = match answer {
+        Some(Ok(())) => sink.bytes() == ANSWERS,
+        Some(Err(FileFault::ReadFailed)) => read.is_some() && ANSWERS.starts_with(sink.bytes()),
+        Some(Err(FileFault::WriteFailed)) => write.is_some() && ANSWERS.starts_with(sink.bytes()),
+        _ => false,
+    };
+    Ok(is_told)
+}
+
+#[test]
+fn tells_failed_reads_and_writes(rt: HostRuntime) -> Result<(), Fail> {
+    for call in 1..=CALLS {
+        assert!(rt; is_broken_off(rt.alloc(), Some(call), None)?);
+        assert!(rt; is_broken_off(rt.alloc(), None, Some(call))?);
+    }
+    Ok(())
+}

@@ -1,0 +1,42 @@
+-- The line of a ledger that is watched (this profile), and all lines of a note.
+use Rattle.std.specs.Prelude.{ℕ, List, [], ◌++◌, Option, Some, None, codes}
+use Rattle.ncp_files.specs.Lines.{field}
+use Rattle.ncp_two.specs.declared.ledger.Amount.{Amount}
+use Rattle.ncp_two.specs.declared.ledger.Ledger.{Ledger}
+use Rattle.ncp_two.specs.Between.{Hosts}
+use Rattle.ncp_two.specs.Ledgers.{ledger_of}
+use Rattle.ncp_world_player.specs.declared.first_line.Watch.{Watch}
+use Rattle.ncp_world_player.specs.declared.first_line.FirstLine.{FirstLine}
+use Rattle.ncp_world_player.specs.WorldNotes.{world_note_lines}
+use Rattle.ncp_world_player.specs.Telling.{Tale}
+
+-- so many messages and so many bits, behind their name
+abbrev pub amount_words : List ℕ → Amount → List ℕ
+amount_words name it = field name it.messages ++ field (codes "/") it.bits
+
+-- what is outstanding, and where it is; or that there is no ledger, since an end is not open
+abbrev pub ledger_words : Option Ledger → List ℕ
+ledger_words None = codes " none"
+ledger_words (Some it) =
+    amount_words (codes " out=") it.outstanding ++ amount_words (codes " counters=") it.counters ++ amount_words (codes " all=") it.all ++ amount_words (codes " text=") it.text
+    ++ amount_words (codes " ret=") it.ret
+
+-- the line of the ledger that is watched
+abbrev pub watched_line : Watch → Hosts → List ℕ
+watched_line watch w = codes "  ledger" ++ ledger_words (ledger_of watch.side watch.pair w) ++ codes "\n"
+
+-- the same where one may be watched
+abbrev pub ledger_line : Option Watch → Hosts → List ℕ
+ledger_line None w = []
+ledger_line (Some watch) w = watched_line watch w
+
+-- the lines of a note, and behind them that of the ledger as the note left it
+abbrev pub lines_watching : Option Watch → Tale
+lines_watching watch = record {
+  head = [];
+  of_note = λ number note w. world_note_lines number note ++ ledger_line watch w;
+}
+
+-- what the lines of a script tell whose first line is this
+abbrev pub lines_of_script : FirstLine → Tale
+lines_of_script first = lines_watching first.watch

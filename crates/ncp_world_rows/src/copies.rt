@@ -1,0 +1,61 @@
+//! Copies of events among many hosts.
+use crate::wanted::bits_of;
+use ncp_host::Pair;
+use ncp_pairs::ManyEvent;
+use ncp_transcript::{Call, Message};
+use std::test::Fail;
+
+const PAIR: Pair = Pair {
+    local: 3,
+    remote: 2,
+};
+
+/// A copy of a call has its numbers and its text, also when the call is gone.
+#[test]
+fn a_copy_of_a_call_has_its_text(rt: HostRuntime) -> Result<(), Fail> {
+    let text = bits_of(&rt, b"ab");
+    let event = ManyEvent::Call {
+        host: 3,
+        call: Call::Give {
+            peer: 1,
+            pair: PAIR,
+            text: Message::from_bits(rt.alloc(), &text)?,
+        },
+    };
+    let copy = event.copied(rt.alloc())?;
+    drop(event);
+    let same = match &copy {
+        ManyEvent::Call {
+            host: 3,
+            call: Call::Give {
+                peer: 1,
+                pair,
+                text: copied,
+            },
+        } => *pair == PAIR && copied.to_bits() == text,
+        _ => false,
+    };
+    assert!(rt; same);
+    Ok(())
+}
+
+/// A copy of what the subnet does names the same two hosts and the same link.
+#[test]
+fn a_copy_of_a_loss_is_of_the_same_message(rt: HostRuntime) -> Result<(), Fail> {
+    let event = ManyEvent::Lose {
+        from: 3,
+        to: 1,
+        link: 2,
+    };
+    let copy = event.copied(rt.alloc())?;
+    let same = matches!(
+        &copy,
+        ManyEvent::Lose {
+            from: 3,
+            to: 1,
+            link: 2,
+        }
+    );
+    assert!(rt; same);
+    Ok(())
+}
