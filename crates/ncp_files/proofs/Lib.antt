@@ -1,8 +1,6 @@
-pub mod Decimal
 pub mod Checks
 pub mod Counting
 pub mod Choosing
-pub mod Hexadecimal
 pub mod Contents
 pub mod Placing
 pub mod Again
@@ -12,7 +10,4 @@ pub mod Returning
 pub mod Progress
 pub mod ShownFiles
 pub mod Files
-pub mod Outcomes
-pub mod Windows
-pub mod Pieces
 pub mod Written

@@ -3,17 +3,16 @@ ghost use Rattle.std.specs.Prelude.{◌≡◌, ℕ, ◌+◌, ◌-◌, ◌/◌, �
 ghost use Rattle.ncp_stream.specs.Pieces.{reads_for, reads_beyond, bytes_and_writes, lost_pieces};
 ghost use Rattle.ncp_stream.specs.Streams.{Ahead, SaidSoFar};
 ghost use Rattle.ncp_files.specs.Results.{is_read_failed, is_write_failed};
-ghost use Rattle.ncp_files.specs.Windows.{effort};
+ghost use Rattle.ncp_page.specs.Windows.{effort};
 ghost use Rattle.ncp_files.specs.Steps.{SaysNext, SaysFrom, Says};
 ghost use Rattle.ncp_files.specs.Converted.{same_direction, same_host, same_passage, other_version, passage_in, next_at, ConvertedAs, ConvertedCut, Converted};
 ghost use Rattle.ncp_files.specs.Turning.{ReadsMessage, FindsDirection, message_told, SaysTurned};
 
 use crate::file::{Direction, FileFault};
-use crate::page::Page;
 use crate::version::{Passage, Version, direction_by, read_next, read_version};
-use crate::window::Window;
 use crate::writing::{push_header, say_message};
 use ncp_bits::Bits;
+use ncp_page::{Page, Window};
 use ncp_stream::{LEAST_PIECE, Sink, Source};
 
 // Whether two passages are the same.
