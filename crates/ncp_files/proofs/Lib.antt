@@ -11,3 +11,4 @@ pub mod Progress
 pub mod ShownFiles
 pub mod Files
 pub mod Written
+pub mod Judged
