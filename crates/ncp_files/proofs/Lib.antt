@@ -4,6 +4,7 @@ pub mod Choosing
 pub mod Contents
 pub mod Placing
 pub mod Again
+pub mod Passages
 pub mod Turned
 pub mod ConvertedFiles
 pub mod Returning
