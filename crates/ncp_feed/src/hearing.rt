@@ -2,14 +2,15 @@
 ghost use Rattle.std.specs.Prelude.{◌≡◌, ℕ, ◌+◌, ◌<◌, ◌≤◌, ◌||◌, List, true, false, IfOk, OnOk};
 ghost use Rattle.ncp_stream.specs.Pieces.{reads_beyond, bytes_and_writes, lost_pieces};
 ghost use Rattle.ncp_stream.specs.Streams.{Ahead};
-ghost use Rattle.ncp_files.specs.Windows.{effort};
+ghost use Rattle.ncp_page.specs.Windows.{effort};
 ghost use Rattle.ncp_play.specs.Faults.{is_read_failed, is_write_failed};
 ghost use Rattle.ncp_play.specs.Playing.{Tells, TellsAs};
 ghost use Rattle.ncp_play.specs.declared.heading.Heading.{Heading as Beginning};
 ghost use Rattle.ncp_feed.specs.Steps.{HearsNext, HearsFrom};
 
 use ncp_bits::{BitStore, Bits};
-use ncp_files::{Page, Window, read_record};
+use ncp_files::read_record;
+use ncp_page::{Page, Window};
 use ncp_play::{Heading, PlayFault, play_input};
 use ncp_stream::{Sink, Source};
 use ncp_transcript::{Alone, Input};

@@ -9,7 +9,7 @@ ghost use Rattle.ncp_feed.specs.Steps.{SendsNext, SendsFrom, is_out};
 ghost use Rattle.ncp_feed.specs.Going.{open_links};
 
 use ncp_bits::BitStore;
-use ncp_files::Page;
+use ncp_page::Page;
 use ncp_play::{Heading, PlayFault, play_input};
 use ncp_stream::Sink;
 use ncp_transcript::{Alone, HostNote, Input};

@@ -33,7 +33,7 @@ module _ (host : ℕ) where
   turns_nothing bytes was window page left written Mixed h k = let e : ⊥ = cc (h.0) in absurd e
   turns_nothing bytes was window page left written ReadFailed h k =
       let none : version_of window ≡ None = version_of-short window h.0 in
-      (window, h.1.0, [], sym h.1.2, h.1.1, (rw none refl), k)
+      (window, h.1.0, [], sym h.1.2, h.1.1, (rw none (h.0, refl)), k)
   turns_nothing bytes was window page left written WriteFailed h k = absurd h
 
   -- ---- a read that failed in front of the records
@@ -155,7 +155,7 @@ module _ (host : ℕ) where
   longer_by given rest text None e h =
       let none = rw e at h in
       let some = some_file (given ++ rest) (version_of (given ++ rest)) refl in
-      (some.0, some.1, subst (λ xs. ConvertedAs host (given ++ rest) (xs ++ some.0) some.1) (sym none) some.2)
+      (some.0, some.1, subst (λ xs. ConvertedAs host (given ++ rest) (xs ++ some.0) some.1) (sym none.1) some.2)
   longer_by given rest text (Some version) e h =
       let cut = rw e at h in
       let head = longer_header given rest version e in

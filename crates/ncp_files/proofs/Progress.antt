@@ -7,7 +7,8 @@ use Rattle.ncp_files.specs.declared.file.FileFault.TheVariants.{BadHeader, Trunc
 use Rattle.ncp_files.specs.declared.version.Version.{Version}
 use Rattle.ncp_files.specs.File.{version_of, one_direction, direction_of, ending, HoldsBy, IsCut}
 use Rattle.ncp_files.specs.Versions.{next_in}
-use Rattle.ncp_files.specs.Lines.{told_from, number_after, record_lines, lines_from}
+use Rattle.ncp_page.specs.Lines.{number_after}
+use Rattle.ncp_files.specs.Lines.{told_from, record_lines, lines_from}
 use Rattle.ncp_files.specs.Results.{is_write_failed}
 use Rattle.ncp_stream.specs.Streams.{SaidSoFar, SaysText, SaysBeginning}
 use Rattle.ncp_files.specs.Writing.{Told, ToldCut, Wrote, WritesAll, WritesRead, WritesBeginning, Writes}

@@ -6,7 +6,8 @@ use Rattle.ncp_files.specs.declared.file.FileFault.TheVariants.{BadHeader, Trunc
 use Rattle.ncp_files.specs.declared.version.Version.{Version}
 use Rattle.ncp_files.specs.File.{version_of}
 use Rattle.ncp_files.specs.Versions.{Recorded, next_in}
-use Rattle.ncp_files.specs.Lines.{told_from, number_after, record_lines, lines_from}
+use Rattle.ncp_page.specs.Lines.{number_after}
+use Rattle.ncp_files.specs.Lines.{told_from, record_lines, lines_from}
 use Rattle.ncp_stream.specs.Streams.{SaidSoFar}
 use Rattle.ncp_files.specs.Shown.{ShownAs, ShownCut}
 use Rattle.ncp_files.specs.Steps.{Telling, ReadsVersion, SaysLines, SaysFrom, SaysFile, Says}

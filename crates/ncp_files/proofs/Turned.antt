@@ -11,7 +11,8 @@ use Rattle.ncp_files.specs.declared.version.Version.TheVariants.{One, Two}
 use Rattle.ncp_files.specs.declared.version.Passage.{Passage}
 use Rattle.ncp_files.specs.File.{Next, version_of, ending, HoldsBy}
 use Rattle.ncp_files.specs.Versions.{Recorded, NextRecorded, next_in, header_of, bytes_at, direction_by}
-use Rattle.ncp_files.specs.Lines.{told_from, number_after}
+use Rattle.ncp_page.specs.Lines.{number_after}
+use Rattle.ncp_files.specs.Lines.{told_from}
 use Rattle.ncp_files.specs.Converted.{or_to_imp, direction_behind, same_passage, message_at, next_at, all_at, file_to}
 use Rattle.ncp_files.specs.Steps.{Reader, Stops, SaysNext, SaysLines, SaysFrom}
 use Rattle.ncp_files.specs.Turning.{ReadsMessage, message_told, SaysMessages, SaysTurned}

@@ -15,7 +15,8 @@ use Rattle.ncp_files.specs.declared.tally.Tally.{Tally}
 use Rattle.ncp_files.specs.Results.{MatchFault}
 use Rattle.ncp_files.specs.File.{version_of, HoldsBy, IsCut}
 use Rattle.ncp_files.specs.Versions.{Recorded, next_in}
-use Rattle.ncp_files.specs.Lines.{field, is_on_control_link, is_control}
+use Rattle.ncp_page.specs.Lines.{field}
+use Rattle.ncp_files.specs.Lines.{is_on_control_link, is_control}
 
 -- ---- one message
 

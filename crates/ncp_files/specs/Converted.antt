@@ -1,6 +1,6 @@
 -- What `convert` writes: a file of version 1 as one of version 2, each message at the interface of the host that is
 -- given, and a file of version 2 as one of version 1, if all messages have one direction and stand at that host.
-use Rattle.std.specs.Prelude.{◌≡◌, ℕ, ◌==◌, ◌&&◌, Bool, true, false, List, [], ◌∷◌, ◌++◌, drop, Option, Some, None, Result, Ok, Err, MatchOption, if◌then◌else◌}
+use Rattle.std.specs.Prelude.{◌≡◌, ◌<◌, ℕ, ◌==◌, ◌&&◌, Bool, true, false, List, [], ◌∷◌, ◌++◌, length, drop, Option, Some, None, Result, Ok, Err, MatchOption, if◌then◌else◌}
 use Rattle.std.specs.List.{flat_map}
 use Rattle.ncp_files.specs.declared.file.Direction.{Direction}
 use Rattle.ncp_files.specs.declared.file.Direction.TheVariants.{ToImp, FromImp}
@@ -94,10 +94,11 @@ ConvertedAs host bytes text fault =
     (messages : List (List Bool)) × HoldsAt version host (drop 4 bytes) messages fault
     × (text ≡ converted version (direction_behind version (drop 4 bytes)) host messages fault))
 
--- what becomes of bytes that came before a failed read: of the records that are whole in them
+-- what becomes of bytes that came before a failed read: of the records that are whole in them; nothing where they end
+-- inside the header
 abbrev pub ConvertedCut : ℕ → List ℕ → List ℕ → Type 0
 ConvertedCut host given text =
-    MatchOption (version_of given) (text ≡ []) (λ version.
+    MatchOption (version_of given) ((length given < 4) × (text ≡ [])) (λ version.
     (messages : List (List Bool)) × (fault : Option FileFault) × IsCut given fault × HoldsAt version host (drop 4 given) messages fault
     × (text ≡ converted version (direction_behind version (drop 4 given)) host messages (Some ReadFailed)))
 

@@ -1,4 +1,3 @@
-pub mod Windows
 pub mod File
 pub mod Versions
 pub mod Reasons

@@ -1,5 +1,5 @@
 -- The lines that are shown of a record, as functions of its message.
-use Rattle.std.specs.Prelude.{ℕ, ◌+◌, ◌-◌, ◌/◌, ◌%◌, ◌^◌, ◌==◌, ◌&&◌, min, nat_lt, Bool, false, List, [], ◌∷◌, ◌++◌, length, Option, Some, None, Result, Ok, codes, decimal, if◌then◌else◌}
+use Rattle.std.specs.Prelude.{ℕ, ◌+◌, ◌-◌, ◌==◌, ◌&&◌, Bool, false, List, [], ◌∷◌, ◌++◌, length, Option, Some, None, Result, Ok, codes, decimal, if◌then◌else◌}
 use Rattle.std.specs.declared.result.Result.TheVariants.{Err as Fault}
 use Rattle.std.specs.List.{flat_map}
 use Rattle.ncp_bits.specs.Bits.{bytes_of}
@@ -17,24 +17,8 @@ use Rattle.ncp_control.specs.Reading.{commands_in, fault_in}
 use Rattle.ncp_files.specs.declared.file.Direction.{Direction}
 use Rattle.ncp_files.specs.declared.file.Direction.TheVariants.{ToImp, FromImp}
 use Rattle.ncp_files.specs.declared.version.Passage.{Passage}
+use Rattle.ncp_page.specs.Lines.{field, hex_of, number_after}
 use Rattle.ncp_files.specs.Versions.{Recorded}
-
--- ---- words
-
--- a number behind its name
-abbrev pub field : List ℕ → ℕ → List ℕ
-field name number = name ++ decimal number
-
--- a digit of a hexadecimal number
-abbrev pub hex_digit : ℕ → ℕ
-hex_digit number = if nat_lt number 10 then 48 + number else 87 + number
-
-abbrev pub hex_byte : ℕ → List ℕ
-hex_byte byte = hex_digit (byte / 16) ∷ hex_digit (byte % 16) ∷ []
-
--- bytes in hexadecimal
-abbrev pub hex_of : List ℕ → List ℕ
-hex_of bytes = flat_map hex_byte bytes
 
 -- ---- the first line
 
@@ -161,10 +145,6 @@ details message = if is_regular (leader_in message) then message_lines (message_
 -- the lines of the record with this number
 abbrev pub record_lines : ℕ → Recorded → List ℕ
 record_lines number shown = first_line shown.passage number shown.message ++ details shown.message
-
--- the number behind this one; it stays at the largest
-abbrev pub number_after : ℕ → ℕ
-number_after number = min (number + 1) (2 ^ 32 - 1)
 
 -- what is told of each record, one after the other, from this number on
 abbrev pub told_from : {X : Type 0} → (ℕ → X → List ℕ) → ℕ → List X → List ℕ

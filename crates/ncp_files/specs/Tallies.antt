@@ -8,7 +8,7 @@ use Rattle.ncp_files.specs.declared.version.Version.{Version}
 use Rattle.ncp_files.specs.File.{HoldsBy, IsCut}
 use Rattle.ncp_files.specs.Versions.{Recorded, next_in}
 use Rattle.ncp_files.specs.Steps.{IsInside}
-use Rattle.ncp_files.specs.Lines.{number_after}
+use Rattle.ncp_page.specs.Lines.{number_after}
 use Rattle.ncp_files.specs.Checked.{verdict_of_record, is_short, is_of_type_0, is_faulty, is_bad, tally_of, FileHolds}
 
 -- one more, where a test passes

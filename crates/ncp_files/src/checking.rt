@@ -7,11 +7,10 @@ ghost use Rattle.ncp_files.specs.Tallies.{no_messages, TalliesFrom, TalliesFile}
 ghost use Rattle.ncp_files.specs.Checked.{Checked};
 
 use crate::file::FileFault;
-use crate::page::Page;
 use crate::tally::{Tally, push_tally};
 use crate::version::{Version, read_next, read_version};
-use crate::window::Window;
 use ncp_bits::Bits;
+use ncp_page::{Page, Window};
 use ncp_stream::{Sink, Source};
 
 // Counts the messages behind the header.

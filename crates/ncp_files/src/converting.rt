@@ -3,47 +3,17 @@ ghost use Rattle.std.specs.Prelude.{◌≡◌, ℕ, ◌+◌, ◌-◌, ◌/◌, �
 ghost use Rattle.ncp_stream.specs.Pieces.{reads_for, reads_beyond, bytes_and_writes, lost_pieces};
 ghost use Rattle.ncp_stream.specs.Streams.{Ahead, SaidSoFar};
 ghost use Rattle.ncp_files.specs.Results.{is_read_failed, is_write_failed};
-ghost use Rattle.ncp_files.specs.Windows.{effort};
+ghost use Rattle.ncp_page.specs.Windows.{effort};
 ghost use Rattle.ncp_files.specs.Steps.{SaysNext, SaysFrom, Says};
-ghost use Rattle.ncp_files.specs.Converted.{same_direction, same_host, same_passage, other_version, passage_in, next_at, ConvertedAs, ConvertedCut, Converted};
+ghost use Rattle.ncp_files.specs.Converted.{other_version, passage_in, next_at, ConvertedAs, ConvertedCut, Converted};
 ghost use Rattle.ncp_files.specs.Turning.{ReadsMessage, FindsDirection, message_told, SaysTurned};
 
 use crate::file::{Direction, FileFault};
-use crate::page::Page;
 use crate::version::{Passage, Version, direction_by, read_next, read_version};
-use crate::window::Window;
 use crate::writing::{push_header, say_message};
 use ncp_bits::Bits;
+use ncp_page::{Page, Window};
 use ncp_stream::{LEAST_PIECE, Sink, Source};
-
-// Whether two passages are the same.
-fn is_same(one: Passage, other: Passage) -> bool
-    ensures { result ≡ same_passage one other }
-{
-    is_same_direction(one.direction, other.direction) && is_same_host(one.at, other.at)
-}
-
-// Whether two directions are the same.
-fn is_same_direction(one: Direction, other: Direction) -> bool
-    ensures { result ≡ same_direction one other }
-{
-    match (one, other) {
-        (Direction::ToImp, Direction::ToImp) => true,
-        (Direction::FromImp, Direction::FromImp) => true,
-        _ => false,
-    }
-}
-
-// Whether two hosts are the same, or none is named.
-fn is_same_host(one: Option<u8>, other: Option<u8>) -> bool
-    ensures { result ≡ same_host one other }
-{
-    match (one, other) {
-        (None, None) => true,
-        (Some(host), Some(other)) => host == other,
-        _ => false,
-    }
-}
 
 // The other version, for a file of this direction.
 fn other_version(version: Version, direction: Direction) -> Version
@@ -149,7 +119,7 @@ fn take_next<S: Source>(
     let Some(passage) = read_next(window, source, turn.from, message)? else {
         return Ok(false);
     };
-    if !is_same(passage, turn.wanted) {
+    if passage != turn.wanted {
         return Err(FileFault::Mixed);
     }
     Ok(true)

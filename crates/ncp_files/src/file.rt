@@ -4,13 +4,13 @@ ghost use Rattle.ncp_files.specs.File.{name_of_fault, fault_of_bits};
 ghost use Rattle.ncp_stream.specs.Pieces.{reads_beyond};
 ghost use Rattle.ncp_files.specs.Results.{is_read_failed, is_write_failed};
 ghost use Rattle.ncp_files.specs.Steps.{ReadsHeader, ReadsRecord};
-ghost use Rattle.ncp_files.specs.Windows.{effort};
+ghost use Rattle.ncp_page.specs.Windows.{effort};
 ghost use Rattle.ncp_stream.specs.Streams.{Ahead};
 
 use crate::version::{Version, read_version};
-use crate::window::Window;
 use byteorder::{BigEndian, ByteOrder};
 use ncp_bits::{Bits, BitsFault, MAX_BITS};
+use ncp_page::Window;
 use ncp_stream::{Failed, Source};
 use thiserror::Error;
 

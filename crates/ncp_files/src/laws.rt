@@ -3,7 +3,7 @@ ghost use Rattle.std.specs.Prelude.{◌≡◌, ◌≤◌, ◌<◌, ◌↔◌, �
 ghost use Rattle.ncp_files.specs.File.{HoldsBy, next_record, version_of, record_bytes};
 ghost use Rattle.ncp_files.specs.Versions.{Recorded, plain, next_in, IsOf, bytes_of_record, file_bytes};
 ghost use Rattle.ncp_files.specs.Converted.{ConvertedAs, file_to};
-ghost use Rattle.ncp_files.specs.Reasons.{first_of, reasons_at};
+ghost use Rattle.ncp_files.specs.Reasons.{first_of, reasons_at, placed_reasons_at};
 ghost use Rattle.ncp_files.specs.Checked.{FileHolds};
 
 use crate::file::{Direction, FileFault};
@@ -32,13 +32,16 @@ pub fn written_files_are_read()
 /// Where a record of version 1 begins, and why none does. A record stands at the front of bytes exactly where they
 /// are the written form of a message of at most 8,192 bits, and what follows. Where there are bytes and
 /// none begins, the first reason that holds is answered: no two bytes of a length, a length over the
-/// limit, fewer bytes than it says, a spare bit that is set.
+/// limit, fewer bytes than it says, a spare bit that is set. In version 2 two reasons stand before these: a
+/// first byte that names no direction, no byte of a host behind it.
 pub fn records_are_told_apart()
     ensures record { (bytes : List ℕ) (rest : List ℕ) (message : List Bool) → All (λ byte. byte < 256) bytes
         → (next_record bytes ≡ Ok (Some (message, rest))) ↔ ((length message ≤ MAX_BITS) × (bytes ≡ record_bytes message ++ rest)) }
     ensures end { (bytes : List ℕ) → (next_record bytes ≡ Ok None) ↔ (bytes ≡ []) }
     ensures fault { (bytes : List ℕ) (fault : FileFault) → 0 < length bytes
         → (next_record bytes ≡ Err fault) ↔ (first_of (reasons_at bytes) ≡ Some fault) }
+    ensures placed { (bytes : List ℕ) (fault : FileFault) → 0 < length bytes
+        → (next_in Version.Two bytes ≡ Err fault) ↔ (first_of (placed_reasons_at bytes) ≡ Some fault) }
 {}
 
 /// A file of version 1 with at least one message, turned into one of version 2 and back with the same

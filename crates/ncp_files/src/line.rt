@@ -1,11 +1,11 @@
 //! The first line of a record.
 ghost use Rattle.std.specs.Prelude.{◌≡◌, ◌+◌, ◌≤◌, ◌++◌, length, Some, decimal};
-ghost use Rattle.ncp_files.specs.Lines.{field, kind_name, extras, summary, way_words, passage_words};
+ghost use Rattle.ncp_files.specs.Lines.{kind_name, extras, summary, way_words, passage_words};
 
 use crate::file::Direction;
-use crate::page::{LONGEST_NUMBER, PAGE_SIZE, Page};
 use crate::version::Passage;
 use ncp_leader::{DESTINATION_DEAD, INCOMPLETE, Leader, REGULAR, RFNM, Short};
+use ncp_page::{LONGEST_NUMBER, PAGE_SIZE, Page, push_field};
 
 /// How many bytes a line has at most, but for a text in hexadecimal.
 pub const LONGEST_LINE: usize = 128;
@@ -27,16 +27,6 @@ const LONGEST_KIND: usize = 15;
 
 // How many bytes the longest flags and low field have.
 const LONGEST_EXTRAS: usize = 32;
-
-/// Appends a number behind its name. There has to be room for the name and the longest number.
-pub fn push_field(page: &mut Page, name: &[u8], number: u32)
-    requires { length page.old + length name.now + LONGEST_NUMBER ≤ PAGE_SIZE }
-    ensures bytes { page.new ≡ page.old ++ field name.now number }
-    ensures len { length page.new ≤ length page.old + length name.now + LONGEST_NUMBER }
-{
-    page.push_text(name);
-    page.push_decimal(number);
-}
 
 // Appends the name of a type.
 fn push_kind(page: &mut Page, direction: Direction, kind: u8)

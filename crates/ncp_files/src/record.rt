@@ -6,10 +6,10 @@ ghost use Rattle.ncp_stream.specs.Streams.{SaysTextOrBeginning};
 
 use crate::detail::say_details;
 use crate::line::{LONGEST_LINE, push_first_line};
-use crate::page::Page;
 use crate::version::Passage;
 use ncp_bits::Bits;
 use ncp_leader::{Leader, REGULAR, Short, read_leader};
+use ncp_page::Page;
 use ncp_stream::{Failed, Sink};
 
 // Says the first line of a record.

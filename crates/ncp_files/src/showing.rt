@@ -3,18 +3,17 @@ ghost use Rattle.std.specs.Prelude.{◌≡◌, ℕ, ◌+◌, ◌-◌, ◌/◌, �
 ghost use Rattle.ncp_stream.specs.Pieces.{reads_for, reads_beyond, bytes_and_writes, lost_pieces};
 ghost use Rattle.ncp_files.specs.Results.{is_read_failed, is_write_failed};
 ghost use Rattle.ncp_stream.specs.Streams.{Ahead, SaidSoFar};
-ghost use Rattle.ncp_files.specs.Windows.{effort};
+ghost use Rattle.ncp_page.specs.Windows.{effort};
 ghost use Rattle.ncp_files.specs.Versions.{next_in};
 ghost use Rattle.ncp_files.specs.Lines.{record_lines};
 ghost use Rattle.ncp_files.specs.Steps.{SaysNext, SaysFrom, Says};
 ghost use Rattle.ncp_files.specs.Shown.{ShownAs, ShownCut, Shown};
 
 use crate::file::FileFault;
-use crate::page::Page;
 use crate::record::say_record;
 use crate::version::{Version, read_next, read_version};
-use crate::window::Window;
 use ncp_bits::Bits;
+use ncp_page::{Page, Window};
 use ncp_stream::{LEAST_PIECE, Sink, Source};
 
 // Reads the next record into `message` and shows it, and answers whether there was one.

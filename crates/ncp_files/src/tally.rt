@@ -7,11 +7,11 @@ ghost use Rattle.ncp_files.specs.Checked.{is_bad_text, verdict_of_message, verdi
 ghost use Rattle.ncp_files.specs.Tallies.{no_messages, tally_with, one_more};
 
 use crate::control::{is_of_control, is_on_control_link};
-use crate::line::{LONGEST_LINE, push_field};
-use crate::page::{PAGE_SIZE, Page};
+use crate::line::LONGEST_LINE;
 use ncp_bits::{Bits, Part};
 use ncp_control::Commands;
 use ncp_leader::{REGULAR, Regular, read_leader, read_regular};
+use ncp_page::{PAGE_SIZE, Page, push_field};
 
 /// What is found of a message.
 #[derive(Clone, Copy, Debug, Drop, PartialEq, Eq)]

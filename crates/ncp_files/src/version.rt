@@ -4,13 +4,13 @@ ghost use Rattle.ncp_files.specs.File.{version_of};
 ghost use Rattle.ncp_files.specs.Versions.{direction_by, next_passage, next_in};
 ghost use Rattle.ncp_files.specs.Results.{is_read_failed, is_write_failed};
 ghost use Rattle.ncp_files.specs.Steps.{ReadsVersion, ReadsOne, ReadsNext};
-ghost use Rattle.ncp_files.specs.Windows.{effort};
+ghost use Rattle.ncp_page.specs.Windows.{effort};
 ghost use Rattle.ncp_stream.specs.Pieces.{reads_beyond};
 ghost use Rattle.ncp_stream.specs.Streams.{Ahead};
 
 use crate::file::{Direction, FileFault, read_record};
-use crate::window::Window;
 use ncp_bits::Bits;
+use ncp_page::Window;
 use ncp_stream::Source;
 
 /// The version of a message file.

@@ -7,10 +7,10 @@ ghost use Rattle.ncp_files.specs.File.{record_bytes};
 ghost use Rattle.ncp_files.specs.Versions.{byte_of, header_of, passage_bytes, bytes_at};
 
 use crate::file::Direction;
-use crate::page::{PAGE_SIZE, Page};
 use crate::version::{HEADER, Passage, Version};
 use byteorder::{BigEndian, ByteOrder};
 use ncp_bits::{Bits, MAX_BITS};
+use ncp_page::{PAGE_SIZE, Page};
 use ncp_stream::{Failed, Sink};
 
 // How many bytes the bits of a message take at most.

@@ -1,7 +1,7 @@
 //! What the next line of a script of one host asks for.
 ghost use Rattle.std.specs.Prelude.{◌≡◌, ℕ, List, ◌<◌, ◌||◌, IfOk, true, false};
 ghost use Rattle.ncp_stream.specs.Streams.{Ahead};
-ghost use Rattle.ncp_files.specs.Windows.{effort};
+ghost use Rattle.ncp_page.specs.Windows.{effort};
 ghost use Rattle.ncp_play.specs.Faults.{is_read_failed, is_write_failed};
 ghost use Rattle.ncp_host_player.specs.Asking.{asked_of, IsPlayedAs, AsksNext, goes_on};
 ghost use Rattle.ncp_script.specs.Scripts.{Line, Course};

@@ -1,7 +1,7 @@
 //! The lines of a script of one host, played one after the other.
 ghost use Rattle.std.specs.Prelude.{◌≡◌, ℕ, List, ◌<◌, ◌||◌, None, IfOk};
 ghost use Rattle.ncp_stream.specs.Streams.{Ahead};
-ghost use Rattle.ncp_files.specs.Windows.{effort};
+ghost use Rattle.ncp_page.specs.Windows.{effort};
 ghost use Rattle.ncp_play.specs.Faults.{is_read_failed, is_write_failed};
 ghost use Rattle.ncp_play.specs.Playing.{Tells, TellsAs};
 ghost use Rattle.ncp_play.specs.declared.heading.Heading.{Heading as Beginning};
@@ -9,7 +9,7 @@ ghost use Rattle.ncp_host_player.specs.Doing.{NextDoes, LinesDo};
 
 use crate::asking::{NextAsked, next_asked};
 use ncp_bits::BitStore;
-use ncp_files::Page;
+use ncp_page::Page;
 use ncp_play::{Heading, PlayFault, play_input};
 use ncp_reader::Lines;
 use ncp_stream::{Sink, Source};

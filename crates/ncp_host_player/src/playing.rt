@@ -10,7 +10,7 @@ use crate::beginning::begin;
 use crate::lines::{LinesEnd, play_lines};
 use ncp_bits::BitStore;
 use ncp_feed::feed;
-use ncp_files::Page;
+use ncp_page::Page;
 use ncp_play::{Heading, PlayFault, Speaker};
 use ncp_reader::Lines;
 use ncp_stream::{Sink, Source};

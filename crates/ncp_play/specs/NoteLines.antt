@@ -9,7 +9,8 @@ use Rattle.ncp_host.specs.declared.received.Received.{Received}
 use Rattle.ncp_transcript.specs.declared.note.HostNote.{HostNote}
 use Rattle.ncp_transcript.specs.declared.note.HostNote.TheVariants as notes
 use Rattle.ncp_script.specs.Verbs.{word_of}
-use Rattle.ncp_files.specs.Lines.{field, message_lines, number_after}
+use Rattle.ncp_page.specs.Lines.{field, number_after}
+use Rattle.ncp_files.specs.Lines.{message_lines}
 use Rattle.ncp_play.specs.declared.heading.Speaker.{Speaker}
 use Rattle.ncp_play.specs.declared.heading.Speaker.TheVariants.{Host, Side}
 use Rattle.ncp_play.specs.declared.heading.Heading.{Heading}

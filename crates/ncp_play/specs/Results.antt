@@ -15,7 +15,8 @@ use Rattle.ncp_host.specs.declared.counts.Ignored.{Ignored}
 use Rattle.ncp_host.specs.declared.flags.Flags.{Flags}
 use Rattle.ncp_transcript.specs.declared.note.HostNote.{HostNote}
 use Rattle.ncp_transcript.specs.declared.note.HostNote.TheVariants as notes
-use Rattle.ncp_files.specs.Lines.{field, text_word, item_line}
+use Rattle.ncp_page.specs.Lines.{field}
+use Rattle.ncp_files.specs.Lines.{text_word, item_line}
 use Rattle.ncp_files.specs.Checked.{capped}
 
 abbrev pub refused_words : CallFault → List ℕ

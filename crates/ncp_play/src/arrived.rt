@@ -2,8 +2,8 @@
 ghost use Rattle.std.specs.Prelude.{◌≡◌, ◌+◌, ◌≤◌, ◌++◌, length};
 ghost use Rattle.ncp_play.specs.Arrived.{received_words};
 
-use ncp_files::{LONGEST_NUMBER, PAGE_SIZE, Page, push_field};
 use ncp_host::Received;
+use ncp_page::{LONGEST_NUMBER, PAGE_SIZE, Page, push_field};
 
 /// How many bytes the words have at most that say what became of bits.
 pub const LONGEST_RECEIVED: usize = 8 + LONGEST_NUMBER;

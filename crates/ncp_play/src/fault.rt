@@ -2,7 +2,8 @@
 ghost use Rattle.std.specs.Prelude.{◌≡◌, ◌+◌, ◌*◌, ◌≤◌, ◌||◌, ◌++◌, ℕ, List, Some, length, is_err};
 ghost use Rattle.ncp_play.specs.Faults.{number_of, name_of, line_of, place_words, fault_line, Wrote};
 
-use ncp_files::{FileFault, LONGEST_LINE, PAGE_SIZE, Page, push_field};
+use ncp_files::{FileFault, LONGEST_LINE};
+use ncp_page::{PAGE_SIZE, Page, push_field};
 use ncp_script::MAX_LINE;
 use ncp_stream::{Failed, Sink};
 use thiserror::Error;

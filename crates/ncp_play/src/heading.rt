@@ -3,7 +3,7 @@ ghost use Rattle.std.specs.Prelude.{◌≡◌, ◌+◌, ◌≤◌, ◌++◌, len
 ghost use Rattle.ncp_play.specs.NoteLines.{side_word, peer_word, front, named, next_heading};
 ghost use Rattle.ncp_script.specs.Verbs.{word_of};
 
-use ncp_files::{LONGEST_NUMBER, PAGE_SIZE, Page, push_field};
+use ncp_page::{LONGEST_NUMBER, PAGE_SIZE, Page, push_field};
 use ncp_script::Verb;
 
 /// Whose line it is, as scripts name hosts.

@@ -11,9 +11,10 @@ use crate::naming::name_of_note;
 use crate::results::{LONGEST_RESULT, push_result};
 use ncp_bits::Bits;
 use ncp_control::Command;
-use ncp_files::{LONGEST_LINE, PAGE_SIZE, Page, push_field, push_item, say_details};
+use ncp_files::{LONGEST_LINE, push_item, say_details};
 use ncp_host::{Error, Received};
 use ncp_leader::{Leader, Short, read_leader};
+use ncp_page::{PAGE_SIZE, Page, push_field};
 use ncp_stream::{Failed, Sink};
 use ncp_transcript::HostNote;
 

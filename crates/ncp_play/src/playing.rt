@@ -9,7 +9,7 @@ use crate::fault::PlayFault;
 use crate::heading::Heading;
 use crate::note_lines::say_note;
 use ncp_bits::BitStore;
-use ncp_files::Page;
+use ncp_page::Page;
 use ncp_stream::Sink;
 use ncp_transcript::{Alone, Input};
 

@@ -1,7 +1,7 @@
 //! Says a note. Nothing is promised of it, so that the prover does not follow a page through a long
 //! test.
 use ncp_bits::{Bits, PackedStore};
-use ncp_files::Page;
+use ncp_page::Page;
 use ncp_play::{Heading, PlayFault, Speaker, play_input, say_note};
 use ncp_stream::MemorySink;
 use ncp_transcript::{Alone, HostNote, Input, Message};

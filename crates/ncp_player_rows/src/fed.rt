@@ -2,7 +2,7 @@
 //! test.
 use ncp_bits::PackedStore;
 use ncp_feed::feed;
-use ncp_files::{Page, Window};
+use ncp_page::{Page, Window};
 use ncp_play::{Heading, PlayFault, Speaker};
 use ncp_stream::{MemorySink, MemorySource, Sink, Source};
 use ncp_transcript::Alone;

@@ -1,11 +1,11 @@
 //! `Lines`, and `next_played`.
 ghost use Rattle.std.specs.Prelude.{◌≡◌, ℕ, List, ◌<◌, ◌||◌, is_err, IfOk, [], true};
 ghost use Rattle.ncp_stream.specs.Streams.{Ahead};
-ghost use Rattle.ncp_files.specs.Windows.{effort};
+ghost use Rattle.ncp_page.specs.Windows.{effort};
 ghost use Rattle.ncp_reader.specs.NextLines.{ReadsNext, goes_on};
 
 use crate::reading::next_line;
-use ncp_files::Window;
+use ncp_page::Window;
 use ncp_script::{LineBuffer, LineKind};
 use ncp_stream::{Failed, Source};
 

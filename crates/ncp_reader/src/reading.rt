@@ -1,10 +1,10 @@
 //! `next_line`.
 ghost use Rattle.std.specs.Prelude.{◌≡◌, ℕ, List, ◌<◌, ◌||◌, is_err, IfOk, Some, true};
 ghost use Rattle.ncp_stream.specs.Streams.{Ahead};
-ghost use Rattle.ncp_files.specs.Windows.{effort};
+ghost use Rattle.ncp_page.specs.Windows.{effort};
 ghost use Rattle.ncp_reader.specs.Reading.{ReadsLine};
 
-use ncp_files::Window;
+use ncp_page::Window;
 use ncp_script::LineBuffer;
 use ncp_stream::{Failed, Source};
 

@@ -4,7 +4,7 @@ use Rattle.std.proofs.lemmas.List.{append-nil}
 use Rattle.std.proofs.lemmas.List.Concat.{flat_map-append}
 use Rattle.std.specs.List.{flat_map}
 use Rattle.ncp_files.specs.declared.version.Version.TheVariants.{Two}
-use Rattle.ncp_files.specs.Lines.{number_after}
+use Rattle.ncp_page.specs.Lines.{number_after}
 use Rattle.ncp_files.specs.Versions.{Recorded, bytes_of_record, header_of}
 use Rattle.ncp_two.specs.declared.note.Note.{Note}
 use Rattle.ncp_two.specs.Between.{Hosts, after_note}

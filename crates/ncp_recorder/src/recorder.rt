@@ -6,7 +6,8 @@ ghost use Rattle.ncp_recorder.specs.Tales.{recording_of};
 
 use crate::recording::say_world_record;
 use ncp_bits::BitStore;
-use ncp_files::{Page, Version, push_header};
+use ncp_files::{Version, push_header};
+use ncp_page::Page;
 use ncp_play::PlayFault;
 use ncp_stream::{Failed, Sink, Source};
 use ncp_world::{Note, World};

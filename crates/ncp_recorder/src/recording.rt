@@ -8,8 +8,9 @@ ghost use Rattle.ncp_files.specs.Versions.{placed};
 ghost use Rattle.ncp_recorder.specs.Recorded.{number_of, kind_of, sent_from, came_to, bytes_if, note_bytes};
 
 use ncp_bits::Bits;
-use ncp_files::{Direction, Page, Passage, say_message};
+use ncp_files::{Direction, Passage, say_message};
 use ncp_leader::{DESTINATION_DEAD, INCOMPLETE, Leader, MAX_KIND, RFNM, put_leader};
+use ncp_page::Page;
 use ncp_script::TwoHosts;
 use ncp_slot::Answer;
 use ncp_stream::{Failed, Sink};

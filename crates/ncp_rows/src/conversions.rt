@@ -9,9 +9,6 @@ use std::test::Fail;
 // Room for the files below.
 const ROOM: usize = 4096;
 
-// How many reads or writes fail in turn at most: each file here takes fewer.
-const CALLS: u32 = 8;
-
 // The messages of a reset between the hosts 1 and 2: it goes out at 1, comes at 2, and its answer comes
 // at 1.
 const RESET: &[u8] =
@@ -20,10 +17,11 @@ const RESET: &[u8] =
 // The first of them.
 const FIRST: &[u8] = b"NCPH\x00\x50\x00\x02\x00\x00\x00\x08\x00\x01\x00\x0c";
 
-// Two answers at host 7.
-const ANSWERS: &[u8] = b"NCPI\x00\x20\x05\x02\x00\x00\x00\x20\x09\x02\x00\x00";
+/// Two answers, in a file of version 1.
+pub(crate) const ANSWERS: &[u8] = b"NCPI\x00\x20\x05\x02\x00\x00\x00\x20\x09\x02\x00\x00";
 
-const PLACED: &[u8] = b"NCPJI\x07\x00\x20\x05\x02\x00\x00I\x07\x00\x20\x09\x02\x00\x00";
+/// The same at host 7, in a file of version 2.
+pub(crate) const PLACED: &[u8] = b"NCPJI\x07\x00\x20\x05\x02\x00\x00I\x07\x00\x20\x09\x02\x00\x00";
 
 // A file, the host, what is written of it, and what is answered.
 type Row<'a> = (&'a [u8], u8, &'a [u8], Result<(), FileFault>);
@@ -66,6 +64,18 @@ fn stops_at_another_passage(rt: HostRuntime) -> Result<(), Fail> {
                 b"NCPJH\x01\x00\x00H\x01\x00\x00H\x02\x00\x00H\x01\x00\x00",
                 1,
                 b"NCPH\x00\x00\x00\x00",
+                Err(FileFault::Mixed),
+            ),
+            (
+                b"NCPJH\x01\x00\x00I\x01\x00\x00",
+                1,
+                b"NCPH\x00\x00",
+                Err(FileFault::Mixed),
+            ),
+            (
+                b"NCPJH\x01\x00\x00H\x02\x00\x00G",
+                1,
+                b"NCPH\x00\x00",
                 Err(FileFault::Mixed),
             ),
         ],
@@ -132,28 +142,36 @@ fn keeps_the_messages_before_a_fault(rt: HostRuntime) -> Result<(), Fail> {
                 b"NCPI\x00\x00",
                 Err(FileFault::Truncated),
             ),
+            (
+                b"NCPH\x00\x00\x20\x01",
+                9,
+                b"NCPJH\x09\x00\x00",
+                Err(FileFault::TooLong),
+            ),
+            (
+                b"NCPH\x00\x00\x00\x04\x08",
+                9,
+                b"NCPJH\x09\x00\x00",
+                Err(FileFault::SpareNotZero),
+            ),
+            (
+                b"NCPJI\x09\x00\x00I",
+                9,
+                b"NCPI\x00\x00",
+                Err(FileFault::Truncated),
+            ),
+            (
+                b"NCPJI\x09\x00\x00H\x08\x20\x01",
+                9,
+                b"NCPI\x00\x00",
+                Err(FileFault::TooLong),
+            ),
+            (
+                b"NCPJI\x09\x00\x00H\x08\x00\x04\x08",
+                9,
+                b"NCPI\x00\x00",
+                Err(FileFault::SpareNotZero),
+            ),
         ],
     )
-}
-
-// Whether a file is converted with its n-th read or write failing: all of it, or a beginning.
-fn is_broken_off(alloc: Global, read: Option<u32>, write: Option<u32>) -> Result<bool, Fail> {
-    let mut sink = MemorySink::new(alloc, ROOM, write)?;
-    let answer = converted(&mut MemorySource::new(PLACED, read), &mut sink, 7);
-    let is_told = match answer {
-        Some(Ok(())) => sink.bytes() == ANSWERS,
-        Some(Err(FileFault::ReadFailed)) => read.is_some() && ANSWERS.starts_with(sink.bytes()),
-        Some(Err(FileFault::WriteFailed)) => write.is_some() && ANSWERS.starts_with(sink.bytes()),
-        _ => false,
-    };
-    Ok(is_told)
-}
-
-#[test]
-fn tells_failed_reads_and_writes(rt: HostRuntime) -> Result<(), Fail> {
-    for call in 1..=CALLS {
-        assert!(rt; is_broken_off(rt.alloc(), Some(call), None)?);
-        assert!(rt; is_broken_off(rt.alloc(), None, Some(call))?);
-    }
-    Ok(())
 }

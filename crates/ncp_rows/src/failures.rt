@@ -1,7 +1,8 @@
-//! Reads and writes that fail, each in turn, and sources and sinks that move a byte at a time.
+//! Reads and writes that fail, each in turn.
 
 use crate::shown::{checked, shown};
-use ncp_player::{Failed, FileFault, MemorySink, MemorySource, Sink, Source};
+use crate::streams::{Bytewise, Piecemeal, is_front};
+use ncp_player::{FileFault, MemorySink, MemorySource, Sink, Source};
 use std::alloc::Global;
 use std::process::Abort;
 use std::test::Fail;
@@ -17,53 +18,6 @@ const LINES: &[u8] = b"1 type-3 host=2 link=10 flags=1 low=5\n2 short\n";
 
 const COUNTS: &[u8] = b"messages=2 short=1 regular=0 faults=0 bad=0\n";
 
-// Reads a byte at a time.
-#[derive(Drop)]
-struct Bytewise<'a> {
-    source: MemorySource<'a>,
-}
-
-impl Source for Bytewise<'_> {
-    ghost use Rattle.std.specs.Prelude.{Some};
-
-    ghost left = { λ slow. Some slow.source.left };
-
-    ghost reads = { λ slow. slow.source.reads };
-
-    ghost has_failed = { λ slow. slow.source.failed };
-
-    fn read(&mut self, piece: &mut [u8]) -> Result<usize, Failed> {
-        let end = piece.len().min(1);
-        self.source.read(&mut piece[..end])
-    }
-
-    fn failed(&self) -> bool {
-        self.source.failed()
-    }
-}
-
-// Writes a byte at a time.
-#[derive(Drop)]
-struct Piecemeal {
-    sink: MemorySink,
-}
-
-impl Sink for Piecemeal {
-    ghost use Rattle.std.specs.Prelude.{Some};
-
-    ghost written = { λ slow. Some slow.sink.written };
-
-    ghost has_failed = { λ slow. slow.sink.failed };
-
-    fn write(&mut self, piece: &[u8]) -> Result<usize, Failed> {
-        self.sink.write(&piece[..piece.len().min(1)])
-    }
-
-    fn failed(&self) -> bool {
-        self.sink.failed()
-    }
-}
-
 fn read_bytewise(fails_at: Option<u32>) -> Bytewise<'static> {
     Bytewise {
         source: MemorySource::new(FILE, fails_at),
@@ -74,11 +28,6 @@ fn write_piecemeal(alloc: Global, fails_at: Option<u32>) -> Result<Piecemeal, Fa
     Ok(Piecemeal {
         sink: MemorySink::new(alloc, ROOM, fails_at)?,
     })
-}
-
-// Whether these bytes are the first `count` of a text.
-fn is_front(bytes: &[u8], count: usize, text: &[u8]) -> bool {
-    bytes.len() == count && text.starts_with(bytes)
 }
 
 // How many bytes the lines have of the records that are whole in the first bytes of the file.

@@ -312,6 +312,26 @@ fn tells_faults_of_passages(rt: HostRuntime) -> Result<(), Fail> {
                 b"1 from-imp at=1 short\n",
                 FileFault::Truncated,
             ),
+            faulty(
+                b"NCPJI\x01\x00\x00H\x01\x00",
+                b"1 from-imp at=1 short\n",
+                FileFault::Truncated,
+            ),
+            faulty(
+                b"NCPJI\x01\x00\x00H\x01\x20\x01",
+                b"1 from-imp at=1 short\n",
+                FileFault::TooLong,
+            ),
+            faulty(
+                b"NCPJI\x01\x00\x00H\x01\x00\x20\x05",
+                b"1 from-imp at=1 short\n",
+                FileFault::Truncated,
+            ),
+            faulty(
+                b"NCPJI\x01\x00\x00H\x01\x00\x04\x08",
+                b"1 from-imp at=1 short\n",
+                FileFault::SpareNotZero,
+            ),
         ],
     )
 }

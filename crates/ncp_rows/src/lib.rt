@@ -4,6 +4,8 @@
 #![tactic(auto)]
 
 #[cfg(test)]
+mod breaks;
+#[cfg(test)]
 mod command_line;
 #[cfg(test)]
 mod conversions;
@@ -17,5 +19,7 @@ mod files;
 mod pieces;
 #[cfg(test)]
 mod shown;
+#[cfg(test)]
+mod streams;
 #[cfg(test)]
 mod table;

@@ -1,5 +1,5 @@
 //! Lines that are read from a source.
-use ncp_files::Window;
+use ncp_page::Window;
 use ncp_reader::next_line;
 use ncp_script::LineBuffer;
 use ncp_stream::MemorySource;

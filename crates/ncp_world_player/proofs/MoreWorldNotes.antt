@@ -1,7 +1,7 @@
 -- What is told of notes behind others.
 use Rattle.std.proofs.Common.{◌≡◌, ℕ, List, [], ◌∷◌, ◌++◌, refl, ap, sym, ◌∙◌}
 use Rattle.std.proofs.lemmas.List.{append_assoc, append-nil}
-use Rattle.ncp_files.specs.Lines.{number_after}
+use Rattle.ncp_page.specs.Lines.{number_after}
 use Rattle.ncp_two.specs.declared.note.Note.{Note}
 use Rattle.ncp_two.specs.Between.{Hosts, after_note, after_notes}
 use Rattle.ncp_world_player.specs.Telling.{Tale, told_from, told, number_behind_notes}

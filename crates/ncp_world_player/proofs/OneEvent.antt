@@ -3,7 +3,7 @@ use Rattle.std.proofs.Common.{◌≡◌, ℕ, ◌-◌, List, [], ◌∷◌, ◌+
 use Rattle.std.proofs.Math.Seq.{get_or-append_seam}
 use Rattle.std.proofs.lemmas.List.{length-append}
 use Rattle.ncp_stream.specs.Streams.{SaidSoFar, SaysText, SaysBeginning}
-use Rattle.ncp_files.specs.Lines.{number_after}
+use Rattle.ncp_page.specs.Lines.{number_after}
 use Rattle.ncp_two.specs.declared.note.Note.{Note}
 use Rattle.ncp_two.specs.Between.{Hosts, after_note, after_notes}
 use Rattle.ncp_two.specs.Transcript.{Noted_world}

@@ -1,6 +1,6 @@
 -- The line of a ledger that is watched (this profile), and all lines of a note.
 use Rattle.std.specs.Prelude.{ℕ, List, [], ◌++◌, Option, Some, None, codes}
-use Rattle.ncp_files.specs.Lines.{field}
+use Rattle.ncp_page.specs.Lines.{field}
 use Rattle.ncp_two.specs.declared.ledger.Amount.{Amount}
 use Rattle.ncp_two.specs.declared.ledger.Ledger.{Ledger}
 use Rattle.ncp_two.specs.Between.{Hosts}

@@ -1,12 +1,12 @@
 -- What a player of two hosts does with a script, and what it writes of it.
-use Rattle.std.specs.Prelude.{◌≡◌, ◌⊎◌, ℕ, Bool, true, false, not, List, ◌++◌, Option, Some, Result, Ok, Err, IfOk}
+use Rattle.std.specs.Prelude.{◌≡◌, ◌⊎◌, ℕ, Bool, true, false, not, List, ◌++◌, Option, Some, None, Result, Ok, Err, IfOk}
 use Rattle.std.specs.List.{list_any}
 use Rattle.ncp_stream.specs.Streams.{Ahead}
 use Rattle.ncp_transcript.specs.Notes as host_notes
 use Rattle.ncp_script.specs.declared.first_lines.TwoHosts.{TwoHosts}
 use Rattle.ncp_script.specs.Scripts.{Course, Ending, Over, Faulty, Script, Plays, NoHosts, lines_of}
 use Rattle.ncp_script.specs.Scripts.{BadLine as Is_bad_line, LineTooLong as Is_too_long, BadHosts as Are_bad_hosts}
-use Rattle.ncp_reader.specs.NextLines.{ended_lines, CameBefore}
+use Rattle.ncp_reader.specs.NextLines.{next_from, ended_lines, CameBefore}
 use Rattle.ncp_play.specs.declared.fault.PlayFault.{PlayFault}
 use Rattle.ncp_play.specs.declared.fault.PlayFault.TheVariants.{BadLine, LineTooLong, BadHosts, Feed, ReadFailed, WriteFailed, OutOfMemory}
 use Rattle.ncp_two.specs.declared.event.Event.{Event}
@@ -124,6 +124,10 @@ PlaysTold tale script ending was written =
 abbrev pub PlaysNone : Script FirstLine Event → Script FirstLine Event → List ℕ → Option (List ℕ) → Type 0
 PlaysNone script wanted was written = (script ≡ wanted) × (written ≡ Some was)
 
+-- all lines that came whole are skipped, and nothing was written
+abbrev pub PlaysSkipped : List ℕ → List ℕ → Option (List ℕ) → Type 0
+PlaysSkipped given was written = (next_from 1 (ended_lines (lines_of given)) ≡ None) × (written ≡ Some was)
+
 -- the script of those lines that came whole
 abbrev pub script_cut : List ℕ → Script FirstLine Event
 script_cut bytes = script_behind 1 (ended_lines (lines_of bytes))
@@ -138,7 +142,7 @@ PlaysWorld tale bytes was (Err (LineTooLong line)) left written =
     PlaysNone (world_script bytes) (NoHosts (Is_too_long line)) was written ⊎ PlaysTold tale (world_script bytes) (Faulty (Is_too_long line)) was written
 PlaysWorld tale bytes was (Err BadHosts) left written = PlaysNone (world_script bytes) (NoHosts Are_bad_hosts) was written
 PlaysWorld tale bytes was (Err ReadFailed) left written =
-    (given : List ℕ) × CameBefore bytes left given × (PlaysNone (script_cut given) (NoHosts Are_bad_hosts) was written ⊎ PlaysTold tale (script_cut given) Over was written)
+    (given : List ℕ) × CameBefore bytes left given × (PlaysSkipped given was written ⊎ PlaysTold tale (script_cut given) Over was written)
 PlaysWorld tale bytes was (Err OutOfMemory) left written =
     (named : FirstLine) × (now : Noted_world) × PlaysSome (world_script bytes) named now × WritesAll (tale named) (begun_by named) was now.notes written
 PlaysWorld tale bytes was (Err WriteFailed) left written =

@@ -1,6 +1,6 @@
 -- What a player of two hosts tells of their notes.
 use Rattle.std.specs.Prelude.{ℕ, List, [], ◌∷◌, ◌++◌}
-use Rattle.ncp_files.specs.Lines.{number_after}
+use Rattle.ncp_page.specs.Lines.{number_after}
 use Rattle.ncp_two.specs.declared.note.Note.{Note}
 use Rattle.ncp_two.specs.Between.{Hosts, after_note}
 

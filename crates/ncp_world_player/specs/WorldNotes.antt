@@ -4,7 +4,7 @@ use Rattle.ncp_slot.specs.declared.slot.Answer.{Answer}
 use Rattle.ncp_slot.specs.declared.slot.Answer.TheVariants as answers
 use Rattle.ncp_transcript.specs.declared.note.HostNote.{HostNote}
 use Rattle.ncp_transcript.specs.declared.note.HostNote.TheVariants as host_notes
-use Rattle.ncp_files.specs.Lines.{field}
+use Rattle.ncp_page.specs.Lines.{field}
 use Rattle.ncp_play.specs.declared.heading.Heading.{Heading}
 use Rattle.ncp_play.specs.declared.heading.Speaker.TheVariants as speakers
 use Rattle.ncp_play.specs.Arrived.{received_words}

@@ -19,6 +19,7 @@ pub fn lines_of_moves()
 /// The line of a ledger, and that there is none.
 pub fn ledgers_are_told_so()
     ensures some { ledger_words (Some (record { outstanding = amount 2 16; counters = amount 1 0; all = amount 0 0; text = amount 1 16; ret = amount 0 0 })) ≡ codes " out=2/16 counters=1/0 all=0/0 text=1/16 ret=0/0" }
+    ensures each { ledger_words (Some (record { outstanding = amount 15 75; counters = amount 1 5; all = amount 2 10; text = amount 4 20; ret = amount 8 40 })) ≡ codes " out=15/75 counters=1/5 all=2/10 text=4/20 ret=8/40" }
     ensures large { amount_words (codes " all=") (amount 33553920 2199023255040) ≡ codes " all=33553920/2199023255040" }
     ensures none { ledger_words None ≡ codes " none" }
 {}

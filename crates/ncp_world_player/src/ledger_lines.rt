@@ -9,7 +9,7 @@ use crate::first_line::{FirstLine, Watch};
 use crate::teller::Teller;
 use crate::world_notes::say_world_note;
 use ncp_bits::BitStore;
-use ncp_files::{LONGEST_LONG, PAGE_SIZE, Page};
+use ncp_page::{LONGEST_LONG, PAGE_SIZE, Page};
 use ncp_stream::{Failed, Sink};
 use ncp_world::{Amount, Ledger, Note, World};
 

@@ -1,7 +1,7 @@
 //! What the next line of a script asks for.
 ghost use Rattle.std.specs.Prelude.{◌≡◌, ◌≢◌, ◌<◌, ◌||◌, ℕ, List, true, false, IfOk};
 ghost use Rattle.ncp_stream.specs.Streams.{Ahead};
-ghost use Rattle.ncp_files.specs.Windows.{effort};
+ghost use Rattle.ncp_page.specs.Windows.{effort};
 ghost use Rattle.ncp_play.specs.Faults.{is_read_failed, is_write_failed};
 ghost use Rattle.ncp_world_player.specs.NextEvents.{EventIn, AsksNext, FindsHosts, may_go_on};
 

@@ -1,7 +1,7 @@
 //! `play_script` and `play_world`: a script of two hosts, played line by line.
 ghost use Rattle.std.specs.Prelude.{◌≡◌, ◌≢◌, ◌<◌, ◌||◌, ◌⊎◌, ℕ, List, [], Some, true, false, Err, IfOk};
 ghost use Rattle.ncp_stream.specs.Streams.{Ahead};
-ghost use Rattle.ncp_files.specs.Windows.{effort};
+ghost use Rattle.ncp_page.specs.Windows.{effort};
 ghost use Rattle.ncp_play.specs.Faults.{is_read_failed, is_write_failed};
 ghost use Rattle.ncp_two.specs.Between.{Hosts};
 ghost use Rattle.ncp_two.specs.Transcript.{Noted_world};
@@ -16,7 +16,7 @@ use crate::next_event::{next_event, read_hosts};
 use crate::playing::play_event;
 use crate::teller::Teller;
 use ncp_bits::BitStore;
-use ncp_files::Page;
+use ncp_page::Page;
 use ncp_play::PlayFault;
 use ncp_reader::Lines;
 use ncp_stream::{Sink, Source};

@@ -8,7 +8,7 @@ ghost use Rattle.ncp_world_player.specs.Playing.{DoesEvent, TellsWorld, TellsWor
 use crate::first_line::FirstLine;
 use crate::teller::Teller;
 use ncp_bits::BitStore;
-use ncp_files::Page;
+use ncp_page::Page;
 use ncp_play::PlayFault;
 use ncp_stream::Sink;
 use ncp_world::{Event, World};

@@ -5,7 +5,7 @@ ghost use Rattle.ncp_stream.specs.Streams.{SaysTextOrBeginning};
 
 use crate::first_line::FirstLine;
 use ncp_bits::BitStore;
-use ncp_files::Page;
+use ncp_page::Page;
 use ncp_stream::{Failed, Sink};
 use ncp_world::{Note, World};
 

@@ -2,13 +2,13 @@
 ghost use Rattle.std.specs.Prelude.{◌≡◌, ◌+◌, ◌≤◌, ◌||◌, ◌++◌, ◌∷◌, codes, length, is_err};
 ghost use Rattle.ncp_stream.specs.Pieces.{bytes_and_writes, lost_pieces};
 ghost use Rattle.ncp_stream.specs.Streams.{SaysTextOrBeginning};
-ghost use Rattle.ncp_files.specs.Lines.{field};
+ghost use Rattle.ncp_page.specs.Lines.{field};
 ghost use Rattle.ncp_play.specs.NoteLines.{front};
 ghost use Rattle.ncp_world_player.specs.Moves.{word_of};
 ghost use Rattle.ncp_world_player.specs.WorldNotes.{heading_of, came_words, answer_word, answer_words, subnet_line, world_note_lines};
 
 use crate::moves::{letter_of, word_of};
-use ncp_files::{LONGEST_NUMBER, PAGE_SIZE, Page, push_field};
+use ncp_page::{LONGEST_NUMBER, PAGE_SIZE, Page, push_field};
 use ncp_play::{
     Heading, LONGEST_FRONT, LONGEST_RECEIVED, Speaker, push_front, push_received, say_note,
 };

@@ -3,7 +3,7 @@ use Rattle.ncp_files.specs.declared.file.FileFault.{FileFault}
 use Rattle.ncp_files.specs.declared.tally.Tally.{Tally}
 use Rattle.ncp_stream.specs.Pieces.{reads_beyond}
 use Rattle.ncp_stream.specs.Streams.{Ahead}
-use Rattle.ncp_files.specs.Windows.{effort}
+use Rattle.ncp_page.specs.Windows.{effort}
 use Rattle.ncp_files.specs.Tallies.{no_messages, TalliesFrom}
 use Rattle.ncp_files.proofs.checking.tally_records.Given as goal
 

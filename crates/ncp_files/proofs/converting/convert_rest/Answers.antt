@@ -1,7 +1,7 @@
 use Rattle.std.proofs.Common.{◌∙◌, ◌++◌, ℕ, Ok, Err, arith}
 use Rattle.std.proofs.Math.Bool.{or-false}
 use Rattle.std.proofs.lemmas.Result.{err_from_is_err_and}
-use Rattle.ncp_files.specs.Lines.{number_after}
+use Rattle.ncp_page.specs.Lines.{number_after}
 use Rattle.ncp_files.specs.Converted.{next_at}
 use Rattle.ncp_files.specs.Turning.{message_told}
 use Rattle.ncp_files.proofs.Turned.{at_front}

@@ -1,6 +1,7 @@
 use Rattle.std.proofs.Common.{◌∙◌, sym, ap}
 use Rattle.std.proofs.lemmas.Result.{err_from_is_err_and}
 use Rattle.ncp_files.specs.Converted.{message_at}
+use Rattle.ncp_files.proofs.Passages.{is_other, is_same}
 use Rattle.ncp_files.proofs.Turned.{at_stops, at_accepted, at_refused}
 use Rattle.ncp_files.proofs.converting.take_next.Goals as goal
 
@@ -12,15 +13,15 @@ returns-in_err-passage-clause-told g c = λ bytes a.
 pub returns-in_default-clause-told : goal.returns-in_default-clause-told
 returns-in_default-clause-told g c = λ bytes a. ap (message_at c.args.turn.wanted) (rw c.in_default.is at (c.in_ok-passage.ensures.told bytes a))
 
-pub returns-then-not-is_same-clause-told : goal.returns-then-not-is_same-clause-told
-returns-then-not-is_same-clause-told g c = λ bytes a.
+pub returns-then-ne-clause-told : goal.returns-then-ne-clause-told
+returns-then-ne-clause-told g c = λ bytes a.
     let read = rw c.in-Some.is at (c.in_ok-passage.ensures.told bytes a) in
-    ap (message_at c.args.turn.wanted) read.1 ∙ at_refused c.args.turn.wanted (record { passage = c.in-Some.passage; message = c.read_next.new.message }) read.0 (sym c.is_same.ensures ∙ c.if-not-is_same.true)
+    ap (message_at c.args.turn.wanted) read.1 ∙ at_refused c.args.turn.wanted (record { passage = c.in-Some.passage; message = c.read_next.new.message }) read.0 (is_other c.in-Some.passage c.args.turn.wanted (sym c.ne.ensures ∙ c.if-ne.true))
 
 pub returns-clause-told : goal.returns-clause-told
 returns-clause-told g c = λ bytes a.
     let read = rw c.in-Some.is at (c.in_ok-passage.ensures.told bytes a) in (
       read.0,
-      ap (message_at c.args.turn.wanted) read.1 ∙ at_accepted c.args.turn.wanted (record { passage = c.in-Some.passage; message = c.read_next.new.message }) read.0 (sym c.is_same.ensures ∙ c.if-not-is_same.false),
+      ap (message_at c.args.turn.wanted) read.1 ∙ at_accepted c.args.turn.wanted (record { passage = c.in-Some.passage; message = c.read_next.new.message }) read.0 (is_same c.in-Some.passage c.args.turn.wanted (sym c.ne.ensures ∙ c.if-ne.false)),
       read.2,
     )

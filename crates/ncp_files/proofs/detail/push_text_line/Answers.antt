@@ -1,5 +1,6 @@
 use Rattle.std.proofs.Common.{◌++◌, ℕ, ap, ◌∙◌, codes, length}
-use Rattle.ncp_files.specs.Lines.{field, text_word}
+use Rattle.ncp_page.specs.Lines.{field}
+use Rattle.ncp_files.specs.Lines.{text_word}
 use Rattle.ncp_stream.proofs.Saying.{three_pushed}
 use Rattle.ncp_files.proofs.detail.push_text_line.Goals as goal
 

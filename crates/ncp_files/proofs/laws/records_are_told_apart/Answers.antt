@@ -1,4 +1,5 @@
 use Rattle.ncp_files.proofs.Written.{record_exactly, record_ends, record_judged}
+use Rattle.ncp_files.proofs.Judged.{record_at_judged}
 use Rattle.ncp_files.proofs.laws.records_are_told_apart.Goals as goal
 
 pub returns-clause-record : goal.returns-clause-record
@@ -9,3 +10,6 @@ returns-clause-end c = record_ends
 
 pub returns-clause-fault : goal.returns-clause-fault
 returns-clause-fault c = record_judged
+
+pub returns-clause-placed : goal.returns-clause-placed
+returns-clause-placed c = record_at_judged

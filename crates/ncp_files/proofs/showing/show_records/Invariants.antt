@@ -2,7 +2,7 @@ use Rattle.std.proofs.Common.{◌≡◌, ◌≤◌, ℕ, List, Option, Result}
 use Rattle.ncp_files.specs.declared.file.FileFault.{FileFault}
 use Rattle.ncp_stream.specs.Pieces.{reads_beyond, bytes_and_writes}
 use Rattle.ncp_stream.specs.Streams.{Ahead, SaidSoFar}
-use Rattle.ncp_files.specs.Windows.{effort}
+use Rattle.ncp_page.specs.Windows.{effort}
 use Rattle.ncp_files.specs.Versions.{next_in}
 use Rattle.ncp_files.specs.Lines.{record_lines}
 use Rattle.ncp_files.specs.Steps.{SaysFrom}

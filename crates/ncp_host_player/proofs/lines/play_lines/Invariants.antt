@@ -1,7 +1,7 @@
 use Rattle.std.proofs.Common.{◌≡◌, ℕ, List, Option, Result}
 use Rattle.ncp_transcript.specs.Alone.{Alone}
 use Rattle.ncp_stream.specs.Streams.{Ahead}
-use Rattle.ncp_files.specs.Windows.{effort}
+use Rattle.ncp_page.specs.Windows.{effort}
 use Rattle.ncp_play.specs.declared.fault.PlayFault.{PlayFault}
 use Rattle.ncp_play.specs.declared.heading.Heading.{Heading}
 use Rattle.ncp_play.specs.Playing.{Tells}

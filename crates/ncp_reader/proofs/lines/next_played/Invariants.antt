@@ -1,7 +1,7 @@
 use Rattle.std.proofs.Common.{◌≡◌, ℕ, List, Option, Result, ◌≤◌}
 use Rattle.ncp_stream.specs.declared.source.Failed.{Failed}
 use Rattle.ncp_stream.specs.Streams.{Ahead}
-use Rattle.ncp_files.specs.Windows.{effort}
+use Rattle.ncp_page.specs.Windows.{effort}
 use Rattle.ncp_reader.specs.declared.lines.Lines.{Lines}
 use Rattle.ncp_reader.specs.declared.lines.NextLine.{NextLine}
 use Rattle.ncp_reader.specs.NextLines.{ReadsNext}

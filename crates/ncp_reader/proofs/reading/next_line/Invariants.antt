@@ -1,6 +1,6 @@
 use Rattle.std.proofs.Common.{◌≡◌, ◌≤◌, ℕ, List}
 use Rattle.ncp_stream.specs.Streams.{Ahead}
-use Rattle.ncp_files.specs.Windows.{effort}
+use Rattle.ncp_page.specs.Windows.{effort}
 use Rattle.ncp_reader.proofs.Pieces.{Underway}
 use Rattle.ncp_reader.proofs.reading.next_line.Given as goal
 

@@ -6,6 +6,10 @@ pub returns-clause-some : goal.returns-clause-some
 unfolding digits
 returns-clause-some c = refl
 
+pub returns-clause-each : goal.returns-clause-each
+unfolding digits
+returns-clause-each c = refl
+
 pub returns-clause-large : goal.returns-clause-large
 unfolding digits
 returns-clause-large c = refl

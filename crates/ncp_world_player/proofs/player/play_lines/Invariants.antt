@@ -1,6 +1,6 @@
 use Rattle.std.proofs.Common.{◌≡◌, ℕ, List}
 use Rattle.ncp_stream.specs.Streams.{Ahead}
-use Rattle.ncp_files.specs.Windows.{effort}
+use Rattle.ncp_page.specs.Windows.{effort}
 use Rattle.ncp_two.specs.Between.{Hosts}
 use Rattle.ncp_world_player.specs.Playing.{TellsWorld}
 use Rattle.ncp_world_player.specs.Players.{GoesOn}
