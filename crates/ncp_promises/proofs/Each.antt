@@ -15,7 +15,8 @@ use Rattle.ncp_two.proofs.SeenSteps.{Stand}
 use Rattle.ncp_two.proofs.SeenRuns.{Follows, follows}
 use Rattle.ncp_two.proofs.Headlines.{watched-all}
 use Rattle.ncp_promises.specs.EachNote.{OnSide, OfTold, OfEachNote}
-use Rattle.ncp_promises.proofs.Standing.{stand-after, stands-first}
+use Rattle.ncp_two.proofs.SeenRuns.{stand-after}
+use Rattle.ncp_two.proofs.Headlines.{stands}
 
 -- the beginning of a transcript is one for which the model stands
 pub begins-tied : (ns : List Note) (w : Hosts) → IsTranscript ns w → IsOfModel (seen (began w))
@@ -54,4 +55,4 @@ module _ (P : Told → World → World → Type 0) (holds : (st : worlds.Step) (
 
   -- of a whole transcript
   pub of-each-note : (ns : List Note) (w : Hosts) → IsTranscript ns w → OfEachNote P ns (began w)
-  of-each-note ns w t = each ns (began w) t.run (stands-first ns w t) (begins-tied ns w t)
+  of-each-note ns w t = each ns (began w) t.run (stands ns w t) (begins-tied ns w t)

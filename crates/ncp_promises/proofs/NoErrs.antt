@@ -1,13 +1,12 @@
 -- No ERR waits at a host or is underway from it, and none came to it.
-use Rattle.std.proofs.Common.{◌≡◌, ℕ, ◌+◌, Bool, true, false, ◌&&◌, ◌||◌, if◌then◌else◌, All, List, [], ◌∷◌, ◌++◌, drop, take, Option, None, Some, refl, sym, ap, ◌∙◌, subst, arith}
+use Rattle.std.proofs.Common.{◌≡◌, ℕ, ◌+◌, Bool, true, false, ◌&&◌, ◌||◌, if◌then◌else◌, All, List, [], ◌∷◌, ◌++◌, Option, None, Some, refl, ap, ◌∙◌, arith}
 use Rattle.std.specs.List.{list_any}
 use Rattle.std.specs.FinMap.{get}
 use Rattle.std.proofs.lemmas.List.Elements.{All-nil, All-cons, All-head, All-tail, All-append, All-filter, All-take, All-drop}
 use Rattle.ncp_control.specs.declared.command.Command.{Command}
 use Rattle.ncp_control.specs.declared.command.Command.TheVariants.{Rst, Rrp, Erp}
 use Rattle.ncp_control.specs.declared.command.Command.TheVariants as commands
-use Rattle.ncp_slot.specs.Slots.{slot_at}
-use Rattle.ncp_resets.specs.Delivery.{Slot, Empty, Ready, Travelling, Held, Subnet, Free, Accepted, Delivered, Lost, Dead, Link, undelivered, answered, not_come, woken, idle}
+use Rattle.ncp_resets.specs.Delivery.{Slot, Empty, Ready, Travelling, Held, Subnet, Free, Accepted, Delivered, Lost, Dead, Link, undelivered, answered, woken, idle}
 use Rattle.ncp_resets.specs.Resets.{Host, Side, This, That, is_up, host_resets, host_settles, host_falls, host_makes, host_makes_all, host_hears}
 use Rattle.ncp_resets.specs.Resets as resets
 use Rattle.ncp_model.specs.declared.pair.Pair.{Pair}
@@ -30,7 +29,6 @@ use Rattle.ncp_host.specs.PeerState.{PeerState}
 use Rattle.ncp_two.specs.Tie.{Stands, Reached, Begins, Goes_on, Tied}
 use Rattle.ncp_two.specs.Subnet as subnets
 use Rattle.ncp_two.specs.World as worlds
-use Rattle.ncp_two.specs.Underway.{underway}
 use Rattle.ncp_two.proofs.Reaching.{of-reached}
 use Rattle.ncp_two.proofs.Underway.{underway-is}
 use Rattle.ncp_promises.specs.Judged.{is_err}

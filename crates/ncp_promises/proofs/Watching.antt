@@ -21,7 +21,8 @@ use Rattle.ncp_two.proofs.Ties.{tied-swapped}
 use Rattle.ncp_two.proofs.SeenSteps.{Stand}
 use Rattle.ncp_two.proofs.SeenRuns.{Follows, follows}
 use Rattle.ncp_promises.specs.Since.{Watches, nothing_seen, none_watched, after_told, on_side, if_told, watched_from, other_way, CommandsAgree, IsSilent}
-use Rattle.ncp_promises.proofs.Standing.{stand-after, stands-first}
+use Rattle.ncp_two.proofs.SeenRuns.{stand-after}
+use Rattle.ncp_two.proofs.Headlines.{stands}
 use Rattle.ncp_promises.proofs.Each.{begins-tied, tied-after}
 use Rattle.ncp_promises.proofs.Lines.{line_of, line}
 use Rattle.ncp_promises.proofs.Keeping.{host_at, KeptIn, step-kept, kept-turned, commands-agree, silent}
@@ -71,7 +72,7 @@ begins-kept w =
 kept-last : (ns : List Note) (w : Hosts) → IsTranscript ns w → KeptIn (watched_from ns (began w) none_watched) (seen w)
 kept-last ns w t =
     subst (λ (x : Hosts). KeptIn (watched_from ns (began w) none_watched) (seen x)) (sym t.state)
-    (each ns (began w) none_watched t.run (stands-first ns w t) (begins-tied ns w t) (begins-kept w))
+    (each ns (began w) none_watched t.run (stands ns w t) (begins-tied ns w t) (begins-kept w))
 
 pub agree : (ns : List Note) (w : Hosts) → IsTranscript ns w → CommandsAgree (seen w) (watched_from ns (began w) none_watched) × CommandsAgree (swap (seen w)) (other_way (watched_from ns (began w) none_watched))
 agree ns w t =

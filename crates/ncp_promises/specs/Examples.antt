@@ -1,10 +1,11 @@
 -- States for examples.
-use Rattle.std.specs.Prelude.{true, [], ◌∷◌}
+use Rattle.std.specs.Prelude.{◌≡◌, ℕ, true, [], ◌∷◌}
 use Rattle.ncp_control.specs.declared.command.Command.{Command}
 use Rattle.ncp_model.specs.Phase.{up_phase}
 use Rattle.ncp_model.specs.Peers.{new_peer}
 use Rattle.ncp_hosts.specs.Watching.{Watch}
 use Rattle.ncp_host.specs.PeerState.{PeerState, new_state}
+use Rattle.ncp_two.specs.World.{World, Told}
 use Rattle.ncp_promises.specs.Since.{nothing_seen}
 
 -- a host that is up, without a connection, and one that waits for an RRP
@@ -17,3 +18,7 @@ waiting_state = record new_state { peer = record new_peer { phase = record up_ph
 -- an ECO was made, and an INR came
 abbrev pub seen_before : Watch
 seen_before = record nothing_seen { made = Command.Eco 64 ∷ []; came = Command.Inr 2 ∷ [] }
+
+-- what is said of a note is said with the host of this number as this host
+abbrev pub IsThis : ℕ → Told → World → World → Type 0
+IsThis number told v after = (number ≡ v.here) × (number ≡ after.here)

@@ -8,7 +8,7 @@ use Rattle.ncp_transcript.specs.Runs as runs
 use Rattle.ncp_two.specs.World.{World, swap}
 use Rattle.ncp_two.specs.Honest.{IsHonest, IsBeginning, number_of_side, sent, came}
 use Rattle.ncp_two.specs.Watch.{Both, turn}
-use Rattle.ncp_two.specs.Streams.{GotIsBeginning, GotIsTakenOrHeld}
+use Rattle.ncp_two.specs.Streams.{GotIsBeginning, GotIsTakenOrHeld, NeverBeyondAllocation}
 use Rattle.ncp_two.specs.Underway.{MessagesAgree, BitsAgree, Parted}
 use Rattle.ncp_two.specs.declared.note.Note.{Note}
 use Rattle.ncp_two.specs.declared.side.Side as sides
@@ -52,9 +52,13 @@ IsOnce pair v p = GotIsTakenOrHeld pair v p × Parted pair v p
 abbrev pub EachByteOnce : List Note → Hosts → Type 0
 EachByteOnce notes w = EitherWay IsOnce notes w
 
--- what is used is never more than was granted
+-- what is used is never more than was granted; and from the opening on what is outstanding is what was granted less
+-- what was returned and used, in messages and in bits
+abbrev pub IsAllowed : Pair → World → Both → Type 0
+IsAllowed pair v p = NeverOver pair v p × NeverBeyondAllocation pair v p
+
 abbrev pub WithinAllocation : List Note → Hosts → Type 0
-WithinAllocation notes w = EitherWay NeverOver notes w
+WithinAllocation notes w = EitherWay IsAllowed notes w
 
 -- what is outstanding is what the counters hold and what is underway, in messages and in bits
 abbrev pub AreBalanced : Pair → World → Both → Type 0

@@ -1,7 +1,8 @@
 //! That the laws speak of something, and what their definitions refuse: small laws that a wrong definition
 //! makes false.
-ghost use Rattle.std.specs.Prelude.{◌≡◌, ℕ, Bool, true, false, List, [], ◌∷◌};
+ghost use Rattle.std.specs.Prelude.{◌≡◌, ℕ, Bool, true, false, List, [], ◌∷◌, Some};
 ghost use Rattle.std.specs.List.{filter};
+ghost use Rattle.std.specs.FinMap.{get};
 ghost use Rattle.ncp_control.specs.declared.command.Command.{Command as Order};
 ghost use Rattle.ncp_slot.specs.Slot.{is_empty};
 ghost use Rattle.ncp_slot.specs.Slots.{slot_at};
@@ -12,23 +13,33 @@ ghost use Rattle.ncp_model.specs.Act.{answer};
 ghost use Rattle.ncp_model.specs.Ends.{hear};
 ghost use Rattle.ncp_model.specs.Phase.{up, up_phase, is_other};
 ghost use Rattle.ncp_model.specs.Peers.{new_peer};
-ghost use Rattle.ncp_model.specs.Rows.{outward, inward};
+ghost use Rattle.ncp_model.specs.declared.call_fault.CallFault.{CallFault};
+ghost use Rattle.ncp_model.specs.Rows.{outward, inward, counting};
 ghost use Rattle.ncp_resets.specs.Resets.{This, That};
 ghost use Rattle.ncp_watch.specs.Histories.{no_past};
-ghost use Rattle.ncp_hosts.specs.Hosts.{Hears, at, run, peer_of};
+ghost use Rattle.ncp_hosts.specs.Hosts.{Hears, at, run, peer_of, past_of};
 ghost use Rattle.ncp_hosts.specs.HostRuns.{meets, meets_there};
 ghost use Rattle.ncp_host.specs.declared.received.Received.TheVariants as received;
 ghost use Rattle.ncp_host.specs.PeerState.{PeerState, new_state};
+ghost use Rattle.ncp_transcript.specs.declared.call.Call.{Call};
+ghost use Rattle.ncp_transcript.specs.declared.note.HostNote.TheVariants as of_host;
 ghost use Rattle.ncp_two.specs.World.{World, Asks_echo, Asks_reset, Called, In, Reply, Asked};
+ghost use Rattle.ncp_two.specs.Watch.{Both};
+ghost use Rattle.ncp_two.specs.declared.side.Side.TheVariants as sides;
+ghost use Rattle.ncp_two.specs.declared.note.Note.TheVariants as notes;
+ghost use Rattle.ncp_two.specs.Between.{Hosts, after_note};
+ghost use Rattle.ncp_two.specs.Seen.{seen};
 ghost use Rattle.ncp_two.specs.Underway.{commands_of, underway};
 ghost use Rattle.ncp_two.specs.Subnet.{Subnet};
-ghost use Rattle.ncp_promises.specs.Judged.{ActsOnce, NoneErrs};
+ghost use Rattle.ncp_promises.specs.EachNote.{OfEachNote};
+ghost use Rattle.ncp_promises.specs.Judged.{ActsOnce, NoneErrs, MakesNoErr};
 ghost use Rattle.ncp_promises.specs.Errless.{HasNoErr};
 ghost use Rattle.ncp_promises.specs.Resetting.{Waits, OnlyResetsAct};
 ghost use Rattle.ncp_promises.specs.Openings.{Opens, OpensOnFreeLinks};
 ghost use Rattle.ncp_promises.specs.Since.{Watches, nothing_seen, of_asked, of_message, CommandsAgree};
 ghost use Rattle.ncp_promises.specs.Headline.{IsWithin};
-ghost use Rattle.ncp_promises.specs.Examples.{up_state, waiting_state, seen_before};
+ghost use Rattle.ncp_promises.specs.Promised.{IsAllowed};
+ghost use Rattle.ncp_promises.specs.Examples.{up_state, waiting_state, seen_before, IsThis};
 
 use ncp_control::Command;
 use ncp_headline::headline::openings_and_texts_out_happen;
@@ -44,13 +55,14 @@ pub fn openings_happen_and_are_seen()
     openings_and_texts_out_happen();
 }
 
-/// A command that an ERR answers is seen as one, and so is an ERR that is underway, or came; a command that comes
-/// and does nothing, or is counted as two, is refused.
+/// A command that an ERR answers is seen as one, and so is an ERR that is underway, or came, and a text beyond the
+/// allocation; a command that comes and does nothing, or is counted as two, is refused.
 pub fn errs_and_lost_commands_are_seen()
     ensures err { (c : Order) (code : ℕ) (bytes : List ℕ) (s : PeerState) → up s.peer.phase ≡ true → answer (hear c s.peer.ends) ≡ heard.Reply (Command.Err code bytes) → NoneErrs (c ∷ []) s → ⊥ }
     ensures going { (s : PeerState) (u : Subnet) (code : ℕ) (bytes : List ℕ) (cs : List Order) → underway s u ≡ Command.Err code bytes ∷ cs → HasNoErr s u → ⊥ }
     ensures came { (s : PeerState) (u : Subnet) (error : Error) (errors : List Error) → s.peer.echoes.errors ≡ error ∷ errors → HasNoErr s u → ⊥ }
     ensures lost { (m : List Bool) (v after : World) → commands_of m ≡ Command.Rrp ∷ [] → Waits v.that → Waits after.that → ActsOnce (In 0 m (received.Control 1)) v after → ⊥ }
+    ensures text { (m : List Bool) (v after : World) → MakesNoErr (In 2 m (received.Text took.Over)) v after → ⊥ }
     ensures twice { (m : List Bool) (v after : World) → commands_of m ≡ Command.Rrp ∷ [] → ActsOnce (In 0 m (received.Control 2)) v after → ⊥ }
 {}
 
@@ -63,7 +75,8 @@ pub fn acts_before_the_answer_are_seen()
 {}
 
 /// What is watched: a command that is made, one that comes and what it makes, and that a reset and an RST that
-/// comes begin anew. A command that was made, did not come, and is not underway is refused.
+/// comes begin anew. A command that was made, did not come, and is not underway is refused, and so are two that came
+/// in another order.
 pub fn what_is_made_and_comes_is_seen()
     ensures made { of_asked (Asks_echo 65) up_state seen_before ≡ record seen_before { made = Command.Eco 64 ∷ Command.Eco 65 ∷ [] } }
     ensures came { (m : List Bool) → commands_of m ≡ Command.Eco 65 ∷ [] → of_message 0 m up_state seen_before ≡ record seen_before { made = Command.Eco 64 ∷ Command.Erp 65 ∷ []; came = Command.Inr 2 ∷ Command.Eco 65 ∷ [] } }
@@ -71,11 +84,24 @@ pub fn what_is_made_and_comes_is_seen()
     ensures cleared { (m : List Bool) → commands_of m ≡ Command.Rst ∷ [] → of_message 0 m up_state seen_before ≡ nothing_seen }
     ensures down { (m : List Bool) → commands_of m ≡ Command.Eco 65 ∷ [] → of_message 0 m waiting_state nothing_seen ≡ nothing_seen }
     ensures lost { (v : World) (p : Watches) (c : Order) → up v.this.peer.phase ≡ true → up v.that.peer.phase ≡ true → p.this.made ≡ c ∷ [] → p.that.came ≡ [] → filter is_other (underway v.this v.going) ≡ [] → CommandsAgree v p → ⊥ }
+    ensures turned { (v : World) (p : Watches) (c d : Order) → (c ≡ d → ⊥) → up v.this.peer.phase ≡ true → up v.that.peer.phase ≡ true → p.this.made ≡ c ∷ d ∷ [] → p.that.came ≡ d ∷ c ∷ [] → filter is_other (underway v.this v.going) ≡ [] → CommandsAgree v p → ⊥ }
 {}
 
-/// What is used beyond the allocation is refused, of messages and of bits.
+/// What is used beyond the allocation is refused, of messages and of bits; and where nothing was used or returned, so
+/// is an outstanding that is not all that was granted.
 pub fn use_beyond_the_allocation_is_seen()
     ensures messages { IsWithin (record no_past { granted_messages = 3; returned_messages = 2; used_messages = 2 }) → ⊥ }
     ensures bits { IsWithin (record no_past { granted_bits = 8; returned_bits = 7; got = true ∷ false ∷ [] }) → ⊥ }
     ensures all { IsWithin (record no_past { granted_messages = 1; granted_bits = 1; used_messages = 1; got = true ∷ [] }) }
+    ensures outstanding { (v : World) (p : Both) → get v.that.peer.ends inward ≡ Some (counting 3 24) → past_of p.that inward ≡ record no_past { granted_messages = 4; granted_bits = 24 } → IsAllowed outward v p → ⊥ }
+    ensures outstanding_bits { (v : World) (p : Both) → get v.that.peer.ends inward ≡ Some (counting 3 24) → past_of p.that inward ≡ record no_past { granted_messages = 3; granted_bits = 25 } → IsAllowed outward v p → ⊥ }
+{}
+
+/// What is said of each note is said of it with the host of its side as this host; a note that tells nothing changes
+/// nothing that is seen.
+pub fn notes_are_of_their_own_side()
+    ensures of_a { (w : Hosts) (number link : ℕ) → OfEachNote (IsThis number) (notes.Lost sides.A link ∷ []) w → number ≡ w.number_a }
+    ensures of_b { (w : Hosts) (number link : ℕ) → OfEachNote (IsThis number) (notes.Lost sides.B link ∷ []) w → number ≡ w.number_b }
+    ensures each { (w : Hosts) (number link : ℕ) → OfEachNote (IsThis number) (notes.Lost sides.A link ∷ notes.Lost sides.B link ∷ []) w → number ≡ w.number_b }
+    ensures nothing { (w : Hosts) (number : ℕ) (call : Call) (fault : CallFault) → OfEachNote (IsThis number) (notes.Called sides.A (of_host.Refused call fault) ∷ []) w → seen (after_note (notes.Called sides.A (of_host.Refused call fault)) w) ≡ seen w }
 {}

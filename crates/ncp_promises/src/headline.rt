@@ -46,9 +46,10 @@ pub fn each_host_is_what_its_notes_say()
 /// command acts once, in order; and no command of a host makes the other make an ERR. Either way, for each pair.
 ///
 /// `subnet`: what the notes say of the subnet is honest. `once`: until it left, what it got was taken or is held;
-/// and while both ends are open, what was given was got, is underway, or waits. `ledger`: and what is outstanding
-/// is what the sender's counters hold and what is underway. `order`: what came on a link is a beginning of what
-/// was sent there. `commands`: between two that are up, those that came followed by those underway are those that
+/// and while both ends are open, what was given was got, is underway, or waits. `allocation`: what it used is never
+/// more than was granted, and from its opening on what it has outstanding is what was granted less what was returned
+/// and used, for messages and for bits. `ledger`: and what is outstanding is what the sender's counters hold and what is
+/// underway. `order`: what came on a link is a beginning of what was sent there. `commands`: between two that are up, those that came followed by those underway are those that
 /// were made, each since the last clearing. `acts`: each command of a message that comes acts once, in order.
 /// `errs`: no control text is faulty, no command is answered by an ERR, and no text is answered as not connected,
 /// of the wrong size or beyond the allocation.

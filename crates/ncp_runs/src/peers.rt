@@ -1,11 +1,11 @@
 //! Each peer by itself.
 ghost use Rattle.std.specs.Prelude.{◌≡◌, ℕ, true, false, List, [], ◌∷◌, ◌++◌, Some};
 ghost use Rattle.ncp_host.specs.PeerState.{new_state};
-ghost use Rattle.ncp_host.specs.Host.{state_of, is_one_of, new_host};
+ghost use Rattle.ncp_host.specs.Host.{Host, state_of, numbers_of, is_one_of, new_host};
 ghost use Rattle.ncp_host.specs.Counting.{none_ignored};
 ghost use Rattle.ncp_transcript.specs.declared.note.HostNote.{HostNote as Note};
 ghost use Rattle.ncp_transcript.specs.After.{after_notes};
-ghost use Rattle.ncp_transcript.specs.Runs.{IsRun};
+ghost use Rattle.ncp_transcript.specs.Runs.{IsRun, IsTranscript};
 ghost use Rattle.ncp_runs.specs.Peers.{FromBeginning, notes_of, notes_for, ignored_by};
 ghost use Rattle.ncp_runs.specs.Examples.{two_peers};
 
@@ -28,6 +28,13 @@ pub fn what_is_ignored_is_of_no_peer()
 /// The beginning of a run is a run, from the same beginning: so every law of runs holds after each note of one.
 pub fn a_beginning_of_a_run_is_a_run()
     ensures { (me : ℕ) (ns : List ℕ) (before after : List Note) → FromBeginning me ns (before ++ after) → FromBeginning me ns before }
+{}
+
+/// The transcript of a host is a run from its beginning, which has led to the host as it is: so every law of this
+/// crate holds of it, by whatever code its notes were kept.
+pub fn a_transcript_is_from_its_beginning()
+    ensures run { (all : List Note) (h : Host) → IsTranscript all h → FromBeginning h.me (numbers_of h.peers) all }
+    ensures host { (all : List Note) (h : Host) → IsTranscript all h → h ≡ after_notes all (new_host h.me (numbers_of h.peers)) }
 {}
 
 /// That these laws speak of something: a run of a host with two peers, and the notes of each.

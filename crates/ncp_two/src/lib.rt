@@ -3,6 +3,7 @@
 #![tactic(auto)]
 
 mod event;
+pub mod examples;
 pub mod laws;
 mod ledger;
 mod note;

@@ -17,8 +17,7 @@ use Rattle.ncp_promises.specs.Errless.{HasNoErr}
 use Rattle.ncp_promises.specs.Resetting.{Waits, StillWaits, OnlyResetsAct}
 use Rattle.ncp_promises.specs.Openings.{OpensUnderNoText}
 use Rattle.ncp_promises.specs.Since.{none_watched, watched_from, other_way, CommandsAgree}
-use Rattle.ncp_promises.specs.Headline.{NeverOver}
-use Rattle.ncp_promises.specs.Promised.{IsOnce, AreBalanced}
+use Rattle.ncp_promises.specs.Promised.{IsOnce, IsAllowed, AreBalanced}
 use Rattle.ncp_pairs.proofs.EachPair.{for-two}
 use Rattle.ncp_pairs.proofs.each_pair.the_headline_of_each_pair.Goals as goal
 
@@ -36,7 +35,7 @@ pub returns-clause-once : goal.returns-clause-once
 returns-clause-once c = for-two (Either IsOnce) c.the_headline.ensures.once
 
 pub returns-clause-allocation : goal.returns-clause-allocation
-returns-clause-allocation c = for-two (Either NeverOver) c.the_headline.ensures.allocation
+returns-clause-allocation c = for-two (Either IsAllowed) c.the_headline.ensures.allocation
 
 pub returns-clause-ledger : goal.returns-clause-ledger
 returns-clause-ledger c = for-two (Either AreBalanced) c.the_headline.ensures.ledger
