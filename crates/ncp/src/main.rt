@@ -3,7 +3,7 @@
 
 use anyhow::Result;
 use ncp_player::{
-    FileFault, FromRead, Order, PackedStore, PlayFault, ToWrite, check, order, play_host,
+    FileFault, FromRead, Order, PackedStore, PlayFault, ToWrite, check, convert, order, play_host,
     play_world, record_world, show, status,
 };
 use std::alloc::AllocGlobal;
@@ -49,6 +49,10 @@ fn main(rt: HostRuntime) -> Result<ExitCode> {
             Err(fault) => Err(Fault::File(fault)),
         },
         Order::Check => check(&mut source, &mut sink).map_err(|fault| Fault::File(fault)),
+        Order::Convert(at) => match convert(&mut source, &mut sink, at) {
+            Ok(()) => Ok(true),
+            Err(fault) => Err(Fault::File(fault)),
+        },
         Order::Host => play_host::<PackedStore, _, _>(alloc, &mut source, &mut sink).map_err(
             |fault| Fault::Play(fault),
         ),

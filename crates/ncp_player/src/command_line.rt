@@ -1,21 +1,29 @@
 //! The command line of the program `ncp`.
-ghost use Rattle.std.specs.Prelude.{◌≡◌, IfOk, map, option_map};
-ghost use Rattle.ncp_player.specs.CommandLine.{of_files, of_players, program, named, order_in, status_of};
+ghost use Rattle.std.specs.Prelude.{◌≡◌, IfOk, map, false};
+ghost use Rattle.ncp_player.specs.CommandLine.{bare_program, converting, named, number_in, of_files, of_players, order_in, order_of, program, status_of};
 ghost use Rattle.clap.specs.Faults.{fault_of};
-ghost use Rattle.clap.specs.Simple.{app_of};
 ghost use Rattle.clap.specs.Kinds.{FailsBy};
+ghost use Rattle.clap.specs.Simple.{app_of, shape_of, subcommand_rows_of};
+ghost use Rattle.clap.specs.Matches.{found_of};
+ghost use Rattle.clap.specs.declared.builder.command.Command.TheViews.{out-Command as fields_of};
+ghost use Rattle.clap.specs.Walk.{rows_of};
 
 use crate::orders::Order;
-use clap::{Command, Error};
+use clap::{Arg, ArgMatches, Command, Error};
 use std::alloc::{AllocError, Global};
 use std::convert::AsStr;
 
-// The program's name, and those of its subcommands.
+// The program's name, and what `--version` says of it.
 const PROGRAM: &str = "ncp";
 
+const VERSION: &str = "1.0.0";
+
+// The names of its subcommands, and of the argument of `convert`.
 const SHOW: &str = "show";
 
 const CHECK: &str = "check";
+
+const CONVERT: &str = "convert";
 
 const HOST: &str = "host";
 
@@ -23,20 +31,65 @@ const WORLD: &str = "world";
 
 const RECORD: &str = "record";
 
-// The order that a subcommand is: `show` where there is none.
-fn order_named(name: Option<&str>) -> Order
-    ensures { result ≡ named (option_map (λ name. name.now) name.entry) }
+const AT: &str = "at";
+
+// The number of `--at`. clap wants one, so it is never the 0 that stands for none.
+fn number_in(given: &ArgMatches) -> u8
+    ensures { result ≡ number_in (rows_of (found_of given.now)) }
+{
+    given.get_one::<u8>(AT).unwrap_or(0)
+}
+
+// The order that a subcommand with these arguments is.
+fn order_named(name: &str, given: &ArgMatches) -> Order
+    ensures { result ≡ named name.now (rows_of (found_of given.now)) }
 {
     match name {
-        Some(name) if name == CHECK => Order::Check,
-        Some(name) if name == HOST => Order::Host,
-        Some(name) if name == WORLD => Order::World,
-        Some(name) if name == RECORD => Order::Record,
+        _ if name == CHECK => Order::Check,
+        _ if name == CONVERT => Order::Convert(number_in(given)),
+        _ if name == HOST => Order::Host,
+        _ if name == WORLD => Order::World,
+        _ if name == RECORD => Order::Record,
         _ => Order::Show,
     }
 }
 
-// The program with the subcommands that read message files, as clap knows it.
+// The order that clap found: `show` where there is no subcommand.
+fn order_of(matches: &ArgMatches) -> Order
+    ensures { result ≡ order_of (subcommand_rows_of matches.now) }
+{
+    match matches.subcommand() {
+        Some((name, given)) => order_named(name, given),
+        None => Order::Show,
+    }
+}
+
+// `convert`, with the number of a host that it wants.
+fn converting<'a>(alloc: Global) -> Result<Command<'a>, AllocError>
+    ensures shape { IfOk result (λ command. shape_of command ≡ converting) }
+    ensures local { IfOk result (λ command. (fields_of command).has_globals ≡ false) }
+{
+    let at = Arg::new(alloc, AT)
+        .long(AT)
+        .value_name("H")
+        .required(true)
+        .value_parser(clap::value_parser!(u8))
+        .help("The number of the host at whose interface the messages stand");
+    Command::new(alloc, CONVERT)
+        .about("Turns a message file of one version into the other, from standard input")
+        .arg(at)
+}
+
+// The program as clap knows it, with no subcommand yet.
+fn bare_program<'a>(alloc: Global) -> Command<'a>
+    ensures { app_of result ≡ bare_program }
+{
+    Command::new(alloc, PROGRAM)
+        .version(VERSION)
+        .about("Reads the messages of an ARPANET host, and plays hosts")
+}
+
+// The program with the subcommands that read message files.
 fn with_files<'a>(alloc: Global) -> Result<Command<'a>, AllocError>
     ensures { IfOk result (λ command. app_of command ≡ of_files) }
 {
@@ -46,10 +99,10 @@ fn with_files<'a>(alloc: Global) -> Result<Command<'a>, AllocError>
     let check = Command::new(alloc, CHECK).about(
         "Counts the messages of a message file, and says whether all are sound",
     );
-    Command::new(alloc, PROGRAM)
-        .about("Reads the messages of an ARPANET host, and plays hosts")
+    bare_program(alloc)
         .subcommand(show)?
-        .subcommand(check)
+        .subcommand(check)?
+        .subcommand(converting(alloc)?)
 }
 
 // The program with the subcommands that play scripts too.
@@ -87,7 +140,7 @@ pub fn order<'a, S: AsStr>(alloc: Global, words: &'a [S]) -> Result<Order, Error
 {
     let program = command_line(alloc)?;
     let matches = program.try_get_matches_from(words)?;
-    Ok(order_named(matches.subcommand_name()))
+    Ok(order_of(&matches))
 }
 
 /// The program's exit status: 0 where all is good, 1 where a check or a player answered false, 2

@@ -1,5 +1,10 @@
-//! A law about orders: the contract of a function.
-ghost use Rattle.std.specs.Prelude.{◌≡◌, ◌↔◌, IsTrue};
+//! Laws about orders and the command line: the contracts of functions.
+ghost use Rattle.std.specs.Prelude.{◌≡◌, ◌↔◌, ◌∷◌, [], IsTrue, codes};
+ghost use Rattle.clap.specs.Faults.{fault_of};
+ghost use Rattle.clap.specs.declared.error.kind.ErrorKind.TheVariants as kind;
+ghost use Rattle.ncp_player.specs.CommandLine.{order_in, program};
+ghost use Rattle.ncp_player.specs.Examples.{after_convert, after_ncp};
+ghost use Rattle.ncp_player.specs.declared.orders.Order.TheVariants.{Convert, Record, Show, World};
 
 use crate::orders::Order;
 
@@ -9,3 +14,24 @@ pub fn same_order(one: Order, other: Order) -> bool
 {
     one == other
 }
+
+/// Worked command lines, computed from the definitions: a subcommand is its order, and `show` is meant
+/// where there is none. `--version` is told, and is no order.
+pub fn words_are_read_so()
+    ensures nothing { order_in (after_ncp []) ≡ Show }
+    ensures world { order_in (after_ncp (codes "world" ∷ [])) ≡ World }
+    ensures recorded { order_in (after_ncp (codes "record" ∷ [])) ≡ Record }
+    ensures version { fault_of program (after_ncp (codes "--version" ∷ [])) ≡ kind.DisplayVersion ∷ [] }
+{}
+
+/// Worked command lines of `convert`: it has the number of `--at`, from 0 to 255. A number that is
+/// missing, too great, or given twice is a fault.
+pub fn numbers_are_read_so()
+    ensures seven { order_in (after_convert (codes "--at" ∷ codes "7" ∷ [])) ≡ Convert 7 }
+    ensures most { order_in (after_convert (codes "--at=255" ∷ [])) ≡ Convert 255 }
+    ensures sound { fault_of program (after_convert (codes "--at=255" ∷ [])) ≡ [] }
+    ensures missing { fault_of program (after_convert []) ≡ kind.MissingRequiredArgument ∷ [] }
+    ensures great { fault_of program (after_convert (codes "--at=256" ∷ [])) ≡ kind.ValueValidation ∷ [] }
+    ensures negative { fault_of program (after_convert (codes "--at=-1" ∷ [])) ≡ kind.ValueValidation ∷ [] }
+    ensures twice { fault_of program (after_convert (codes "--at=7" ∷ codes "--at=7" ∷ [])) ≡ kind.ArgumentConflict ∷ [] }
+{}

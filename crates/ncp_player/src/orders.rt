@@ -7,6 +7,8 @@ pub enum Order {
     Show,
     /// Say whether a file is sound.
     Check,
+    /// Turn a file of one version into the other, where the host with this number has the interface.
+    Convert(u8),
     /// Play a script of one host.
     Host,
     /// Play a script of two hosts and the subnet between them.

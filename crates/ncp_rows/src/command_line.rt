@@ -7,7 +7,11 @@ use std::test::Fail;
 
 // What `--help` writes.
 const HELP: &str =
-    "Reads the messages of an ARPANET host, and plays hosts\n\nUsage: ncp [COMMAND]\n\nCommands:\n  show    Shows each message of a message file, read from standard input\n  check   Counts the messages of a message file, and says whether all are sound\n  host    Plays a script of one host, read from standard input\n  world   Plays a script of two hosts and the subnet between them, read from standard input\n  record  Plays a script of two hosts, read from standard input, and writes its messages as a message file\n  help    Print this message or the help of the given subcommand(s)\n\nOptions:\n  -h, --help  Print help\n";
+    "Reads the messages of an ARPANET host, and plays hosts\n\nUsage: ncp [COMMAND]\n\nCommands:\n  show     Shows each message of a message file, read from standard input\n  check    Counts the messages of a message file, and says whether all are sound\n  convert  Turns a message file of one version into the other, from standard input\n  host     Plays a script of one host, read from standard input\n  world    Plays a script of two hosts and the subnet between them, read from standard input\n  record   Plays a script of two hosts, read from standard input, and writes its messages as a message file\n  help     Print this message or the help of the given subcommand(s)\n\nOptions:\n  -h, --help     Print help\n  -V, --version  Print version\n";
+
+// What `convert --help` writes.
+const CONVERT_HELP: &str =
+    "Turns a message file of one version into the other, from standard input\n\nUsage: ncp convert --at <H>\n\nOptions:\n      --at <H>  The number of the host at whose interface the messages stand\n  -h, --help    Print help\n";
 
 // How the text of a fault ends.
 const USAGE: &str = "Usage: ncp [COMMAND]\n\nFor more information, try '--help'.\n";
@@ -38,6 +42,72 @@ fn reads_orders(rt: HostRuntime) {
     assert!(rt; matches!(order(alloc, &["ncp", "host"]), Ok(Order::Host)));
     assert!(rt; matches!(order(alloc, &["ncp", "world"]), Ok(Order::World)));
     assert!(rt; matches!(order(alloc, &["ncp", "record"]), Ok(Order::Record)));
+}
+
+#[test]
+fn reads_the_number_of_a_host(rt: HostRuntime) {
+    let alloc = rt.alloc();
+    let at = |words: &[&str]| match order(alloc, words) {
+        Ok(Order::Convert(at)) => Some(at),
+        _ => None,
+    };
+    assert_eq!(rt; at(&["ncp", "convert", "--at", "7"]), Some(7));
+    assert_eq!(rt; at(&["ncp", "convert", "--at=7"]), Some(7));
+    assert_eq!(rt; at(&["ncp", "convert", "--at", "0"]), Some(0));
+    assert_eq!(rt; at(&["ncp", "convert", "--at", "255"]), Some(255));
+    assert_eq!(rt; at(&["ncp", "convert", "--at", "007"]), Some(7));
+}
+
+#[test]
+fn refuses_other_numbers_of_a_host(rt: HostRuntime) -> Result<(), Fail> {
+    let alloc = rt.alloc();
+    let missing = "error: the following required arguments were not provided:\n  --at <H>\n";
+    expect_told(&rt, alloc, &["ncp", "convert"], 2, missing)?;
+    let bare = "error: a value is required for '--at <H>' but none was supplied";
+    expect_told(&rt, alloc, &["ncp", "convert", "--at"], 2, bare)?;
+    let great = "error: invalid value '256' for '--at <H>'";
+    expect_told(&rt, alloc, &["ncp", "convert", "--at", "256"], 2, great)?;
+    let negative = "error: unexpected argument '-1' found";
+    expect_told(&rt, alloc, &["ncp", "convert", "--at", "-1"], 2, negative)?;
+    let negative = "error: invalid value '-1' for '--at <H>'";
+    expect_told(&rt, alloc, &["ncp", "convert", "--at=-1"], 2, negative)?;
+    let word = "error: invalid value 'b' for '--at <H>'";
+    expect_told(&rt, alloc, &["ncp", "convert", "--at", "b"], 2, word)?;
+    let empty = "error: invalid value '' for '--at <H>'";
+    expect_told(&rt, alloc, &["ncp", "convert", "--at="], 2, empty)?;
+    Ok(())
+}
+
+#[test]
+fn refuses_a_host_twice_and_elsewhere(rt: HostRuntime) -> Result<(), Fail> {
+    let alloc = rt.alloc();
+    let twice = "error: the argument '--at <H>' cannot be used multiple times";
+    let words = ["ncp", "convert", "--at", "7", "--at", "7"];
+    expect_told(&rt, alloc, &words, 2, twice)?;
+    let elsewhere = "error: unexpected argument '--at' found";
+    expect_told(&rt, alloc, &["ncp", "show", "--at", "7"], 2, elsewhere)?;
+    expect_told(&rt, alloc, &["ncp", "--at", "7", "convert"], 2, elsewhere)?;
+    let file = "error: unexpected argument 'capture.ncp' found";
+    expect_told(
+        &rt,
+        alloc,
+        &["ncp", "convert", "--at", "7", "capture.ncp"],
+        2,
+        file,
+    )?;
+    Ok(())
+}
+
+#[test]
+fn tells_the_version_and_the_help_of_convert(rt: HostRuntime) -> Result<(), Fail> {
+    let alloc = rt.alloc();
+    for word in ["--version", "-V"] {
+        let told = expect_told(&rt, alloc, &["ncp", word], 0, "ncp ")?;
+        assert!(rt; told.as_str().ends_with("\n"));
+    }
+    let help = expect_told(&rt, alloc, &["ncp", "convert", "--help"], 0, CONVERT_HELP)?;
+    assert_eq!(rt; help.len(), CONVERT_HELP.len());
+    Ok(())
 }
 
 #[test]

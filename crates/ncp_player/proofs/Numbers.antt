@@ -1,0 +1,42 @@
+-- The number of an argument, read of what was found and of its rows.
+use Rattle.std.proofs.Common.{◌≡◌, ℕ, Bool, true, false, List, [], ◌∷◌, map, Option, Some, None, Result, Ok, Err, refl}
+use Rattle.std.specs.Prelude.{find, option_map, option_and_then, slice_get, unwrap_or}
+use Rattle.std.specs.Str.{bytes_eq}
+use Rattle.std.specs.Str.Parse.{ParsesUnsigned}
+use Rattle.std.specs.Borrow.{Bor}
+use Rattle.clap.specs.Facts.{Entry}
+use Rattle.clap.specs.Matches.{ReadsOne, one_text}
+use Rattle.clap.specs.Values.{read_as}
+use Rattle.clap.specs.Walk.{Text, byte_or_zero, one_of, row_of, row_text, rows_of, texts}
+use Rattle.clap.specs.declared.builder.value_parser.Reading.{Reading}
+use Rattle.clap.specs.declared.parser.matches.Found.{Found}
+use Rattle.clap.specs.declared.parser.matches.MatchedArg.{MatchedArg}
+use Rattle.clap.proofs.WalkLemmas.{byte_read}
+
+abbrev text_of : MatchedArg → Option Text
+text_of a = option_map (λ s. read_as a.reading s.now) (slice_get a.vals.items 0)
+
+first_text : (how : Reading) (values : List (Bor Text)) → option_map (read_as how) (slice_get (texts values) 0) ≡ option_map (λ s. read_as how s.now) (slice_get values 0)
+first_text how [] = refl
+first_text how (v ∷ vs) = refl
+
+text_in : (id : Text) (entries : List Entry)
+    → option_and_then row_text (find (λ r. bytes_eq r.id id) (map row_of entries)) ≡ option_and_then text_of (option_map (λ e. e.1) (find (λ e. bytes_eq e.0.now id) entries))
+text_in id [] = refl
+text_in id (e ∷ es) = go (text_in id es) (bytes_eq e.0.now id) refl
+  where
+    go : option_and_then row_text (find (λ r. bytes_eq r.id id) (map row_of es)) ≡ option_and_then text_of (option_map (λ e. e.1) (find (λ e. bytes_eq e.0.now id) es))
+        → (b : Bool) → bytes_eq e.0.now id ≡ b
+        → option_and_then row_text (find (λ r. bytes_eq r.id id) (map row_of (e ∷ es))) ≡ option_and_then text_of (option_map (λ e. e.1) (find (λ e. bytes_eq e.0.now id) (e ∷ es)))
+    go rest true t = rw t (first_text e.1.reading e.1.vals.items)
+    go rest false t = rw t rest
+
+-- the rows have the text that is read of what was found
+pub same_text_read : (f : Found) (id : Text) → one_of id (rows_of f) ≡ one_text f id
+same_text_read f id = text_in id f.entries.items
+
+-- a number of one byte that was read is that of its text, and where none was read it is 0
+pub byte_of_read : {E : Type 0} (gives : Text → Result ℕ E → Type 0) (text : Text) (read : Option ℕ)
+    → ((t : Text) (r : Result ℕ E) → gives t r → ParsesUnsigned 8 10 t r) → ReadsOne gives text read → unwrap_or read 0 ≡ byte_or_zero text
+byte_of_read {E} gives text (Some n) parses h = byte_read {E = E} text (Ok n) (parses text (Ok n) h)
+byte_of_read {E} gives text None parses h = byte_read {E = E} text (Err h.0) (parses text (Err h.0) h.1)
