@@ -1,5 +1,6 @@
 //! Scripts of one host, whole: their lines, and the answer.
-use crate::streams::play;
+use crate::streams::{is_played_whole, play};
+use ncp_bits::{PackedStore, PlainStore};
 use ncp_files::FileFault;
 use ncp_play::PlayFault;
 use std::alloc::Global;
@@ -22,7 +23,16 @@ const FEED: &[u8] =
 const FEED_LINES: &[u8] =
     b"1 in control 1\n2 in stray\n3 out host=2 link=0 bits=80\n  size=8 count=1\n  RRP\n4 out nothing\n";
 
-/// Plays a script, and compares the answer and all that is written.
+/// A script with two peers that come up, the second first.
+const PEERS: &[u8] =
+    b"host 1 3 2\nin 80 0002000000080001000c\nin 80 0003000000080001000c\nout\nout\nout\nphase 2\nphase 3\n";
+
+/// Its lines: output goes to the peers in the order of the first line.
+const PEERS_LINES: &[u8] =
+    b"1 in control 1\n2 in control 1\n3 out host=3 link=0 bits=80\n  size=8 count=1\n  RRP\n4 out host=2 link=0 bits=80\n  size=8 count=1\n  RRP\n5 out nothing\n6 phase 2 ok up\n7 phase 3 ok up\n";
+
+/// Plays a script, a byte at a time and in one piece, with both stores, and compares the answer and all
+/// that is written.
 fn expect(
     rt: &impl Abort,
     alloc: Global,
@@ -32,13 +42,16 @@ fn expect(
 ) -> Result<(), Fail> {
     let played = play(alloc, script, None, None)?;
     assert!(rt; played.is(answer, lines.len(), lines));
+    assert!(rt; is_played_whole::<PackedStore>(alloc, script, answer, lines)?);
+    assert!(rt; is_played_whole::<PlainStore>(alloc, script, answer, lines)?);
     Ok(())
 }
 
 #[test]
 fn scripts_are_played(rt: HostRuntime) -> Result<(), Fail> {
     expect(&rt, rt.alloc(), FIRST, Ok(false), FIRST_LINES)?;
-    expect(&rt, rt.alloc(), FEED, Ok(true), FEED_LINES)
+    expect(&rt, rt.alloc(), FEED, Ok(true), FEED_LINES)?;
+    expect(&rt, rt.alloc(), PEERS, Ok(true), PEERS_LINES)
 }
 
 #[test]
@@ -223,5 +236,7 @@ fn each_failed_write_is_told(rt: HostRuntime) -> Result<(), Fail> {
         let answer = Err(PlayFault::WriteFailed);
         assert!(rt; played.is(answer, len, FEED_LINES), "at {count}");
     }
+    let played = play(rt.alloc(), FEED, None, Some(92))?;
+    assert!(rt; played.is(Ok(true), FEED_LINES.len(), FEED_LINES));
     Ok(())
 }

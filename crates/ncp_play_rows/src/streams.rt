@@ -1,5 +1,5 @@
-//! Sources and sinks that move a byte at a time, and a script that is played between two.
-use ncp_bits::PackedStore;
+//! Sources and sinks that move a byte at a time, and a script that is played between two, or in one piece.
+use ncp_bits::{BitStore, PackedStore};
 use ncp_host_player::play_host;
 use ncp_play::PlayFault;
 use ncp_stream::{Failed, MemorySink, MemorySource, Sink, Source};
@@ -90,4 +90,17 @@ pub(crate) fn play(
         Some(play_host::<PackedStore, _, _>(alloc, &mut source, &mut sink))
     };
     Ok(Played { answer, sink })
+}
+
+/// Plays a script in one piece with this store. Whether this was answered, and these lines written.
+pub(crate) fn is_played_whole<S: BitStore>(
+    alloc: Global,
+    script: &[u8],
+    wanted: Result<bool, PlayFault>,
+    lines: &[u8],
+) -> Result<bool, Fail> {
+    let mut source = MemorySource::new(script, None);
+    let mut sink = MemorySink::new(alloc, ROOM, None)?;
+    let answer = play_host::<S, _, _>(alloc, &mut source, &mut sink);
+    Ok(answer == wanted && sink.bytes() == lines)
 }

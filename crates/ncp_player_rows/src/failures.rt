@@ -1,6 +1,6 @@
 //! Reads and writes that fail in a feed, each in turn.
 use crate::bytewise::{Bytewise, Piecemeal};
-use crate::fed::{ROOM, fed, joined};
+use crate::fed::{ROOM, fed, fed_to_page, joined};
 use ncp_files::FileFault;
 use ncp_play::PlayFault;
 use ncp_stream::{MemorySink, MemorySource, Sink, Source};
@@ -47,17 +47,21 @@ fn a_feed_is_read_and_told_bytewise(rt: HostRuntime) -> Result<(), Fail> {
     Ok(())
 }
 
-// Feeds from a source whose n-th read fails, and compares what was written.
-fn is_fed_until_read(alloc: Global, count: u32) -> Result<bool, Fail> {
+// Feeds from a source whose n-th read fails, and compares the answer and what was written.
+fn is_fed_until_read(
+    alloc: Global,
+    count: u32,
+    wanted: Result<(), PlayFault>,
+    len: usize,
+) -> Result<bool, Fail> {
     let mut source = Bytewise {
         source: MemorySource::new(FILE, Some(count)),
     };
     let mut sink = MemorySink::new(alloc, ROOM, None)?;
     let answer = fed(alloc, &mut source, &mut sink)?;
-    let len = lines_of_front((count as usize).saturating_sub(1));
     Ok(
-        answer == Err(PlayFault::Feed(FileFault::ReadFailed))
-            && source.failed()
+        answer == wanted
+            && source.failed() == wanted.is_err()
             && !sink.failed()
             && are_first(sink.bytes(), len),
     )
@@ -66,22 +70,32 @@ fn is_fed_until_read(alloc: Global, count: u32) -> Result<bool, Fail> {
 #[test]
 fn each_failed_read_is_told(rt: HostRuntime) -> Result<(), Fail> {
     for count in 1..24u32 {
-        assert!(rt; is_fed_until_read(rt.alloc(), count)?, "at {count}");
+        let fault = Err(PlayFault::Feed(FileFault::ReadFailed));
+        let len = lines_of_front((count as usize).saturating_sub(1));
+        assert!(rt;
+            is_fed_until_read(rt.alloc(), count, fault, len)?,
+            "at {count}"
+        );
     }
+    assert!(rt; is_fed_until_read(rt.alloc(), 24, Ok(()), LINES.len())?);
     Ok(())
 }
 
-// Feeds into a sink whose n-th write fails, and compares what was written.
-fn is_fed_until_write(alloc: Global, count: u32) -> Result<bool, Fail> {
+// Feeds into a sink whose n-th write fails, and compares the answer and what was written.
+fn is_fed_until_write(
+    alloc: Global,
+    count: u32,
+    wanted: Result<(), PlayFault>,
+    len: usize,
+) -> Result<bool, Fail> {
     let mut source = MemorySource::new(FILE, None);
     let mut sink = Piecemeal {
         sink: MemorySink::new(alloc, ROOM, Some(count))?,
     };
     let answer = fed(alloc, &mut source, &mut sink)?;
-    let len = (count as usize).saturating_sub(1);
     Ok(
-        answer == Err(PlayFault::WriteFailed)
-            && sink.failed()
+        answer == wanted
+            && sink.failed() == wanted.is_err()
             && !source.failed()
             && are_first(sink.sink.bytes(), len),
     )
@@ -90,8 +104,14 @@ fn is_fed_until_write(alloc: Global, count: u32) -> Result<bool, Fail> {
 #[test]
 fn each_failed_write_is_told(rt: HostRuntime) -> Result<(), Fail> {
     for count in 1..93u32 {
-        assert!(rt; is_fed_until_write(rt.alloc(), count)?, "at {count}");
+        let fault = Err(PlayFault::WriteFailed);
+        let len = (count as usize).saturating_sub(1);
+        assert!(rt;
+            is_fed_until_write(rt.alloc(), count, fault, len)?,
+            "at {count}"
+        );
     }
+    assert!(rt; is_fed_until_write(rt.alloc(), 93, Ok(()), LINES.len())?);
     Ok(())
 }
 
@@ -104,12 +124,12 @@ fn many(alloc: Global) -> Result<Vec<u8>, Fail> {
     Ok(bytes)
 }
 
-// Feeds so many into a sink with so much room, and answers how much was written.
+// Feeds so many into a sink with so much room, and answers how much was written within the feed.
 fn written_of_many(alloc: Global, room: usize) -> Result<Option<usize>, Fail> {
     let bytes = many(alloc)?;
     let mut source = MemorySource::new(&bytes, None);
     let mut sink = MemorySink::new(alloc, room, None)?;
-    let answer = fed(alloc, &mut source, &mut sink)?;
+    let (answer, _page) = fed_to_page(alloc, &mut source, &mut sink)?;
     if answer == Err(PlayFault::WriteFailed)
         && sink.failed()
         && b"7 in stray\n8 in stray\n".starts_with(sink.bytes())

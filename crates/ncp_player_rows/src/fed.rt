@@ -21,12 +21,12 @@ const PEERS: [u8; 2] = [2, 3];
 /// What is played first has this number.
 const FIRST: u32 = 7;
 
-/// Feeds a new host with what the source has left, and writes what then stays on the page.
-pub(crate) fn fed<R: Source, W: Sink>(
+/// Feeds a new host with what the source has left: the answer, and the page with what stays on it.
+pub(crate) fn fed_to_page<R: Source, W: Sink>(
     alloc: Global,
     source: &mut R,
     sink: &mut W,
-) -> Result<Result<(), PlayFault>, Fail> {
+) -> Result<(Result<(), PlayFault>, Page), Fail> {
     let mut alone = Alone::<PackedStore>::new(alloc, ME, &PEERS)?;
     let mut heading = Heading {
         number: FIRST,
@@ -42,6 +42,16 @@ pub(crate) fn fed<R: Source, W: Sink>(
         &mut page,
         sink,
     );
+    Ok((answer, page))
+}
+
+/// Feeds a new host with what the source has left, and writes what then stays on the page.
+pub(crate) fn fed<R: Source, W: Sink>(
+    alloc: Global,
+    source: &mut R,
+    sink: &mut W,
+) -> Result<Result<(), PlayFault>, Fail> {
+    let (answer, mut page) = fed_to_page(alloc, source, sink)?;
     if !sink.failed() && page.flush(sink).is_err() {
         return Ok(Err(PlayFault::WriteFailed));
     }

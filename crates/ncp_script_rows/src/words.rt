@@ -3,7 +3,9 @@
 use ncp_bits::Bits;
 use ncp_model::Pair;
 use ncp_script::Words;
+use std::alloc::Global;
 use std::process::Abort;
+use std::test::Fail;
 
 #[test]
 fn reads_numbers(rt: HostRuntime) {
@@ -72,12 +74,30 @@ fn refuses_what_are_no_bits(rt: HostRuntime) {
         b"8 6g",
         b"16 61",
         b"4 f1",
-        b"8193 00",
         b"x 00",
     ];
     for line in lines {
         assert!(rt; Words::new(line).next_bits().is_none());
     }
+}
+
+// A number of bits, and so many digits behind it that are all zero.
+fn with_zeros(alloc: Global, number: &[u8], digits: usize) -> Result<Vec<u8>, Fail> {
+    let mut line = Vec::new(alloc);
+    line.extend_from_slice(number)?;
+    for _ in 0..digits {
+        line.push(b'0')?;
+    }
+    Ok(line)
+}
+
+#[test]
+fn bits_are_8192_at_most(rt: HostRuntime) -> Result<(), Fail> {
+    let most = with_zeros(rt.alloc(), b"8192 ", 2048)?;
+    assert!(rt; are_bits(&most, &[0; 1024], 8192));
+    let more = with_zeros(rt.alloc(), b"8193 ", 2050)?;
+    assert!(rt; Words::new(&more).next_bits().is_none());
+    Ok(())
 }
 
 #[test]
