@@ -4,6 +4,7 @@ pub mod Others
 pub mod Crowds
 pub mod ByItself
 pub mod ManyRuns
+pub mod FirstOfMany
 pub mod InVain
 pub mod OnePair
 pub mod TwoOfMany
