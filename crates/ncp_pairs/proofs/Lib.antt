@@ -17,5 +17,6 @@ pub mod Agreeing
 pub mod Stepping
 pub mod Starting
 pub mod EachPair
+pub mod NotesOfTwo
 mod Beginning
 pub mod EveryPair
