@@ -21,7 +21,7 @@ use Rattle.ncp_play.specs.Playing.{Tells}
 use Rattle.ncp_host_player.specs.Asking.{course_of}
 use Rattle.ncp_host_player.specs.Doing.{DoesAll, DoesFirst}
 use Rattle.ncp_host_player.specs.Beginning.{begun_by, IsBegun, Begins}
-use Rattle.ncp_host_player.specs.Played.{CourseDoes, BehindDoes, ScriptDoes, ScriptBegins, LinesCame, HostDoes, Answers, first_heading, Says, WritesAll, WritesBeginning, HostPlayed}
+use Rattle.ncp_host_player.specs.Played.{CourseDoes, BehindDoes, ScriptDoes, ScriptBegins, ScriptCame, HostDoes, Answers, first_heading, Says, WritesAll, WritesBeginning, HostPlayed}
 use Rattle.ncp_host_player.proofs.Does.{does_not}
 
 -- ---- the first line
@@ -36,8 +36,7 @@ begin_says bytes was (LineTooLong line) now left page written begins said = ([],
 begin_says bytes was OutOfMemory now left page written begins said =
     let some : ScriptBegins (host_script bytes) [] = subst (λ (s : Script Named Input). ScriptBegins s []) (sym begins.2) (begun_by begins.0, does_not begins.1 (begun_by begins.0) (begun_by begins.0) refl, refl, begins.3) in
     ([], first_heading, inr some, (refl, said))
-begin_says bytes was ReadFailed now left page written begins said =
-    ([], first_heading, (begins.0, begins.1, subst (λ (s : Script Named Input). LinesCame s []) (sym begins.2) (refl, refl)), (refl, said))
+begin_says bytes was ReadFailed now left page written begins said = ([], first_heading, (begins.0, begins.1, inl (begins.2, refl)), (refl, said))
 begin_says bytes was (BadLine line) now left page written begins said = absurd begins
 begin_says bytes was (Feed fault) now left page written begins said = absurd begins
 begin_says bytes was WriteFailed now left page written begins said = absurd begins
@@ -72,7 +71,7 @@ module _ (bytes : List ℕ) (alone : Alone) (ended : Bool) (lines : Lines) (read
       let rest = course_of lines.number (ended_lines (lines_of does.0)) in (
         came.0,
         came.1,
-        subst (λ (s : Script Named Input). LinesCame s now.notes) (sym came.2) (now, subst (λ (a : Alone). DoesAll rest scripts.Over a now) begun.3 does.2, refl, told),
+        inr (subst (λ (s : Script Named Input). ScriptCame s now.notes) (sym came.2) (now, subst (λ (a : Alone). DoesAll rest scripts.Over a now) begun.3 does.2, refl, told)),
       )
   came_does false now left lf none told does = absurd (let f = none lf in cc)
 

@@ -10,7 +10,7 @@ use Rattle.ncp_script.specs.HostScripts.{host_script}
 use Rattle.ncp_script.specs.Scripts as scripts
 use Rattle.ncp_script.specs.Scripts.{Course, NoHosts, Plays, lines_of}
 use Rattle.ncp_reader.specs.declared.lines.Lines.{Lines}
-use Rattle.ncp_reader.specs.NextLines.{ended_lines, CameBefore}
+use Rattle.ncp_reader.specs.NextLines.{next_from, ended_lines, CameBefore}
 use Rattle.ncp_play.specs.declared.fault.PlayFault.{PlayFault}
 use Rattle.ncp_play.specs.declared.fault.PlayFault.TheVariants.{BadLine, LineTooLong, BadHosts, Feed, ReadFailed, WriteFailed, OutOfMemory}
 use Rattle.ncp_host_player.specs.Asking.{course_of, script_of_lines}
@@ -40,13 +40,13 @@ IsBegun bytes alone ended now left =
     → (came : List ℕ) × CameBefore bytes left' came × (script_of_lines (ended_lines (lines_of came)) ≡ Plays named (course_of now.number (ended_lines (lines_of given)))))
 
 -- how the script that bytes are begins, by the answer; where there was no memory for the host, the empty list is
--- a transcript of it
+-- a transcript of it; where a read failed, all lines that came whole are skipped
 abbrev pub Begins : List ℕ → Result (Alone × Bool) PlayFault → Lines → Option (List ℕ) → Type 0
 Begins bytes (Ok (alone, ended)) now left = IsBegun bytes alone ended now left
 Begins bytes (Err BadHosts) now left = host_script bytes ≡ NoHosts scripts.BadHosts
 Begins bytes (Err (LineTooLong line)) now left = host_script bytes ≡ NoHosts (scripts.LineTooLong line)
 Begins bytes (Err OutOfMemory) now left = (named : Named) × (course : Course Input) × (host_script bytes ≡ Plays named course) × IsTranscript [] (begun_by named).host
-Begins bytes (Err ReadFailed) now left = (given : List ℕ) × CameBefore bytes left given × (script_of_lines (ended_lines (lines_of given)) ≡ NoHosts scripts.BadHosts)
+Begins bytes (Err ReadFailed) now left = (given : List ℕ) × CameBefore bytes left given × (next_from 1 (ended_lines (lines_of given)) ≡ None)
 Begins bytes (Err (BadLine line)) now left = ⊥
 Begins bytes (Err (Feed fault)) now left = ⊥
 Begins bytes (Err WriteFailed) now left = ⊥

@@ -1,5 +1,5 @@
 -- What the player of a script of one host does and writes, by its answer (this profile).
-use Rattle.std.specs.Prelude.{◌≡◌, ◌⊎◌, ℕ, Bool, not, List, [], ◌++◌, Option, Some, Result, Ok, Err}
+use Rattle.std.specs.Prelude.{◌≡◌, ◌⊎◌, ℕ, Bool, not, List, [], ◌++◌, Option, Some, None, Result, Ok, Err}
 use Rattle.std.specs.List.{list_any}
 use Rattle.ncp_transcript.specs.declared.input.Input.{Input}
 use Rattle.ncp_transcript.specs.declared.note.HostNote.{HostNote}
@@ -9,8 +9,8 @@ use Rattle.ncp_transcript.specs.Runs.{IsTranscript}
 use Rattle.ncp_script.specs.FirstLines.{Named}
 use Rattle.ncp_script.specs.HostScripts.{host_script}
 use Rattle.ncp_script.specs.Scripts as scripts
-use Rattle.ncp_script.specs.Scripts.{Course, Ending, ScriptFault, Script, NoHosts, Plays, Over, Fed, Faulty, lines_of}
-use Rattle.ncp_reader.specs.NextLines.{ended_lines, CameBefore}
+use Rattle.ncp_script.specs.Scripts.{Line, Course, Ending, ScriptFault, Script, NoHosts, Plays, Over, Fed, Faulty, lines_of}
+use Rattle.ncp_reader.specs.NextLines.{next_from, ended_lines, CameBefore}
 use Rattle.ncp_feed.specs.Feeds.{FeedDoes}
 use Rattle.ncp_play.specs.declared.fault.PlayFault.{PlayFault}
 use Rattle.ncp_play.specs.declared.fault.PlayFault.TheVariants.{BadLine, LineTooLong, BadHosts, Feed, ReadFailed, WriteFailed, OutOfMemory}
@@ -65,14 +65,18 @@ abbrev pub ScriptBegins : Script Named Input → List HostNote → Type 0
 ScriptBegins (NoHosts fault) notes = ⊥
 ScriptBegins (Plays named course) notes = (now : Alone) × DoesFirst course (begun_by named) now × (notes ≡ now.notes) × IsTranscript notes now.host
 
--- the notes of the lines of a script that came whole, in which no fault is
-abbrev pub LinesCame : Script Named Input → List HostNote → Type 0
-LinesCame (NoHosts fault) notes = (fault ≡ scripts.BadHosts) × (notes ≡ [])
-LinesCame (Plays named course) notes = (now : Alone) × DoesAll course Over (begun_by named) now × (notes ≡ now.notes) × IsTranscript notes now.host
+-- the notes of all that a script without a fault asks for
+abbrev pub ScriptCame : Script Named Input → List HostNote → Type 0
+ScriptCame (NoHosts fault) notes = ⊥
+ScriptCame (Plays named course) notes = (now : Alone) × DoesAll course Over (begun_by named) now × (notes ≡ now.notes) × IsTranscript notes now.host
+
+-- the notes of lines that came whole, in which no fault is: all are skipped, and there is no note; or they are a script
+abbrev pub LinesCame : List Line → List HostNote → Type 0
+LinesCame lines notes = ((next_from 1 lines ≡ None) × (notes ≡ [])) ⊎ ScriptCame (script_of_lines lines) notes
 
 -- the notes of the script that bytes are, by the answer
 abbrev pub HostDoes : List ℕ → Result Unit PlayFault → List HostNote → Option (List ℕ) → Type 0
-HostDoes bytes (Err ReadFailed) notes left = (given : List ℕ) × CameBefore bytes left given × LinesCame (script_of_lines (ended_lines (lines_of given))) notes
+HostDoes bytes (Err ReadFailed) notes left = (given : List ℕ) × CameBefore bytes left given × LinesCame (ended_lines (lines_of given)) notes
 HostDoes bytes (Err OutOfMemory) notes left = ScriptDoes (host_script bytes) (Err OutOfMemory) notes left ⊎ ScriptBegins (host_script bytes) notes
 HostDoes bytes (Err WriteFailed) notes left = ScriptDoes (host_script bytes) (Err WriteFailed) notes left ⊎ ScriptBegins (host_script bytes) notes
 HostDoes bytes (Ok done) notes left = ScriptDoes (host_script bytes) (Ok done) notes left

@@ -30,4 +30,4 @@ returns-in_ok-alone-in-Ok-Played-clause-told g c = λ bytes ahead.
 pub returns-in-Err-clause-told : goal.returns-in-Err-clause-told
 returns-in-Err-clause-told g c = λ bytes ahead.
     let read = c.in-Err.ensures.told bytes ahead in
-    (read.0, read.1, begins_none (ended_lines (lines_of read.0)) (ap (λ n. next_from n (ended_lines (lines_of read.0))) (sym c.requires) ∙ read.2))
+    (read.0, read.1, ap (λ n. next_from n (ended_lines (lines_of read.0))) (sym c.requires) ∙ read.2)
