@@ -7,7 +7,7 @@ use Rattle.ncp_script.specs.Words.{words_of}
 use Rattle.ncp_script.specs.Scripts.{Line, lines_of, said, Course, Script, Over, Faulty, ends, course_from, script_from, NoHosts}
 use Rattle.ncp_script.specs.Scripts.{BadLine as Is_bad_line, LineTooLong as Is_too_long, BadHosts as Are_bad_hosts}
 use Rattle.ncp_reader.specs.declared.lines.Lines.{Lines}
-use Rattle.ncp_reader.specs.NextLines.{ended_lines, CameBefore, IsNext}
+use Rattle.ncp_reader.specs.NextLines.{next_from, ended_lines, CameBefore, IsNext}
 use Rattle.ncp_play.specs.declared.fault.PlayFault.{PlayFault}
 use Rattle.ncp_play.specs.declared.fault.PlayFault.TheVariants.{BadLine, LineTooLong, BadHosts, Feed, ReadFailed, WriteFailed, OutOfMemory}
 use Rattle.ncp_two.specs.declared.event.Event.{Event}
@@ -78,13 +78,12 @@ BeginsSo first bytes named ended now left =
     (number : ℕ) × (line : Line) × IsNext first bytes Played number line now.number now.window left × (line.ended ≡ ended)
     × (first_line_of (words_of (said line)) ≡ Some named)
 
--- what became of bytes whose first line is to name the hosts
+-- what became of bytes whose first line is to name the hosts; where a read failed, all lines that came whole are skipped
 abbrev pub FindsHosts : ℕ → List ℕ → Result (FirstLine × Bool) PlayFault → Lines → Option (List ℕ) → Type 0
 FindsHosts first bytes (Ok (named, ended)) now left = BeginsSo first bytes named ended now left
 FindsHosts first bytes (Err BadHosts) now left = script_behind first (lines_of bytes) ≡ NoHosts Are_bad_hosts
 FindsHosts first bytes (Err (LineTooLong line)) now left = script_behind first (lines_of bytes) ≡ NoHosts (Is_too_long line)
-FindsHosts first bytes (Err ReadFailed) now left =
-    (given : List ℕ) × CameBefore bytes left given × (script_behind first (ended_lines (lines_of given)) ≡ NoHosts Are_bad_hosts)
+FindsHosts first bytes (Err ReadFailed) now left = (given : List ℕ) × CameBefore bytes left given × (next_from first (ended_lines (lines_of given)) ≡ None)
 FindsHosts first bytes (Err OutOfMemory) now left = ⊥
 FindsHosts first bytes (Err WriteFailed) now left = ⊥
 FindsHosts first bytes (Err (BadLine line)) now left = ⊥

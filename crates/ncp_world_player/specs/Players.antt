@@ -1,12 +1,12 @@
 -- What a player of two hosts does with a script, and what it writes of it.
-use Rattle.std.specs.Prelude.{◌≡◌, ◌⊎◌, ℕ, Bool, true, false, not, List, ◌++◌, Option, Some, Result, Ok, Err, IfOk}
+use Rattle.std.specs.Prelude.{◌≡◌, ◌⊎◌, ℕ, Bool, true, false, not, List, ◌++◌, Option, Some, None, Result, Ok, Err, IfOk}
 use Rattle.std.specs.List.{list_any}
 use Rattle.ncp_stream.specs.Streams.{Ahead}
 use Rattle.ncp_transcript.specs.Notes as host_notes
 use Rattle.ncp_script.specs.declared.first_lines.TwoHosts.{TwoHosts}
 use Rattle.ncp_script.specs.Scripts.{Course, Ending, Over, Faulty, Script, Plays, NoHosts, lines_of}
 use Rattle.ncp_script.specs.Scripts.{BadLine as Is_bad_line, LineTooLong as Is_too_long, BadHosts as Are_bad_hosts}
-use Rattle.ncp_reader.specs.NextLines.{ended_lines, CameBefore}
+use Rattle.ncp_reader.specs.NextLines.{next_from, ended_lines, CameBefore}
 use Rattle.ncp_play.specs.declared.fault.PlayFault.{PlayFault}
 use Rattle.ncp_play.specs.declared.fault.PlayFault.TheVariants.{BadLine, LineTooLong, BadHosts, Feed, ReadFailed, WriteFailed, OutOfMemory}
 use Rattle.ncp_two.specs.declared.event.Event.{Event}
@@ -128,7 +128,8 @@ PlaysNone script wanted was written = (script ≡ wanted) × (written ≡ Some w
 abbrev pub script_cut : List ℕ → Script FirstLine Event
 script_cut bytes = script_behind 1 (ended_lines (lines_of bytes))
 
--- what was done with a script and written of it, by the answer; what is told of its notes is known by its first line
+-- what was done with a script and written of it, by the answer; what is told of its notes is known by its first line.
+-- Where a read failed, all lines that came whole are skipped, or they were played
 abbrev pub PlaysWorld : (FirstLine → Tale) → List ℕ → List ℕ → Result Bool PlayFault → Option (List ℕ) → Option (List ℕ) → Type 0
 PlaysWorld tale bytes was (Ok good) left written =
     (named : FirstLine) × (now : Noted_world) × PlaysAll (world_script bytes) Over named now × WritesAll (tale named) (begun_by named) was now.notes written
@@ -138,7 +139,8 @@ PlaysWorld tale bytes was (Err (LineTooLong line)) left written =
     PlaysNone (world_script bytes) (NoHosts (Is_too_long line)) was written ⊎ PlaysTold tale (world_script bytes) (Faulty (Is_too_long line)) was written
 PlaysWorld tale bytes was (Err BadHosts) left written = PlaysNone (world_script bytes) (NoHosts Are_bad_hosts) was written
 PlaysWorld tale bytes was (Err ReadFailed) left written =
-    (given : List ℕ) × CameBefore bytes left given × (PlaysNone (script_cut given) (NoHosts Are_bad_hosts) was written ⊎ PlaysTold tale (script_cut given) Over was written)
+    (given : List ℕ) × CameBefore bytes left given
+    × (((next_from 1 (ended_lines (lines_of given)) ≡ None) × (written ≡ Some was)) ⊎ PlaysTold tale (script_cut given) Over was written)
 PlaysWorld tale bytes was (Err OutOfMemory) left written =
     (named : FirstLine) × (now : Noted_world) × PlaysSome (world_script bytes) named now × WritesAll (tale named) (begun_by named) was now.notes written
 PlaysWorld tale bytes was (Err WriteFailed) left written =

@@ -1,7 +1,6 @@
 use Rattle.std.proofs.Common.{List, ℕ, sym, ap, ◌∙◌}
 use Rattle.ncp_script.specs.Words.{words_of}
 use Rattle.ncp_script.specs.Scripts.{lines_of}
-use Rattle.ncp_reader.specs.NextLines.{ended_lines}
 use Rattle.ncp_world_player.specs.FirstLine.{first_line_of}
 use Rattle.ncp_world_player.proofs.AskedLines.{no_first, first_long, first_bad}
 use Rattle.ncp_world_player.proofs.next_event.read_hosts.Goals as goal
@@ -33,4 +32,4 @@ returns-in-Ok-Over-clause-told g c = λ bytes ahead. no_first c.args.lines.now.n
 pub returns-in-Err-clause-told : goal.returns-in-Err-clause-told
 returns-in-Err-clause-told g c = λ bytes ahead.
     let cut = c.in-Err.ensures.told bytes ahead in
-    (cut.0, cut.1, no_first c.args.lines.now.number (ended_lines (lines_of cut.0)) cut.2)
+    (cut.0, cut.1, cut.2)
