@@ -23,7 +23,7 @@ use std::alloc::Global;
 // Hosts that are played, and what is told of them.
 #[derive(Drop)]
 struct Player<C: Scene> {
-    hosts: C,
+    hosts: C::Hosts,
     number: u32,
     page: Page,
 }
@@ -38,7 +38,7 @@ fn play_next<C: Scene, T: Teller<C>, R: Source, W: Sink>(
     sink: &mut W,
 ) -> Result<bool, PlayFault>
     ensures events { (bytes : List ℕ) → Ahead lines.old.window (R.left source.old) bytes → PlaysNext C.rules first.now lines.old.number bytes player.old.hosts result player.new.hosts lines.new.number lines.new.window (R.left source.new) }
-    ensures told { (began : C) (was : List ℕ) → Tells C.rules (T.tale first.now) began was player.old.hosts player.old.number player.old.page (W.written sink.old) → TellsAs C.rules (T.tale first.now) began was player.new.hosts result player.new.number player.new.page (W.written sink.new) }
+    ensures told { (began : C.Hosts) (was : List ℕ) → Tells C.rules (T.tale first.now) began was player.old.hosts player.old.number player.old.page (W.written sink.old) → TellsAs C.rules (T.tale first.now) began was player.new.hosts result player.new.number player.new.page (W.written sink.new) }
     ensures effort { IfOk result (λ more. more ≡ true → effort (R.reads source.new) lines.new.window < effort (R.reads source.old) lines.old.window) }
     ensures source_mark { R.has_failed source.new ≡ (R.has_failed source.old || is_read_failed result) }
     ensures sink_mark { W.has_failed sink.new ≡ (W.has_failed sink.old || is_write_failed result) }
@@ -67,7 +67,7 @@ fn play_lines<C: Scene, T: Teller<C>, R: Source, W: Sink>(
     sink: &mut W,
 ) -> Result<(), PlayFault>
     ensures events { (bytes : List ℕ) → Ahead lines.old.window (R.left source.old) bytes → PlaysLines C.rules first.now lines.old.number bytes player.old.hosts result player.new.hosts (R.left source.new) }
-    ensures told { (began : C) (was : List ℕ) → Tells C.rules (T.tale first.now) began was player.old.hosts player.old.number player.old.page (W.written sink.old) → TellsAs C.rules (T.tale first.now) began was player.new.hosts result player.new.number player.new.page (W.written sink.new) }
+    ensures told { (began : C.Hosts) (was : List ℕ) → Tells C.rules (T.tale first.now) began was player.old.hosts player.old.number player.old.page (W.written sink.old) → TellsAs C.rules (T.tale first.now) began was player.new.hosts result player.new.number player.new.page (W.written sink.new) }
     ensures source_mark { R.has_failed source.new ≡ (R.has_failed source.old || is_read_failed result) }
     ensures sink_mark { W.has_failed sink.new ≡ (W.has_failed sink.old || is_write_failed result) }
 {
@@ -86,7 +86,7 @@ fn play_rest<C: Scene, T: Teller<C>, R: Source, W: Sink>(
     sink: &mut W,
 ) -> Result<(), PlayFault>
     ensures events { (bytes : List ℕ) → Ahead lines.old.window (R.left source.old) bytes → (ended ≡ false → bytes ≡ []) → PlaysLines C.rules first.now lines.old.number bytes player.old.hosts result player.new.hosts (R.left source.new) }
-    ensures told { (began : C) (was : List ℕ) → Tells C.rules (T.tale first.now) began was player.old.hosts player.old.number player.old.page (W.written sink.old) → TellsAs C.rules (T.tale first.now) began was player.new.hosts result player.new.number player.new.page (W.written sink.new) }
+    ensures told { (began : C.Hosts) (was : List ℕ) → Tells C.rules (T.tale first.now) began was player.old.hosts player.old.number player.old.page (W.written sink.old) → TellsAs C.rules (T.tale first.now) began was player.new.hosts result player.new.number player.new.page (W.written sink.new) }
     ensures unread { ended ≡ false → is_read_failed result ≡ false }
     ensures source_mark { R.has_failed source.new ≡ (R.has_failed source.old || is_read_failed result) }
     ensures sink_mark { W.has_failed sink.new ≡ (W.has_failed sink.old || is_write_failed result) }
@@ -115,7 +115,7 @@ fn play_all<C: Scene, T: Teller<C>, R: Source, W: Sink>(
     sink: &mut W,
 ) -> Result<bool, PlayFault>
     ensures events { (bytes : List ℕ) → Ahead lines.old.window (R.left source.old) bytes → (ended ≡ false → bytes ≡ []) → PlaysLines C.rules first.now lines.old.number bytes player.old.hosts result player.new.hosts (R.left source.new) }
-    ensures told { (began : C) (was : List ℕ) → Tells C.rules (T.tale first.now) began was player.old.hosts player.old.number player.old.page (W.written sink.old) → TellsAs C.rules (T.tale first.now) began was player.new.hosts result player.new.number player.new.page (W.written sink.new) }
+    ensures told { (began : C.Hosts) (was : List ℕ) → Tells C.rules (T.tale first.now) began was player.old.hosts player.old.number player.old.page (W.written sink.old) → TellsAs C.rules (T.tale first.now) began was player.new.hosts result player.new.number player.new.page (W.written sink.new) }
     ensures run { C.rules.IsRun player.new.hosts }
     ensures good { AnswersGood C.rules result (C.rules.notes player.new.hosts) }
     ensures unread { ended ≡ false → is_read_failed result ≡ false }
@@ -123,7 +123,7 @@ fn play_all<C: Scene, T: Teller<C>, R: Source, W: Sink>(
     ensures sink_mark { W.has_failed sink.new ≡ (W.has_failed sink.old || is_write_failed result) }
 {
     let played = play_rest::<C, T, R, W>(alloc, first, ended, lines, source, player, sink);
-    let good = !any_refusal::<C>(player.hosts.notes());
+    let good = !any_refusal::<C>(C::notes(&player.hosts));
     played?;
     Ok(good)
 }
@@ -136,7 +136,7 @@ fn finish<C: Scene, W: Sink>(
 ) -> Result<bool, PlayFault>
     requires { W.has_failed sink.old ≡ is_write_failed played }
     ensures same { (result ≡ played) ⊎ (result ≡ Err PlayFault.WriteFailed) }
-    ensures told { (tale : Tale C.Note C) (began : C) (was : List ℕ) (hosts : C) (number : ℕ) → TellsAs C.rules tale began was hosts played number page.old (W.written sink.old) → WritesAs C.rules tale began was (C.rules.notes hosts) result (W.written sink.new) }
+    ensures told { (tale : Tale C.Note C.Hosts) (began : C.Hosts) (was : List ℕ) (hosts : C.Hosts) (number : ℕ) → TellsAs C.rules tale began was hosts played number page.old (W.written sink.old) → WritesAs C.rules tale began was (C.rules.notes hosts) result (W.written sink.new) }
     ensures mark { W.has_failed sink.new ≡ is_write_failed result }
 {
     if sink.failed() {

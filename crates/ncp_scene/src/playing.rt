@@ -17,21 +17,21 @@ use ncp_stream::Sink;
 /// `WriteFailed` the event was done, and a beginning of all that is told is written.
 pub fn play_event<C: Scene, T: Teller<C>, W: Sink>(
     first: &C::First,
-    hosts: &mut C,
+    hosts: &mut C::Hosts,
     event: &C::Event,
     number: &mut u32,
     page: &mut Page,
     sink: &mut W,
 ) -> Result<(), PlayFault>
     ensures event { DoesEvent C.rules event.now hosts.old result hosts.new }
-    ensures told { (began : C) (was : List ℕ) → Tells C.rules (T.tale first.now) began was hosts.old number.old page.old (W.written sink.old) → TellsAs C.rules (T.tale first.now) began was hosts.new result number.new page.new (W.written sink.new) }
+    ensures told { (began : C.Hosts) (was : List ℕ) → Tells C.rules (T.tale first.now) began was hosts.old number.old page.old (W.written sink.old) → TellsAs C.rules (T.tale first.now) began was hosts.new result number.new page.new (W.written sink.new) }
     ensures writes { bytes_and_writes W.takes_all (W.writes sink.old) (W.written sink.old) ≤ bytes_and_writes W.takes_all (W.writes sink.new) (W.written sink.new) + lost_pieces (is_write_failed result) }
     ensures mark { W.has_failed sink.new ≡ (W.has_failed sink.old || is_write_failed result) }
 {
-    if hosts.step(event).is_err() {
+    if C::step(hosts, event).is_err() {
         return Err(PlayFault::OutOfMemory);
     }
-    let notes = hosts.notes();
+    let notes = C::notes(hosts);
     match T::say(first, hosts, *number, &notes[notes.len() - 1], page, sink) {
         Ok(()) => {
             *number = number.saturating_add(1);

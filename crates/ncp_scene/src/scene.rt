@@ -4,10 +4,13 @@ ghost use Rattle.std.specs.Prelude.{◌≡◌, ◌++◌, ◌∷◌, [], ℕ, Lis
 use ncp_script::Words;
 use std::alloc::{AllocError, Global};
 
-/// The hosts that a script plays, with their notes: how a first line makes them, what a line behind it asks
-/// for, and how that happens.
-pub trait Scene: Drop + Sized {
+/// What a script plays: hosts with their notes, how a first line makes them, what a line behind it asks for,
+/// and how that happens.
+pub trait Scene {
     ghost use Rattle.ncp_scene.specs.Rules.{Rules};
+
+    /// The hosts, with their notes.
+    type Hosts: Drop;
 
     /// What a first line says.
     type First: Drop;
@@ -19,7 +22,7 @@ pub trait Scene: Drop + Sized {
     type Note;
 
     /// What the words of lines say, and what happens.
-    ghost rules: { Rules Self.First Self.Event Self.Note Self };
+    ghost rules: { Rules Self.First Self.Event Self.Note Self.Hosts };
 
     /// Whether hosts can be made as a first line says.
     ghost IsProper: { Self.First → Type 0 };
@@ -40,19 +43,19 @@ pub trait Scene: Drop + Sized {
         ensures { IfOk result (λ event. event ≡ rules.reads first.now words.old) };
 
     /// New hosts.
-    fn begin(alloc: Global, first: &Self::First) -> Result<Self, AllocError>
+    fn begin(alloc: Global, first: &Self::First) -> Result<Self::Hosts, AllocError>
         requires { IsProper first.now }
         ensures { IfOk result (λ hosts. hosts ≡ rules.begun first.now) };
 
     /// Does what an event says, and notes it. After an `AllocError` nothing has happened.
-    fn step(&mut self, event: &Self::Event) -> Result<(), AllocError>
-        ensures step { OnOk result (rules.Step event.now self.old self.new) }
-        ensures err { OnErr result (self.new ≡ self.old) };
+    fn step(hosts: &mut Self::Hosts, event: &Self::Event) -> Result<(), AllocError>
+        ensures step { OnOk result (rules.Step event.now hosts.old hosts.new) }
+        ensures err { OnErr result (hosts.new ≡ hosts.old) };
 
     /// The notes of all events, the first event's first.
-    fn notes(&self) -> &[Self::Note]
-        ensures notes { result.now ≡ rules.notes self.now }
-        ensures run { rules.IsRun self.now };
+    fn notes(hosts: &Self::Hosts) -> &[Self::Note]
+        ensures notes { result.now ≡ rules.notes hosts.now }
+        ensures run { rules.IsRun hosts.now };
 
     /// Whether a note says that a call was refused.
     fn is_refusal(note: &Self::Note) -> bool
@@ -64,6 +67,6 @@ pub trait Scene: Drop + Sized {
     ghost run_none: { (first : Self.First) → IsProper first → rules.IsRun (rules.begun first) };
 
     /// An event leaves one note more.
-    ghost noted_one: { (event : Self.Event) (before now : Self) → rules.Step event before now
+    ghost noted_one: { (event : Self.Event) (before now : Self.Hosts) → rules.Step event before now
         → (note : Self.Note) × (rules.notes now ≡ rules.notes before ++ note ∷ []) × (now ≡ rules.after note before) };
 }

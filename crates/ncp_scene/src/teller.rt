@@ -12,7 +12,7 @@ pub trait Teller<C: Scene> {
     ghost use Rattle.ncp_scene.specs.Telling.{Tale};
 
     /// What is told where the script has this first line.
-    ghost tale: { C.First → Tale C.Note C };
+    ghost tale: { C.First → Tale C.Note C.Hosts };
 
     /// Puts what is told before all notes on an empty page.
     fn begin(first: &C::First, page: &mut Page)
@@ -22,7 +22,7 @@ pub trait Teller<C: Scene> {
     /// Says what is told of a note of this number, which left the hosts so.
     fn say<W: Sink>(
         first: &C::First,
-        hosts: &C,
+        hosts: &C::Hosts,
         number: u32,
         note: &C::Note,
         page: &mut Page,

@@ -8,7 +8,7 @@ ghost use Rattle.ncp_two.specs.declared.event.Event.TheVariants as events;
 ghost use Rattle.ncp_two.specs.declared.side.Side.TheVariants.{A, B};
 ghost use Rattle.ncp_world_player.specs.FirstLine.{first_line_of};
 ghost use Rattle.ncp_world_player.specs.WorldLines.{world_line_of};
-ghost use Rattle.ncp_world_player.specs.WorldScripts.{world_script};
+ghost use Rattle.ncp_world_player.specs.WorldRules.{world_script};
 
 /// Each word of a line; the peer of a call is the other host.
 pub fn lines_are_read_so()

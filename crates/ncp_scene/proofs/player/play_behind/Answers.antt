@@ -24,7 +24,7 @@ returns-clause-told g c = λ bytes was ahead w none.
     let new = rules.begun first in let left = g.R.Source.left c.play_all-played.new.source in
     let now = c.play_all-played.new.player in let played = c.play_all-played.result in
     let so_far = c.play_all-played.ensures.told new was (begins rules tale first was c.begin.new.page c.in-Ok.hosts (g.W.Sink.written c.args.sink.now) (g.met.C.Scene.noted_none first) c.in-Ok.ensures c.begin.ensures w) in
-    let events = subst (λ (hosts : g.row.C.Denot). PlaysLines rules first number bytes hosts played now.hosts left) c.in-Ok.ensures (c.play_all-played.ensures.events bytes ahead none) in (
+    let events = subst (λ (hosts : g.row.C-Hosts.Denot). PlaysLines rules first number bytes hosts played now.hosts left) c.in-Ok.ensures (c.play_all-played.ensures.events bytes ahead none) in (
       now.hosts,
       plays_finished rules first number bytes new now.hosts left played c.finish-2.result events c.finish-2.ensures.same,
       c.play_all-played.ensures.run,
