@@ -1,6 +1,7 @@
 -- The notes of two hosts among those of two to eight, read off the notes alone; and the notes of one.
 use Rattle.std.specs.Prelude.{◌≡◌, ◌≢◌, ℕ, ◌==◌, true, ◌&&◌, if◌then◌else◌, List, [], ◌∷◌, ◌++◌, Option, None, Some}
 use Rattle.ncp_transcript.specs.declared.note.HostNote.{HostNote}
+use Rattle.ncp_transcript.specs.Runs as runs
 use Rattle.ncp_runs.specs.Peers.{peer_of}
 use Rattle.ncp_two.specs.declared.side.Side.{Side}
 use Rattle.ncp_two.specs.declared.side.Side.TheVariants.{A, B}
@@ -8,11 +9,12 @@ use Rattle.ncp_two.specs.declared.note.Move.TheVariants as moves
 use Rattle.ncp_two.specs.declared.note.Note.{Note}
 use Rattle.ncp_two.specs.declared.note.Note.TheVariants as notes
 use Rattle.ncp_two.specs.Between.{Hosts, new_hosts, after_notes}
+use Rattle.ncp_two.specs.Seen.{seen}
 use Rattle.ncp_pairs.specs.declared.many_event.ManyEvent.{ManyEvent}
 use Rattle.ncp_pairs.specs.declared.many_event.ManyEvent.TheVariants as events
 use Rattle.ncp_pairs.specs.declared.many_note.ManyNote.{ManyNote}
 use Rattle.ncp_pairs.specs.declared.many_note.ManyNote.TheVariants as many
-use Rattle.ncp_pairs.specs.Crowd.{Crowd, is_there, between}
+use Rattle.ncp_pairs.specs.Crowd.{Crowd, is_there, host_at, between}
 
 -- Which two hosts a note names, the caller or the sender first: of a call the host and the peer, of an output
 -- the host and the destination, of what the subnet did the sender and the destination.
@@ -86,6 +88,10 @@ ForEachPair P ns m = (a b : ℕ) → is_there a m ≡ true → is_there b m ≡ 
 abbrev pub ForEachTwo : (List Note → Hosts → Type 0) → List ManyNote → Crowd → Type 0
 ForEachTwo P ns m = (a b : ℕ) → is_there a m ≡ true → is_there b m ≡ true → a ≢ b → P (notes_between a b ns) (between a b m)
 
+-- what is seen of each two hosts among all is what their notes leave of a world of two
+abbrev pub SeenOfEachPair : List ManyNote → Crowd → Type 0
+SeenOfEachPair ns m = (a b : ℕ) → is_there a m ≡ true → is_there b m ≡ true → a ≢ b → seen (hosts_between a b ns) ≡ seen (between a b m)
+
 -- The notes of one host: its calls, what went out from it, and what came to it.
 
 abbrev pub if_at : ℕ → ℕ → HostNote → List HostNote
@@ -101,3 +107,7 @@ note_at_host number rest = []
 abbrev pub notes_at_host : ℕ → List ManyNote → List HostNote
 notes_at_host number [] = []
 notes_at_host number (note ∷ rest) = note_at_host number note ++ notes_at_host number rest
+
+-- the notes of each host are a run of it, as if it were alone
+abbrev pub EachOfManyByItself : List ManyNote → Crowd → Type 0
+EachOfManyByItself ns m = (host : ℕ) → is_there host m ≡ true → runs.IsTranscript (notes_at_host host ns) (host_at host m)

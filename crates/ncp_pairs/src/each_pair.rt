@@ -1,13 +1,12 @@
 //! Each pair of two to eight hosts is a world of two. Each law is the contract of a function that does nothing.
-ghost use Rattle.std.specs.Prelude.{◌≡◌, ◌≢◌, ℕ, true, List};
+ghost use Rattle.std.specs.Prelude.{List};
 ghost use Rattle.ncp_two.specs.Transcript.{IsTranscript};
-ghost use Rattle.ncp_two.specs.Seen.{seen};
 ghost use Rattle.ncp_two.specs.OfRules.{IsOfModelsHosts};
 ghost use Rattle.ncp_promises.specs.Promised.{SubnetHonest, GotBegins, EachByteOnce, WithinAllocation, LedgersBalanced, CameInOrder, CommandsInOrder, EachActedOnce, NoErrMade, NoErrUnderway, OnlyResetsActed, WaitsAlone, OpenedUnderNoText};
 ghost use Rattle.ncp_pairs.specs.declared.many_note.ManyNote.{ManyNote as Noted};
-ghost use Rattle.ncp_pairs.specs.Crowd.{Crowd, is_there, between};
+ghost use Rattle.ncp_pairs.specs.Crowd.{Crowd};
 ghost use Rattle.ncp_pairs.specs.ManyTranscript.{IsManyTranscript};
-ghost use Rattle.ncp_pairs.specs.Pairs.{hosts_between, ForEachPair, ForEachTwo};
+ghost use Rattle.ncp_pairs.specs.Pairs.{SeenOfEachPair, ForEachPair, ForEachTwo};
 
 use ncp_promises::headline::the_headline;
 use ncp_promises::promises::{
@@ -20,7 +19,7 @@ use ncp_two::transcripts::transcripts_are_of_the_model;
 /// what these notes leave of two new hosts. So what is proved of every transcript of two holds of each pair.
 pub fn each_pair_is_a_world_of_two()
     ensures run { (notes : List Noted) (m : Crowd) → IsManyTranscript notes m → ForEachPair IsTranscript notes m }
-    ensures seen { (notes : List Noted) (m : Crowd) (a b : ℕ) → IsManyTranscript notes m → is_there a m ≡ true → is_there b m ≡ true → a ≢ b → seen (hosts_between a b notes) ≡ seen (between a b m) }
+    ensures seen { (notes : List Noted) (m : Crowd) → IsManyTranscript notes m → SeenOfEachPair notes m }
 {}
 
 /// Over every list of calls, deliveries, losses, answers and orders of two to eight hosts, each pair of them has

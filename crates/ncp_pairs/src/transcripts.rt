@@ -3,7 +3,6 @@ ghost use Rattle.std.specs.Prelude.{◌≡◌, ◌≢◌, ◌<◌, ◌≤◌, �
 ghost use Rattle.ncp_host.specs.Host.{is_one_of};
 ghost use Rattle.ncp_host.specs.Turns.{next_output};
 ghost use Rattle.ncp_transcript.specs.declared.note.HostNote.TheVariants as of_host;
-ghost use Rattle.ncp_transcript.specs.Runs as runs;
 ghost use Rattle.ncp_two.specs.declared.note.Note.{Note};
 ghost use Rattle.ncp_two.specs.Between.{Hosts, after_note};
 ghost use Rattle.ncp_two.specs.Transcript as worlds;
@@ -14,7 +13,7 @@ ghost use Rattle.ncp_pairs.specs.Crowd.{Crowd, are_hosts, new_crowd, is_there, h
 ghost use Rattle.ncp_pairs.specs.ManyHappening.{are_there, by_numbers};
 ghost use Rattle.ncp_pairs.specs.ManyTranscript.{IsManyRun, AreManyNotes, began, IsManyTranscript};
 ghost use Rattle.ncp_pairs.specs.ManyVain.{CannotHappen};
-ghost use Rattle.ncp_pairs.specs.Pairs.{note_between, notes_at_host};
+ghost use Rattle.ncp_pairs.specs.Pairs.{note_between, EachOfManyByItself};
 
 /// The notes of events, however many and whatever they are, are one for each, and a run: each says what
 /// the rules say at the state before it.
@@ -38,7 +37,7 @@ pub fn a_world_of_two_is_one_of_many()
 /// Each of the hosts is one by itself: its own notes are a run of one host with the others as its peers, and
 /// it is what they leave. So what is proved of every run of one host holds of it.
 pub fn each_host_of_many_is_by_itself()
-    ensures { (notes : List Noted) (m : Crowd) (k : ℕ) → IsManyTranscript notes m → is_there k m ≡ true → runs.IsTranscript (notes_at_host k notes) (host_at k m) }
+    ensures { (notes : List Noted) (m : Crowd) → IsManyTranscript notes m → EachOfManyByItself notes m }
 {}
 
 /// A note is one of at most one pair of hosts, and at most one note of that pair.

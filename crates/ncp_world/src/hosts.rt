@@ -1,16 +1,15 @@
 //! `Hosts`: two hosts and the subnet between them.
-ghost use Rattle.std.specs.Prelude.{◌≡◌, ◌≢◌, Ok, IfOk, OnErr};
-ghost use Rattle.ncp_two.specs.Between.{new_hosts, other, number_of, host_of, after_out, after_note};
-ghost use Rattle.ncp_two.specs.Tie.{IsPair};
-ghost use Rattle.ncp_two.specs.Seen.{CallFits};
+ghost use Rattle.std.specs.Prelude.{◌≡◌, ◌≢◌, IfOk, OnErr};
+ghost use Rattle.ncp_two.specs.Between.{new_hosts, other, number_of, host_of, after_note};
 ghost use Rattle.ncp_two.specs.Happening.{IsCalled, note_of_out, note_of_delivery, note_of_loss, note_of_death, note_of_answer, Noted};
 
 mod ledgers;
 
 use ncp_bits::BitStore;
-use ncp_host::{Host, HostFault, Pair};
+use ncp_host::Host;
+use ncp_step::{answers, calls, comes, new_host, sends};
 use ncp_subnet::Subnet;
-use ncp_transcript::{Call, HostNote, Room, hear_in_room, perform, send};
+use ncp_transcript::Call;
 use ncp_two::{Event, Move, Note, Side};
 use std::alloc::{AllocError, Global};
 use std::marker::Model;
@@ -49,69 +48,6 @@ fn other(side: Side) -> Side
     }
 }
 
-// What was made, if there was memory.
-fn made_in_memory<S: BitStore>(made: Result<Host<S>, HostFault>) -> Result<Host<S>, AllocError>
-    ensures { IfOk result (λ host. made ≡ Ok host) }
-{
-    match made {
-        Ok(it) => Ok(it),
-        Err(_) => Err(AllocError),
-    }
-}
-
-// The numbers of a pair have their places in commands, since their types say how large they are.
-fn pair_fits(pair: &Pair)
-    ensures { IsPair pair.now }
-{
-    let _local = pair.local;
-    let _remote = pair.remote;
-}
-
-// So have those of a call.
-fn numbers_fit(call: &Call)
-    ensures { CallFits call.now }
-{
-    match call {
-        Call::AskSend { pair, size, .. } => {
-            pair_fits(pair);
-            let _size = *size;
-        }
-        Call::Allocate {
-            pair,
-            messages,
-            bits,
-            ..
-        } => {
-            pair_fits(pair);
-            let _messages = *messages;
-            let _bits = *bits;
-        }
-        Call::CallBack { pair, fm, fb, .. } => {
-            pair_fits(pair);
-            let _messages = *fm;
-            let _bits = *fb;
-        }
-        Call::AskReceive { pair, .. } => pair_fits(pair),
-        Call::Give { pair, .. } => pair_fits(pair),
-        Call::Take { pair, .. } => pair_fits(pair),
-        Call::Interrupt { pair, .. } => pair_fits(pair),
-        Call::Close { pair, .. } => pair_fits(pair),
-        Call::Echo { byte, .. } => {
-            let _byte = *byte;
-        }
-        _ => {}
-    }
-}
-
-// The subnet takes what a host noted that goes out.
-fn pass_on(subnet: &mut Subnet, from: u8, note: &HostNote)
-    ensures { subnet.new ≡ after_out from note.now subnet.old }
-{
-    if let HostNote::Out { message } = note {
-        let _taken = subnet.accept(from, &message.to_bits());
-    }
-}
-
 impl<S: BitStore> Hosts<S> {
     pub(crate) fn new(alloc: Global, a: u8, b: u8) -> Result<Hosts<S>, AllocError>
         requires { a ≢ b }
@@ -120,8 +56,8 @@ impl<S: BitStore> Hosts<S> {
         Ok(Hosts {
             number_a: a,
             number_b: b,
-            a: made_in_memory(Host::new(alloc, a, &[b]))?,
-            b: made_in_memory(Host::new(alloc, b, &[a]))?,
+            a: new_host(alloc, a, &[b])?,
+            b: new_host(alloc, b, &[a])?,
             subnet: Subnet::new(alloc, a, b)?,
         })
     }
@@ -157,10 +93,9 @@ impl<S: BitStore> Hosts<S> {
         ensures hosts { IfOk result (λ note. self.new ≡ after_note note self.old) }
         ensures err { OnErr result (self.new ≡ self.old) }
     {
-        numbers_fit(call);
         let note = match side {
-            Side::A => perform(alloc, &mut self.a, call)?,
-            Side::B => perform(alloc, &mut self.b, call)?,
+            Side::A => calls(alloc, &mut self.a, call)?,
+            Side::B => calls(alloc, &mut self.b, call)?,
         };
         Ok(Note::Called { side, note })
     }
@@ -171,12 +106,11 @@ impl<S: BitStore> Hosts<S> {
         ensures hosts { IfOk result (λ note. self.new ≡ after_note note self.old) }
         ensures err { OnErr result (self.new ≡ self.old) }
     {
-        let note = match side {
-            Side::A => send(alloc, &mut self.a)?,
-            Side::B => send(alloc, &mut self.b)?,
-        };
         let from = self.number(side);
-        pass_on(&mut self.subnet, from, &note);
+        let note = match side {
+            Side::A => sends(alloc, &mut self.subnet, from, &mut self.a)?,
+            Side::B => sends(alloc, &mut self.subnet, from, &mut self.b)?,
+        };
         Ok(Note::Out { side, note })
     }
 
@@ -191,21 +125,20 @@ impl<S: BitStore> Hosts<S> {
         ensures hosts { IfOk result (λ note. self.new ≡ after_note note self.old) }
         ensures err { OnErr result (self.new ≡ self.old) }
     {
-        let room = Room::new(alloc)?;
         let from = self.number(side);
         let to = self.number(other(side));
-        let Some(bits) = self.subnet.deliver(from, to, link) else {
-            return Ok(Note::Nothing {
+        let told = match side {
+            Side::A => comes(alloc, &mut self.subnet, from, to, link, &mut self.b)?,
+            Side::B => comes(alloc, &mut self.subnet, from, to, link, &mut self.a)?,
+        };
+        match told {
+            Some(note) => Ok(Note::Came { side, link, note }),
+            None => Ok(Note::Nothing {
                 side,
                 link,
                 wanted: Move::Deliver,
-            });
-        };
-        let note = match side {
-            Side::A => hear_in_room(room, &mut self.b, &bits),
-            Side::B => hear_in_room(room, &mut self.a, &bits),
-        };
-        Ok(Note::Came { side, link, note })
+            }),
+        }
     }
 
     /// The subnet loses a message.
@@ -250,21 +183,20 @@ impl<S: BitStore> Hosts<S> {
         ensures hosts { IfOk result (λ note. self.new ≡ after_note note self.old) }
         ensures err { OnErr result (self.new ≡ self.old) }
     {
-        let room = Room::new(alloc)?;
         let from = self.number(side);
         let to = self.number(other(side));
-        let Some(bits) = self.subnet.answer(from, to, link) else {
-            return Ok(Note::Nothing {
+        let told = match side {
+            Side::A => answers(alloc, &mut self.subnet, from, to, link, &mut self.a)?,
+            Side::B => answers(alloc, &mut self.subnet, from, to, link, &mut self.b)?,
+        };
+        match told {
+            Some(note) => Ok(Note::Answered { side, link, note }),
+            None => Ok(Note::Nothing {
                 side,
                 link,
                 wanted: Move::Answer,
-            });
-        };
-        let note = match side {
-            Side::A => hear_in_room(room, &mut self.a, &bits),
-            Side::B => hear_in_room(room, &mut self.b, &bits),
-        };
-        Ok(Note::Answered { side, link, note })
+            }),
+        }
     }
 
     /// What happens, and its note.

@@ -11,6 +11,10 @@ mod held_back;
 #[cfg(test)]
 mod ledgers;
 #[cfg(test)]
+mod many;
+#[cfg(test)]
+mod many_tried;
+#[cfg(test)]
 mod scripts;
 #[cfg(test)]
 mod states;

@@ -5,4 +5,4 @@ pub returns-clause-run : goal.returns-clause-run
 returns-clause-run c = each-pair
 
 pub returns-clause-seen : goal.returns-clause-seen
-returns-clause-seen c ns m a b t i j differ = pair-seen ns m t a b i j differ
+returns-clause-seen c ns m t a b i j differ = pair-seen ns m t a b i j differ

@@ -2,7 +2,7 @@ use Rattle.std.proofs.Common.{Bool, List, sym, ap, ◌∙◌}
 use Rattle.ncp_transcript.specs.declared.note.HostNote.{HostNote}
 use Rattle.ncp_two.specs.Between.{taken, after_out}
 use Rattle.ncp_two.proofs.Accepting.{accepting}
-use Rattle.ncp_world.proofs.hosts.pass_on.Goals as goal
+use Rattle.ncp_step.proofs.steps.pass_on.Goals as goal
 
 pub returns-in-Out : goal.returns-in-Out
 returns-in-Out c =

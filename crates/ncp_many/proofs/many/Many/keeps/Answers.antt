@@ -1,0 +1,13 @@
+use Rattle.ncp_many.proofs.many.Many.keeps.Goals as goal
+
+pub returns-clause-each : goal.returns-clause-each
+returns-clause-each g c = c.each_host_of_many_is_by_itself.ensures c.args.self.now.notes c.args.self.now.crowd c.transcript-notes.ensures.run
+
+pub returns-clause-order : goal.returns-clause-order
+returns-clause-order g c = c.the_headline_of_each_pair.ensures.order c.args.self.now.notes c.args.self.now.crowd c.transcript-notes.ensures.run
+
+pub returns-clause-commands : goal.returns-clause-commands
+returns-clause-commands g c = c.the_headline_of_each_pair.ensures.commands c.args.self.now.notes c.args.self.now.crowd c.transcript-notes.ensures.run
+
+pub returns-clause-no_err : goal.returns-clause-no_err
+returns-clause-no_err g c = c.the_headline_of_each_pair.ensures.no_err c.args.self.now.notes c.args.self.now.crowd c.transcript-notes.ensures.run

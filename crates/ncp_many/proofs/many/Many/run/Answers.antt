@@ -1,0 +1,15 @@
+use Rattle.ncp_pairs.proofs.ManyRuns.{next-event, all-noted}
+use Rattle.ncp_many.proofs.many.Many.run.Goals as goal
+
+pub loop-event-init : goal.loop-event-init
+loop-event-init g c = λ last steps. steps
+
+pub loop-event-preserved : goal.loop-event-preserved
+loop-event-preserved g c = λ last rest.
+    c.loop-event.invariant last (next-event c.args.events.now c.loop-event.event-index c.event-item.result c.loop-event.many c.step.new.self last c.loop-event-test.true c.event-item.is c.in_ok-step.ensures.step rest)
+
+pub returns-clause-notes : goal.returns-clause-notes
+returns-clause-notes g c = (all-noted c.args.events.now c.loop-event.event-index c.args.hosts.now c.in_ok-many.many c.loop-event.many c.in_ok-many.ensures.many c.loop-event.invariant c.loop-event-test.false).0
+
+pub returns-clause-hosts : goal.returns-clause-hosts
+returns-clause-hosts g c = (all-noted c.args.events.now c.loop-event.event-index c.args.hosts.now c.in_ok-many.many c.loop-event.many c.in_ok-many.ensures.many c.loop-event.invariant c.loop-event-test.false).1

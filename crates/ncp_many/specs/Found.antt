@@ -1,0 +1,15 @@
+-- The host of a number, by its place among the hosts.
+use Rattle.std.specs.Prelude.{◌≡◌, ℕ, List, Option, None, Some, slice_get, slice_set}
+use Rattle.ncp_host.specs.Host.{Host}
+use Rattle.ncp_transcript.specs.declared.note.HostNote.{HostNote}
+use Rattle.ncp_transcript.specs.After.{after_note}
+use Rattle.ncp_pairs.specs.Numbered.{thing_in, at_thing}
+
+-- it is at this place, and what happens to it happens there
+abbrev pub IsAt : List (ℕ × Host) → ℕ → ℕ → Type 0
+IsAt hosts number place = (x : ℕ × Host) → slice_get hosts place ≡ Some x → (thing_in hosts number ≡ Some x.1) × ((f : Host → Host) → at_thing number f hosts ≡ slice_set hosts place (x.0, f x.1))
+
+-- the hosts after what one of them noted, if it noted anything
+abbrev pub at_told : ℕ → Option HostNote → List (ℕ × Host) → List (ℕ × Host)
+at_told number None hosts = hosts
+at_told number (Some note) hosts = at_thing number (after_note note) hosts

@@ -1,0 +1,120 @@
+//! What is done to one host.
+ghost use Rattle.std.specs.Prelude.{◌≡◌, true, IfOk, OnErr};
+ghost use Rattle.ncp_subnet.specs.declared.transit.Transit.{Transit};
+ghost use Rattle.ncp_subnet.specs.Messages.{arriving, answer_about};
+ghost use Rattle.ncp_subnet.specs.Subnet.{transit_at};
+ghost use Rattle.ncp_host.specs.Host.{are_peers, new_host};
+ghost use Rattle.ncp_transcript.specs.Noting.{CallNoted, note_of_output};
+ghost use Rattle.ncp_transcript.specs.After.{after_note};
+ghost use Rattle.ncp_two.specs.Seen.{CallFits};
+ghost use Rattle.ncp_two.specs.Between.{after_out};
+ghost use Rattle.ncp_step.specs.Told.{told, after_told, put_told};
+
+use crate::fitting::numbers_fit;
+use ncp_bits::BitStore;
+use ncp_host::{Host, HostFault};
+use ncp_subnet::Subnet;
+use ncp_transcript::{Call, HostNote, Room, hear_in_room, perform, send};
+use std::alloc::{AllocError, Global};
+
+/// A new host of a number, with these peers, which it can have. Only memory may be wanting.
+pub fn new_host<S: BitStore>(alloc: Global, number: u8, peers: &[u8]) -> Result<Host<S>, AllocError>
+    requires { are_peers number peers.now ≡ true }
+    ensures { IfOk result (λ host. host ≡ new_host number peers.now) }
+{
+    match Host::new(alloc, number, peers) {
+        Ok(host) => Ok(host),
+        Err(HostFault::OutOfMemory) => Err(AllocError),
+        Err(HostFault::BadPeers) => unreachable!(),
+    }
+}
+
+/// A user of a host calls. After an `AllocError` nothing has happened; want of memory in the call itself stands
+/// in the note. The numbers of a call fit the commands that they go into.
+pub fn calls<S: BitStore>(
+    alloc: Global,
+    host: &mut Host<S>,
+    call: &Call,
+) -> Result<HostNote, AllocError>
+    ensures note { IfOk result (λ note. CallNoted call.now note host.old) }
+    ensures fits { CallFits call.now }
+    ensures host { IfOk result (λ note. host.new ≡ after_note note host.old) }
+    ensures err { OnErr result (host.new ≡ host.old) }
+{
+    numbers_fit(call);
+    perform(alloc, host, call)
+}
+
+// The subnet takes what a host noted that goes out.
+fn pass_on(subnet: &mut Subnet, from: u8, note: &HostNote)
+    ensures { subnet.new ≡ after_out from note.now subnet.old }
+{
+    if let HostNote::Out { message } = note {
+        let _taken = subnet.accept(from, &message.to_bits());
+    }
+}
+
+/// The host of a number is asked for its next message, which the subnet takes. After an `AllocError` nothing has
+/// happened.
+pub fn sends<S: BitStore>(
+    alloc: Global,
+    subnet: &mut Subnet,
+    from: u8,
+    host: &mut Host<S>,
+) -> Result<HostNote, AllocError>
+    ensures note { IfOk result (λ note. note ≡ note_of_output host.old) }
+    ensures host { IfOk result (λ note. host.new ≡ after_note note host.old) }
+    ensures subnet { IfOk result (λ note. subnet.new ≡ after_out from note subnet.old) }
+    ensures err { OnErr result (host.new ≡ host.old) }
+    ensures kept { OnErr result (subnet.new ≡ subnet.old) }
+{
+    let note = send(alloc, host)?;
+    pass_on(subnet, from, &note);
+    Ok(note)
+}
+
+/// The subnet gives out a message at its destination, which is this host (BBN Report 1822, section 3). None, and
+/// nothing has happened, where no message is there that may come; and nothing has after an `AllocError`.
+pub fn comes<S: BitStore>(
+    alloc: Global,
+    subnet: &mut Subnet,
+    from: u8,
+    to: u8,
+    link: u8,
+    host: &mut Host<S>,
+) -> Result<Option<HostNote>, AllocError>
+    ensures note { IfOk result (λ note. note ≡ told (arriving from (transit_at subnet.old from to link)) host.old) }
+    ensures host { IfOk result (λ note. host.new ≡ after_told note host.old) }
+    ensures subnet { IfOk result (λ note. subnet.new ≡ put_told note from to link Transit.Delivered subnet.old) }
+    ensures err { OnErr result (host.new ≡ host.old) }
+    ensures kept { OnErr result (subnet.new ≡ subnet.old) }
+{
+    let room = Room::new(alloc)?;
+    let Some(bits) = subnet.deliver(from, to, link) else {
+        return Ok(None);
+    };
+    Ok(Some(hear_in_room(room, host, &bits)))
+}
+
+/// The subnet answers the sender of a message, which is this host (BBN Report 1822, section 3). None, and nothing
+/// has happened, where there is no answer to give; and nothing has after an `AllocError`.
+pub fn answers<S: BitStore>(
+    alloc: Global,
+    subnet: &mut Subnet,
+    from: u8,
+    to: u8,
+    link: u8,
+    host: &mut Host<S>,
+) -> Result<Option<HostNote>, AllocError>
+    ensures note { IfOk result (λ note. note ≡ told (answer_about to link (transit_at subnet.old from to link)) host.old) }
+    ensures host { IfOk result (λ note. host.new ≡ after_told note host.old) }
+    ensures subnet { IfOk result (λ note. subnet.new ≡ put_told note from to link Transit.Free subnet.old) }
+    ensures err { OnErr result (host.new ≡ host.old) }
+    ensures kept { OnErr result (subnet.new ≡ subnet.old) }
+{
+    let room = Room::new(alloc)?;
+    let Some(bits) = subnet.answer(from, to, link) else {
+        return Ok(None);
+    };
+    Ok(Some(hear_in_room(room, host, &bits)))
+}

@@ -1,0 +1,541 @@
+//! Worked runs of two to eight hosts.
+use crate::many_tried::ManyTried;
+use crate::wanted::bits_of;
+use ncp_bits::{BitStore, PackedStore, PlainStore};
+use ncp_host::{CallFault, Flags, Pair, Received, Took};
+use ncp_many::{MAX_HOSTS, Many, ManyEvent, ManyFault, ManyNote};
+use ncp_transcript::{Call, HostNote, Message};
+use std::alloc::Global;
+use std::process::Abort;
+use std::test::Fail;
+
+const THREE: [u8; 3] = [1, 2, 3];
+
+/// A connection, at its sender and at its receiver.
+const SENDER: Pair = Pair {
+    local: 3,
+    remote: 2,
+};
+
+const RECEIVER: Pair = Pair {
+    local: 2,
+    remote: 3,
+};
+
+/// The link that the receiver of the first connection names.
+const LINK: u8 = 2;
+
+const UP: Flags = Flags {
+    down: false,
+    want: false,
+    owe: false,
+    wait: false,
+};
+
+const DOWN: Flags = Flags {
+    down: true,
+    want: false,
+    owe: false,
+    wait: false,
+};
+
+fn call(host: u8, call: Call) -> ManyEvent {
+    ManyEvent::Call { host, call }
+}
+
+fn out(host: u8) -> ManyEvent {
+    ManyEvent::Out { host }
+}
+
+fn deliver(from: u8, to: u8, link: u8) -> ManyEvent {
+    ManyEvent::Deliver { from, to, link }
+}
+
+fn answer(from: u8, to: u8, link: u8) -> ManyEvent {
+    ManyEvent::Answer { from, to, link }
+}
+
+/// A message goes from a host to another, comes, and is answered.
+fn goes<S: BitStore>(rt: &impl Abort, tried: &mut ManyTried<S>, from: u8, to: u8, link: u8) {
+    tried.does(rt, &out(from));
+    tried.does(rt, &deliver(from, to, link));
+    tried.does(rt, &answer(from, to, link));
+}
+
+/// Two hosts that wait for nothing else come up with each other.
+fn come_up<S: BitStore>(rt: &impl Abort, tried: &mut ManyTried<S>, one: u8, other: u8) {
+    tried.does(rt, &call(one, Call::Reset { peer: other }));
+    goes(rt, tried, one, other, 0);
+    goes(rt, tried, other, one, 0);
+}
+
+/// Whether a note says that these bytes went out of a host.
+fn went(rt: &impl Abort, note: &ManyNote, from: u8, bytes: &[u8]) -> bool {
+    match note {
+        ManyNote::Out {
+            host,
+            note: HostNote::Out { message },
+        } => *host == from && message.to_bits() == bits_of(rt, bytes),
+        _ => false,
+    }
+}
+
+/// Whether a note says that a host was asked its phase for another, and answered this.
+fn told(note: &ManyNote, of: u8, with: u8, wanted: Flags) -> bool {
+    match note {
+        ManyNote::Called {
+            host,
+            note: HostNote::Phase { peer, flags },
+        } => *host == of && *peer == with && *flags == wanted,
+        _ => false,
+    }
+}
+
+/// Whether a note says that a reset was accepted.
+fn was_reset(note: &ManyNote, of: u8, with: u8) -> bool {
+    match note {
+        ManyNote::Called {
+            host,
+            note: HostNote::Done {
+                call: Call::Reset { peer },
+            },
+        } => *host == of && *peer == with,
+        _ => false,
+    }
+}
+
+/// Whether a note says that a message came, and was received as this.
+fn came(note: &ManyNote, sender: u8, receiver: u8, on: u8, how: Received) -> bool {
+    match note {
+        ManyNote::Came {
+            from,
+            to,
+            link,
+            note: HostNote::In { received, .. },
+        } => *from == sender && *to == receiver && *link == on && *received == how,
+        _ => false,
+    }
+}
+
+/// Host 1 resets 2 and 3, and its RST to 3 comes first.
+fn two_resets(alloc: Global) -> Result<Vec<ManyEvent>, Fail> {
+    Ok(vec![in alloc;
+        call(1, Call::Reset { peer: 2 }),
+        call(1, Call::Reset { peer: 3 }),
+        out(1),
+        out(1),
+        out(1),
+        deliver(1, 3, 0),
+        call(3, Call::Phase { peer: 1 }),
+        call(2, Call::Phase { peer: 1 }),
+    ]?)
+}
+
+fn say_two_resets(rt: &impl Abort, notes: &[ManyNote]) {
+    assert!(rt; notes.len() == 8);
+    assert!(rt; was_reset(&notes[0], 1, 2));
+    assert!(rt; was_reset(&notes[1], 1, 3));
+    assert!(rt; went(rt, &notes[2], 1, &[0, 2, 0, 0, 0, 8, 0, 1, 0, 12]));
+    assert!(rt; went(rt, &notes[3], 1, &[0, 3, 0, 0, 0, 8, 0, 1, 0, 12]));
+    assert!(rt;
+        matches!(
+            &notes[4],
+            ManyNote::Out {
+                host: 1,
+                note: HostNote::Nothing
+            }
+        )
+    );
+    assert!(rt; came(&notes[5], 1, 3, 0, Received::Control(1)));
+    assert!(rt; told(&notes[6], 3, 1, UP));
+    assert!(rt; told(&notes[7], 2, 1, DOWN));
+}
+
+fn two_resets_over<S: BitStore>(rt: &impl Abort, alloc: Global) -> Result<(), Fail> {
+    let events = two_resets(alloc)?;
+    let tried: ManyTried<S> = ManyTried::run(alloc, &THREE, &events)?;
+    say_two_resets(rt, tried.notes());
+    Ok(())
+}
+
+#[test]
+fn two_resets_over_plain_bits(rt: HostRuntime) -> Result<(), Fail> {
+    two_resets_over::<PlainStore>(&rt, rt.alloc())
+}
+
+#[test]
+fn two_resets_over_packed_bits(rt: HostRuntime) -> Result<(), Fail> {
+    two_resets_over::<PackedStore>(&rt, rt.alloc())
+}
+
+/// Whether it was refused for its numbers.
+fn is_bad(many: Result<Many<PackedStore>, ManyFault>) -> bool {
+    match many {
+        Ok(_) => false,
+        Err(fault) => fault == ManyFault::BadHosts,
+    }
+}
+
+/// Whether there are no hosts of these numbers.
+fn are_bad(alloc: Global, hosts: &[u8]) -> bool {
+    is_bad(Many::new(alloc, hosts)) && is_bad(Many::run(alloc, hosts, &[]))
+}
+
+/// Fewer than two, more than eight, and twice the same.
+#[test]
+fn bad_hosts_are_refused(rt: HostRuntime) {
+    assert!(rt; MAX_HOSTS == 8);
+    assert!(rt; are_bad(rt.alloc(), &[]));
+    assert!(rt; are_bad(rt.alloc(), &[1]));
+    assert!(rt; are_bad(rt.alloc(), &[1, 2, 1]));
+    assert!(rt; are_bad(rt.alloc(), &[1, 2, 3, 4, 5, 6, 7, 8, 9]));
+}
+
+/// A host is there where its number was given.
+#[test]
+fn hosts_are_there(rt: HostRuntime) -> Result<(), Fail> {
+    let tried: ManyTried<PackedStore> = ManyTried::new(rt.alloc(), &[7, 0, 255])?;
+    assert!(rt; tried.notes().is_empty());
+    assert!(rt; tried.is_there(7) && tried.is_there(0) && tried.is_there(255));
+    assert!(rt; !tried.is_there(1));
+    Ok(())
+}
+
+/// Events whose host, sender or destination is not there, or that name one host twice.
+fn absent(alloc: Global) -> Result<Vec<ManyEvent>, Fail> {
+    Ok(vec![in alloc;
+        call(4, Call::Reset { peer: 1 }),
+        out(4),
+        deliver(4, 1, 0),
+        ManyEvent::Lose {
+            from: 1,
+            to: 4,
+            link: 0
+        },
+        ManyEvent::Dead {
+            from: 1,
+            to: 1,
+            link: 0
+        },
+        answer(4, 5, 0),
+    ]?)
+}
+
+/// Each is noted as nothing, with the event.
+#[test]
+fn absent_hosts_do_nothing(rt: HostRuntime) -> Result<(), Fail> {
+    let events = absent(rt.alloc())?;
+    let tried: ManyTried<PackedStore> = ManyTried::run(rt.alloc(), &THREE, &events)?;
+    let notes = tried.notes();
+    assert!(rt; notes.len() == 6);
+    assert!(rt;
+        matches!(
+            &notes[0],
+            ManyNote::Nothing {
+                event: ManyEvent::Call {
+                    host: 4,
+                    call: Call::Reset { peer: 1 }
+                }
+            }
+        )
+    );
+    assert!(rt;
+        matches!(
+            &notes[1],
+            ManyNote::Nothing {
+                event: ManyEvent::Out { host: 4 }
+            }
+        )
+    );
+    assert!(rt;
+        matches!(
+            &notes[2],
+            ManyNote::Nothing {
+                event: ManyEvent::Deliver {
+                    from: 4,
+                    to: 1,
+                    link: 0
+                }
+            }
+        )
+    );
+    assert!(rt;
+        matches!(
+            &notes[3],
+            ManyNote::Nothing {
+                event: ManyEvent::Lose {
+                    from: 1,
+                    to: 4,
+                    link: 0
+                }
+            }
+        )
+    );
+    assert!(rt;
+        matches!(
+            &notes[4],
+            ManyNote::Nothing {
+                event: ManyEvent::Dead {
+                    from: 1,
+                    to: 1,
+                    link: 0
+                }
+            }
+        )
+    );
+    assert!(rt;
+        matches!(
+            &notes[5],
+            ManyNote::Nothing {
+                event: ManyEvent::Answer {
+                    from: 4,
+                    to: 5,
+                    link: 0
+                }
+            }
+        )
+    );
+    Ok(())
+}
+
+/// A peer that is no host is judged by the call, and so is an event with no message.
+#[test]
+fn unknown_peers_are_refused_by_the_call(rt: HostRuntime) -> Result<(), Fail> {
+    let mut tried: ManyTried<PackedStore> = ManyTried::new(rt.alloc(), &THREE)?;
+    tried.does(&rt, &call(1, Call::Reset { peer: 4 }));
+    tried.does(&rt, &deliver(1, 2, 0));
+    let notes = tried.notes();
+    assert!(rt; notes.len() == 2);
+    assert!(rt;
+        matches!(
+            &notes[0],
+            ManyNote::Called {
+                host: 1,
+                note: HostNote::Refused {
+                    call: Call::Reset { peer: 4 },
+                    fault: CallFault::UnknownPeer
+                }
+            }
+        )
+    );
+    assert!(rt;
+        matches!(
+            &notes[1],
+            ManyNote::Nothing {
+                event: ManyEvent::Deliver {
+                    from: 1,
+                    to: 2,
+                    link: 0
+                }
+            }
+        )
+    );
+    Ok(())
+}
+
+/// Two hosts that are up open a connection, on which the first sends.
+fn open<S: BitStore>(rt: &impl Abort, tried: &mut ManyTried<S>, from: u8, to: u8) {
+    tried.does(
+        rt,
+        &call(
+            to,
+            Call::AskReceive {
+                peer: from,
+                pair: RECEIVER,
+                room: 1024,
+            },
+        ),
+    );
+    tried.does(
+        rt,
+        &call(
+            from,
+            Call::AskSend {
+                peer: to,
+                pair: SENDER,
+                size: 8,
+                room: 1024,
+            },
+        ),
+    );
+    goes(rt, tried, to, from, 0);
+    goes(rt, tried, from, to, 0);
+}
+
+/// Three hosts, of which 1 and 3 have a connection on which 1 sends.
+fn connected(rt: &impl Abort, alloc: Global) -> Result<ManyTried<PackedStore>, Fail> {
+    let mut tried: ManyTried<PackedStore> = ManyTried::new(alloc, &THREE)?;
+    come_up(rt, &mut tried, 1, 3);
+    open(rt, &mut tried, 1, 3);
+    Ok(tried)
+}
+
+fn interrupt() -> ManyEvent {
+    call(
+        3,
+        Call::Interrupt {
+            peer: 1,
+            pair: RECEIVER,
+        },
+    )
+}
+
+/// Whether a note says that the interrupt was accepted.
+fn is_queued(note: &ManyNote) -> bool {
+    matches!(
+        note,
+        ManyNote::Called {
+            host: 3,
+            note: HostNote::Done {
+                call: Call::Interrupt { peer: 1, .. },
+            },
+        }
+    )
+}
+
+/// Whether a note says that there was no room for it.
+fn is_full(note: &ManyNote) -> bool {
+    matches!(
+        note,
+        ManyNote::Called {
+            host: 3,
+            note: HostNote::Refused {
+                call: Call::Interrupt { peer: 1, .. },
+                fault: CallFault::QueueFull,
+            },
+        }
+    )
+}
+
+/// What hosts 1 and 2 do: 2 comes up.
+fn pair_goes_on<S: BitStore>(rt: &impl Abort, tried: &mut ManyTried<S>) {
+    tried.does(rt, &call(1, Call::Reset { peer: 2 }));
+    tried.does(rt, &out(1));
+    tried.does(rt, &deliver(1, 2, 0));
+    tried.does(rt, &call(2, Call::Phase { peer: 1 }));
+}
+
+/// What they note of it.
+fn say_pair(rt: &impl Abort, notes: &[ManyNote]) {
+    assert!(rt; notes.len() == 4);
+    assert!(rt; was_reset(&notes[0], 1, 2));
+    assert!(rt; went(rt, &notes[1], 1, &[0, 2, 0, 0, 0, 8, 0, 1, 0, 12]));
+    assert!(rt; came(&notes[2], 1, 2, 0, Received::Control(1)));
+    assert!(rt; told(&notes[3], 2, 1, UP));
+}
+
+/// As many interrupts as may wait, and one more.
+fn interrupts<S: BitStore>(rt: &impl Abort, tried: &mut ManyTried<S>) {
+    for _interrupt in 0..257 {
+        tried.does(rt, &interrupt());
+    }
+}
+
+/// 256 interrupts wait at host 3, and one more is refused; what hosts 1 and 2 note of each other is as without
+/// them.
+#[test]
+fn what_waits_at_a_third_host_changes_nothing_of_two(rt: HostRuntime) -> Result<(), Fail> {
+    let mut tried = connected(&rt, rt.alloc())?;
+    let before = tried.notes().len();
+    interrupts(&rt, &mut tried);
+    pair_goes_on(&rt, &mut tried);
+    let notes = tried.notes();
+    assert!(rt; before <= notes.len());
+    let waiting = &notes[before..];
+    assert!(rt; waiting.len() == 261);
+    assert!(rt; waiting[..256].iter().all(|note| is_queued(note)));
+    assert!(rt; is_full(&waiting[256]));
+    say_pair(&rt, &waiting[257..]);
+    Ok(())
+}
+
+#[test]
+fn two_alone_note_the_same(rt: HostRuntime) -> Result<(), Fail> {
+    let mut tried = connected(&rt, rt.alloc())?;
+    let before = tried.notes().len();
+    pair_goes_on(&rt, &mut tried);
+    let notes = tried.notes();
+    assert!(rt; before <= notes.len());
+    say_pair(&rt, &notes[before..]);
+    Ok(())
+}
+
+/// Host 3 allows a message, and 1 gives a text, which goes out.
+fn send_text<S: BitStore>(
+    rt: &impl Abort,
+    alloc: Global,
+    tried: &mut ManyTried<S>,
+) -> Result<(), Fail> {
+    let text = Message::from_bits(alloc, &bits_of(rt, b"ab"))?;
+    tried.does(
+        rt,
+        &call(
+            3,
+            Call::Allocate {
+                peer: 1,
+                pair: RECEIVER,
+                messages: 1,
+                bits: 16,
+            },
+        ),
+    );
+    goes(rt, tried, 3, 1, 0);
+    tried.does(
+        rt,
+        &call(
+            1,
+            Call::Give {
+                peer: 3,
+                pair: SENDER,
+                text,
+            },
+        ),
+    );
+    tried.does(rt, &out(1));
+    Ok(())
+}
+
+/// Two hosts reset while the text of one of them to a third is out. It comes.
+#[test]
+fn a_reset_of_two_leaves_the_text_to_a_third(rt: HostRuntime) -> Result<(), Fail> {
+    let mut tried = connected(&rt, rt.alloc())?;
+    send_text(&rt, rt.alloc(), &mut tried)?;
+    come_up(&rt, &mut tried, 2, 1);
+    assert!(rt; tried.is_up(1, 2) && tried.is_up(2, 1));
+    assert!(rt; tried.is_up(1, 3) && tried.is_up(3, 1));
+    let before = tried.notes().len();
+    tried.does(&rt, &deliver(1, 3, LINK));
+    let notes = tried.notes();
+    assert!(rt; before < notes.len());
+    assert!(rt; came(&notes[before], 1, 3, LINK, Received::Text(Took::Admitted)));
+    Ok(())
+}
+
+/// All pairs of eight hosts come up, and open a connection.
+fn connect_all<S: BitStore>(rt: &impl Abort, tried: &mut ManyTried<S>) {
+    for one in 1..9 {
+        for other in one + 1..9 {
+            come_up(rt, tried, one, other);
+            open(rt, tried, one, other);
+        }
+    }
+}
+
+/// Each of eight hosts is connected with each.
+#[test]
+fn eight_hosts_are_connected(rt: HostRuntime) -> Result<(), Fail> {
+    let hosts = [1, 2, 3, 4, 5, 6, 7, 8];
+    let mut tried: ManyTried<PackedStore> = ManyTried::new(rt.alloc(), &hosts)?;
+    connect_all(&rt, &mut tried);
+    for one in 1..9 {
+        for other in one + 1..9 {
+            assert!(rt;
+                tried.is_up(one, other) && tried.is_up(other, one),
+                "{one} with {other}"
+            );
+            assert!(rt; tried.is_open(one, other, SENDER), "{one} to {other}");
+            assert!(rt; tried.is_open(other, one, RECEIVER), "{other} from {one}");
+        }
+    }
+    Ok(())
+}
