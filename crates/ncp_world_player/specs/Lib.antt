@@ -5,5 +5,9 @@ pub mod WorldRules
 pub mod WorldLaws
 pub mod WorldNotes
 pub mod LedgerLines
+pub mod ManyLines
+pub mod ManyRules
+pub mod ManyLaws
+pub mod ManyNotes
 pub mod Players
 pub mod Examples
