@@ -1,7 +1,8 @@
 #!/usr/bin/env python3
 """Writes a message file of about as many MiB as asked: answers, texts and control messages, from a fixed seed.
 
-The hosts that they come from are 1 to 63, or 1 to the second number."""
+The hosts that they come from are 1 to 63, or 1 to the second number. The file is of version 1, or of that which
+the third number names: in version 2 the same messages all come at host 1."""
 import random
 import struct
 import sys
@@ -51,11 +52,13 @@ def answer(r, host):
 def main():
     size = int(sys.argv[1]) << 20
     hosts = int(sys.argv[2]) if len(sys.argv) > 2 else 63
+    header, place = (b"NCPJ", b"I\x01") if sys.argv[3:] == ["2"] else (b"NCPI", b"")
     r = random.Random(1972)
     out = sys.stdout.buffer
-    written = out.write(b"NCPI")
+    written = out.write(header)
     while written < size:
         host = r.randrange(1, hosts + 1)
+        out.write(place)
         written += out.write(r.choice((control, text, text, answer, answer, answer))(r, host))
 
 

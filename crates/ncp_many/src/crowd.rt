@@ -87,8 +87,8 @@ fn are_distinct(numbers: &[u8]) -> bool
     true
 }
 
-/// Whether there can be hosts of these numbers.
-pub(crate) fn are_hosts(numbers: &[u8]) -> bool
+/// Whether there can be hosts of these numbers: two to [`crate::MAX_HOSTS`] distinct ones.
+pub fn are_hosts(numbers: &[u8]) -> bool
     ensures { result ≡ are_hosts numbers.now }
 {
     2 <= numbers.len() && numbers.len() <= MAX_HOSTS && are_distinct(numbers)

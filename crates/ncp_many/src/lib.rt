@@ -6,6 +6,7 @@ mod crowd;
 mod many;
 mod many_fault;
 
+pub use crowd::are_hosts;
 pub use many::Many;
 pub use many_fault::ManyFault;
 pub use ncp_pairs::{MANY_NOTE_BYTES, MAX_HOSTS, ManyEvent, ManyNote};

@@ -1,11 +1,11 @@
 -- The notes of one host among many are a run of it.
-use Rattle.std.proofs.Common.{◌≡◌, ℕ, ◌==◌, Bool, true, false, not, ◌&&◌, if◌then◌else◌, List, [], ◌∷◌, Option, None, Some, refl, sym, ap, ◌∙◌, subst}
+use Rattle.std.proofs.Common.{◌≡◌, ℕ, ◌==◌, Bool, true, false, not, ◌&&◌, nat_le, if◌then◌else◌, List, [], ◌∷◌, length, Option, None, Some, refl, sym, ap, ◌∙◌, subst}
 use Rattle.std.proofs.lemmas.Bool.{eqb-true, and_parts}
 use Rattle.ncp_subnet.specs.declared.transit.Transit.TheVariants.{Delivered, Free}
 use Rattle.ncp_subnet.specs.Transit.{is_accepted}
 use Rattle.ncp_subnet.specs.Messages.{arriving, answer_about}
 use Rattle.ncp_subnet.specs.Subnet.{transit_at}
-use Rattle.ncp_host.specs.Host.{new_host}
+use Rattle.ncp_host.specs.Host.{are_distinct, new_host}
 use Rattle.ncp_transcript.specs.declared.note.HostNote.{HostNote}
 use Rattle.ncp_transcript.specs.declared.input.Input.TheVariants as inputs
 use Rattle.ncp_transcript.specs.After as after
@@ -13,6 +13,7 @@ use Rattle.ncp_transcript.specs.Noting.{note_of_bits, note_of_output}
 use Rattle.ncp_transcript.specs.Runs as runs
 use Rattle.ncp_transcript.proofs.Growing as growing
 use Rattle.ncp_transcript.proofs.Saying.{noted_said}
+use Rattle.ncp_runs.specs.Peers.{FromBeginning}
 use Rattle.ncp_two.specs.declared.side.Side.TheVariants.{A}
 use Rattle.ncp_two.specs.declared.note.Move.TheVariants as moves
 use Rattle.ncp_two.specs.declared.note.Note.TheVariants as notes
@@ -25,7 +26,7 @@ use Rattle.ncp_pairs.specs.Crowd.{Crowd, numbers_in, is_there, others, host_at, 
 use Rattle.ncp_pairs.specs.ManyHappening.{are_two, by_numbers, IfThere, ManyNoted}
 use Rattle.ncp_pairs.specs.ManyTranscript.{IsManyRun, began, IsManyTranscript}
 use Rattle.ncp_pairs.specs.Pairs.{if_at, note_at_host, notes_at_host}
-use Rattle.ncp_pairs.proofs.Others.{other-of, others-fit}
+use Rattle.ncp_pairs.proofs.Others.{other-of, others-distinct, others-fit}
 use Rattle.ncp_pairs.proofs.Crowds.{many-new, host-here, host-there}
 
 -- what a note says of a host leads it from one state to the next
@@ -103,3 +104,18 @@ by-itself ns m k t there =
     let new : host_at k (began m) ≡ new_host k (others k all) = many-new all k there in
     let begins : runs.IsTranscript [] (host_at k (began m)) = growing.transcript_new k (others k all) (host_at k (began m)) (others-fit k all t.hosts there) (λ n e. t.fits n (other-of k n all e)) new in
     subst (runs.IsTranscript (notes_at_host k ns)) (sym (ap (host_at k) t.state ∙ r.1)) (grown (notes_at_host k ns) [] (host_at k (began m)) begins r.0)
+
+-- Its notes are a run from its beginning, with the others as its peers; and it is what they leave.
+
+pub host-from : (ns : List ManyNote) (m : Crowd) (k : ℕ) → IsManyTranscript ns m → is_there k m ≡ true → FromBeginning k (others k (numbers_in m)) (notes_at_host k ns)
+host-from ns m k t there =
+    let all : List ℕ = numbers_in m in
+    record {
+      distinct = others-distinct k all (and_parts (nat_le 2 (length all) && nat_le (length all) 8) (are_distinct all) t.hosts).1;
+      places = λ n e. t.fits n (other-of k n all e);
+      run = subst (runs.IsRun (notes_at_host k ns)) (many-new all k there) (leads-run k ns (began m) t.run).0;
+    }
+
+pub host-led : (ns : List ManyNote) (m : Crowd) (k : ℕ) → IsManyTranscript ns m → is_there k m ≡ true → host_at k m ≡ after.after_notes (notes_at_host k ns) (new_host k (others k (numbers_in m)))
+host-led ns m k t there =
+    ap (host_at k) t.state ∙ (leads-run k ns (began m) t.run).1 ∙ ap (after.after_notes (notes_at_host k ns)) (many-new (numbers_in m) k there)

@@ -19,11 +19,22 @@ began-all : (ns : List Note) (w : Hosts) → began (after_notes ns w) ≡ began 
 began-all [] w = refl
 began-all (n ∷ ns) w = began-all ns (after_note n w) ∙ began_noted n w
 
-a-stays : (ns : List Note) (w : Hosts) → (after_notes ns w).number_a ≡ w.number_a
+pub a-stays : (ns : List Note) (w : Hosts) → (after_notes ns w).number_a ≡ w.number_a
 a-stays ns w = ap (λ (x : Hosts). x.number_a) (began-all ns w)
 
-b-stays : (ns : List Note) (w : Hosts) → (after_notes ns w).number_b ≡ w.number_b
+pub b-stays : (ns : List Note) (w : Hosts) → (after_notes ns w).number_b ≡ w.number_b
 b-stays ns w = ap (λ (x : Hosts). x.number_b) (began-all ns w)
+
+-- what is seen of the two among all is what is seen of a world of two
+pub agrees-seen : (m : Crowd) (w : Hosts) → Agrees m w → seen w ≡ seen (between w.number_a w.number_b m)
+agrees-seen m w g = λ k. record {
+  here = w.number_a;
+  there = w.number_b;
+  this = state_or_new (sym g.here k);
+  that = state_or_new (sym g.there k);
+  going = λ on. sym (g.going on) k;
+  coming = λ on. sym (g.coming on) k;
+}
 
 -- All notes.
 
@@ -61,7 +72,7 @@ module _ (ns : List ManyNote) (m : Crowd) (t : IsManyTranscript ns m) (a b : ℕ
   pub number-b : now.number_b ≡ b
   number-b = b-stays (notes_between a b ns) (new_hosts a b)
 
-  same : began now ≡ new_hosts a b
+  pub same : began now ≡ new_hosts a b
   same = began-all (notes_between a b ns) (new_hosts a b)
 
   pub pair-runs : IsTranscript (notes_between a b ns) (hosts_between a b ns)
@@ -77,17 +88,7 @@ module _ (ns : List ManyNote) (m : Crowd) (t : IsManyTranscript ns m) (a b : ℕ
   last = subst (λ (x : Crowd). Agrees x now) (sym t.state) all.1
 
   pub pair-seen : seen (hosts_between a b ns) ≡ seen (between a b m)
-  pair-seen = by-numbers ∙ ap (λ (k : ℕ). seen (between k now.number_b m)) number-a ∙ ap (λ (k : ℕ). seen (between a k m)) number-b
-    where
-      by-numbers : seen now ≡ seen (between now.number_a now.number_b m)
-      by-numbers = λ k. record {
-        here = now.number_a;
-        there = now.number_b;
-        this = state_or_new (sym last.here k);
-        that = state_or_new (sym last.there k);
-        going = λ on. sym (last.going on) k;
-        coming = λ on. sym (last.coming on) k;
-      }
+  pair-seen = agrees-seen m now last ∙ ap (λ (k : ℕ). seen (between k now.number_b m)) number-a ∙ ap (λ (k : ℕ). seen (between a k m)) number-b
 
 pub each-pair : (ns : List ManyNote) (m : Crowd) → IsManyTranscript ns m → ForEachPair IsTranscript ns m
 each-pair ns m t a b i j differ = pair-runs ns m t a b i j differ

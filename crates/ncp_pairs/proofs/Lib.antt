@@ -4,6 +4,7 @@ pub mod Others
 pub mod Crowds
 pub mod ByItself
 pub mod ManyRuns
+pub mod FirstOfMany
 pub mod InVain
 pub mod OnePair
 pub mod TwoOfMany
@@ -16,5 +17,6 @@ pub mod Agreeing
 pub mod Stepping
 pub mod Starting
 pub mod EachPair
+pub mod NotesOfTwo
 mod Beginning
 pub mod EveryPair

@@ -112,3 +112,23 @@ pub all-noted : (events : List ManyEvent) (i : ℕ) (numbers : List ℕ) (first 
 all-noted events i numbers first now new so_far h =
     let last : AreManySteps (drop i events) now now = subst (λ (es : List ManyEvent). AreManySteps es now now) (sym (drop_all i events h)) refl in
     begun-noted events numbers now (subst (λ (w : Noted_many). AreManySteps events w now) new (so_far now last))
+
+-- The beginning of a transcript is one, of what it leaves.
+
+run-begins : (before after : List ManyNote) (m : Crowd) → IsManyRun (before ++ after) m → IsManyRun before m
+run-begins [] after m r = tt
+run-begins (n ∷ ns) after m r = (r.0, run-begins ns after (after_many n m) r.1)
+
+-- the hosts that are there then are those of the beginning, and of the end
+pub numbers-then : (before : List ManyNote) (m : Crowd) → numbers_in (after_many_notes before (began m)) ≡ numbers_in m
+numbers-then before m = numbers-after-all before (began m) ∙ new-numbers (numbers_in m)
+
+pub many-begins : (before after : List ManyNote) (m : Crowd) → IsManyTranscript (before ++ after) m → IsManyTranscript before (after_many_notes before (began m))
+many-begins before after m t =
+    let same : numbers_in (after_many_notes before (began m)) ≡ numbers_in m = numbers-then before m in
+    record {
+      hosts = ap are_hosts same ∙ t.hosts;
+      fits = subst (λ (ks : List ℕ). (n : ℕ) → is_one_of n ks ≡ true → n < 256) (sym same) t.fits;
+      run = subst (λ (ks : List ℕ). IsManyRun before (new_crowd ks)) (sym same) (run-begins before after (began m) t.run);
+      state = ap (λ (ks : List ℕ). after_many_notes before (new_crowd ks)) (sym same);
+    }

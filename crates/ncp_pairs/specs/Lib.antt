@@ -5,3 +5,4 @@ pub mod ManyTranscript
 pub mod ManyVain
 pub mod Pairs
 pub mod Examples
+pub mod NotesOfTwo

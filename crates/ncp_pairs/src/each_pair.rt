@@ -2,11 +2,15 @@
 ghost use Rattle.std.specs.Prelude.{List};
 ghost use Rattle.ncp_two.specs.Transcript.{IsTranscript};
 ghost use Rattle.ncp_two.specs.OfRules.{IsOfModelsHosts};
+ghost use Rattle.ncp_promises.specs.Judged.{ActsOnce, MakesNoErr};
+ghost use Rattle.ncp_promises.specs.Resetting.{OnlyResetsAct};
+ghost use Rattle.ncp_promises.specs.Openings.{OpensUnderNoText};
 ghost use Rattle.ncp_promises.specs.Promised.{SubnetHonest, GotBegins, EachByteOnce, WithinAllocation, LedgersBalanced, CameInOrder, CommandsInOrder, EachActedOnce, NoErrMade, NoErrUnderway, OnlyResetsActed, WaitsAlone, OpenedUnderNoText};
 ghost use Rattle.ncp_pairs.specs.declared.many_note.ManyNote.{ManyNote as Noted};
 ghost use Rattle.ncp_pairs.specs.Crowd.{Crowd};
 ghost use Rattle.ncp_pairs.specs.ManyTranscript.{IsManyTranscript};
 ghost use Rattle.ncp_pairs.specs.Pairs.{SeenOfEachPair, ForEachPair, ForEachTwo};
+ghost use Rattle.ncp_pairs.specs.NotesOfTwo.{ForEachNoteOfTwo};
 
 use ncp_promises::headline::the_headline;
 use ncp_promises::promises::{
@@ -24,8 +28,9 @@ pub fn each_pair_is_a_world_of_two()
 
 /// Over every list of calls, deliveries, losses, answers and orders of two to eight hosts, each pair of them has
 /// what the headline and its parts say of two, whatever happens at and between the others. The phrases are those
-/// of two hosts, of the notes that name both and of these two as they are among all. `model`: these notes are a
-/// run of the model's two hosts, and what is seen of the two stands for them.
+/// of two hosts, of the notes that name both: of these two as they are among all, and `acts`, `errs`, `resets`
+/// and `openings` of the world of two that their notes leave ([`each_note_of_each_pair`] has these among all).
+/// `model`: these notes are a run of the model's two hosts, and what is seen of the two stands for them.
 pub fn the_headline_of_each_pair()
     ensures subnet { (notes : List Noted) (m : Crowd) → IsManyTranscript notes m → ForEachTwo SubnetHonest notes m }
     ensures beginning { (notes : List Noted) (m : Crowd) → IsManyTranscript notes m → ForEachTwo GotBegins notes m }
@@ -47,4 +52,17 @@ pub fn the_headline_of_each_pair()
     only_resets_act_until_the_answer();
     none_opens_while_its_link_has_a_text();
     transcripts_are_of_the_model();
+}
+
+/// Each note of two of the hosts is what the headline and its parts say of it, of what is seen of the two as they
+/// are among all, before the note and after it; and a note of others changes nothing of that.
+pub fn each_note_of_each_pair()
+    ensures acts { (notes : List Noted) (m : Crowd) → IsManyTranscript notes m → ForEachNoteOfTwo ActsOnce notes m }
+    ensures errs { (notes : List Noted) (m : Crowd) → IsManyTranscript notes m → ForEachNoteOfTwo MakesNoErr notes m }
+    ensures resets { (notes : List Noted) (m : Crowd) → IsManyTranscript notes m → ForEachNoteOfTwo OnlyResetsAct notes m }
+    ensures openings { (notes : List Noted) (m : Crowd) → IsManyTranscript notes m → ForEachNoteOfTwo OpensUnderNoText notes m }
+{
+    the_headline();
+    only_resets_act_until_the_answer();
+    none_opens_while_its_link_has_a_text();
 }

@@ -5,13 +5,15 @@ ghost use Rattle.ncp_host.specs.Host.{new_host};
 ghost use Rattle.ncp_transcript.specs.declared.call.Call.TheVariants as calls;
 ghost use Rattle.ncp_transcript.specs.declared.note.HostNote.TheVariants as of_host;
 ghost use Rattle.ncp_two.specs.declared.side.Side.TheVariants.{A, B};
+ghost use Rattle.ncp_two.specs.declared.event.Event.TheVariants as two_events;
 ghost use Rattle.ncp_two.specs.declared.note.Move.TheVariants as moves;
 ghost use Rattle.ncp_two.specs.declared.note.Note.TheVariants as notes;
+ghost use Rattle.ncp_pairs.specs.declared.many_event.ManyEvent.{ManyEvent};
 ghost use Rattle.ncp_pairs.specs.declared.many_event.ManyEvent.TheVariants as events;
 ghost use Rattle.ncp_pairs.specs.declared.many_note.ManyNote.TheVariants as many;
 ghost use Rattle.ncp_pairs.specs.Numbered.{thing_in, at_thing};
 ghost use Rattle.ncp_pairs.specs.Crowd.{are_hosts, others, host_at, between};
-ghost use Rattle.ncp_pairs.specs.ManyHappening.{by_numbers, ManyNoted};
+ghost use Rattle.ncp_pairs.specs.ManyHappening.{ends_of, as_of_two, event_by_numbers, by_numbers, ManyNoted};
 ghost use Rattle.ncp_pairs.specs.Pairs.{note_between, notes_between, notes_at_host};
 ghost use Rattle.ncp_pairs.specs.ManyTranscript.{AreManyNotes};
 ghost use Rattle.ncp_pairs.specs.Examples.{three_hosts, three_new, rst_with, row_events, row_notes, first_events, first_notes};
@@ -48,6 +50,14 @@ pub fn sides_are_names_of_numbers()
     ensures came { by_numbers 1 3 (notes.Came B 0 of_host.Nothing) ≡ many.Came 3 1 0 of_host.Nothing }
     ensures called { by_numbers 1 3 (notes.Called B of_host.Nothing) ≡ many.Called 3 of_host.Nothing }
     ensures nothing { by_numbers 1 3 (notes.Nothing A 2 moves.Lose) ≡ many.Nothing (events.Lose 1 3 2) }
+{}
+
+/// An event of many is one of its two hosts, of which the sender is side A.
+pub fn an_event_of_many_is_one_of_two()
+    ensures turned_back { (event : ManyEvent) → event_by_numbers (ends_of event).0 (ends_of event).1 (as_of_two event) ≡ event }
+    ensures answer { event_by_numbers 1 3 (two_events.Answer A 2) ≡ events.Answer 1 3 2 }
+    ensures other { event_by_numbers 1 3 (two_events.Lose B 2) ≡ events.Lose 3 1 2 }
+    ensures sender { ends_of (events.Dead 1 3 2) ≡ (1, 3) }
 {}
 
 /// That runs are there: events of three hosts, and their notes.

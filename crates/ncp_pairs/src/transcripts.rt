@@ -1,19 +1,22 @@
 //! Laws of transcripts of two to eight hosts, each the contract of a function that does nothing.
-ghost use Rattle.std.specs.Prelude.{◌≡◌, ◌≢◌, ◌<◌, ◌≤◌, ◌⊎◌, ℕ, true, false, List, [], ◌∷◌, ◌++◌, length, map, None};
-ghost use Rattle.ncp_host.specs.Host.{is_one_of};
+ghost use Rattle.std.specs.Prelude.{◌≡◌, ◌≢◌, ◌<◌, ◌≤◌, ◌⊎◌, ℕ, true, false, Bool, List, [], ◌∷◌, ◌++◌, length, map, None, Some};
+ghost use Rattle.ncp_host.specs.Host.{is_one_of, new_host};
+ghost use Rattle.ncp_host.specs.Readiness.{IsNext};
 ghost use Rattle.ncp_host.specs.Turns.{next_output};
 ghost use Rattle.ncp_transcript.specs.declared.note.HostNote.TheVariants as of_host;
+ghost use Rattle.ncp_transcript.specs.After.{after_notes as after_host_notes};
+ghost use Rattle.ncp_runs.specs.Peers.{FromBeginning};
 ghost use Rattle.ncp_two.specs.declared.note.Note.{Note};
 ghost use Rattle.ncp_two.specs.Between.{Hosts, after_note};
 ghost use Rattle.ncp_two.specs.Transcript as worlds;
 ghost use Rattle.ncp_pairs.specs.declared.many_event.ManyEvent.{ManyEvent as Event};
 ghost use Rattle.ncp_pairs.specs.declared.many_note.ManyNote.{ManyNote as Noted};
 ghost use Rattle.ncp_pairs.specs.declared.many_note.ManyNote.TheVariants as many;
-ghost use Rattle.ncp_pairs.specs.Crowd.{Crowd, are_hosts, new_crowd, is_there, host_at, between, crowd_of, after_many, after_many_notes};
+ghost use Rattle.ncp_pairs.specs.Crowd.{Crowd, numbers_in, are_hosts, others, new_crowd, is_there, host_at, between, crowd_of, after_many, after_many_notes};
 ghost use Rattle.ncp_pairs.specs.ManyHappening.{are_there, by_numbers};
 ghost use Rattle.ncp_pairs.specs.ManyTranscript.{IsManyRun, AreManyNotes, began, IsManyTranscript};
 ghost use Rattle.ncp_pairs.specs.ManyVain.{CannotHappen};
-ghost use Rattle.ncp_pairs.specs.Pairs.{note_between, EachOfManyByItself};
+ghost use Rattle.ncp_pairs.specs.Pairs.{note_between, notes_at_host, EachOfManyByItself};
 
 /// The notes of events, however many and whatever they are, are one for each, and a run: each says what
 /// the rules say at the state before it.
@@ -38,6 +41,26 @@ pub fn a_world_of_two_is_one_of_many()
 /// it is what they leave. So what is proved of every run of one host holds of it.
 pub fn each_host_of_many_is_by_itself()
     ensures { (notes : List Noted) (m : Crowd) → IsManyTranscript notes m → EachOfManyByItself notes m }
+{}
+
+/// The notes of each host are a run from its beginning, with the others as its peers in their order, and it is
+/// what they leave: what the laws of runs of one host ask for.
+pub fn each_host_of_many_is_from_its_beginning()
+    ensures run { (notes : List Noted) (m : Crowd) (host : ℕ) → IsManyTranscript notes m → is_there host m ≡ true → FromBeginning host (others host (numbers_in m)) (notes_at_host host notes) }
+    ensures host { (notes : List Noted) (m : Crowd) (host : ℕ) → IsManyTranscript notes m → is_there host m ≡ true → host_at host m ≡ after_host_notes (notes_at_host host notes) (new_host host (others host (numbers_in m))) }
+{}
+
+/// The beginning of a transcript of many is a transcript, of the hosts and the subnet that it leaves: so every
+/// law of transcripts holds after each note of one.
+pub fn beginnings_of_many_are_transcripts()
+    ensures { (before after : List Noted) (m : Crowd) → IsManyTranscript (before ++ after) m → IsManyTranscript before (after_many_notes before (began m)) }
+{}
+
+/// Each of many hosts is asked in vain for its next message only where no link to any other is ready; and what
+/// goes out is the message on the first link that is.
+pub fn what_goes_out_is_first_of_each_of_many()
+    ensures nothing { (before after : List Noted) (m : Crowd) (host : ℕ) → IsManyTranscript (before ++ many.Out host of_host.Nothing ∷ after) m → IsNext None (host_at host (after_many_notes before (began m))).peers }
+    ensures out { (before after : List Noted) (m : Crowd) (host : ℕ) (message : List Bool) → IsManyTranscript (before ++ many.Out host (of_host.Out message) ∷ after) m → IsNext (Some message) (host_at host (after_many_notes before (began m))).peers }
 {}
 
 /// A note is one of at most one pair of hosts, and at most one note of that pair.

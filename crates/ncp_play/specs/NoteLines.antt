@@ -1,5 +1,5 @@
 -- The lines of a note, as functions of the note and its number (this profile).
-use Rattle.std.specs.Prelude.{ℕ, Bool, List, [], ◌∷◌, ◌++◌, length, Option, Some, None, Result, Ok, codes, decimal}
+use Rattle.std.specs.Prelude.{ℕ, Bool, true, false, if◌then◌else◌, List, [], ◌∷◌, ◌++◌, length, Option, Some, None, Result, Ok, codes, decimal}
 use Rattle.std.specs.declared.result.Result.TheVariants.{Err as Cut_off}
 use Rattle.ncp_leader.specs.declared.leader.Leader.{Leader}
 use Rattle.ncp_leader.specs.declared.leader.Short.{Short}
@@ -12,7 +12,7 @@ use Rattle.ncp_script.specs.Verbs.{word_of}
 use Rattle.ncp_page.specs.Lines.{field, number_after}
 use Rattle.ncp_files.specs.Lines.{message_lines}
 use Rattle.ncp_play.specs.declared.heading.Speaker.{Speaker}
-use Rattle.ncp_play.specs.declared.heading.Speaker.TheVariants.{Host, Side}
+use Rattle.ncp_play.specs.declared.heading.Speaker.TheVariants.{Host, Side, Number}
 use Rattle.ncp_play.specs.declared.heading.Heading.{Heading}
 use Rattle.ncp_play.specs.Names.{Name, name_of_note}
 use Rattle.ncp_play.specs.Results.{result_words, error_lines}
@@ -20,20 +20,27 @@ use Rattle.ncp_play.specs.Arrived.{received_words}
 
 -- ---- how a line begins
 
--- the side of a script of two hosts; where a script has one host, lines do not name it
-abbrev pub side_word : Speaker → List ℕ
-side_word Host = []
-side_word (Side letter) = codes " " ++ letter ∷ []
+-- the side of a script of two hosts, or the host of one of two to eight; where a script has one host, lines do not
+-- name it
+abbrev pub speaker_word : Speaker → List ℕ
+speaker_word Host = []
+speaker_word (Side letter) = codes " " ++ letter ∷ []
+speaker_word (Number number) = field (codes " ") number
 
--- the peer that a call names, where a script has one host
+-- only in a script of two hosts is the peer of a call known by its side
+abbrev pub names_peer : Speaker → Bool
+names_peer Host = true
+names_peer (Side letter) = false
+names_peer (Number number) = true
+
+-- the peer that a call names
 abbrev pub peer_word : Speaker → Option ℕ → List ℕ
-peer_word Host None = []
-peer_word Host (Some peer) = field (codes " ") peer
-peer_word (Side letter) peer = []
+peer_word speaker None = []
+peer_word speaker (Some peer) = if names_peer speaker then field (codes " ") peer else []
 
--- the number, and the side
+-- the number, and the side or the host
 abbrev pub front : Heading → List ℕ
-front heading = decimal heading.number ++ side_word heading.speaker
+front heading = decimal heading.number ++ speaker_word heading.speaker
 
 -- ---- calls
 

@@ -1,6 +1,6 @@
 //! How a line begins: `Speaker` and `Heading`.
 ghost use Rattle.std.specs.Prelude.{◌≡◌, ◌+◌, ◌≤◌, ◌++◌, length};
-ghost use Rattle.ncp_play.specs.NoteLines.{side_word, peer_word, front, named, next_heading};
+ghost use Rattle.ncp_play.specs.NoteLines.{speaker_word, names_peer, peer_word, front, named, next_heading};
 ghost use Rattle.ncp_script.specs.Verbs.{word_of};
 
 use ncp_page::{LONGEST_NUMBER, PAGE_SIZE, Page, push_field};
@@ -13,6 +13,8 @@ pub enum Speaker {
     Host,
     /// A side of a script of two hosts, by its letter: its calls name no peer.
     Side(u8),
+    /// A host of a script of two to eight, by its number: its calls name the peer.
+    Number(u8),
 }
 
 /// What a line begins with.
@@ -35,8 +37,11 @@ impl Heading {
     }
 }
 
+// How many bytes name a side or a host at most.
+const LONGEST_SPEAKER: usize = 1 + LONGEST_NUMBER;
+
 /// How many bytes a line has at most in front of its first word.
-pub const LONGEST_FRONT: usize = LONGEST_NUMBER + 2;
+pub const LONGEST_FRONT: usize = LONGEST_NUMBER + LONGEST_SPEAKER;
 
 // How many letters the longest word has that names a call.
 const LONGEST_VERB: usize = 11;
@@ -44,15 +49,30 @@ const LONGEST_VERB: usize = 11;
 /// How many bytes the words have at most that name a call, with those in front.
 pub(crate) const LONGEST_NAMED: usize = LONGEST_FRONT + 1 + LONGEST_VERB + 1 + LONGEST_NUMBER;
 
-// Appends the side.
-fn push_side(page: &mut Page, speaker: Speaker)
-    requires { length page.old + 2 ≤ PAGE_SIZE }
-    ensures bytes { page.new ≡ page.old ++ side_word speaker }
-    ensures len { length page.new ≤ length page.old + 2 }
+// Appends the side or the host.
+fn push_speaker(page: &mut Page, speaker: Speaker)
+    requires { length page.old + LONGEST_SPEAKER ≤ PAGE_SIZE }
+    ensures bytes { page.new ≡ page.old ++ speaker_word speaker }
+    ensures len { length page.new ≤ length page.old + LONGEST_SPEAKER }
 {
-    if let Speaker::Side(letter) = speaker {
-        page.push(b' ');
-        page.push(letter);
+    match speaker {
+        Speaker::Host => {}
+        Speaker::Side(letter) => {
+            page.push(b' ');
+            page.push(letter);
+        }
+        Speaker::Number(number) => push_field(page, b" ", u32::from(number)),
+    }
+}
+
+// Whether the calls of a speaker name the peer.
+fn names_peer(speaker: Speaker) -> bool
+    ensures { result ≡ names_peer speaker }
+{
+    match speaker {
+        Speaker::Host => true,
+        Speaker::Side(_) => false,
+        Speaker::Number(_) => true,
     }
 }
 
@@ -62,19 +82,22 @@ fn push_peer(page: &mut Page, speaker: Speaker, peer: Option<u8>)
     ensures bytes { page.new ≡ page.old ++ peer_word speaker peer }
     ensures len { length page.new ≤ length page.old + 1 + LONGEST_NUMBER }
 {
-    if let (Speaker::Host, Some(peer)) = (speaker, peer) {
+    let Some(peer) = peer else {
+        return;
+    };
+    if names_peer(speaker) {
         push_field(page, b" ", u32::from(peer));
     }
 }
 
-/// Appends what a line begins with: its number, and in a script of two hosts its side.
+/// Appends what a line begins with: its number, and the side or the host, where a script has several.
 pub fn push_front(page: &mut Page, heading: Heading)
     requires { length page.old + LONGEST_FRONT ≤ PAGE_SIZE }
     ensures bytes { page.new ≡ page.old ++ front heading }
     ensures len { length page.new ≤ length page.old + LONGEST_FRONT }
 {
     page.push_decimal(heading.number);
-    push_side(page, heading.speaker);
+    push_speaker(page, heading.speaker);
 }
 
 // Appends the word that names a call.

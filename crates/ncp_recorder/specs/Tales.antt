@@ -1,9 +1,11 @@
 -- The recording of a script as what is said of it: the header of a file, then what is recorded of each note.
 use Rattle.ncp_files.specs.declared.version.Version.TheVariants.{Two}
 use Rattle.ncp_files.specs.Versions.{header_of}
+use Rattle.ncp_two.specs.declared.note.Note.{Note}
+use Rattle.ncp_two.specs.Transcript.{Noted_world}
 use Rattle.ncp_world_player.specs.declared.first_line.FirstLine.{FirstLine}
-use Rattle.ncp_world_player.specs.Telling.{Tale}
+use Rattle.ncp_scene.specs.Telling.{Tale}
 use Rattle.ncp_recorder.specs.Recorded.{note_bytes}
 
-abbrev pub recording_of : FirstLine → Tale
-recording_of first = record { head = header_of Two; of_note = λ number note hosts. note_bytes first.hosts note }
+abbrev pub recording_of : FirstLine → Tale Note Noted_world
+recording_of first = record { head = header_of Two; of_note = λ number note w. note_bytes first.hosts note }

@@ -2,9 +2,10 @@
 //! is told of notes is one file.
 ghost use Rattle.std.specs.Prelude.{◌≡◌, List, [], ◌∷◌, ◌++◌, codes};
 ghost use Rattle.ncp_two.specs.declared.note.Note.{Note};
-ghost use Rattle.ncp_two.specs.Between.{Hosts};
+ghost use Rattle.ncp_two.specs.Transcript.{Noted_world};
 ghost use Rattle.ncp_world_player.specs.declared.first_line.FirstLine.{FirstLine};
-ghost use Rattle.ncp_world_player.specs.Telling.{told};
+ghost use Rattle.ncp_scene.specs.Telling.{told};
+ghost use Rattle.ncp_world_player.specs.WorldRules.{noted};
 ghost use Rattle.ncp_recorder.specs.Recorded.{file_of_notes};
 ghost use Rattle.ncp_recorder.specs.Tales.{recording_of};
 ghost use Rattle.ncp_recorder.specs.Examples.{two_hosts, rst_out, rst_came, a_reset, unrecorded};
@@ -21,5 +22,5 @@ pub fn losses_are_not_recorded()
 
 /// What is told of the notes of hosts, one note after the other, is the file of what is recorded of them.
 pub fn notes_are_told_as_their_file()
-    ensures { (first : FirstLine) (began : Hosts) (notes : List Note) → told (recording_of first) began notes ≡ file_of_notes first.hosts notes }
+    ensures { (first : FirstLine) (began : Noted_world) (notes : List Note) → told noted (recording_of first) began notes ≡ file_of_notes first.hosts notes }
 {}

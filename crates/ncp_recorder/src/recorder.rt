@@ -9,25 +9,26 @@ use ncp_bits::BitStore;
 use ncp_files::{Version, push_header};
 use ncp_page::Page;
 use ncp_play::PlayFault;
+use ncp_scene::Teller;
 use ncp_stream::{Failed, Sink, Source};
 use ncp_world::{Note, World};
-use ncp_world_player::{FirstLine, Teller, play_script};
+use ncp_world_player::{FirstLine, TwoPlayed, play_script};
 use std::alloc::Global;
 
 // Tells what is recorded of notes, whatever is watched.
 struct Recorder;
 
-impl Teller for Recorder {
+impl<S: BitStore> Teller<TwoPlayed<S>> for Recorder {
     ghost use Rattle.ncp_recorder.specs.Tales.{recording_of};
 
     ghost tale = { recording_of };
 
-    fn begin(_first: FirstLine, page: &mut Page) {
+    fn begin(_first: &FirstLine, page: &mut Page) {
         push_header(page, Version::Two);
     }
 
-    fn say<S: BitStore, W: Sink>(
-        first: FirstLine,
+    fn say<W: Sink>(
+        first: &FirstLine,
         _world: &World<S>,
         _number: u32,
         note: &Note,
@@ -63,5 +64,5 @@ pub fn record_world<S: BitStore, R: Source, W: Sink>(
     ensures write_failed { W.has_failed sink.new ≡ is_write_failed result }
     ensures blamed { R.has_failed source.new ≡ true → (is_read_failed result || is_write_failed result) ≡ true }
 {
-    play_script::<Recorder, S, R, W>(alloc, source, sink)
+    play_script::<S, Recorder, R, W>(alloc, source, sink)
 }

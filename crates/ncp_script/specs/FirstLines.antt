@@ -1,5 +1,5 @@
 -- The first line of a script (this profile): the hosts that it names.
-use Rattle.std.specs.Prelude.{ℕ, ◌==◌, nat_le, List, [], ◌∷◌, length, Option, Some, None, option_map, codes, if◌then◌else◌}
+use Rattle.std.specs.Prelude.{ℕ, ◌==◌, nat_le, Bool, false, List, [], ◌∷◌, length, Option, Some, None, option_map, codes, if◌then◌else◌}
 use Rattle.std.specs.Str.{bytes_eq}
 use Rattle.ncp_host.specs.declared.limits.TheConstants.{MAX_PEERS}
 use Rattle.ncp_host.specs.Host.{are_peers}
@@ -50,6 +50,16 @@ if_peers (Some named) = if are_peers named.me named.peers then Some named else N
 -- the first line of a script of one host
 abbrev pub first_of_host : List (List ℕ) → Option Named
 first_of_host words = if_peers (host_named words)
+
+-- words that begin with the word `many`
+abbrev pub is_many : List (List ℕ) → Bool
+is_many [] = false
+is_many (word ∷ words) = bytes_eq (codes "many") word
+
+-- the numbers behind the word `many`, which all words are; whether hosts can have them is not judged
+abbrev pub many_named : List (List ℕ) → Option (List ℕ)
+many_named [] = None
+many_named (word ∷ words) = if bytes_eq (codes "many") word then few (numbers_of words) else None
 
 -- two numbers, the first words
 abbrev pub two_first : List (List ℕ) → Read TwoHosts

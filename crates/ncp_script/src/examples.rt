@@ -7,7 +7,7 @@ ghost use Rattle.ncp_script.specs.declared.host_lines.HostLine.TheVariants as li
 ghost use Rattle.ncp_script.specs.Words.{words_of};
 ghost use Rattle.ncp_script.specs.Calls.{call_of};
 ghost use Rattle.ncp_script.specs.HostLines.{host_line_of};
-ghost use Rattle.ncp_script.specs.FirstLines.{first_of_host, hosts_first};
+ghost use Rattle.ncp_script.specs.FirstLines.{first_of_host, is_many, many_named, hosts_first};
 ghost use Rattle.ncp_script.specs.Scripts.{Over, Fed, Faulty, BadLine, BadHosts, NoHosts, Plays};
 ghost use Rattle.ncp_script.specs.HostScripts.{host_script};
 
@@ -128,4 +128,18 @@ pub fn scripts_are_read_so()
 #[tactic(auto, unfolding(ncp_bits::specs::Bits::byte_bits, ncp_bits::specs::Numbers::bits_of))]
 pub fn a_script_of_one_host()
     ensures { host_script (codes "host 1 2\nphase 2\nin 32 05020000\nin 80 0002000000080001000c\nphase 2\necho 2 65\necho 2 66\nout\n") ≡ Plays (record { me = 1; peers = 2 ∷ [] }) (record { events = inputs.Call (calls.Phase 2) ∷ inputs.In (bits_of_bytes (5 ∷ 2 ∷ 0 ∷ 0 ∷ [])) ∷ inputs.In (bits_of_bytes (0 ∷ 2 ∷ 0 ∷ 0 ∷ 0 ∷ 8 ∷ 0 ∷ 1 ∷ 0 ∷ 12 ∷ [])) ∷ inputs.Call (calls.Phase 2) ∷ inputs.Call (calls.Echo 2 65) ∷ inputs.Call (calls.Echo 2 66) ∷ inputs.Out ∷ []; ending = Over }) }
+{}
+
+/// The first line of a script of two to eight hosts: the word `many` and their numbers. Whether they are too
+/// few, or not distinct, is not judged here.
+pub fn many_are_named_so()
+    ensures three { many_named (words_of (codes "many 3 1 255")) ≡ Some (3 ∷ 1 ∷ 255 ∷ []) }
+    ensures same { many_named (words_of (codes "many 7 7")) ≡ Some (7 ∷ 7 ∷ []) }
+    ensures none { many_named (words_of (codes "many")) ≡ Some [] }
+    ensures nine { many_named (words_of (codes "many 1 2 3 4 5 6 7 8 9")) ≡ None }
+    ensures far { many_named (words_of (codes "many 1 256")) ≡ None }
+    ensures two { many_named (words_of (codes "hosts 1 2")) ≡ None }
+    ensures begins { is_many (words_of (codes "many x")) ≡ true }
+    ensures hosts { is_many (words_of (codes "hosts 1 2")) ≡ false }
+    ensures longer { is_many (words_of (codes "many1 2")) ≡ false }
 {}

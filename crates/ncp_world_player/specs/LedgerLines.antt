@@ -4,11 +4,13 @@ use Rattle.ncp_page.specs.Lines.{field}
 use Rattle.ncp_two.specs.declared.ledger.Amount.{Amount}
 use Rattle.ncp_two.specs.declared.ledger.Ledger.{Ledger}
 use Rattle.ncp_two.specs.Between.{Hosts}
+use Rattle.ncp_two.specs.declared.note.Note.{Note}
 use Rattle.ncp_two.specs.Ledgers.{ledger_of}
+use Rattle.ncp_two.specs.Transcript.{Noted_world}
 use Rattle.ncp_world_player.specs.declared.first_line.Watch.{Watch}
 use Rattle.ncp_world_player.specs.declared.first_line.FirstLine.{FirstLine}
 use Rattle.ncp_world_player.specs.WorldNotes.{world_note_lines}
-use Rattle.ncp_world_player.specs.Telling.{Tale}
+use Rattle.ncp_scene.specs.Telling.{Tale}
 
 -- so many messages and so many bits, behind their name
 abbrev pub amount_words : List ℕ → Amount → List ℕ
@@ -31,12 +33,12 @@ ledger_line None w = []
 ledger_line (Some watch) w = watched_line watch w
 
 -- the lines of a note, and behind them that of the ledger as the note left it
-abbrev pub lines_watching : Option Watch → Tale
+abbrev pub lines_watching : Option Watch → Tale Note Noted_world
 lines_watching watch = record {
   head = [];
-  of_note = λ number note w. world_note_lines number note ++ ledger_line watch w;
+  of_note = λ number note w. world_note_lines number note ++ ledger_line watch w.hosts;
 }
 
 -- what the lines of a script tell whose first line is this
-abbrev pub lines_of_script : FirstLine → Tale
+abbrev pub lines_of_script : FirstLine → Tale Note Noted_world
 lines_of_script first = lines_watching first.watch

@@ -1,11 +1,13 @@
 pub mod Moves
 pub mod WorldLines
 pub mod FirstLine
-pub mod WorldScripts
+pub mod WorldRules
+pub mod WorldLaws
 pub mod WorldNotes
-pub mod Telling
 pub mod LedgerLines
-pub mod Playing
-pub mod NextEvents
+pub mod ManyLines
+pub mod ManyRules
+pub mod ManyLaws
+pub mod ManyNotes
 pub mod Players
 pub mod Examples

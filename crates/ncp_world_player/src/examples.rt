@@ -1,4 +1,4 @@
-//! Lines of scripts of two hosts and what they ask for, computed from the definitions.
+//! Lines of scripts of two hosts, and of two to eight, and what they ask for, computed from the definitions.
 ghost use Rattle.std.specs.Prelude.{◌≡◌, codes, [], ◌∷◌, None, Some};
 ghost use Rattle.ncp_script.specs.Words.{words_of};
 ghost use Rattle.ncp_script.specs.Scripts.{Over, Faulty, BadLine, BadHosts, NoHosts, Plays};
@@ -6,9 +6,13 @@ ghost use Rattle.ncp_script.specs.declared.first_lines.TwoHosts.{TwoHosts};
 ghost use Rattle.ncp_transcript.specs.declared.call.Call.TheVariants as calls;
 ghost use Rattle.ncp_two.specs.declared.event.Event.TheVariants as events;
 ghost use Rattle.ncp_two.specs.declared.side.Side.TheVariants.{A, B};
+ghost use Rattle.ncp_pairs.specs.declared.many_event.ManyEvent.TheVariants as many_events;
 ghost use Rattle.ncp_world_player.specs.FirstLine.{first_line_of};
 ghost use Rattle.ncp_world_player.specs.WorldLines.{world_line_of};
-ghost use Rattle.ncp_world_player.specs.WorldScripts.{world_script};
+ghost use Rattle.ncp_world_player.specs.WorldRules.{world_script};
+ghost use Rattle.ncp_world_player.specs.ManyLines.{many_of, many_line_of};
+ghost use Rattle.ncp_world_player.specs.ManyRules.{is_many_script, many_script};
+ghost use Rattle.ncp_world_player.specs.Examples.{three};
 
 /// Each word of a line; the peer of a call is the other host.
 pub fn lines_are_read_so()
@@ -63,4 +67,46 @@ pub fn scripts_are_read_so()
     ensures same_hosts { world_script (codes "hosts 1 1\na out\n") ≡ NoHosts BadHosts }
     ensures one_host { world_script (codes "host 1 2\nout\n") ≡ NoHosts BadHosts }
     ensures other_line { world_script (codes "a out\nhosts 1 2\n") ≡ NoHosts BadHosts }
+{}
+
+/// Each word of a line of many hosts, here 1, 2 and 3: the host in front, the peer of a call and the host to which
+/// a message is are of these.
+pub fn lines_of_many_are_read_so()
+    ensures reset { many_line_of three (words_of (codes "1 reset 3")) ≡ Some (many_events.Call 1 (calls.Reset 3)) }
+    ensures itself { many_line_of three (words_of (codes "1 phase 1")) ≡ Some (many_events.Call 1 (calls.Phase 1)) }
+    ensures ignored { many_line_of three (words_of (codes "2 ignored")) ≡ Some (many_events.Call 2 calls.Ignored) }
+    ensures out { many_line_of three (words_of (codes "3 out")) ≡ Some (many_events.Out 3) }
+    ensures deliver { many_line_of three (words_of (codes "1 deliver 3 2")) ≡ Some (many_events.Deliver 1 3 2) }
+    ensures to_itself { many_line_of three (words_of (codes "1 deliver 1 0")) ≡ Some (many_events.Deliver 1 1 0) }
+    ensures lose { many_line_of three (words_of (codes "2 lose 3 71")) ≡ Some (many_events.Lose 2 3 71) }
+    ensures dead { many_line_of three (words_of (codes "2 dead 1 0")) ≡ Some (many_events.Dead 2 1 0) }
+    ensures answer { many_line_of three (words_of (codes "3 answer 1 255")) ≡ Some (many_events.Answer 3 1 255) }
+{}
+
+/// What no line of many hosts asks for: a host, a peer or a receiver that is none of them, a side, a link that is
+/// missing or followed by more.
+pub fn no_lines_of_many()
+    ensures host { many_line_of three (words_of (codes "4 out")) ≡ None }
+    ensures peer { many_line_of three (words_of (codes "1 reset 4")) ≡ None }
+    ensures receiver { many_line_of three (words_of (codes "1 deliver 4 0")) ≡ None }
+    ensures side { many_line_of three (words_of (codes "a out")) ≡ None }
+    ensures no_peer { many_line_of three (words_of (codes "1 reset")) ≡ None }
+    ensures link { many_line_of three (words_of (codes "1 deliver 2")) ≡ None }
+    ensures more { many_line_of three (words_of (codes "1 deliver 2 0 0")) ≡ None }
+    ensures alone { many_line_of three (words_of (codes "1")) ≡ None }
+    ensures nothing { many_line_of three (words_of []) ≡ None }
+{}
+
+/// The first line of a script of many hosts, and what its bytes ask for.
+pub fn scripts_of_many_are_read_so()
+    ensures hosts { many_of (words_of (codes "many 3 1")) ≡ Some (3 ∷ 1 ∷ []) }
+    ensures one { many_of (words_of (codes "many 3")) ≡ None }
+    ensures same { many_of (words_of (codes "many 1 2 1")) ≡ None }
+    ensures nine { many_of (words_of (codes "many 1 2 3 4 5 6 7 8 9")) ≡ None }
+    ensures whole { many_script (codes "# three\n\nmany 1 2 3\r\n1 reset 2\n1 deliver 3 0") ≡ Plays three (record { events = many_events.Call 1 (calls.Reset 2) ∷ many_events.Deliver 1 3 0 ∷ []; ending = Over }) }
+    ensures bad_line { many_script (codes "many 1 2 3\n1 out\n1 out 2\n") ≡ Plays three (record { events = many_events.Out 1 ∷ []; ending = Faulty (BadLine 3) }) }
+    ensures bad_hosts { many_script (codes "many 1 1\n1 out\n") ≡ NoHosts BadHosts }
+    ensures is_many { is_many_script (codes "# hosts\nmany 1 1\n") ≡ true }
+    ensures is_two { is_many_script (codes "#many\nhosts 1 2\nmany 1 2\n") ≡ false }
+    ensures is_none { is_many_script [] ≡ false }
 {}

@@ -6,10 +6,11 @@ ghost use Rattle.ncp_two.specs.Ledgers.{ledger_of};
 ghost use Rattle.ncp_world_player.specs.LedgerLines.{amount_words, ledger_words, watched_line, ledger_line, lines_of_script};
 
 use crate::first_line::{FirstLine, Watch};
-use crate::teller::Teller;
+use crate::two::TwoPlayed;
 use crate::world_notes::say_world_note;
 use ncp_bits::BitStore;
 use ncp_page::{LONGEST_LONG, PAGE_SIZE, Page};
+use ncp_scene::Teller;
 use ncp_stream::{Failed, Sink};
 use ncp_world::{Amount, Ledger, Note, World};
 
@@ -101,13 +102,13 @@ fn say_ledger<S: BitStore, W: Sink>(
 /// The lines of notes, and behind those of each the ledger that is watched, if one is.
 pub struct NoteLines;
 
-impl Teller for NoteLines {
+impl<S: BitStore> Teller<TwoPlayed<S>> for NoteLines {
     ghost tale = { lines_of_script };
 
-    fn begin(_first: FirstLine, _page: &mut Page) {}
+    fn begin(_first: &FirstLine, _page: &mut Page) {}
 
-    fn say<S: BitStore, W: Sink>(
-        first: FirstLine,
+    fn say<W: Sink>(
+        first: &FirstLine,
         world: &World<S>,
         number: u32,
         note: &Note,

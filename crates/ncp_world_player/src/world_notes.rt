@@ -36,8 +36,8 @@ fn heading_of(number: u32, side: Side) -> Heading
     }
 }
 
-// Appends the word of a move.
-fn push_word(page: &mut Page, wanted: Move)
+/// Appends the word of a move.
+pub(crate) fn push_word(page: &mut Page, wanted: Move)
     requires { length page.old + LONGEST_WORD ≤ PAGE_SIZE }
     ensures bytes { page.new ≡ page.old ++ word_of wanted }
     ensures len { length page.new ≤ length page.old + LONGEST_WORD }
@@ -58,8 +58,8 @@ fn push_move(page: &mut Page, number: u32, side: Side, wanted: Move, link: u8)
     page.push(b' ');
 }
 
-// Appends what became of a message, as the host to which it came noted it.
-fn push_came(page: &mut Page, note: &HostNote)
+/// Appends what became of a message, as the host to which it came noted it.
+pub(crate) fn push_came(page: &mut Page, note: &HostNote)
     requires { length page.old + LONGEST_RECEIVED ≤ PAGE_SIZE }
     ensures bytes { page.new ≡ page.old ++ came_words note.now }
     ensures len { length page.new ≤ length page.old + LONGEST_RECEIVED }
@@ -84,8 +84,8 @@ fn push_answer(page: &mut Page, answer: Answer)
     }
 }
 
-// Appends which answer came, as the sender noted it.
-fn push_answered(page: &mut Page, note: &HostNote)
+/// Appends which answer came, as the sender noted it.
+pub(crate) fn push_answered(page: &mut Page, note: &HostNote)
     requires { length page.old + LONGEST_RECEIVED ≤ PAGE_SIZE }
     ensures bytes { page.new ≡ page.old ++ answer_words note.now }
     ensures len { length page.new ≤ length page.old + LONGEST_RECEIVED }

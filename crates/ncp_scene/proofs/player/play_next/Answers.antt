@@ -1,0 +1,24 @@
+use Rattle.std.proofs.lemmas.Result.{err_from_is_err_and}
+use Rattle.ncp_scene.proofs.PlayedLines.{asks_err, asks_none, event_err, event_ok}
+use Rattle.ncp_scene.proofs.player.play_next.Goals as goal
+
+pub returns-in_err-event-clause-events : goal.returns-in_err-event-clause-events
+returns-in_err-event-clause-events g c = λ bytes ahead.
+    let p = err_from_is_err_and c.from_residual.result c.from_residual.ensures.1 in
+    rw (p.1, p.2) (asks_err g.C.Scene.rules c.args.first.now c.args.lines.now.number bytes c.args.player.now.hosts c.next_event.new.lines (g.R.Source.left c.next_event.new.source) c.in_err-event.field-0.0 (c.in_err-event.ensures.told bytes ahead))
+
+pub returns-in_default-clause-events : goal.returns-in_default-clause-events
+returns-in_default-clause-events g c = λ bytes ahead.
+    asks_none g.C.Scene.rules c.args.first.now c.args.lines.now.number bytes c.args.player.now.hosts c.next_event.new.lines (g.R.Source.left c.next_event.new.source) (rw c.in_default.is at (c.in_ok-event.ensures.told bytes ahead))
+
+pub returns-in_err-play_event-clause-events : goal.returns-in_err-play_event-clause-events
+returns-in_err-play_event-clause-events g c = λ bytes ahead.
+    let p = err_from_is_err_and c.from_residual-in_err-play_event.result c.from_residual-in_err-play_event.ensures.1 in
+    rw (p.1, p.2) (
+    event_err g.C.Scene.rules c.args.first.now c.args.lines.now.number bytes c.args.player.now.hosts c.in-Some.event c.in-Some.ended c.next_event.new.lines (g.R.Source.left c.next_event.new.source) c.play_event.new.hosts c.in_err-play_event.field-0.0
+    (rw c.in-Some.is at (c.in_ok-event.ensures.told bytes ahead)) c.in_err-play_event.ensures.event)
+
+pub returns-clause-events : goal.returns-clause-events
+returns-clause-events g c = λ bytes ahead.
+    event_ok g.C.Scene.rules c.args.first.now c.args.lines.now.number bytes c.args.player.now.hosts c.in-Some.event c.in-Some.ended c.next_event.new.lines (g.R.Source.left c.next_event.new.source) c.play_event.new.hosts
+    (rw c.in-Some.is at (c.in_ok-event.ensures.told bytes ahead)) c.in_ok-play_event.ensures.event
