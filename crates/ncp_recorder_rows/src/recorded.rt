@@ -53,22 +53,26 @@ pub(crate) fn expect(
     expect_with::<PlainStore>(rt, alloc, script, answer, recording)
 }
 
-/// The same of a script in parts, and of its records.
-pub(crate) fn expect_parts(
+// The same of a script behind a beginning in parts, and of its records behind those of the parts.
+fn expect_behind(
     rt: &impl Abort,
     alloc: Global,
-    parts: &[&[u8]],
+    beginning: &[&[u8]],
+    before: &[&[&[u8]]],
+    script: &[u8],
     good: bool,
-    records: &[&[&[u8]]],
+    records: &[&[u8]],
 ) -> Result<(), Fail> {
-    let mut script = Vec::new(alloc);
-    append(&mut script, parts)?;
+    let mut all = Vec::new(alloc);
+    append(&mut all, beginning)?;
+    all.extend_from_slice(script)?;
     let mut recording = Vec::new(alloc);
     recording.extend_from_slice(HEADER)?;
-    for part in records {
+    for part in before {
         append(&mut recording, part)?;
     }
-    expect(rt, alloc, &script, Ok(good), &recording)
+    append(&mut recording, records)?;
+    expect(rt, alloc, &all, Ok(good), &recording)
 }
 
 /// The same of a script behind the one by which both hosts come up.
@@ -79,12 +83,14 @@ pub(crate) fn expect_up(
     good: bool,
     records: &[&[u8]],
 ) -> Result<(), Fail> {
-    expect_parts(
+    expect_behind(
         rt,
         alloc,
-        &[COMING_UP, script],
+        &[COMING_UP],
+        &[COMING_UP_RECORDS],
+        script,
         good,
-        &[COMING_UP_RECORDS, records],
+        records,
     )
 }
 
@@ -96,12 +102,14 @@ pub(crate) fn expect_given(
     good: bool,
     records: &[&[u8]],
 ) -> Result<(), Fail> {
-    expect_parts(
+    expect_behind(
         rt,
         alloc,
-        &[COMING_UP, GIVING, script],
+        &[COMING_UP, GIVING],
+        &[COMING_UP_RECORDS, GIVING_RECORDS],
+        script,
         good,
-        &[COMING_UP_RECORDS, GIVING_RECORDS, records],
+        records,
     )
 }
 
@@ -113,11 +121,13 @@ pub(crate) fn expect_sent(
     good: bool,
     records: &[&[u8]],
 ) -> Result<(), Fail> {
-    expect_parts(
+    expect_behind(
         rt,
         alloc,
-        &[COMING_UP, GIVING, SENDING, script],
+        &[COMING_UP, GIVING, SENDING],
+        &[COMING_UP_RECORDS, GIVING_RECORDS, SENDING_RECORDS],
+        script,
         good,
-        &[COMING_UP_RECORDS, GIVING_RECORDS, SENDING_RECORDS, records],
+        records,
     )
 }
