@@ -13,7 +13,7 @@ use Rattle.ncp_bits.proofs.Joins.{length-bytes_of, read_bytes-bytes_of}
 use Rattle.ncp_files.specs.declared.file.FileFault.{FileFault}
 use Rattle.ncp_files.specs.File.{next_record, record_of, ending, HoldsBy, Holds, record_bytes}
 use Rattle.ncp_files.specs.Steps.{Reader}
-use Rattle.ncp_files.proofs.Files.{next_none, next_read, next_whole, behind_record}
+use Rattle.ncp_files.proofs.Files.{next_read, next_whole, behind_record}
 
 -- ---- a record at the front
 

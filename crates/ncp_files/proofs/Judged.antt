@@ -1,5 +1,5 @@
 -- Which fault stands where no record of version 2 begins.
-use Rattle.std.proofs.Common.{◌≡◌, ◌↔◌, ℕ, ◌<◌, Bool, true, false, not, ◌||◌, cond, eqb, List, [], ◌∷◌, length, Option, Some, None, Result, Ok, Err, refl, sym, ap, arith, subst}
+use Rattle.std.proofs.Common.{◌≡◌, ◌↔◌, ℕ, ◌<◌, Bool, true, false, not, ◌||◌, cond, eqb, List, [], ◌∷◌, length, Some, None, Result, Ok, Err, refl, sym, arith, subst}
 use Rattle.std.proofs.lemmas.Bool.{le-ltb}
 use Rattle.ncp_files.specs.declared.file.Direction.TheVariants.{ToImp, FromImp}
 use Rattle.ncp_files.specs.declared.file.FileFault.{FileFault}

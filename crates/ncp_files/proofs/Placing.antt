@@ -7,9 +7,8 @@ use Rattle.ncp_files.specs.declared.file.FileFault.TheVariants.{BadHeader, Trunc
 use Rattle.ncp_files.specs.declared.version.Version.{Version}
 use Rattle.ncp_files.specs.declared.version.Version.TheVariants.{One, Two}
 use Rattle.ncp_files.specs.declared.version.Passage.{Passage}
-use Rattle.ncp_files.specs.File.{Next, next_record, ending, version_of, one_direction}
+use Rattle.ncp_files.specs.File.{Next, next_record, ending, one_direction}
 use Rattle.ncp_files.specs.Versions.{Recorded, NextRecorded, plain, placed, recorded, direction_by, passage_toward, next_passage, behind_passage, next_in}
-use Rattle.ncp_stream.specs.Streams.{Ahead}
 use Rattle.ncp_files.specs.Steps.{IsInside, ReadsHeader, ReadsVersion, ReadsRecord, Stops}
 use Rattle.ncp_files.proofs.Contents.{IsFront, next_record-front}
 

@@ -1,22 +1,19 @@
 -- Telling of records, one after the other.
-use Rattle.std.proofs.Common.{◌≡◌, ℕ, ◌≤◌, Bool, true, false, List, [], ◌∷◌, ◌++◌, length, take, drop, Option, Some, None, Result, Ok, Err, refl, sym, ap, ◌∙◌, arith, subst}
+use Rattle.std.proofs.Common.{◌≡◌, ℕ, ◌≤◌, true, false, List, [], ◌∷◌, ◌++◌, length, take, drop, Option, Some, None, Result, Ok, Err, refl, sym, ap, ◌∙◌, arith, subst}
 use Rattle.std.proofs.lemmas.List.{append_assoc, append-nil, length-take-le, take-append-drop, drop_at, drop-append-le}
 use Rattle.ncp_files.specs.declared.file.Direction.{Direction}
 use Rattle.ncp_files.specs.declared.file.FileFault.{FileFault}
 use Rattle.ncp_files.specs.declared.file.FileFault.TheVariants.{BadHeader, Truncated, TooLong, SpareNotZero, ReadFailed, WriteFailed, BadDirection, Mixed}
 use Rattle.ncp_files.specs.declared.version.Version.{Version}
-use Rattle.ncp_files.specs.File.{version_of, one_direction, direction_of, ending, HoldsBy, IsCut}
-use Rattle.ncp_files.specs.Versions.{next_in}
+use Rattle.ncp_files.specs.File.{version_of, one_direction, direction_of, ending, IsCut}
 use Rattle.ncp_page.specs.Lines.{number_after}
-use Rattle.ncp_files.specs.Lines.{told_from, record_lines, lines_from}
+use Rattle.ncp_files.specs.Lines.{told_from}
 use Rattle.ncp_files.specs.Results.{is_write_failed}
 use Rattle.ncp_stream.specs.Streams.{SaidSoFar, SaysText, SaysBeginning}
-use Rattle.ncp_files.specs.Writing.{Told, ToldCut, Wrote, WritesAll, WritesRead, WritesBeginning, Writes}
-use Rattle.ncp_files.specs.Shown.{ShownAs, ShownCut}
-use Rattle.ncp_files.specs.Steps.{Reader, Telling, IsInside, Stops, EndsWith, SaysNext, SaysLines, SaysFrom, SaysFile, Says}
+use Rattle.ncp_files.specs.Writing.{Told, ToldCut, WritesAll, WritesRead, WritesBeginning, Writes}
+use Rattle.ncp_files.specs.Steps.{Reader, Telling, IsInside, Stops, SaysNext, SaysLines, SaysFrom, SaysFile, Says}
 use Rattle.ncp_files.proofs.Files.{version_of-short, version_of-take, version_of-append}
-use Rattle.ncp_files.proofs.Contents.{IsFront, by_some, by_longer}
-use Rattle.ncp_files.proofs.Placing.{in_front}
+use Rattle.ncp_files.proofs.Contents.{IsFront, by_some}
 
 -- ---- records from a number on
 

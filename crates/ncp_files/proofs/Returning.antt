@@ -1,16 +1,15 @@
 -- A file of version 1 that becomes one of version 2, and then one of version 1 again.
-use Rattle.std.proofs.Common.{◌≡◌, ℕ, suc, ◌<◌, ◌≤◌, Bool, true, List, [], ◌∷◌, ◌++◌, length, take, drop, Option, Some, None, Result, Ok, Err, refl, sym, ap, ◌∙◌, arith, subst, All}
+use Rattle.std.proofs.Common.{◌≡◌, ℕ, suc, ◌≤◌, Bool, true, List, [], ◌∷◌, length, Option, None, refl, ap, ◌∙◌, arith, subst, All}
 use Rattle.ncp_files.specs.declared.file.Direction.{Direction}
 use Rattle.ncp_files.specs.declared.file.Direction.TheVariants.{ToImp, FromImp}
 use Rattle.ncp_files.specs.declared.file.FileFault.{FileFault}
-use Rattle.ncp_files.specs.declared.version.Version.{Version}
 use Rattle.ncp_files.specs.declared.version.Version.TheVariants.{One, Two}
 use Rattle.ncp_files.specs.File.{HoldsBy}
-use Rattle.ncp_files.specs.Versions.{plain, placed, bytes_at, header_of}
+use Rattle.ncp_files.specs.Versions.{plain, placed}
 use Rattle.ncp_files.specs.Converted.{next_at, message_at, all_at, file_to, converted, ConvertedAs, same_passage}
 use Rattle.ncp_files.proofs.Again.{plain_written, placed_written, ends_nowhere}
 use Rattle.ncp_files.proofs.Contents.{by_once}
-use Rattle.ncp_files.proofs.Turned.{at_front, at_accepted, ends_at}
+use Rattle.ncp_files.proofs.Turned.{at_accepted, ends_at}
 
 abbrev pub Fits : List Bool → Type 0
 Fits message = length message ≤ 8192

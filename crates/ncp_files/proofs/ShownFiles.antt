@@ -1,11 +1,11 @@
 -- Showing a file: its header, and the lines of its records.
-use Rattle.std.proofs.Common.{◌≡◌, ℕ, List, [], ◌∷◌, ◌++◌, length, take, drop, Option, Some, None, Result, Ok, Err, refl, sym, ap, ◌∙◌, subst}
+use Rattle.std.proofs.Common.{◌≡◌, ℕ, List, [], ◌∷◌, ◌++◌, take, drop, Option, Some, None, Result, Ok, Err, refl, sym, ap, ◌∙◌, subst}
 use Rattle.std.proofs.lemmas.List.{append_assoc}
 use Rattle.ncp_files.specs.declared.file.FileFault.{FileFault}
 use Rattle.ncp_files.specs.declared.file.FileFault.TheVariants.{BadHeader, Truncated, TooLong, SpareNotZero, ReadFailed, WriteFailed, BadDirection, Mixed}
 use Rattle.ncp_files.specs.declared.version.Version.{Version}
 use Rattle.ncp_files.specs.File.{version_of}
-use Rattle.ncp_files.specs.Versions.{Recorded, next_in}
+use Rattle.ncp_files.specs.Versions.{next_in}
 use Rattle.ncp_page.specs.Lines.{number_after}
 use Rattle.ncp_files.specs.Lines.{told_from, record_lines, lines_from}
 use Rattle.ncp_stream.specs.Streams.{SaidSoFar}

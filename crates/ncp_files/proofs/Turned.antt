@@ -1,21 +1,19 @@
 -- Converting messages, one after the other.
-use Rattle.std.proofs.Common.{◌≡◌, ℕ, ◌<◌, ◌≤◌, Bool, true, false, cond, List, [], ◌∷◌, ◌++◌, length, take, drop, Option, Some, None, Result, Ok, Err, refl, sym, ap, ◌∙◌, arith, subst, slice_index_or}
-use Rattle.std.proofs.lemmas.List.{append_assoc, append-nil}
-use Rattle.std.specs.List.{flat_map}
-use Rattle.ncp_files.specs.declared.file.Direction.{Direction}
+use Rattle.std.proofs.Common.{◌≡◌, ℕ, ◌<◌, ◌≤◌, Bool, true, false, cond, List, [], ◌∷◌, ◌++◌, length, Option, Some, None, Result, Ok, Err, refl, sym, ap, ◌∙◌, arith, slice_index_or}
+use Rattle.std.proofs.lemmas.List.{append_assoc}
 use Rattle.ncp_files.specs.declared.file.Direction.TheVariants.{ToImp}
 use Rattle.ncp_files.specs.declared.file.FileFault.{FileFault}
 use Rattle.ncp_files.specs.declared.file.FileFault.TheVariants.{BadHeader, Truncated, TooLong, SpareNotZero, ReadFailed, WriteFailed, BadDirection, Mixed}
 use Rattle.ncp_files.specs.declared.version.Version.{Version}
-use Rattle.ncp_files.specs.declared.version.Version.TheVariants.{One, Two}
+use Rattle.ncp_files.specs.declared.version.Version.TheVariants.{Two}
 use Rattle.ncp_files.specs.declared.version.Passage.{Passage}
-use Rattle.ncp_files.specs.File.{Next, version_of, ending, HoldsBy}
+use Rattle.ncp_files.specs.File.{Next, ending}
 use Rattle.ncp_files.specs.Versions.{Recorded, NextRecorded, next_in, header_of, bytes_at, direction_by}
 use Rattle.ncp_page.specs.Lines.{number_after}
 use Rattle.ncp_files.specs.Lines.{told_from}
-use Rattle.ncp_files.specs.Converted.{or_to_imp, direction_behind, same_passage, message_at, next_at, all_at, file_to}
-use Rattle.ncp_files.specs.Steps.{Reader, Stops, SaysNext, SaysLines, SaysFrom}
-use Rattle.ncp_files.specs.Turning.{ReadsMessage, message_told, SaysMessages, SaysTurned}
+use Rattle.ncp_files.specs.Converted.{or_to_imp, direction_behind, same_passage, message_at, next_at, all_at}
+use Rattle.ncp_files.specs.Steps.{Reader, Stops, SaysLines, SaysFrom}
+use Rattle.ncp_files.specs.Turning.{message_told, SaysMessages, SaysTurned}
 use Rattle.ncp_stream.specs.Streams.{Ahead, SaidSoFar}
 use Rattle.ncp_files.proofs.Contents.{IsFront, by_some}
 use Rattle.ncp_files.proofs.Placing.{in_front}

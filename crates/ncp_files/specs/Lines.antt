@@ -1,5 +1,5 @@
 -- The lines that are shown of a record, as functions of its message.
-use Rattle.std.specs.Prelude.{ℕ, ◌+◌, ◌-◌, ◌==◌, ◌&&◌, Bool, false, List, [], ◌∷◌, ◌++◌, length, Option, Some, None, Result, Ok, codes, decimal, if◌then◌else◌}
+use Rattle.std.specs.Prelude.{ℕ, ◌==◌, ◌&&◌, Bool, false, List, [], ◌∷◌, ◌++◌, length, Option, Some, None, Result, Ok, codes, decimal, if◌then◌else◌}
 use Rattle.std.specs.declared.result.Result.TheVariants.{Err as Fault}
 use Rattle.std.specs.List.{flat_map}
 use Rattle.ncp_bits.specs.Bits.{bytes_of}

@@ -2,18 +2,23 @@
 ghost use Rattle.std.specs.Prelude.{◌≡◌, true, false, IfOk, IfErr, OnOk, OnErr, Err};
 ghost use Rattle.std.specs.Option.{is_some, option_copied};
 ghost use Rattle.ncp_two.specs.Transcript.{IsTranscript};
-ghost use Rattle.ncp_promises.specs.Promised.{SubnetHonest, GotBegins, EachByteOnce, WithinAllocation, LedgersBalanced, CameInOrder, CommandsInOrder, EachActedOnce, NoErrMade, NoErrUnderway, OnlyResetsActed, WaitsAlone, OpenedUnderNoText};
+ghost use Rattle.ncp_promises.specs.Judged.{ActsOnce, MakesNoErr};
+ghost use Rattle.ncp_promises.specs.Resetting.{OnlyResetsAct};
+ghost use Rattle.ncp_promises.specs.Openings.{OpensUnderNoText};
+ghost use Rattle.ncp_promises.specs.Promised.{SubnetHonest, GotBegins, EachByteOnce, WithinAllocation, LedgersBalanced, CameInOrder, CommandsInOrder, NoErrUnderway, WaitsAlone};
 ghost use Rattle.ncp_pairs.specs.Numbered.{thing_in};
 ghost use Rattle.ncp_pairs.specs.Crowd.{is_there, are_hosts, new_crowd, after_many_notes};
 ghost use Rattle.ncp_pairs.specs.ManyTranscript.{new_many, IsManyStep, AreManyNotes, IsManyTranscript};
-ghost use Rattle.ncp_pairs.specs.Pairs.{ForEachPair, ForEachTwo};
-ghost use Rattle.ncp_pairs.specs.Pairs.{SeenOfEachPair, EachOfManyByItself};
+ghost use Rattle.ncp_pairs.specs.Pairs.{ForEachPair, ForEachTwo, SeenOfEachPair, EachOfManyByItself};
+ghost use Rattle.ncp_pairs.specs.NotesOfTwo.{ForEachNoteOfTwo};
 
 use crate::crowd::{Crowd, are_hosts};
 use crate::many_fault::ManyFault;
 use ncp_bits::BitStore;
 use ncp_host::Host;
-use ncp_pairs::each_pair::{each_pair_is_a_world_of_two, the_headline_of_each_pair};
+use ncp_pairs::each_pair::{
+    each_note_of_each_pair, each_pair_is_a_world_of_two, the_headline_of_each_pair,
+};
 use ncp_pairs::transcripts::each_host_of_many_is_by_itself;
 use ncp_pairs::{ManyEvent, ManyNote};
 use std::alloc::{AllocError, Global};
@@ -91,17 +96,18 @@ impl<S: BitStore> Many<S> {
         ensures ledger { ForEachTwo LedgersBalanced self.now.notes self.now.crowd }
         ensures order { ForEachTwo CameInOrder self.now.notes self.now.crowd }
         ensures commands { ForEachTwo CommandsInOrder self.now.notes self.now.crowd }
-        ensures acts { ForEachTwo EachActedOnce self.now.notes self.now.crowd }
-        ensures errs { ForEachTwo NoErrMade self.now.notes self.now.crowd }
+        ensures acts { ForEachNoteOfTwo ActsOnce self.now.notes self.now.crowd }
+        ensures errs { ForEachNoteOfTwo MakesNoErr self.now.notes self.now.crowd }
         ensures no_err { ForEachTwo NoErrUnderway self.now.notes self.now.crowd }
-        ensures resets { ForEachTwo OnlyResetsActed self.now.notes self.now.crowd }
+        ensures resets { ForEachNoteOfTwo OnlyResetsAct self.now.notes self.now.crowd }
         ensures waits { ForEachTwo WaitsAlone self.now.notes self.now.crowd }
-        ensures openings { ForEachTwo OpenedUnderNoText self.now.notes self.now.crowd }
+        ensures openings { ForEachNoteOfTwo OpensUnderNoText self.now.notes self.now.crowd }
     {
         let _notes = self.transcript();
         each_pair_is_a_world_of_two();
         each_host_of_many_is_by_itself();
         the_headline_of_each_pair();
+        each_note_of_each_pair();
     }
 
     /// Does what an event says, and notes it with what came of it. One whose host, sender or destination is
@@ -112,8 +118,8 @@ impl<S: BitStore> Many<S> {
     ///
     /// Behind `step` and `err`, which say what happens, stands what holds of each two of the hosts after
     /// the event, either way: the notes that name both are a transcript of two hosts (`pairs`), which leaves
-    /// what is seen of the two (`seen`), and the phrases of the headline hold of them. And each host is by
-    /// itself (`each`).
+    /// what is seen of the two (`seen`), and the phrases of the headline hold of them as they are among all.
+    /// And each host is by itself (`each`).
     pub fn step(&mut self, event: &ManyEvent) -> Result<(), AllocError>
         ensures step { OnOk result (IsManyStep event.now self.old self.new) }
         ensures err { OnErr result (self.new ≡ self.old) }
@@ -127,12 +133,12 @@ impl<S: BitStore> Many<S> {
         ensures ledger { ForEachTwo LedgersBalanced self.new.notes self.new.crowd }
         ensures order { ForEachTwo CameInOrder self.new.notes self.new.crowd }
         ensures commands { ForEachTwo CommandsInOrder self.new.notes self.new.crowd }
-        ensures acts { ForEachTwo EachActedOnce self.new.notes self.new.crowd }
-        ensures errs { ForEachTwo NoErrMade self.new.notes self.new.crowd }
+        ensures acts { ForEachNoteOfTwo ActsOnce self.new.notes self.new.crowd }
+        ensures errs { ForEachNoteOfTwo MakesNoErr self.new.notes self.new.crowd }
         ensures no_err { ForEachTwo NoErrUnderway self.new.notes self.new.crowd }
-        ensures resets { ForEachTwo OnlyResetsActed self.new.notes self.new.crowd }
+        ensures resets { ForEachNoteOfTwo OnlyResetsAct self.new.notes self.new.crowd }
         ensures waits { ForEachTwo WaitsAlone self.new.notes self.new.crowd }
-        ensures openings { ForEachTwo OpenedUnderNoText self.new.notes self.new.crowd }
+        ensures openings { ForEachNoteOfTwo OpensUnderNoText self.new.notes self.new.crowd }
     {
         let noted = self.happen(event);
         self.keeps();
@@ -176,12 +182,12 @@ impl<S: BitStore> Many<S> {
         ensures ledger { IfOk result (λ many. ForEachTwo LedgersBalanced many.notes many.crowd) }
         ensures order { IfOk result (λ many. ForEachTwo CameInOrder many.notes many.crowd) }
         ensures commands { IfOk result (λ many. ForEachTwo CommandsInOrder many.notes many.crowd) }
-        ensures acts { IfOk result (λ many. ForEachTwo EachActedOnce many.notes many.crowd) }
-        ensures errs { IfOk result (λ many. ForEachTwo NoErrMade many.notes many.crowd) }
+        ensures acts { IfOk result (λ many. ForEachNoteOfTwo ActsOnce many.notes many.crowd) }
+        ensures errs { IfOk result (λ many. ForEachNoteOfTwo MakesNoErr many.notes many.crowd) }
         ensures no_err { IfOk result (λ many. ForEachTwo NoErrUnderway many.notes many.crowd) }
-        ensures resets { IfOk result (λ many. ForEachTwo OnlyResetsActed many.notes many.crowd) }
+        ensures resets { IfOk result (λ many. ForEachNoteOfTwo OnlyResetsAct many.notes many.crowd) }
         ensures waits { IfOk result (λ many. ForEachTwo WaitsAlone many.notes many.crowd) }
-        ensures openings { IfOk result (λ many. ForEachTwo OpenedUnderNoText many.notes many.crowd) }
+        ensures openings { IfOk result (λ many. ForEachNoteOfTwo OpensUnderNoText many.notes many.crowd) }
     {
         let mut many = Many::new(alloc, hosts)?;
         for event in events {

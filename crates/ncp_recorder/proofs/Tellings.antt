@@ -11,8 +11,11 @@ use Rattle.ncp_two.specs.Transcript.{Noted_world}
 use Rattle.ncp_world_player.specs.declared.first_line.FirstLine.{FirstLine}
 use Rattle.ncp_scene.specs.Telling.{told_from, told}
 use Rattle.ncp_world_player.specs.WorldRules.{noted}
-use Rattle.ncp_recorder.specs.Recorded.{record_of, bytes_if, note_bytes, records_of, file_of_notes}
-use Rattle.ncp_recorder.specs.Tales.{recording_of}
+use Rattle.ncp_pairs.specs.declared.many_note.ManyNote.{ManyNote}
+use Rattle.ncp_pairs.specs.ManyTranscript.{Noted_many}
+use Rattle.ncp_world_player.specs.ManyRules.{many_noted}
+use Rattle.ncp_recorder.specs.Recorded.{record_of, record_of_many, bytes_if, note_bytes, many_note_bytes, records_of, records_of_many, file_of_notes, file_of_many_notes}
+use Rattle.ncp_recorder.specs.Tales.{recording_of, recording_of_many}
 
 one : (recorded : Option Recorded) → bytes_if recorded ≡ flat_map bytes_of_record (option_to_list recorded)
 one None = refl
@@ -27,3 +30,13 @@ from first number w (note ∷ notes) =
 
 pub told_is_file : (first : FirstLine) (began : Noted_world) (notes : List Note) → told noted (recording_of first) began notes ≡ file_of_notes first.hosts notes
 told_is_file first began notes = ap (λ bytes. header_of Two ++ bytes) (from first 1 began notes)
+
+from_many : (hosts : List ℕ) (number : ℕ) (m : Noted_many) (notes : List ManyNote) → told_from many_noted (recording_of_many hosts) number m notes ≡ flat_map bytes_of_record (records_of_many notes)
+from_many hosts number m [] = refl
+from_many hosts number m (note ∷ notes) =
+    ap (λ rest. many_note_bytes note ++ rest) (from_many hosts (number_after number) (many_noted note m) notes)
+    ∙ ap (λ bytes. bytes ++ flat_map bytes_of_record (records_of_many notes)) (one (record_of_many note))
+    ∙ sym (flat_map-append bytes_of_record (option_to_list (record_of_many note)) (records_of_many notes))
+
+pub told_is_file_of_many : (hosts : List ℕ) (began : Noted_many) (notes : List ManyNote) → told many_noted (recording_of_many hosts) began notes ≡ file_of_many_notes notes
+told_is_file_of_many hosts began notes = ap (λ bytes. header_of Two ++ bytes) (from_many hosts 1 began notes)

@@ -1,4 +1,4 @@
--- What is recorded of the notes of two hosts: each message that went out, at its sender; each that came, at its
+-- What is recorded of the notes of two hosts, and of two to eight: each message that went out, at its sender; each that came, at its
 -- receiver; and each answer, at the host that it answers.
 use Rattle.std.specs.Prelude.{ℕ, Bool, List, [], Option, Some, None, option_to_list}
 use Rattle.std.specs.List.{flat_map}
@@ -18,6 +18,8 @@ use Rattle.ncp_two.specs.declared.side.Side.TheVariants.{A, B}
 use Rattle.ncp_two.specs.declared.note.Note.{Note}
 use Rattle.ncp_two.specs.declared.note.Note.TheVariants as notes
 use Rattle.ncp_two.specs.Between.{other}
+use Rattle.ncp_pairs.specs.declared.many_note.ManyNote.{ManyNote}
+use Rattle.ncp_pairs.specs.declared.many_note.ManyNote.TheVariants as many
 
 -- the number of a side's host
 abbrev pub number_of : TwoHosts → Side → ℕ
@@ -55,6 +57,16 @@ record_of hosts (notes.Lost side link) = None
 record_of hosts (notes.FoundDead side link) = None
 record_of hosts (notes.Nothing side link wanted) = None
 
+-- what is recorded of a note of two to eight hosts, if anything is
+abbrev pub record_of_many : ManyNote → Option Recorded
+record_of_many (many.Out host note) = sent_from host note
+record_of_many (many.Came from to link note) = came_to to note
+record_of_many (many.Answered from to link note) = came_to from note
+record_of_many (many.Called host note) = None
+record_of_many (many.Lost from to link) = None
+record_of_many (many.FoundDead from to link) = None
+record_of_many (many.Nothing event) = None
+
 -- the bytes of what is recorded of a note: none where nothing is
 abbrev pub bytes_if : Option Recorded → List ℕ
 bytes_if None = []
@@ -63,6 +75,9 @@ bytes_if (Some recorded) = bytes_of_record recorded
 abbrev pub note_bytes : TwoHosts → Note → List ℕ
 note_bytes hosts note = bytes_if (record_of hosts note)
 
+abbrev pub many_note_bytes : ManyNote → List ℕ
+many_note_bytes note = bytes_if (record_of_many note)
+
 -- what is recorded of notes, in order
 abbrev pub records_of : TwoHosts → List Note → List Recorded
 records_of hosts notes = flat_map (λ note. option_to_list (record_of hosts note)) notes
@@ -70,3 +85,10 @@ records_of hosts notes = flat_map (λ note. option_to_list (record_of hosts note
 -- the file of these notes: one of version 2
 abbrev pub file_of_notes : TwoHosts → List Note → List ℕ
 file_of_notes hosts notes = file_bytes Two (records_of hosts notes)
+
+-- the same of two to eight hosts
+abbrev pub records_of_many : List ManyNote → List Recorded
+records_of_many notes = flat_map (λ note. option_to_list (record_of_many note)) notes
+
+abbrev pub file_of_many_notes : List ManyNote → List ℕ
+file_of_many_notes notes = file_bytes Two (records_of_many notes)

@@ -1,18 +1,20 @@
-//! `record_world`: a script of two hosts, played line by line, and its messages recorded.
+//! `record_world`: a script of two hosts, or of two to eight, played line by line, and its messages recorded.
 ghost use Rattle.std.specs.Prelude.{◌≡◌, ◌||◌, ℕ, List, Some, true, false};
 ghost use Rattle.ncp_play.specs.Faults.{is_read_failed, is_write_failed};
-ghost use Rattle.ncp_world_player.specs.Players.{PlaysWorld};
-ghost use Rattle.ncp_recorder.specs.Tales.{recording_of};
+ghost use Rattle.ncp_world_player.specs.ManyRules.{is_many_script};
+ghost use Rattle.ncp_world_player.specs.Players.{PlaysWorld, PlaysMany};
+ghost use Rattle.ncp_recorder.specs.Tales.{recording_of, recording_of_many};
 
-use crate::recording::say_world_record;
+use crate::recording::{say_many_record, say_world_record};
 use ncp_bits::BitStore;
 use ncp_files::{Version, push_header};
+use ncp_many::{Many, ManyNote};
 use ncp_page::Page;
 use ncp_play::PlayFault;
 use ncp_scene::Teller;
 use ncp_stream::{Failed, Sink, Source};
 use ncp_world::{Note, World};
-use ncp_world_player::{FirstLine, TwoPlayed, play_script};
+use ncp_world_player::{FirstLine, ManyHosts, ManyPlayed, TwoPlayed, play_script};
 use std::alloc::Global;
 
 // Tells what is recorded of notes, whatever is watched.
@@ -39,7 +41,28 @@ impl<S: BitStore> Teller<TwoPlayed<S>> for Recorder {
     }
 }
 
-/// Plays a script of two hosts, as [`ncp_world_player::play_world`] does, and writes in place of lines
+impl<S: BitStore> Teller<ManyPlayed<S>> for Recorder {
+    ghost use Rattle.ncp_recorder.specs.Tales.{recording_of_many};
+
+    ghost tale = { recording_of_many };
+
+    fn begin(_first: &ManyHosts, page: &mut Page) {
+        push_header(page, Version::Two);
+    }
+
+    fn say<W: Sink>(
+        _first: &ManyHosts,
+        _hosts: &Many<S>,
+        _number: u32,
+        note: &ManyNote,
+        page: &mut Page,
+        sink: &mut W,
+    ) -> Result<(), Failed> {
+        say_many_record(page, sink, note)
+    }
+}
+
+/// Plays a script of two hosts, or of two to eight, as [`ncp_world_player::play_world`] does, and writes in place of lines
 /// a message file of version 2: its header once the hosts are known, then each message that went out,
 /// at its sender; each that came, at its receiver, as it came; and each answer, at the host that it
 /// answers. What is watched has no effect. It answers whether no call was refused.
@@ -57,12 +80,13 @@ pub fn record_world<S: BitStore, R: Source, W: Sink>(
 
     // Of bytes that are told, the events of the script happened in order, up to its first fault, and the
     // file of what is recorded of their notes is written, and nothing else.
-    ensures told { (bytes : List ℕ) (was : List ℕ) → R.left source.old ≡ Some bytes → W.written sink.old ≡ Some was → PlaysWorld recording_of bytes was result (R.left source.new) (W.written sink.new) }
+    ensures told { (bytes : List ℕ) (was : List ℕ) → R.left source.old ≡ Some bytes → W.written sink.old ≡ Some was → is_many_script bytes ≡ false → PlaysWorld recording_of bytes was result (R.left source.new) (W.written sink.new) }
+    ensures many { (bytes : List ℕ) (was : List ℕ) → R.left source.old ≡ Some bytes → W.written sink.old ≡ Some was → is_many_script bytes ≡ true → PlaysMany recording_of_many bytes was result (R.left source.new) (W.written sink.new) }
 
     // Reading and writing are blamed only where they failed.
     ensures read_failed { is_read_failed result ≡ true → R.has_failed source.new ≡ true }
     ensures write_failed { W.has_failed sink.new ≡ is_write_failed result }
     ensures blamed { R.has_failed source.new ≡ true → (is_read_failed result || is_write_failed result) ≡ true }
 {
-    play_script::<S, Recorder, R, W>(alloc, source, sink)
+    play_script::<S, Recorder, Recorder, R, W>(alloc, source, sink)
 }

@@ -1,15 +1,16 @@
-//! What is recorded of a note of two hosts.
+//! What is recorded of a note of two hosts, and of one of two to eight.
 ghost use Rattle.std.specs.Prelude.{◌≡◌, ◌+◌, ◌≤◌, ◌||◌, is_err};
 ghost use Rattle.ncp_subnet.specs.Messages.{answer_bits};
 ghost use Rattle.ncp_two.specs.Between.{other};
 ghost use Rattle.ncp_stream.specs.Pieces.{bytes_and_writes, lost_pieces};
 ghost use Rattle.ncp_stream.specs.Streams.{SaysTextOrBeginning};
 ghost use Rattle.ncp_files.specs.Versions.{placed};
-ghost use Rattle.ncp_recorder.specs.Recorded.{number_of, kind_of, sent_from, came_to, bytes_if, note_bytes};
+ghost use Rattle.ncp_recorder.specs.Recorded.{number_of, kind_of, sent_from, came_to, bytes_if, note_bytes, many_note_bytes};
 
 use ncp_bits::Bits;
 use ncp_files::{Direction, Passage, say_message};
 use ncp_leader::{DESTINATION_DEAD, INCOMPLETE, Leader, MAX_KIND, RFNM, put_leader};
+use ncp_many::ManyNote;
 use ncp_page::Page;
 use ncp_script::TwoHosts;
 use ncp_slot::Answer;
@@ -128,6 +129,24 @@ pub fn say_world_record<W: Sink>(
         Note::Out { side, note } => say_sent(page, sink, number_of(hosts, *side), note),
         Note::Came { side, note, .. } => say_came(page, sink, number_of(hosts, other(*side)), note),
         Note::Answered { side, note, .. } => say_came(page, sink, number_of(hosts, *side), note),
+        _ => Ok(()),
+    }
+}
+
+/// Says what is recorded of a note of two to eight hosts, if anything is, as [`say_world_record`] does of two.
+pub fn say_many_record<W: Sink>(
+    page: &mut Page,
+    sink: &mut W,
+    note: &ManyNote,
+) -> Result<(), Failed>
+    ensures told { SaysTextOrBeginning page.old (W.written sink.old) (many_note_bytes note.now) result page.new (W.written sink.new) }
+    ensures writes { bytes_and_writes W.takes_all (W.writes sink.old) (W.written sink.old) ≤ bytes_and_writes W.takes_all (W.writes sink.new) (W.written sink.new) + lost_pieces (is_err result) }
+    ensures mark { W.has_failed sink.new ≡ (W.has_failed sink.old || is_err result) }
+{
+    match note {
+        ManyNote::Out { host, note } => say_sent(page, sink, *host, note),
+        ManyNote::Came { to, note, .. } => say_came(page, sink, *to, note),
+        ManyNote::Answered { from, note, .. } => say_came(page, sink, *from, note),
         _ => Ok(()),
     }
 }

@@ -53,26 +53,26 @@ pub(crate) fn expect(
     expect_with::<PlainStore>(rt, alloc, script, answer, recording)
 }
 
-// The same of a script behind others, and of its records behind theirs.
+// The same of a script behind a beginning in parts, and of its records behind those of the parts.
 fn expect_behind(
     rt: &impl Abort,
     alloc: Global,
-    before: &[&[u8]],
-    recorded: &[&[&[u8]]],
+    beginning: &[&[u8]],
+    before: &[&[&[u8]]],
     script: &[u8],
     good: bool,
     records: &[&[u8]],
 ) -> Result<(), Fail> {
-    let mut whole = Vec::new(alloc);
-    append(&mut whole, before)?;
-    whole.extend_from_slice(script)?;
+    let mut all = Vec::new(alloc);
+    append(&mut all, beginning)?;
+    all.extend_from_slice(script)?;
     let mut recording = Vec::new(alloc);
     recording.extend_from_slice(HEADER)?;
-    for part in recorded {
+    for part in before {
         append(&mut recording, part)?;
     }
     append(&mut recording, records)?;
-    expect(rt, alloc, &whole, Ok(good), &recording)
+    expect(rt, alloc, &all, Ok(good), &recording)
 }
 
 /// The same of a script behind the one by which both hosts come up.

@@ -1,5 +1,5 @@
 //! Lines of scripts of two hosts, and of two to eight, and what they ask for, computed from the definitions.
-ghost use Rattle.std.specs.Prelude.{◌≡◌, codes, [], ◌∷◌, None, Some};
+ghost use Rattle.std.specs.Prelude.{◌≡◌, codes, [], ◌∷◌, None, Some, true, false};
 ghost use Rattle.ncp_script.specs.Words.{words_of};
 ghost use Rattle.ncp_script.specs.Scripts.{Over, Faulty, BadLine, BadHosts, NoHosts, Plays};
 ghost use Rattle.ncp_script.specs.declared.first_lines.TwoHosts.{TwoHosts};

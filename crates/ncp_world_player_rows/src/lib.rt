@@ -1,4 +1,4 @@
-//! Scripts of two hosts with their lines, byte for byte, as tests of the public call. They stand in a
+//! Scripts of two hosts, and of two to eight, with their lines, byte for byte, as tests of the public call. They stand in a
 //! crate of their own, since a crate with tests is proved twice.
 #![tactic(auto)]
 
@@ -6,6 +6,8 @@
 mod faults;
 #[cfg(test)]
 mod ledgers;
+#[cfg(test)]
+mod many;
 #[cfg(test)]
 mod opening;
 #[cfg(test)]

@@ -1,4 +1,4 @@
-use Rattle.std.proofs.Common.{◌∙◌, ◌++◌, ℕ, Ok, Err, arith}
+use Rattle.std.proofs.Common.{◌∙◌, ◌++◌, Ok, Err, arith}
 use Rattle.std.proofs.Math.Bool.{or-false}
 use Rattle.std.proofs.lemmas.Result.{err_from_is_err_and}
 use Rattle.ncp_page.specs.Lines.{number_after}

@@ -1,4 +1,4 @@
-use Rattle.std.proofs.Common.{◌≡◌, ◌++◌, ◌∙◌, ℕ, None, Some, Ok, drop, slice_index_or, refl, sym, ap}
+use Rattle.std.proofs.Common.{◌≡◌, ◌++◌, ◌∙◌, None, Some, Ok, drop, slice_index_or, refl, sym, ap}
 use Rattle.std.proofs.lemmas.Result.{err_from_is_err_and}
 use Rattle.ncp_files.specs.Versions.{placed, direction_by, next_passage}
 use Rattle.ncp_files.specs.declared.file.FileFault.TheVariants.{Truncated}

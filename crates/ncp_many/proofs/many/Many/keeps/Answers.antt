@@ -11,3 +11,15 @@ returns-clause-commands g c = c.the_headline_of_each_pair.ensures.commands c.arg
 
 pub returns-clause-no_err : goal.returns-clause-no_err
 returns-clause-no_err g c = c.the_headline_of_each_pair.ensures.no_err c.args.self.now.notes c.args.self.now.crowd c.transcript-notes.ensures.run
+
+pub returns-clause-acts : goal.returns-clause-acts
+returns-clause-acts g c = c.each_note_of_each_pair.ensures.acts c.args.self.now.notes c.args.self.now.crowd c.transcript-notes.ensures.run
+
+pub returns-clause-errs : goal.returns-clause-errs
+returns-clause-errs g c = c.each_note_of_each_pair.ensures.errs c.args.self.now.notes c.args.self.now.crowd c.transcript-notes.ensures.run
+
+pub returns-clause-resets : goal.returns-clause-resets
+returns-clause-resets g c = c.each_note_of_each_pair.ensures.resets c.args.self.now.notes c.args.self.now.crowd c.transcript-notes.ensures.run
+
+pub returns-clause-openings : goal.returns-clause-openings
+returns-clause-openings g c = c.each_note_of_each_pair.ensures.openings c.args.self.now.notes c.args.self.now.crowd c.transcript-notes.ensures.run
