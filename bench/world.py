@@ -71,7 +71,9 @@ def made(room):
         file.write(f"{NAME}: {' '.join(USES)}\n")
     shutil.copy(os.path.join(TOP, "HANDLES"), room)
     for crate in crates:
-        shutil.copytree(os.path.join(TOP, "crates", crate), os.path.join(room, "crates", crate), symlinks=True)
+        # but for what the prover kept of a check, which is large
+        kept = shutil.ignore_patterns("incremental")
+        shutil.copytree(os.path.join(TOP, "crates", crate), os.path.join(room, "crates", crate), symlinks=True, ignore=kept)
     folder = os.path.join(room, "crates", NAME)
     os.makedirs(os.path.join(folder, "src"))
     shutil.copy(os.path.join(HERE, "events.txt"), os.path.join(folder, "src", "main.rt"))

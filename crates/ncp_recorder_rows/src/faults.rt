@@ -31,10 +31,22 @@ fn a_watched_reset(rt: HostRuntime) -> Result<(), Fail> {
 }
 
 #[test]
+fn a_reset_among_three(rt: HostRuntime) -> Result<(), Fail> {
+    expect(
+        &rt,
+        rt.alloc(),
+        b"many 1 2 3\n1 reset 3\n1 out\n1 deliver 3 0\n1 answer 3 0\n1 out\n1 lose 2 0\n",
+        Ok(true),
+        b"NCPJH\x01\x00\x50\x00\x03\x00\x00\x00\x08\x00\x01\x00\x0cI\x03\x00\x50\x00\x01\x00\x00\x00\x08\x00\x01\x00\x0cI\x01\x00\x20\x05\x03\x00\x00",
+    )
+}
+
+#[test]
 fn nothing_is_recorded_without_hosts(rt: HostRuntime) -> Result<(), Fail> {
     let bad = Err(PlayFault::BadHosts);
     expect(&rt, rt.alloc(), b"", bad, b"")?;
     expect(&rt, rt.alloc(), b"hosts 1 1\na out\n", bad, b"")?;
+    expect(&rt, rt.alloc(), b"many 1 1\n1 out\n", bad, b"")?;
     expect(&rt, rt.alloc(), b"a out\nhosts 1 2\n", bad, b"")?;
     expect(
         &rt,
