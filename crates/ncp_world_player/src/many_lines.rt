@@ -1,8 +1,9 @@
 //! What a line of a script of two to eight hosts asks for.
-ghost use Rattle.std.specs.Prelude.{◌≡◌, ◌∷◌, option_map, IfOk, IfSome};
+ghost use Rattle.std.specs.Prelude.{◌≡◌, ◌<◌, ◌∷◌, ℕ, get_or, option_map, IfOk, IfSome};
 ghost use Rattle.ncp_host.specs.Host.{is_one_of};
 ghost use Rattle.ncp_runs.specs.Peers.{peer_of_call};
 ghost use Rattle.ncp_script.specs.HostLines.{alone};
+ghost use Rattle.ncp_pairs.specs.Crowd.{are_hosts};
 ghost use Rattle.ncp_pairs.specs.ManyHappening.{wanted_of};
 ghost use Rattle.ncp_world_player.specs.ManyLines.{many_of, host_first, many_move_line, is_known, many_call_line, many_asked_of, many_line_of};
 ghost use Rattle.ncp_world_player.specs.ManyRules.{AreProper};
@@ -43,6 +44,14 @@ impl ManyHosts {
     }
 }
 
+// Whether there can be hosts of these numbers; each has a place in a leader.
+fn are_proper(numbers: &[u8]) -> bool
+    ensures hosts { result ≡ are_hosts numbers.now }
+    ensures fits { (place : ℕ) → get_or numbers.now place 0 < 256 }
+{
+    are_hosts(numbers)
+}
+
 /// The hosts that the words of a first line name, all that are left: `many` and two to eight distinct
 /// numbers. Where they are none, the words that are left are not told.
 pub(crate) fn many_hosts(words: &mut Words<'_>) -> Option<ManyHosts>
@@ -50,7 +59,7 @@ pub(crate) fn many_hosts(words: &mut Words<'_>) -> Option<ManyHosts>
     ensures proper { IfSome result AreProper }
 {
     let numbers = many_named(words)?;
-    if are_hosts(numbers.as_slice()) {
+    if are_proper(numbers.as_slice()) {
         Some(ManyHosts { numbers })
     } else {
         None
