@@ -20,7 +20,7 @@ pub use ledger_lines::NoteLines;
 pub use many::ManyPlayed;
 pub use many_lines::{ManyHosts, many_line};
 pub use many_notes::say_many_note;
-pub use two::TwoPlayed;
 pub use player::{play_script, play_world};
+pub use two::TwoPlayed;
 pub use world_lines::world_line;
 pub use world_notes::say_world_note;

@@ -23,8 +23,14 @@ use ncp_world::Move;
 const LONGEST_WORD: usize = 7;
 
 // How many bytes a line has at most in front of what came of a move.
-const LONGEST_MOVE: usize =
-    LONGEST_FRONT + 1 + LONGEST_WORD + 1 + LONGEST_NUMBER + 1 + LONGEST_NUMBER + 1;
+const LONGEST_MOVE: usize = LONGEST_FRONT
+    + 1
+    + LONGEST_WORD
+    + 1
+    + LONGEST_NUMBER
+    + 1
+    + LONGEST_NUMBER
+    + 1;
 
 // How many bytes the line of a move has at most.
 const LONGEST_LINE: usize = LONGEST_MOVE + LONGEST_RECEIVED + 1;

@@ -32,11 +32,7 @@ pub fn play_script<
     M: Teller<ManyPlayed<S>>,
     R: Source,
     W: Sink,
->(
-    alloc: Global,
-    source: &mut R,
-    sink: &mut W,
-) -> Result<bool, PlayFault>
+>(alloc: Global, source: &mut R, sink: &mut W) -> Result<bool, PlayFault>
     requires source_clean { R.has_failed source.old ≡ false }
     requires sink_clean { W.has_failed sink.old ≡ false }
 
