@@ -3,7 +3,7 @@ use Rattle.std.proofs.Common.{◌≡◌, ℕ, Bool, true, false, List, Option, S
 use Rattle.ncp_script.specs.declared.line_buffer.LineKind.{LineKind}
 use Rattle.ncp_script.specs.declared.line_buffer.LineKind.TheVariants as kinds
 use Rattle.ncp_script.specs.Words.{words_of}
-use Rattle.ncp_script.specs.Scripts.{Line, lines_of, said, Event as Asks, Over as Is_over, Faulty, ends, judged, played, number_behind, begun, first_judged, NoHosts, Plays, Script}
+use Rattle.ncp_script.specs.Scripts.{Line, lines_of, said, Event as Asks, Over as Is_over, Faulty, ends, judged, played, number_behind, begun, first_judged, NoHosts, Plays}
 use Rattle.ncp_script.specs.Scripts.{BadLine as Is_bad_line, LineTooLong as Is_too_long, BadHosts as Are_bad_hosts}
 use Rattle.ncp_reader.specs.declared.lines.Lines.{Lines}
 use Rattle.ncp_reader.specs.NextLines.{next_from, ended_lines, CameBefore, IsNext}

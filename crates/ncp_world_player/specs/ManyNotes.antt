@@ -1,5 +1,5 @@
 -- The lines of a note of two to eight hosts, as functions of the note and its number (this profile).
-use Rattle.std.specs.Prelude.{ℕ, List, [], ◌∷◌, ◌++◌, codes}
+use Rattle.std.specs.Prelude.{ℕ, List, [], ◌++◌, codes}
 use Rattle.ncp_page.specs.Lines.{field}
 use Rattle.ncp_play.specs.declared.heading.Heading.{Heading}
 use Rattle.ncp_play.specs.declared.heading.Speaker.TheVariants as speakers

@@ -1,9 +1,9 @@
 -- What is true of every script of two hosts.
-use Rattle.std.specs.Prelude.{◌≡◌, ◌≢◌, ◌<◌, ◌^◌, ℕ, List, [], ◌∷◌, ◌++◌, refl}
+use Rattle.std.specs.Prelude.{◌≡◌, ◌≢◌, ◌<◌, [], ◌∷◌, ◌++◌, refl}
 use Rattle.ncp_two.specs.declared.event.Event.{Event}
 use Rattle.ncp_two.specs.declared.note.Note.{Note}
 use Rattle.ncp_two.specs.Between.{new_hosts}
-use Rattle.ncp_two.specs.Transcript.{Noted_world, IsStep, IsTranscript}
+use Rattle.ncp_two.specs.Transcript.{Noted_world, IsStep}
 use Rattle.ncp_two.proofs.Growing.{transcript_new}
 use Rattle.ncp_world_player.specs.declared.first_line.FirstLine.{FirstLine}
 use Rattle.ncp_world_player.specs.WorldRules.{world_rules, noted}

@@ -1,4 +1,4 @@
-use Rattle.std.proofs.Common.{List, ℕ, None, Some, sym, ap, ◌∙◌}
+use Rattle.std.proofs.Common.{List, ℕ, sym, ap, ◌∙◌}
 use Rattle.ncp_script.specs.Words.{words_of}
 use Rattle.ncp_scene.proofs.AskedLines.{first_bad}
 use Rattle.ncp_scene.proofs.PlayedScripts.{none_behind, plays_behind}
