@@ -370,43 +370,6 @@ fn connected(rt: &impl Abort, alloc: Global) -> Result<ManyTried<PackedStore>, F
     Ok(tried)
 }
 
-fn interrupt() -> ManyEvent {
-    call(
-        3,
-        Call::Interrupt {
-            peer: 1,
-            pair: RECEIVER,
-        },
-    )
-}
-
-/// Whether a note says that the interrupt was accepted.
-fn is_queued(note: &ManyNote) -> bool {
-    matches!(
-        note,
-        ManyNote::Called {
-            host: 3,
-            note: HostNote::Done {
-                call: Call::Interrupt { peer: 1, .. },
-            },
-        }
-    )
-}
-
-/// Whether a note says that there was no room for it.
-fn is_full(note: &ManyNote) -> bool {
-    matches!(
-        note,
-        ManyNote::Called {
-            host: 3,
-            note: HostNote::Refused {
-                call: Call::Interrupt { peer: 1, .. },
-                fault: CallFault::QueueFull,
-            },
-        }
-    )
-}
-
 /// What hosts 1 and 2 do: 2 comes up.
 fn pair_goes_on<S: BitStore>(rt: &impl Abort, tried: &mut ManyTried<S>) {
     tried.does(rt, &call(1, Call::Reset { peer: 2 }));
@@ -424,33 +387,9 @@ fn say_pair(rt: &impl Abort, notes: &[ManyNote]) {
     assert!(rt; told(&notes[3], 2, 1, UP));
 }
 
-/// As many interrupts as may wait, and one more.
-fn interrupts<S: BitStore>(rt: &impl Abort, tried: &mut ManyTried<S>) {
-    for _interrupt in 0..257 {
-        tried.does(rt, &interrupt());
-    }
-}
-
-/// 256 interrupts wait at host 3, and one more is refused; what hosts 1 and 2 note of each other is as without
-/// them.
+/// What two of three note of each other as they come up.
 #[test]
-fn what_waits_at_a_third_host_changes_nothing_of_two(rt: HostRuntime) -> Result<(), Fail> {
-    let mut tried = connected(&rt, rt.alloc())?;
-    let before = tried.notes().len();
-    interrupts(&rt, &mut tried);
-    pair_goes_on(&rt, &mut tried);
-    let notes = tried.notes();
-    assert!(rt; before <= notes.len());
-    let waiting = &notes[before..];
-    assert!(rt; waiting.len() == 261);
-    assert!(rt; waiting[..256].iter().all(|note| is_queued(note)));
-    assert!(rt; is_full(&waiting[256]));
-    say_pair(&rt, &waiting[257..]);
-    Ok(())
-}
-
-#[test]
-fn two_alone_note_the_same(rt: HostRuntime) -> Result<(), Fail> {
+fn two_of_three_come_up(rt: HostRuntime) -> Result<(), Fail> {
     let mut tried = connected(&rt, rt.alloc())?;
     let before = tried.notes().len();
     pair_goes_on(&rt, &mut tried);

@@ -23,3 +23,6 @@ returns-clause-resets g c = c.each_note_of_each_pair.ensures.resets c.args.self.
 
 pub returns-clause-openings : goal.returns-clause-openings
 returns-clause-openings g c = c.each_note_of_each_pair.ensures.openings c.args.self.now.notes c.args.self.now.crowd c.transcript-notes.ensures.run
+
+pub returns-clause-allocation : goal.returns-clause-allocation
+returns-clause-allocation g c = c.the_headline_of_each_pair.ensures.allocation c.args.self.now.notes c.args.self.now.crowd c.transcript-notes.ensures.run
