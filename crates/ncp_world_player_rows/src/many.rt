@@ -195,10 +195,10 @@ fn push_number(text: &mut Vec<u8>, number: u32) -> Result<(), Fail> {
 }
 
 // Appends so many interrupts of host 3, which all wait, and one more, if any.
-fn push_interrupts(script: &mut Vec<u8>, lines: &mut Vec<u8>, count: u32) -> Result<(), Fail> {
+fn push_interrupts(script: &mut Vec<u8>, lines: &mut Vec<u8>, count: u16) -> Result<(), Fail> {
     for number in 0..count {
         script.extend_from_slice(b"3 interrupt 1 2 3\n")?;
-        push_number(lines, 16 + number)?;
+        push_number(lines, 16 + u32::from(number))?;
         if number < 256 {
             lines.extend_from_slice(b" 3 interrupt 1 ok\n")?;
         } else {
@@ -209,11 +209,11 @@ fn push_interrupts(script: &mut Vec<u8>, lines: &mut Vec<u8>, count: u32) -> Res
 }
 
 // What hosts 1 and 2 do for each other behind so many interrupts of host 3.
-fn expect_behind(rt: &impl Abort, alloc: Global, count: u32) -> Result<(), Fail> {
+fn expect_behind(rt: &impl Abort, alloc: Global, count: u16) -> Result<(), Fail> {
     let mut script = joined(alloc, &[OPENING])?;
     let mut lines = joined(alloc, &[OPENING_LINES])?;
     push_interrupts(&mut script, &mut lines, count)?;
-    let mut number = 16 + count;
+    let mut number = 16 + u32::from(count);
     for (line, said) in EACH_OTHER {
         script.extend_from_slice(line)?;
         push_number(&mut lines, number)?;
