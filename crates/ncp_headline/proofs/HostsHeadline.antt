@@ -24,18 +24,18 @@ use Rattle.ncp_hosts.specs.Hosts.{TextOut, Node, World, past_of, is_empty, hears
 use Rattle.ncp_headline.specs.Headline.{BothOpen, sender_at, receiver_at, sum_on, not_come, how_many, bits_of, text_underway, commands_there, commands_back, MessagesAgree, BitsAgree, OnOneLink, WithinAllocation, Parted, TakenOrHeld, Begins, StaysOut, SenderOpens, ReceiverOpens, SenderOpensAt, ReceiverOpensAt}
 use Rattle.ncp_connections.proofs.Outliving.{fit_open, fit_held, fit_begins, fit_books, fit_opened}
 use Rattle.ncp_model.proofs.ResetLists.{bit, rsts, rrps}
-use Rattle.ncp_ties.proofs.Lives.{live, fronts}
+use Rattle.ncp_headline.proofs.Lives.{live, fronts}
 use Rattle.ncp_hosts.proofs.EndsGood.{Good}
 use Rattle.ncp_headline.proofs.OpensNot.{none-live-heard}
 use Rattle.ncp_hosts.proofs.HostsBase.{hears_all-texts}
 use Rattle.ncp_hosts.proofs.HostsStand.{BothStand, hearing-stands, hearing_all-stands}
-use Rattle.ncp_ties.specs.Tied.{watched}
-use Rattle.ncp_ties.proofs.Ties.{Owners, Carried, Owned, ties-turned, text_on, commands_of}
-use Rattle.ncp_ties.proofs.TiesBase.{all-fit}
-use Rattle.ncp_ties.proofs.TiesTexts.{text-out-stands, text-out-stands-here}
-use Rattle.ncp_ties.proofs.HostsJoined.{lives, is_alive, Joined, joined-turned, up_alive, up_waits}
-use Rattle.ncp_ties.proofs.HostsHeld.{Holds, Ever, accepted, x, y}
-use Rattle.ncp_ties.proofs.HostsSteps.{hears-keeps, hears_front, Follows, owner-of}
+use Rattle.ncp_headline.specs.Tied.{watched}
+use Rattle.ncp_headline.proofs.Ties.{Owners, Carried, Owned, ties-turned, text_on, commands_of}
+use Rattle.ncp_headline.proofs.TiesBase.{all-fit}
+use Rattle.ncp_headline.proofs.TiesTexts.{text-out-stands, text-out-stands-here}
+use Rattle.ncp_headline.proofs.HostsJoined.{lives, is_alive, Joined, joined-turned, up_alive, up_waits}
+use Rattle.ncp_headline.proofs.HostsHeld.{Holds, Ever, accepted, x, y}
+use Rattle.ncp_headline.proofs.HostsSteps.{hears-keeps, hears_front, Follows, owner-of}
 use Rattle.ncp_headline.proofs.LinkSums.{same-link, granted-all, returned-all}
 use Rattle.ncp_model.specs.Amounts.{granted_messages, granted_bits, returned_messages, returned_bits}
 

@@ -19,8 +19,8 @@ use Rattle.ncp_connections.proofs.Outliving.{Fit}
 use Rattle.ncp_sharing.proofs.Projecting.{same_refl, same_true}
 use Rattle.ncp_sharing.proofs.Clear.{Clear, Free, holds, still_left}
 use Rattle.ncp_sharing.proofs.Linking.{hears_from, uses_from, asks_at}
-use Rattle.ncp_ties.proofs.TiesBase.{all-fit, all-linked}
-use Rattle.ncp_ties.proofs.Ties.{Reached, commands_of, turn, turn_all, leads_nowhere, Apt}
+use Rattle.ncp_headline.proofs.TiesBase.{all-fit, all-linked}
+use Rattle.ncp_headline.proofs.Ties.{Reached, commands_of, turn, turn_all, leads_nowhere, Apt}
 use Rattle.ncp_model.specs.Amounts.{granted_messages, granted_bits, returned_messages, returned_bits}
 use Rattle.ncp_model.specs.Ends.{link_of}
 

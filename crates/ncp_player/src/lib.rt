@@ -10,9 +10,8 @@ pub use ncp_bits::PackedStore;
 pub use ncp_files::{Direction, FileFault, check, convert, show};
 pub use ncp_host_player::play_host;
 pub use ncp_play::PlayFault;
-pub use ncp_recorder::record_world;
 pub use ncp_stream::{
     Failed, FromRead, LEAST_PIECE, MemorySink, MemorySource, Sink, Source, ToWrite,
 };
-pub use ncp_world_player::play_world;
+pub use ncp_world_player::{play_world, record_world};
 pub use orders::Order;

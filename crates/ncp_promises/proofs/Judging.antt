@@ -27,7 +27,7 @@ use Rattle.ncp_hosts.specs.Hosts.{Node, peer_of}
 use Rattle.ncp_hosts.specs.Hosts as hosts
 use Rattle.ncp_hosts.proofs.HostsStand.{hearing-stands}
 use Rattle.ncp_hosts.proofs.HostsStand.{Stands as ModelStands}
-use Rattle.ncp_ties.proofs.HostsHeld.{ever}
+use Rattle.ncp_headline.proofs.HostsHeld.{ever}
 use Rattle.ncp_host.specs.declared.received.Received.{Received}
 use Rattle.ncp_host.specs.declared.received.Received.TheVariants as received
 use Rattle.ncp_host.specs.PeerState.{PeerState}

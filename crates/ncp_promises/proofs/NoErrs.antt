@@ -23,7 +23,7 @@ use Rattle.ncp_model.specs.Phase as phases
 use Rattle.ncp_model.specs.Sending.{is_full}
 use Rattle.ncp_model.specs.Peers.{Peer, Call, Ask_to_send, Ask_to_receive, Close, Give, Take, Allocate, Call_back, Interrupt, called, echoes_after}
 use Rattle.ncp_hosts.specs.Hosts.{Node, TextOut, reaction, quiet, cleared, kept_echoes, happens_at, calls, echo_called, calls_echo, calls_reset, hears, hears_other, hears_all, takes_text, hears_text, cuts, sends_text, frees, settles as node_settles, text_answered, control_answered, text_comes, message_comes, base, World, swap, Step, Calls_reset, Calls, Calls_echo, Falls, Sends, Sends_text, Hears, Hears_text, Loses, Loses_text, Dies, Text_dies, Is_answered, Text_is_answered, Wakes, steps, at}
-use Rattle.ncp_ties.proofs.HostsHeld.{ever}
+use Rattle.ncp_headline.proofs.HostsHeld.{ever}
 use Rattle.ncp_hosts.specs.Hosts as hosts
 use Rattle.ncp_host.specs.PeerState.{PeerState}
 use Rattle.ncp_two.specs.Tie.{Stands, Reached, Begins, Goes_on, Tied}

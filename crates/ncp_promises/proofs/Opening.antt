@@ -35,7 +35,7 @@ use Rattle.ncp_hosts.proofs.HostsBase.{hears_all-texts}
 use Rattle.ncp_hosts.proofs.HostsStand.{hearing-stands}
 use Rattle.ncp_hosts.proofs.HostsStand.{Stands as ModelStands}
 use Rattle.ncp_hosts.proofs.Seeing.{calls_agree, echoes_agree, resets_agree}
-use Rattle.ncp_ties.proofs.HostsHeld.{ever, ever-swapped, happening, after_step}
+use Rattle.ncp_headline.proofs.HostsHeld.{ever, ever-swapped, happening, after_step}
 use Rattle.ncp_headline.specs.Headline.{NoPairOpens, NoCommandOpens, SenderOpensAt, ReceiverOpensAt}
 use Rattle.ncp_headline.proofs.OpensNot.{none-live-at}
 use Rattle.ncp_headline.proofs.HostsHeadline.{sender-opens-not, receiver-opens-not, sender-hears-not, receiver-hears-not}

@@ -18,7 +18,7 @@ use Rattle.ncp_model.specs.Peers as peers
 use Rattle.ncp_hosts.specs.Hosts.{Node, peer_of}
 use Rattle.ncp_hosts.specs.Hosts as hosts
 use Rattle.ncp_hosts.proofs.HostsBase.{reactions, hears_all-host}
-use Rattle.ncp_ties.proofs.HostsHeld.{ever}
+use Rattle.ncp_headline.proofs.HostsHeld.{ever}
 use Rattle.ncp_host.specs.declared.received.Received.TheVariants as received
 use Rattle.ncp_host.specs.PeerState.{PeerState, frees_on, after_answer}
 use Rattle.ncp_host.specs.PeerState as states

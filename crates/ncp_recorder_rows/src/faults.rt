@@ -3,7 +3,7 @@ use crate::recorded::expect;
 use crate::streams::{Bytewise, Piecemeal};
 use ncp_bits::PackedStore;
 use ncp_play::PlayFault;
-use ncp_recorder::record_world;
+use ncp_world_player::record_world;
 use ncp_stream::{MemorySink, MemorySource, Sink, Source};
 use std::alloc::Global;
 use std::test::Fail;

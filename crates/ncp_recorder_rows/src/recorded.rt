@@ -5,7 +5,7 @@ use crate::opening::{
 };
 use ncp_bits::{BitStore, PackedStore, PlainStore};
 use ncp_play::PlayFault;
-use ncp_recorder::record_world;
+use ncp_world_player::record_world;
 use ncp_stream::{MemorySink, MemorySource};
 use std::alloc::Global;
 use std::process::Abort;

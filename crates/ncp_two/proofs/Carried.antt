@@ -10,7 +10,7 @@ use Rattle.ncp_model.specs.Peers.{Peer}
 use Rattle.ncp_hosts.specs.Hosts.{Event, run, past_of}
 use Rattle.ncp_hosts.specs.Hosts as hosts
 use Rattle.ncp_headline.specs.Headline.{Begins, TakenOrHeld, WithinAllocation}
-use Rattle.ncp_ties.proofs.HostsHeld.{ever}
+use Rattle.ncp_headline.proofs.HostsHeld.{ever}
 use Rattle.ncp_headline.proofs.HostsHeadline.{begins, held_all, within}
 use Rattle.ncp_two.specs.World.{World, swap}
 use Rattle.ncp_two.specs.Watch.{Both, turn}

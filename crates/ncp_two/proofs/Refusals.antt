@@ -29,7 +29,7 @@ use Rattle.ncp_two.specs.World.{received, notes_from}
 use Rattle.ncp_two.specs.Refused.{is_bad_text, is_refused, refuses, any_refused}
 use Rattle.ncp_two.proofs.Runs.{step-ties}
 use Rattle.ncp_two.proofs.Reaching.{of-reached}
-use Rattle.ncp_ties.proofs.HostsHeld.{ever}
+use Rattle.ncp_headline.proofs.HostsHeld.{ever}
 use Rattle.ncp_model.specs.declared.outcomes.Took.{Took}
 use Rattle.ncp_model.specs.declared.outcomes.Took.TheVariants as took
 use Rattle.ncp_model.specs.Happenings.{of_text, is_violation}

@@ -33,7 +33,7 @@ use Rattle.ncp_hosts.specs.Hosts as hosts
 use Rattle.ncp_headline.specs.Headline.{sum_on}
 use Rattle.ncp_headline.specs.Headline as headline
 use Rattle.ncp_hosts.proofs.EndsGood.{Good}
-use Rattle.ncp_ties.proofs.HostsHeld.{ever}
+use Rattle.ncp_headline.proofs.HostsHeld.{ever}
 use Rattle.ncp_headline.proofs.HostsHeadline.{messages_agree, bits_agree, parted}
 use Rattle.ncp_host.specs.PeerState.{PeerState}
 use Rattle.ncp_two.specs.Subnet.{Holds, Subnet}

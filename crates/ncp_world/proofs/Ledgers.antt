@@ -22,7 +22,7 @@ use Rattle.ncp_headline.specs.Headline.{sum_on}
 use Rattle.ncp_model.specs.Amounts.{granted_messages, granted_bits, returned_messages, returned_bits}
 use Rattle.ncp_hosts.specs.Hosts.{Node, Event}
 use Rattle.ncp_hosts.specs.Hosts as hosts
-use Rattle.ncp_ties.proofs.HostsHeld.{ever}
+use Rattle.ncp_headline.proofs.HostsHeld.{ever}
 use Rattle.ncp_conn.specs.declared.record.Record.{Record}
 use Rattle.ncp_conn.specs.Records.{record_of, record_if_any, record_in}
 use Rattle.ncp_host.specs.PeerState.{PeerState}

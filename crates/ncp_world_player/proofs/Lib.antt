@@ -1,1 +1,2 @@
 pub mod ManyFound
+mod Tellings

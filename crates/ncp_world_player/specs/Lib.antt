@@ -11,3 +11,6 @@ pub mod ManyLaws
 pub mod ManyNotes
 pub mod Players
 pub mod Examples
+pub mod Recorded
+pub mod Tales
+pub mod RecordedExamples

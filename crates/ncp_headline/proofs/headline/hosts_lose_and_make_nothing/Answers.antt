@@ -4,8 +4,8 @@ use Rattle.ncp_model.specs.Pairs.{sends}
 use Rattle.ncp_hosts.specs.Hosts.{World, swap, Event, run}
 use Rattle.ncp_headline.specs.Headline.{MessagesAgree, BitsAgree, OnOneLink, WithinAllocation, Parted, TakenOrHeld, Begins, Both}
 use Rattle.ncp_hosts.proofs.HostsStand.{BothStand}
-use Rattle.ncp_ties.proofs.Ties.{Owners}
-use Rattle.ncp_ties.proofs.HostsHeld.{Holds, ever, ever-swapped}
+use Rattle.ncp_headline.proofs.Ties.{Owners}
+use Rattle.ncp_headline.proofs.HostsHeld.{Holds, ever, ever-swapped}
 use Rattle.ncp_headline.proofs.HostsHeadline.{messages_agree, bits_agree, on_one_link, within, parted, held_all, begins}
 use Rattle.ncp_headline.proofs.headline.hosts_lose_and_make_nothing.Goals as goal
 

@@ -1,6 +1,6 @@
 use Rattle.ncp_hosts.specs.Hosts.{swap, at, run}
 use Rattle.ncp_headline.proofs.OpensNot.{none-live-at}
-use Rattle.ncp_ties.proofs.HostsHeld.{ever, ever-swapped, happening, after_step}
+use Rattle.ncp_headline.proofs.HostsHeld.{ever, ever-swapped, happening, after_step}
 use Rattle.ncp_headline.proofs.HostsHeadline.{sender-opens-not, receiver-opens-not, sender-hears-not, receiver-hears-not}
 use Rattle.ncp_headline.proofs.headline.none_opens_while_its_link_has_a_text.Goals as goal
 

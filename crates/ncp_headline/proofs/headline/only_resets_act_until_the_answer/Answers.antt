@@ -11,7 +11,7 @@ use Rattle.ncp_resets.specs.Delivery.{Slot, Empty, Ready, Travelling, Held, Subn
 use Rattle.ncp_resets.specs.Resets.{Host, is_up, host_resets}
 use Rattle.ncp_hosts.specs.Hosts.{TextOut, Node, quiet, cleared, frees, hears, hears_text, Call, calls, calls_echo, calls_reset, cuts, sends_text, text_answered, control_answered, message_comes, text_comes, World, base, Step, Calls_reset, Calls, Calls_echo, Sends, Sends_text, Hears, Hears_text, Is_answered, Text_is_answered, steps}
 use Rattle.ncp_model.proofs.ResetLists.{bit, rsts, any-rsts}
-use Rattle.ncp_ties.proofs.HostsHeld.{ever}
+use Rattle.ncp_headline.proofs.HostsHeld.{ever}
 use Rattle.ncp_resets.proofs.Waiting.{down, silent_all, settling, waiting, sends-wait}
 use Rattle.ncp_hosts.proofs.HostsBase.{reactions, hears_all-host, other-keeps}
 use Rattle.ncp_headline.proofs.headline.only_resets_act_until_the_answer.Goals as goal

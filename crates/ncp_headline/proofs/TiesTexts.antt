@@ -31,8 +31,8 @@ use Rattle.ncp_model.proofs.Lookups.{leads-there}
 use Rattle.ncp_sharing.proofs.Linking.{hears_parts, uses_parts}
 use Rattle.ncp_sharing.proofs.Projecting.{same_refl, same_true}
 use Rattle.ncp_sharing.proofs.Found.{sender_holds, receiver_holds}
-use Rattle.ncp_ties.proofs.Ties.{Reached, text_on, Carried, Owned, Owners, Texts, Way, Flow, Ties, further, reached-same}
-use Rattle.ncp_ties.proofs.TiesBase.{all-fit, all-linked, Sees, sender_did, receiver_did, sender-acts, receiver-acts, set_same}
+use Rattle.ncp_headline.proofs.Ties.{Reached, text_on, Carried, Owned, Owners, Texts, Way, Flow, Ties, further, reached-same}
+use Rattle.ncp_headline.proofs.TiesBase.{all-fit, all-linked, Sees, sender_did, receiver_did, sender-acts, receiver-acts, set_same}
 
 -- from now on the link has this owner
 abbrev pub owned_by : ℕ → Option Pair → Owners → Owners

@@ -3,9 +3,10 @@ ghost use Rattle.std.specs.Prelude.{◌≡◌, ◌||◌, ℕ, List, Some, true, 
 ghost use Rattle.ncp_play.specs.Faults.{is_read_failed, is_write_failed};
 ghost use Rattle.ncp_world_player.specs.ManyRules.{is_many_script};
 ghost use Rattle.ncp_world_player.specs.Players.{PlaysWorld, PlaysMany};
-ghost use Rattle.ncp_recorder.specs.Tales.{recording_of, recording_of_many};
+ghost use Rattle.ncp_world_player.specs.Tales.{recording_of, recording_of_many};
 
 use crate::recording::{say_many_record, say_world_record};
+use crate::two::TwoPlayed;
 use ncp_bits::BitStore;
 use ncp_files::{Version, push_header};
 use ncp_many::{Many, ManyNote};
@@ -14,14 +15,17 @@ use ncp_play::PlayFault;
 use ncp_scene::Teller;
 use ncp_stream::{Failed, Sink, Source};
 use ncp_world::{Note, World};
-use ncp_world_player::{FirstLine, ManyHosts, ManyPlayed, TwoPlayed, play_script};
+use crate::first_line::FirstLine;
+use crate::many::ManyPlayed;
+use crate::many_lines::ManyHosts;
+use crate::player::play_script;
 use std::alloc::Global;
 
 // Tells what is recorded of notes, whatever is watched.
 struct Recorder;
 
 impl<S: BitStore> Teller<TwoPlayed<S>> for Recorder {
-    ghost use Rattle.ncp_recorder.specs.Tales.{recording_of};
+    ghost use Rattle.ncp_world_player.specs.Tales.{recording_of};
 
     ghost tale = { recording_of };
 
@@ -42,7 +46,7 @@ impl<S: BitStore> Teller<TwoPlayed<S>> for Recorder {
 }
 
 impl<S: BitStore> Teller<ManyPlayed<S>> for Recorder {
-    ghost use Rattle.ncp_recorder.specs.Tales.{recording_of_many};
+    ghost use Rattle.ncp_world_player.specs.Tales.{recording_of_many};
 
     ghost tale = { recording_of_many };
 
@@ -62,7 +66,7 @@ impl<S: BitStore> Teller<ManyPlayed<S>> for Recorder {
     }
 }
 
-/// Plays a script of two hosts, or of two to eight, as [`ncp_world_player::play_world`] does, and writes in place of lines
+/// Plays a script of two hosts, or of two to eight, as [`crate::play_world`] does, and writes in place of lines
 /// a message file of version 2: its header once the hosts are known, then each message that went out,
 /// at its sender; each that came, at its receiver, as it came; and each answer, at the host that it
 /// answers. What is watched has no effect. It answers whether no call was refused.

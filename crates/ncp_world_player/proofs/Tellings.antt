@@ -14,8 +14,8 @@ use Rattle.ncp_world_player.specs.WorldRules.{noted}
 use Rattle.ncp_pairs.specs.declared.many_note.ManyNote.{ManyNote}
 use Rattle.ncp_pairs.specs.ManyTranscript.{Noted_many}
 use Rattle.ncp_world_player.specs.ManyRules.{many_noted}
-use Rattle.ncp_recorder.specs.Recorded.{record_of, record_of_many, bytes_if, note_bytes, many_note_bytes, records_of, records_of_many, file_of_notes, file_of_many_notes}
-use Rattle.ncp_recorder.specs.Tales.{recording_of, recording_of_many}
+use Rattle.ncp_world_player.specs.Recorded.{record_of, record_of_many, bytes_if, note_bytes, many_note_bytes, records_of, records_of_many, file_of_notes, file_of_many_notes}
+use Rattle.ncp_world_player.specs.Tales.{recording_of, recording_of_many}
 
 one : (recorded : Option Recorded) → bytes_if recorded ≡ flat_map bytes_of_record (option_to_list recorded)
 one None = refl

@@ -24,11 +24,11 @@ use Rattle.ncp_model.specs.Leading.{passes, comes}
 use Rattle.ncp_model.specs.Phase.{is_reset}
 use Rattle.ncp_hosts.specs.Hosts.{Node, Pasts, or_no_past, past_of, pasts_after_at, is_full_up, echo_replies}
 use Rattle.ncp_model.proofs.PairOrder.{pairs_exact, pairs_total}
-use Rattle.ncp_ties.proofs.HostsJoined.{AllOther}
+use Rattle.ncp_headline.proofs.HostsJoined.{AllOther}
 use Rattle.ncp_model.proofs.Lookups.{nowhere}
 use Rattle.ncp_model.proofs.Makes.{none-reset}
-use Rattle.ncp_ties.specs.Tied.{watched}
-use Rattle.ncp_ties.proofs.Ties.{Owners, Ties}
+use Rattle.ncp_headline.specs.Tied.{watched}
+use Rattle.ncp_headline.proofs.Ties.{Owners, Ties}
 
 -- A command that is answered Full.
 

@@ -9,9 +9,9 @@ ghost use Rattle.ncp_world_player.specs.WorldRules.{noted};
 ghost use Rattle.ncp_pairs.specs.declared.many_note.ManyNote.{ManyNote};
 ghost use Rattle.ncp_pairs.specs.ManyTranscript.{Noted_many};
 ghost use Rattle.ncp_world_player.specs.ManyRules.{many_noted};
-ghost use Rattle.ncp_recorder.specs.Recorded.{file_of_notes, file_of_many_notes};
-ghost use Rattle.ncp_recorder.specs.Tales.{recording_of, recording_of_many};
-ghost use Rattle.ncp_recorder.specs.Examples.{two_hosts, rst_out, rst_came, a_reset, unrecorded};
+ghost use Rattle.ncp_world_player.specs.Recorded.{file_of_notes, file_of_many_notes};
+ghost use Rattle.ncp_world_player.specs.Tales.{recording_of, recording_of_many};
+ghost use Rattle.ncp_world_player.specs.RecordedExamples.{two_hosts, rst_out, rst_came, a_reset, unrecorded};
 
 /// RST goes out from host 1, comes to host 2, and host 1 is answered: 80 bits, 80 bits and 32.
 pub fn a_reset_is_recorded_so()

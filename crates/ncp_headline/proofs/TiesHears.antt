@@ -36,10 +36,10 @@ use Rattle.ncp_connections.proofs.Outliving.{Fit}
 use Rattle.ncp_sharing.proofs.Projecting.{same_refl}
 use Rattle.ncp_sharing.proofs.Found.{grant_finds, return_finds, request_fits}
 use Rattle.ncp_sharing.proofs.Named.{AllNamed, names_ever, sockets_find_sender, sockets_find_receiver}
-use Rattle.ncp_ties.specs.Tied.{watched}
-use Rattle.ncp_ties.proofs.Ties.{Reached, Owned, Owners, Texts, commands_of, turn_all, leads_nowhere, Apt, Flow, Ties, further, reached-same}
-use Rattle.ncp_ties.proofs.TiesCalls.{ties-echo}
-use Rattle.ncp_ties.proofs.TiesBase.{Sees, all-fit, all-linked, set_same, sender_did, receiver_did, sender-acts, receiver-acts}
+use Rattle.ncp_headline.specs.Tied.{watched}
+use Rattle.ncp_headline.proofs.Ties.{Reached, Owned, Owners, Texts, commands_of, turn_all, leads_nowhere, Apt, Flow, Ties, further, reached-same}
+use Rattle.ncp_headline.proofs.TiesCalls.{ties-echo}
+use Rattle.ncp_headline.proofs.TiesBase.{Sees, all-fit, all-linked, set_same, sender_did, receiver_did, sender-acts, receiver-acts}
 
 -- What holds of a machine that came about by events that may happen.
 

@@ -18,8 +18,8 @@ use Rattle.ncp_connections.proofs.Outliving.{fit_safe}
 use Rattle.ncp_sharing.proofs.Linking.{LinkFits}
 use Rattle.ncp_sharing.proofs.LinkSteps.{links_ever}
 use Rattle.ncp_sharing.proofs.Projecting.{same_refl, same_true, AllFit, fits_ever}
-use Rattle.ncp_ties.specs.Tied.{watched}
-use Rattle.ncp_ties.proofs.Ties.{Reached, Owners, Texts, Way, commands_of, turn, turn_all, Apt, Flow, Ties, further, reached-same}
+use Rattle.ncp_headline.specs.Tied.{watched}
+use Rattle.ncp_headline.proofs.Ties.{Reached, Owners, Texts, Way, commands_of, turn, turn_all, Apt, Flow, Ties, further, reached-same}
 
 -- this happened at one pair of a host, and nothing at the others
 abbrev pub Sees : Node → Node → Pair → Happening → Type 0

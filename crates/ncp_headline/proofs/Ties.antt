@@ -14,7 +14,7 @@ use Rattle.ncp_connections.specs.Connections.{Text, No_text, Away, Here}
 use Rattle.ncp_sharing.specs.Sharing.{Tagged, Shared, new_shared, Shared_event, shared_occurs, shared_from, shared, MayHappen, AllMayHappen}
 use Rattle.ncp_sharing.specs.Finding.{link_out}
 use Rattle.ncp_hosts.specs.Hosts.{TextOut, Node}
-use Rattle.ncp_ties.specs.Tied.{watched}
+use Rattle.ncp_headline.specs.Tied.{watched}
 
 -- a machine that came about by events that may happen
 abbrev pub Reached : Shared → Type 0

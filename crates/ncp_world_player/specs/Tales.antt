@@ -8,7 +8,7 @@ use Rattle.ncp_pairs.specs.ManyTranscript.{Noted_many}
 use Rattle.ncp_two.specs.Transcript.{Noted_world}
 use Rattle.ncp_world_player.specs.declared.first_line.FirstLine.{FirstLine}
 use Rattle.ncp_scene.specs.Telling.{Tale}
-use Rattle.ncp_recorder.specs.Recorded.{note_bytes, many_note_bytes}
+use Rattle.ncp_world_player.specs.Recorded.{note_bytes, many_note_bytes}
 
 abbrev pub recording_of : FirstLine → Tale Note Noted_world
 recording_of first = record { head = header_of Two; of_note = λ number note w. note_bytes first.hosts note }

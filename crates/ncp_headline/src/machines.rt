@@ -1,7 +1,7 @@
 //! Two hosts as the machine of many connections.
 ghost use Rattle.std.specs.Prelude.{List};
 ghost use Rattle.ncp_hosts.specs.Hosts.{Event, run, swap};
-ghost use Rattle.ncp_ties.specs.Tied.{IsTied};
+ghost use Rattle.ncp_headline.specs.Tied.{IsTied};
 
 /// Whatever happens to two hosts: their connections one way are a run of the machine of many connections,
 /// and those the other way are another.

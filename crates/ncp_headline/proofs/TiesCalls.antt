@@ -30,9 +30,9 @@ use Rattle.ncp_model.proofs.LinksLead.{itself}
 use Rattle.ncp_model.proofs.Lookups.{any-none}
 use Rattle.ncp_hosts.proofs.EndsGood.{Changes, same_or, put-changes}
 use Rattle.ncp_sharing.proofs.Linking.{uses_parts}
-use Rattle.ncp_ties.specs.Tied.{watched}
-use Rattle.ncp_ties.proofs.Ties.{commands_of, turn, turn_all, leads_nowhere, Apt, Flow, Owned, Owners, Texts, Way, Ties, further, reached-same}
-use Rattle.ncp_ties.proofs.TiesBase.{Sees, sender_did, receiver_did, set_same, others-to-senders, others-to-receivers, sender-acts, receiver-acts}
+use Rattle.ncp_headline.specs.Tied.{watched}
+use Rattle.ncp_headline.proofs.Ties.{commands_of, turn, turn_all, leads_nowhere, Apt, Flow, Owned, Owners, Texts, Way, Ties, further, reached-same}
+use Rattle.ncp_headline.proofs.TiesBase.{Sees, sender_did, receiver_did, set_same, others-to-senders, others-to-receivers, sender-acts, receiver-acts}
 
 -- A command of no connection joins what is underway, as one of a pair of which neither end sends.
 

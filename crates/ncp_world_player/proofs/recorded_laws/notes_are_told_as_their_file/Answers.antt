@@ -1,5 +1,5 @@
-use Rattle.ncp_recorder.proofs.Tellings.{told_is_file, told_is_file_of_many}
-use Rattle.ncp_recorder.proofs.laws.notes_are_told_as_their_file.Goals as goal
+use Rattle.ncp_world_player.proofs.Tellings.{told_is_file, told_is_file_of_many}
+use Rattle.ncp_world_player.proofs.recorded_laws.notes_are_told_as_their_file.Goals as goal
 
 pub returns-clause-two : goal.returns-clause-two
 returns-clause-two c = told_is_file

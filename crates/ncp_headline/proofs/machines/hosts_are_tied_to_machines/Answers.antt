@@ -1,9 +1,9 @@
 use Rattle.std.proofs.Common.{ap, ◌∙◌}
 use Rattle.ncp_sharing.specs.Sharing.{Shared}
 use Rattle.ncp_hosts.specs.Hosts.{World, swap, run}
-use Rattle.ncp_ties.specs.Tied.{IsTied}
-use Rattle.ncp_ties.proofs.HostsHeld.{Ever, ever, ever-swapped}
-use Rattle.ncp_ties.proofs.machines.hosts_are_tied_to_machines.Goals as goal
+use Rattle.ncp_headline.specs.Tied.{IsTied}
+use Rattle.ncp_headline.proofs.HostsHeld.{Ever, ever, ever-swapped}
+use Rattle.ncp_headline.proofs.machines.hosts_are_tied_to_machines.Goals as goal
 
 tied : (w : World) → Ever w → IsTied w
 tied w e =

@@ -15,9 +15,9 @@ use Rattle.ncp_model.specs.Echo.{Echoes}
 use Rattle.ncp_hosts.specs.Hosts.{Node, quiet, cleared, kept, calls_reset, settles, hears}
 use Rattle.ncp_model.proofs.ResetLists.{rsts, rrps, purged, rrps-append, rsts-append, any-rrps, any-rsts}
 use Rattle.ncp_resets.proofs.ResetKept.{Kept, turned, falling, wanting, answering, asking, owing, heard_rrp, made_up}
-use Rattle.ncp_ties.proofs.Lives.{live, behind, alive, Cut, behind_new, live_rst, live_cut, rrps_cut, live_more, owed, live_none}
-use Rattle.ncp_ties.proofs.Ties.{Owners, Ties, ties-turned}
-use Rattle.ncp_ties.proofs.TiesClear.{ties-to, ties-clear, ties-fresh, quiet-owns-none}
+use Rattle.ncp_headline.proofs.Lives.{live, behind, alive, Cut, behind_new, live_rst, live_cut, rrps_cut, live_more, owed, live_none}
+use Rattle.ncp_headline.proofs.Ties.{Owners, Ties, ties-turned}
+use Rattle.ncp_headline.proofs.TiesClear.{ties-to, ties-clear, ties-fresh, quiet-owns-none}
 
 -- what of n's commands is live on its way to m, where x is on the line
 abbrev pub lives : Node → Node → List Command → List Command

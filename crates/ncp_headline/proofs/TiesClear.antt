@@ -18,9 +18,9 @@ use Rattle.ncp_sharing.specs.Sharing.{Tagged, new_shared, Senders_are_cleared, R
 use Rattle.ncp_sharing.specs.Finding.{link_out}
 use Rattle.ncp_resets.specs.Delivery.{Slot, Empty, Ready, Travelling, Held, Subnet, Free, Accepted, Delivered, Lost, Dead, Link, idle, undelivered, answered, woken}
 use Rattle.ncp_hosts.specs.Hosts.{TextOut, Node, new_node, is_empty, all_empty, or_no_past, quiet, set_link}
-use Rattle.ncp_ties.proofs.Lives.{Cut}
-use Rattle.ncp_ties.specs.Tied.{watched}
-use Rattle.ncp_ties.proofs.Ties.{in_subnet, text_on, Carried, Owned, Owners, Texts, Way, commands_of, turn, turn_all, Apt, Flow, Ties, ties-turned, further}
+use Rattle.ncp_headline.proofs.Lives.{Cut}
+use Rattle.ncp_headline.specs.Tied.{watched}
+use Rattle.ncp_headline.proofs.Ties.{in_subnet, text_on, Carried, Owned, Owners, Texts, Way, commands_of, turn, turn_all, Apt, Flow, Ties, ties-turned, further}
 
 -- The lists of commands matter only for a host that is alive.
 

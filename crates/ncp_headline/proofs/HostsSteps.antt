@@ -28,14 +28,14 @@ use Rattle.ncp_hosts.specs.Hosts.{TextOut, Node, set_link, is_empty, kept, kept_
 use Rattle.ncp_model.proofs.ResetLists.{rrps}
 use Rattle.ncp_resets.proofs.ResetKept.{falling, came_up, dropped}
 use Rattle.ncp_hosts.proofs.Standing.{nothing_out}
-use Rattle.ncp_ties.proofs.Lives.{live, fronts_other, behind_other, alive}
-use Rattle.ncp_ties.proofs.Ties.{Owners, Carried, Owned, Texts, Ties}
-use Rattle.ncp_ties.proofs.TiesClear.{SameText, ties-to, ties-links, one-link, same-ready, same-answered}
-use Rattle.ncp_ties.proofs.TiesFull.{full-safe, full-pasts, ties-pasts, hear-other, text-other, answered-other, called-other, gone-answer}
-use Rattle.ncp_ties.proofs.TiesCalls.{ties-echo, ties-calls}
-use Rattle.ncp_ties.proofs.TiesHears.{ties-hears}
-use Rattle.ncp_ties.proofs.TiesTexts.{owned_by, ties-goes-out, ties-text-comes, ties-text-drops, text-out-stands, text-out-stands-here, ties-answered, ties-answered-gone}
-use Rattle.ncp_ties.proofs.HostsJoined.{lives, is_alive, Whole, Joined, up_alive, up_waits, not_alive, clears, settles-keeps, hears_rst-keeps, hears_rrp-keeps, pending}
+use Rattle.ncp_headline.proofs.Lives.{live, fronts_other, behind_other, alive}
+use Rattle.ncp_headline.proofs.Ties.{Owners, Carried, Owned, Texts, Ties}
+use Rattle.ncp_headline.proofs.TiesClear.{SameText, ties-to, ties-links, one-link, same-ready, same-answered}
+use Rattle.ncp_headline.proofs.TiesFull.{full-safe, full-pasts, ties-pasts, hear-other, text-other, answered-other, called-other, gone-answer}
+use Rattle.ncp_headline.proofs.TiesCalls.{ties-echo, ties-calls}
+use Rattle.ncp_headline.proofs.TiesHears.{ties-hears}
+use Rattle.ncp_headline.proofs.TiesTexts.{owned_by, ties-goes-out, ties-text-comes, ties-text-drops, text-out-stands, text-out-stands-here, ties-answered, ties-answered-gone}
+use Rattle.ncp_headline.proofs.HostsJoined.{lives, is_alive, Whole, Joined, up_alive, up_waits, not_alive, clears, settles-keeps, hears_rst-keeps, hears_rrp-keeps, pending}
 
 -- of a host that is up this is all that is asked
 whole-up : (own : Owners) (n : Node) → is_up n.host ≡ true → n.violated ≡ false → Whole own n

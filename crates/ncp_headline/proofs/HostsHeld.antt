@@ -17,11 +17,11 @@ use Rattle.ncp_resets.proofs.ResetRuns.{Tied, fronting}
 use Rattle.ncp_resets.proofs.ResetRuns as Base
 use Rattle.ncp_hosts.proofs.HostsBase.{hears_all-control}
 use Rattle.ncp_hosts.proofs.HostsStand.{BothStand, side-stands, ever-stand}
-use Rattle.ncp_ties.proofs.Lives.{live, alive}
-use Rattle.ncp_ties.proofs.Ties.{Owners, Ties}
-use Rattle.ncp_ties.proofs.TiesClear.{SameText, ties-start, ties-links, one-link, same-lost, same-dead, same-woken}
-use Rattle.ncp_ties.proofs.HostsJoined.{lives, is_alive, Whole, Joined, joined-turned, settles-keeps, resets-keeps, falls-keeps}
-use Rattle.ncp_ties.proofs.HostsSteps.{calls-keeps, echo-keeps, hears_all-keeps, text-keeps, Follows, Moved, sends_text-keeps, text_answered-keeps}
+use Rattle.ncp_headline.proofs.Lives.{live, alive}
+use Rattle.ncp_headline.proofs.Ties.{Owners, Ties}
+use Rattle.ncp_headline.proofs.TiesClear.{SameText, ties-start, ties-links, one-link, same-lost, same-dead, same-woken}
+use Rattle.ncp_headline.proofs.HostsJoined.{lives, is_alive, Whole, Joined, joined-turned, settles-keeps, resets-keeps, falls-keeps}
+use Rattle.ncp_headline.proofs.HostsSteps.{calls-keeps, echo-keeps, hears_all-keeps, text-keeps, Follows, Moved, sends_text-keeps, text_answered-keeps}
 
 -- of two hosts, and the slot and the subnet of the control links that go and come
 abbrev pub HoldsOf : Owners → Owners → Node → Node → Slot (List Command) → Subnet (List Command) → Slot (List Command) → Subnet (List Command) → Type 0

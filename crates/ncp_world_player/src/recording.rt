@@ -5,7 +5,7 @@ ghost use Rattle.ncp_two.specs.Between.{other};
 ghost use Rattle.ncp_stream.specs.Pieces.{bytes_and_writes, lost_pieces};
 ghost use Rattle.ncp_stream.specs.Streams.{SaysTextOrBeginning};
 ghost use Rattle.ncp_files.specs.Versions.{placed};
-ghost use Rattle.ncp_recorder.specs.Recorded.{number_of, kind_of, sent_from, came_to, bytes_if, note_bytes, many_note_bytes};
+ghost use Rattle.ncp_world_player.specs.Recorded.{number_of, kind_of, sent_from, came_to, bytes_if, note_bytes, many_note_bytes};
 
 use ncp_bits::Bits;
 use ncp_files::{Direction, Passage, say_message};
