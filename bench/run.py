@@ -1,60 +1,69 @@
 #!/usr/bin/env python3
-"""Measures `ncp` against `xxd -p`, in one run and on the same files: best of five, and the most memory."""
-import os
-import subprocess
+"""Measures what the program and its crates do, in one table with ratios, and counts instructions and memory.
+
+`run.py` measures everything; `run.py times` or `run.py counts` one half."""
 import sys
-import time
+import tempfile
 
-HERE = os.path.dirname(os.path.abspath(__file__))
-PROGRAM = os.path.join(HERE, "..", "ncp")
-WORK = [("ncp show", [PROGRAM, "show"]), ("ncp check", [PROGRAM, "check"]), ("xxd -p", ["xxd", "-p"])]
+import feed
+import files
+import messages
+import notes
+import table
+import world
 
-
-def made(size):
-    path = os.path.join(HERE, "data", f"{size}.ncp")
-    if not os.path.exists(path):
-        os.makedirs(os.path.dirname(path), exist_ok=True)
-        with open(path + ".part", "wb") as out:
-            subprocess.run([sys.executable, os.path.join(HERE, "generate.py"), str(size)], stdout=out, check=True)
-        os.rename(path + ".part", path)
-    return path
-
-
-def once(words, path):
-    """How many seconds a run took, and how many KiB of memory it had at most, as far as it was seen."""
-    with open(path, "rb") as source, open(os.devnull, "wb") as sink:
-        begin = time.perf_counter()
-        child = subprocess.Popen(words, stdin=source, stdout=sink)
-        peak = 0
-        while child.poll() is None:
-            peak = max(peak, peak_of(child.pid))
-            time.sleep(0.002)
-        if child.returncode not in (0, 1):
-            sys.exit(f"{words}: status {child.returncode}")
-        return time.perf_counter() - begin, peak
+TIMES = (files, feed, world, messages)
+COUNTS = [
+    ("instructions", files),
+    ("instructions a message of a host", messages),
+    ("instructions a call of a table", table),
+    ("bytes of memory a note", notes),
+]
+HEAD = f"{'':28} {'':32} {'seconds':>8} {'a second':>16} {'memory':>8} {'to xxd -p':>9} {'to cat':>7} {'to ncp show':>15}"
 
 
-def peak_of(process):
-    try:
-        with open(f"/proc/{process}/status") as status:
-            return next((int(line.split()[1]) for line in status if line.startswith("VmHWM")), 0)
-    except OSError:
-        return 0
+def ratios(row, measured):
+    """What is beside the rate of a row: of bytes the rate to those of `xxd -p`, `cat` and `ncp show`, of others how many come on each MB that `ncp show` reads."""
+    rate = row.amount / row.seconds
+    if row.unit != "bytes":
+        return f"{'':>9} {'':>7} {rate / measured[files.SHOW] * 1e6:8,.0f} each MB"
+    xxd, cat, show = (rate / measured[name] if name in measured else 0 for name in (files.XXD, files.CAT, files.SHOW))
+    return f"{xxd:9.2f} {cat:7.3f} {show:15.2f}"
+
+
+def line(row, measured):
+    rate = row.amount / row.seconds
+    said = f"{rate / 1e6:,.1f} MB" if row.unit == "bytes" else f"{rate:,.0f}"
+    memory = "" if row.peak is None else f"{row.peak:,} K"
+    return f"{row.what:28} {row.of:32} {row.seconds:8.3f} {said:>16} {memory:>8} {ratios(row, measured)}"
+
+
+def times(room):
+    print(HEAD)
+    measured = {}
+    for part in TIMES:
+        rows = part.rows(room)
+        if part is files:
+            # Each rate beside those of the same size.
+            rows = list(rows)
+            measured = {row.what: row.amount / row.seconds for row in rows}
+        for row in rows:
+            print(line(row, measured), flush=True)
+
+
+def counts(room):
+    for head, part in COUNTS:
+        print(f"\n{head}")
+        for what, number in part.counts(room):
+            print(f"{what:56} {number:14,.1f}", flush=True)
 
 
 def main():
-    subprocess.run([PROGRAM, "--help"], stdout=subprocess.DEVNULL, check=True)
-    for size in (32, 64):
-        path = made(size)
-        rates = {}
-        for name, words in WORK:
-            runs = [once(words, path) for _ in range(5)]
-            seconds = min(run[0] for run in runs)
-            rates[name] = os.path.getsize(path) / seconds
-            print(f"{size} MiB  {name:10} {rates[name] / 1e6:8.1f} MB/s  {seconds:7.3f} s  {max(run[1] for run in runs):6} KiB")
-        for name, rate in rates.items():
-            if name != "xxd -p":
-                print(f"{size} MiB  {name} / xxd -p = {rate / rates['xxd -p']:.2f}")
+    with tempfile.TemporaryDirectory(prefix="ncp-bench-") as room:
+        if "counts" not in sys.argv[1:]:
+            times(room)
+        if "times" not in sys.argv[1:]:
+            counts(room)
 
 
 main()

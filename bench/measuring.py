@@ -1,0 +1,145 @@
+"""What the measurements have in common: runs by the time of the processor, instructions, and programs beside the crates."""
+import functools
+import os
+import re
+import resource
+import shutil
+import subprocess
+import sys
+import time
+from collections import namedtuple
+
+HERE = os.path.dirname(os.path.abspath(__file__))
+TOP = os.path.dirname(HERE)
+DATA = os.path.join(HERE, "data")
+LAUNCHER = os.path.join(TOP, "ncp")
+NCP = os.path.join(TOP, "crates", "ncp", "out", "ncp")
+RUNS = 5
+
+# What ran, on what, how much of a unit that was, the seconds that it took, and KiB of memory (None: not looked at).
+Row = namedtuple("Row", "what of amount unit seconds peak")
+
+
+@functools.cache
+def build_ncp():
+    """Builds the program where it is not built. It is measured without its launcher."""
+    subprocess.run([LAUNCHER, "--help"], stdout=subprocess.DEVNULL, check=True)
+
+
+def kept(name, write):
+    """The path of a file under bench/data, which is written once."""
+    path = os.path.join(DATA, name)
+    if not os.path.exists(path):
+        os.makedirs(DATA, exist_ok=True)
+        with open(path + ".part", "wb") as file:
+            write(file)
+        os.rename(path + ".part", path)
+    return path
+
+
+def generated(file, *words):
+    """Writes what `generate.py` makes of the words."""
+    file.flush()
+    subprocess.run([sys.executable, os.path.join(HERE, "generate.py"), *map(str, words)], stdout=file, check=True)
+
+
+def processor():
+    used = resource.getrusage(resource.RUSAGE_CHILDREN)
+    return used.ru_utime + used.ru_stime
+
+
+def once(command, path, statuses=(0,)):
+    """The processor's time of a run on a file, and how many KiB of memory it had at most, as far as that was seen."""
+    with open(path, "rb") as source:
+        begin = processor()
+        child = subprocess.Popen(command, stdin=source, stdout=subprocess.DEVNULL)
+        peak = 0
+        while child.poll() is None:
+            peak = max(peak, peak_of(child.pid))
+            time.sleep(0.002)
+    if child.returncode not in statuses:
+        sys.exit(f"{command}: status {child.returncode}")
+    return processor() - begin, peak
+
+
+def peak_of(process):
+    try:
+        with open(f"/proc/{process}/status", encoding="ascii") as status:
+            return next((int(line.split()[1]) for line in status if line.startswith("VmHWM")), 0)
+    except OSError:
+        return 0
+
+
+def best(command, path, statuses=(0,)):
+    """The least time of some runs, and the most memory."""
+    runs = [once(command, path, statuses) for _ in range(RUNS)]
+    return min(seconds for seconds, _ in runs), max(peak for _, peak in runs)
+
+
+def least(program, given, wanted):
+    """The least time of some runs of a program that is given a line, each of which prints what is wanted."""
+    found = []
+    for _ in range(RUNS):
+        begin = processor()
+        ran = subprocess.run([program], input=given, text=True, capture_output=True)
+        found.append(processor() - begin)
+        expect(given, ran, wanted)
+    return min(found)
+
+
+def instructions(command, source, room, wanted=None):
+    """How many instructions a run takes, as valgrind counts them; its source is a line or an open file."""
+    counts = os.path.join(room, "callgrind.out")
+    words = ["valgrind", "--tool=callgrind", f"--callgrind-out-file={counts}", *command]
+    given = {"input": source} if isinstance(source, str) else {"stdin": source}
+    ran = subprocess.run(words, text=True, capture_output=True, **given)
+    if wanted is not None:
+        expect(source, ran, wanted)
+    return int(re.search(r"Collected : (\d+)", ran.stderr)[1])
+
+
+def expect(given, ran, wanted):
+    if ran.returncode or ran.stdout != wanted:
+        sys.exit(f"{given}: status {ran.returncode}, printed {ran.stdout[-300:]!r}\n{ran.stderr[-3000:]}")
+
+
+def uses_of_crates():
+    with open(os.path.join(TOP, "crates.txt"), encoding="utf-8") as file:
+        lines = [line.split("#")[0].split(":") for line in file]
+    return {words[0].split()[0]: words[1].split() for words in lines if len(words) > 1}
+
+
+def below(names):
+    """The crates of this repository among these, with all that they use, each behind those that it uses."""
+    uses, found = uses_of_crates(), []
+
+    def add(name):
+        if name in uses and name not in found:
+            for used in uses[name]:
+                add(used)
+            found.append(name)
+
+    for name in names:
+        add(name)
+    return found
+
+
+@functools.cache
+def built(text, name, names, room):
+    """A program of a file of this folder beside copies of the crates that it names and of those below, in a repository of its own."""
+    uses, crates, top = uses_of_crates(), below(names), os.path.join(room, name)
+    folder = os.path.join(top, "crates", name)
+    os.makedirs(os.path.join(folder, "src"))
+    with open(os.path.join(top, "crates.txt"), "w", encoding="utf-8") as file:
+        file.writelines(f"{crate}: {' '.join(uses[crate])}\n" for crate in crates)
+        file.write(f"{name}: {' '.join(names)}\n")
+    shutil.copy(os.path.join(TOP, "HANDLES"), top)
+    for crate in crates:
+        # but for what the prover kept of a check, which is large
+        without = shutil.ignore_patterns("incremental")
+        shutil.copytree(os.path.join(TOP, "crates", crate), os.path.join(top, "crates", crate), symlinks=True, ignore=without)
+    shutil.copy(os.path.join(HERE, text), os.path.join(folder, "src", "main.rt"))
+    ran = subprocess.run(["rt", "run"], cwd=folder, input="", text=True, capture_output=True)
+    if ran.returncode:
+        sys.exit(f"{ran.stdout[-3000:]}{ran.stderr[-3000:]}{text}: the program was not built")
+    return os.path.join(folder, "out", name)
