@@ -4,6 +4,7 @@ pub mod Counts
 pub mod Indexes
 pub mod Asking
 pub mod Cutting
+pub mod Links
 pub mod Tables
 pub mod Requests
 pub mod Same

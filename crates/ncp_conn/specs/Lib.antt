@@ -6,4 +6,5 @@ pub mod Indexes
 pub mod Entries
 pub mod Asking
 pub mod Cutting
+pub mod Links
 pub mod Walking
