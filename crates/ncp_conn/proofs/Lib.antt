@@ -5,6 +5,7 @@ pub mod Indexes
 pub mod Asking
 pub mod Cutting
 pub mod Links
+pub mod Sending
 pub mod Tables
 pub mod Requests
 pub mod Same

@@ -7,4 +7,5 @@ pub mod Entries
 pub mod Asking
 pub mod Cutting
 pub mod Links
+pub mod Sending
 pub mod Walking
