@@ -54,6 +54,29 @@ first_found test links last from (Some on) same is l =
     let least = is.least in
     sym (first_some test (last + 1 - from) from on least (omega arith) (sym (same on) ∙ is.here) (λ k a b. sym (same k) ∙ is.lower k a b))
 
+-- what is passed by the first that passes
+abbrev pub PassedBy : (ℕ → Bool) → ℕ → ℕ → Option ℕ → Type 0
+PassedBy test last from None = (on : ℕ) → from ≤ on → on ≤ last → test on ≡ false
+PassedBy test last from (Some c) = (from ≤ c) × (c ≤ last) × ((on : ℕ) → from ≤ on → on < c → test on ≡ false)
+
+pub passed_by_first : (test : ℕ → Bool) (last from : ℕ) (o : Option ℕ) → o ≡ first_of test (last + 1 - from) from → PassedBy test last from o
+passed_by_first test last from o is = subst (PassedBy test last from) (sym is) (walk (last + 1 - from) from refl)
+  where
+    at_once : (n from : ℕ) → n ≡ last + 1 - from → (b : Bool) → test from ≡ b → (m : ℕ) → n ≡ suc m → PassedBy test last (suc from) (first_of test m (suc from)) → PassedBy test last from (first_of test n from)
+    at_once n from e true t m k rest = subst (PassedBy test last from) (sym (first_yes test n m from k t)) (omega arith, omega arith, λ on a b. absurd (omega arith))
+    at_once n from e false t m k rest = subst (PassedBy test last from) (sym (first_no test n m from k t)) (go (first_of test m (suc from)) rest)
+      where
+        here : (on : ℕ) → from ≤ on → (suc from ≤ on → test on ≡ false) → test on ≡ false
+        here on a r = elim (cases_eq from on) [ inl s ↦ ap test (sym s) ∙ t | inr d ↦ r (omega (arith, d)) ]
+
+        go : (o : Option ℕ) → PassedBy test last (suc from) o → PassedBy test last from o
+        go None r = λ on a b. here on a (λ c. r on c b)
+        go (Some c) r = let over = r.0 in (omega arith, r.1, λ on a b. here on a (λ d. r.2 on d b))
+
+    walk : (n from : ℕ) → n ≡ last + 1 - from → PassedBy test last from (first_of test n from)
+    walk zero from e = subst (PassedBy test last from) (sym (first_end test zero from refl)) (λ on a b. absurd (omega arith))
+    walk (suc n) from e = at_once (suc n) from e (test from) refl n refl (walk n (suc from) (omega arith))
+
 pub pairs_counted : (n : ℕ) (slots : List (Option (Pair × End))) (k : Pair) → count_by (λ other. same other k) (map (λ e. e.1.0) (entries_from n slots)) ≡ count_by (λ e. same e.0 k) (vals slots)
 pairs_counted n [] k = refl
 pairs_counted n (None ∷ slots) k = pairs_counted (n + 1) slots k

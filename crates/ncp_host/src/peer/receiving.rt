@@ -2,7 +2,8 @@
 //! went out (BBN 1822, section 3).
 ghost use Rattle.std.specs.Prelude.{◌≡◌, length};
 ghost use Rattle.ncp_leader.specs.Message.{message_in};
-ghost use Rattle.ncp_host.specs.PeerState.{answer_comes};
+ghost use Rattle.ncp_slot.specs.declared.slot.Answer.TheVariants.{Rfnm};
+ghost use Rattle.ncp_host.specs.PeerState.{answer_comes, after_answer};
 ghost use Rattle.ncp_host.specs.Hearing.{control_after, control_received, text_after, text_received, message_after, message_received, answer_of, answer_received, after_bits, received_of};
 
 use crate::counts::one_more;
@@ -14,6 +15,17 @@ use ncp_model::Took;
 use ncp_slot::{Answer, LAST_LINK, UNUSED_LINK};
 
 impl<S: BitStore> Peer<S> {
+    // The message that went out on a link was taken.
+    fn hear_rfnm(&mut self, link: u8)
+        ensures { self.new ≡ record self.old { peer = after_answer link Rfnm self.old.slots self.old.peer } }
+    {
+        if link != CONTROL_LINK {
+            self.association.free(link);
+        }
+        let quiet = self.slots.quiet();
+        self.association.settle(quiet);
+    }
+
     // An answer to the message that went out on a link.
     fn hear_answer(&mut self, link: u8, answer: Answer) -> Received
         ensures received { result ≡ answer_received link self.old }
@@ -23,12 +35,10 @@ impl<S: BitStore> Peer<S> {
             self.counts.stray = one_more(self.counts.stray);
             return Received::Stray;
         }
-        if let Answer::Rfnm = answer {
-            if link != CONTROL_LINK {
-                self.association.free(link);
-            }
-            let quiet = self.slots.quiet();
-            self.association.settle(quiet);
+        match answer {
+            Answer::Rfnm => self.hear_rfnm(link),
+            Answer::Incomplete => self.again.insert(link),
+            Answer::Dead => (),
         }
         Received::Answered
     }
