@@ -4,7 +4,8 @@ use Rattle.std.specs.List.{slice_get}
 use Rattle.ncp_control.specs.declared.command.Command.{Command}
 use Rattle.ncp_slot.specs.declared.slot.Slot.TheVariants.{Empty, Ready, Travelling, Held}
 use Rattle.ncp_slot.specs.Slot.{is_empty, is_ready}
-use Rattle.ncp_slot.specs.Slots.{LinkSlot, LinkSlots, slot_at}
+use Rattle.ncp_slot.specs.Slots.{LinkSlot, LinkSlots, slot_at, is_quiet}
+use Rattle.ncp_slot.proofs.Places.{is_quiet-tells}
 use Rattle.ncp_model.specs.Act.{answer}
 use Rattle.ncp_model.specs.Ends.{cut_in}
 use Rattle.ncp_model.specs.Sending.{next_commands}
@@ -13,7 +14,7 @@ use Rattle.ncp_conn.specs.Cutting.{may_cut, next_cut}
 use Rattle.ncp_conn.proofs.Cutting.{PassedBy, passed_by_first}
 use Rattle.ncp_host.specs.PeerState.{PeerState, control_link}
 use Rattle.ncp_host.specs.Output.{control_message, text_message, made_on, output_by}
-use Rattle.ncp_host.specs.Silence.{HasReady, IsSilent, SilentFrom, lower_of}
+use Rattle.ncp_host.specs.Silence.{HasReady, HasKept, IsSilent, SilentFrom, lower_of}
 use Rattle.ncp_host.proofs.Cutting.{not_cut}
 
 -- no message is to go out again on a link that is not in the set
@@ -74,3 +75,24 @@ silent_to_next s links from again cut l has is last told = go again cut is last 
           last = omega arith;
           between = λ on a b. one on a (omega arith) (is.lower on a (omega arith)) (cuts.2 on a (omega arith));
         }
+
+-- Whether the data links are quiet.
+
+pub quiet_where_none : (slots : LinkSlots) (links : ℕ) → HasKept links slots → ((on : ℕ) → 2 ≤ on → is_in links on ≡ false) → is_quiet slots ≡ true
+quiet_where_none slots links has none = (is_quiet-tells slots).1 (λ on low high. go on low high (slot_at slots on) refl)
+  where
+    full : {P : Type 0} → (on : ℕ) → 2 ≤ on → on ≤ 71 → is_empty (slot_at slots on) ≡ false → P
+    full on low high f = let both : true ≡ false = sym (has on low high f) ∙ none on low in absurd (cc)
+
+    go : (on : ℕ) → 2 ≤ on → on ≤ 71 → (slot : LinkSlot) → slot_at slots on ≡ slot → slot_at slots on ≡ Empty
+    go on low high Empty e = e
+    go on low high (Ready m) e = full on low high (ap is_empty e)
+    go on low high (Travelling m) e = full on low high (ap is_empty e)
+    go on low high (Held m) e = full on low high (ap is_empty e)
+
+pub not_quiet : (slots : LinkSlots) (on : ℕ) → 2 ≤ on → on ≤ 71 → is_empty (slot_at slots on) ≡ false → is_quiet slots ≡ false
+not_quiet slots on low high full = go (is_quiet slots) refl
+  where
+    go : (b : Bool) → is_quiet slots ≡ b → is_quiet slots ≡ false
+    go false e = e
+    go true e = let both : true ≡ false = sym (ap is_empty ((is_quiet-tells slots).0 e on low high)) ∙ full in absurd (cc)

@@ -25,7 +25,7 @@ impl<S: BitStore> Peer<S> {
         ensures state { self.new ≡ calls_reset self.old }
         ensures err { OnErr result (self.new ≡ self.old) }
     {
-        let quiet = self.slots.quiet();
+        let quiet = self.is_quiet();
         self.association.reset(quiet)
     }
 

@@ -63,6 +63,7 @@ impl<S: BitStore> Peer<S> {
     {
         self.slots.put(link, message).unwrap();
         let _message = self.slots.hand(link);
+        self.kept.insert(link);
     }
 
     // The message that is ready on a link, if any. It goes out.
