@@ -1,7 +1,8 @@
 -- Which link may send next, and the pairs of a table in a list.
-use Rattle.std.proofs.Common.{◌≡◌, ℕ, suc, ◌+◌, Bool, true, false, cond, ◌*◌, List, [], ◌∷◌, Option, Some, None, is_some, map, refl, sym, ap, ◌∙◌, subst, arith}
+use Rattle.std.proofs.Common.{◌≡◌, inl, inr, ℕ, zero, suc, ◌+◌, ◌-◌, ◌<◌, ◌≤◌, IfSome, Bool, true, false, cond, ◌*◌, List, [], ◌∷◌, Option, Some, None, is_some, map, refl, sym, ap, ◌∙◌, subst, arith}
 use Rattle.std.specs.List.{count_by}
 use Rattle.std.specs.FinMap.{find}
+use Rattle.std.proofs.lemmas.Bool.{cases_eq}
 use Rattle.slab.specs.Slab.{entries_from}
 use Rattle.ncp_model.specs.declared.pair.Pair.{Pair}
 use Rattle.ncp_model.specs.Pairs.{pair_cmp, same}
@@ -9,6 +10,7 @@ use Rattle.ncp_model.specs.End.{End}
 use Rattle.ncp_model.specs.Act.{Stays, answer}
 use Rattle.ncp_model.specs.Texts.{cut, cut_bits, bytes_to_send, may_send}
 use Rattle.ncp_conn.specs.Entries.{AreEntries}
+use Rattle.ncp_conn.specs.Links.{is_in, IsLowestIfAny}
 use Rattle.ncp_conn.specs.Cutting.{first_of}
 use Rattle.ncp_conn.proofs.Slabs.{vals}
 use Rattle.ncp_conn.proofs.Finding.{is_pair, pair_is, same_is, same_itself, pair_itself}
@@ -32,6 +34,48 @@ first_yes test n m from h t = rw h (ap (λ (b : Bool). cond b (Some from) (first
 pub first_no : (test : ℕ → Bool) (n m from : ℕ) → n ≡ suc m → test from ≡ false → first_of test n from ≡ first_of test m (suc from)
 unfolding first_of
 first_no test n m from h t = rw h (ap (λ (b : Bool). cond b (Some from) (first_of test m (suc from))) t)
+
+-- where no number from one on passes, and where one is the first that does
+pub first_none : (test : ℕ → Bool) (n from : ℕ) → ((k : ℕ) → from ≤ k → test k ≡ false) → first_of test n from ≡ None
+first_none test zero from h = first_end test zero from refl
+first_none test (suc n) from h = first_no test (suc n) n from refl (h from (omega arith)) ∙ first_none test n (suc from) (λ k l. h k (omega arith))
+
+pub first_some : (test : ℕ → Bool) (n from on : ℕ) → from ≤ on → on < from + n → test on ≡ true → ((k : ℕ) → from ≤ k → k < on → test k ≡ false) → first_of test n from ≡ Some on
+first_some test zero from on l b t h = absurd (omega arith)
+first_some test (suc n) from on l b t h = elim (cases_eq from on) [
+  | inl e ↦ first_yes test (suc n) n from refl (ap test e ∙ t) ∙ ap Some e
+  | inr d ↦ first_no test (suc n) n from refl (h from (omega arith) (omega (arith, d))) ∙ first_some test n (suc from) on (omega (arith, d)) (omega arith) t (λ k a c. h k (omega arith) c)
+]
+
+-- the lowest link of a set that has those that pass
+pub first_found : (test : ℕ → Bool) (links last from : ℕ) (o : Option ℕ) → ((on : ℕ) → is_in links on ≡ test on) → IsLowestIfAny links from o → IfSome o (λ on. on ≤ last) → o ≡ first_of test (last + 1 - from) from
+first_found test links last from None same none l = sym (first_none test (last + 1 - from) from (λ k b. sym (same k) ∙ none k b))
+first_found test links last from (Some on) same is l =
+    let least = is.least in
+    sym (first_some test (last + 1 - from) from on least (omega arith) (sym (same on) ∙ is.here) (λ k a b. sym (same k) ∙ is.lower k a b))
+
+-- what is passed by the first that passes
+abbrev pub PassedBy : (ℕ → Bool) → ℕ → ℕ → Option ℕ → Type 0
+PassedBy test last from None = (on : ℕ) → from ≤ on → on ≤ last → test on ≡ false
+PassedBy test last from (Some c) = (from ≤ c) × (c ≤ last) × ((on : ℕ) → from ≤ on → on < c → test on ≡ false)
+
+pub passed_by_first : (test : ℕ → Bool) (last from : ℕ) (o : Option ℕ) → o ≡ first_of test (last + 1 - from) from → PassedBy test last from o
+passed_by_first test last from o is = subst (PassedBy test last from) (sym is) (walk (last + 1 - from) from refl)
+  where
+    at_once : (n from : ℕ) → n ≡ last + 1 - from → (b : Bool) → test from ≡ b → (m : ℕ) → n ≡ suc m → PassedBy test last (suc from) (first_of test m (suc from)) → PassedBy test last from (first_of test n from)
+    at_once n from e true t m k rest = subst (PassedBy test last from) (sym (first_yes test n m from k t)) (omega arith, omega arith, λ on a b. absurd (omega arith))
+    at_once n from e false t m k rest = subst (PassedBy test last from) (sym (first_no test n m from k t)) (go (first_of test m (suc from)) rest)
+      where
+        here : (on : ℕ) → from ≤ on → (suc from ≤ on → test on ≡ false) → test on ≡ false
+        here on a r = elim (cases_eq from on) [ inl s ↦ ap test (sym s) ∙ t | inr d ↦ r (omega (arith, d)) ]
+
+        go : (o : Option ℕ) → PassedBy test last (suc from) o → PassedBy test last from o
+        go None r = λ on a b. here on a (λ c. r on c b)
+        go (Some c) r = let over = r.0 in (omega arith, r.1, λ on a b. here on a (λ d. r.2 on d b))
+
+    walk : (n from : ℕ) → n ≡ last + 1 - from → PassedBy test last from (first_of test n from)
+    walk zero from e = subst (PassedBy test last from) (sym (first_end test zero from refl)) (λ on a b. absurd (omega arith))
+    walk (suc n) from e = at_once (suc n) from e (test from) refl n refl (walk n (suc from) (omega arith))
 
 pub pairs_counted : (n : ℕ) (slots : List (Option (Pair × End))) (k : Pair) → count_by (λ other. same other k) (map (λ e. e.1.0) (entries_from n slots)) ≡ count_by (λ e. same e.0 k) (vals slots)
 pairs_counted n [] k = refl

@@ -4,6 +4,8 @@ pub mod Counts
 pub mod Indexes
 pub mod Asking
 pub mod Cutting
+pub mod Links
+pub mod Sending
 pub mod Tables
 pub mod Requests
 pub mod Same

@@ -13,16 +13,21 @@ use Rattle.ncp_model.specs.declared.pair.Pair.{Pair}
 use Rattle.ncp_model.specs.Pairs.{pair_cmp, sends, receives, is_proper}
 use Rattle.ncp_model.specs.End.{End, is_over}
 use Rattle.ncp_model.specs.Act.{Act, Stays, Becomes, answer}
-use Rattle.ncp_model.specs.Ends.{Ends, count, any, has_asked, is_by_peer, hears_link, uses_link, first_by, sender_on, receiver_on, pair_of, map_after, map_after_at}
+use Rattle.ncp_model.specs.Ends.{Ends, count, any, has_asked, is_by_peer, hears_link, uses_link, first_by, sender_on, receiver_on, pair_of, cut_at, map_after, map_after_at}
 use Rattle.ncp_model.specs.Commands.{hear_cls, hear_cls_at}
 use Rattle.ncp_conn.specs.Asking.{Enters as NewAmong}
 use Rattle.ncp_conn.specs.Indexes.{key_at, passes, IsIndex, LeadsTo}
+use Rattle.ncp_conn.specs.Links.{is_in}
+use Rattle.ncp_conn.specs.Sending.{sends_text, sends_at, AreSending, Notes}
+use Rattle.ncp_conn.specs.Cutting.{may_cut}
 use Rattle.ncp_conn.specs.Entries.{AreEntries, IsTable, IsKept, Found, Puts, Led, Settled}
 use Rattle.ncp_conn.specs.Changes.{after, marks}
 use Rattle.ncp_conn.specs.declared.entries.Entries.{Entries}
 use Rattle.ncp_conn.proofs.Slabs.{vals, below, vals_at, vals_set, below_set, vals_without, get_set as slot_set, get_set_other as slot_set_other}
 use Rattle.ncp_conn.proofs.Finding.{found, are_set, are_remove, are_insert, map_set, map_remove, map_insert, get_is, set_same, remove_set, not_over}
 use Rattle.ncp_conn.proofs.Counts.{one, count_set, count_remove, count_is, count_both, first_is, first_none}
+use Rattle.ncp_conn.proofs.Cutting.{cut_tells}
+use Rattle.ncp_conn.proofs.Sending.{over_sends_not, sending_changed}
 use Rattle.ncp_conn.proofs.Indexes.{led, led_first, led_nowhere, index_kept, index_left, index_led}
 
 -- the entries after the one at a place became f: it is out where its end is over
@@ -223,6 +228,19 @@ module _ {S : Type 0} (e : Entries S) (m : Ends) (v : from_entries (values e.sla
   pub no_receiver : (on : ℕ) → key_at e.receivers on ≡ None → receiver_on on m ≡ None
   no_receiver on none = first_in (uses_link on) None (t.table.uses on) (first_none (uses_link on) (values e.slab) (led_nowhere uses_link e.receivers e.slab t.receivers on none))
 
+  -- on the links of the set a text may be cut, and on no others
+  pub sending_is : (on : ℕ) → is_in e.sending on ≡ may_cut m on
+  sending_is on = go (key_at e.senders on) refl
+    where
+      cuts : Option (Pair × End) → Bool
+      cuts o = is_some (answer (cut_at o))
+
+      go : (o : Option ℕ) → key_at e.senders on ≡ o → is_in e.sending on ≡ may_cut m on
+      go None k = t.sending on ∙ ap (λ (x : Option ℕ). sends_at x e.slab) k ∙ ap cuts (sym (no_sender on k))
+      go (Some key) k =
+          let p = led hears_link e.senders e.slab t.senders on key k in
+          t.sending on ∙ ap (λ (x : Option ℕ). sends_at x e.slab) k ∙ ap (passes sends_text) p.1 ∙ sym (cut_tells p.0) ∙ ap cuts (sym (sender_is on key p.0 k p.1))
+
   -- whether a link is free
   any_in : (test : ℕ → Pair × End → Bool) (keys : List (Option ℕ)) → IsIndex test keys e.slab → (on : ℕ) (o : Option ℕ) → key_at keys on ≡ o → any (test on) m ≡ is_some o
   any_in test keys index on None h = ap (nat_lt 0) (sum_is (test on) ∙ led_nowhere test keys e.slab index on h)
@@ -274,7 +292,7 @@ module _ {S : Type 0} (e new : Entries S) (key : ℕ) (r f : Pair × End) (at : 
   room_settled false h = ap (λ (x : Entries S). x.slab.capacity) (settled.stays h)
   room_settled true h = (settled.leaves h).capacity
 
-  index_settled : (test : ℕ → Pair × End → Bool) (pick : Entries S → List (Option ℕ)) → IsIndex test (pick e) e.slab → pick (acted e key f) ≡ pick e → ((on : ℕ) → test on f ≡ test on r) → (is_over f.1 ≡ true → LeadsTo test f None (pick e) (pick new)) → (b : Bool) → is_over f.1 ≡ b → IsIndex test (pick new) new.slab
+  index_settled : (test : ℕ → Pair × End → Bool) (pick : Entries S → List (Option ℕ)) → IsIndex test (pick e) e.slab → pick (record (acted e key f) { sending = new.sending }) ≡ pick e → ((on : ℕ) → test on f ≡ test on r) → (is_over f.1 ≡ true → LeadsTo test f None (pick e) (pick new)) → (b : Bool) → is_over f.1 ≡ b → IsIndex test (pick new) new.slab
   index_settled test pick index kept same left false h =
       subst (λ (x : Entries S). IsIndex test (pick x) x.slab) (sym (settled.stays h))
       (subst (λ (keys : List (Option ℕ)). IsIndex test keys (with_value e.slab key f)) (sym kept)
@@ -284,6 +302,23 @@ module _ {S : Type 0} (e new : Entries S) (key : ℕ) (r f : Pair × End) (at : 
       (index_kept test (pick e) e.slab index (with_value e.slab key f) key (Some f) written (λ on. same on ∙ sym (ap (passes (test on)) at)))
       new.slab key f (pick new) (slot_set e.slab.slots key r f at) (settled.leaves h).updates (left h)
 
+  -- whether a text may go out is known of each link again
+  sending_settled : IsIndex hears_link e.senders e.slab → AreSending e.sending e.senders e.slab → ((on : ℕ) → hears_link on f ≡ hears_link on r) → (b : Bool) → is_over f.1 ≡ b → AreSending new.sending new.senders new.slab
+  sending_settled index are same false h =
+      subst (λ (x : Entries S). AreSending new.sending x.senders x.slab) (sym (settled.stays h))
+      (sending_changed e.senders e.senders e.slab (with_value e.slab key f) key (Some f) index written e.sending new.sending f are settled.sending
+      (λ on n. ap (passes (hears_link on)) at ∙ sym (same on) ∙ n)
+      (λ on n. refl)
+      (λ on heard. ap (λ (o : Option ℕ). sends_at o (with_value e.slab key f)) ((index on key).1 (ap (passes (hears_link on)) at ∙ sym (same on) ∙ heard)) ∙ ap (passes sends_text) written.changed))
+  sending_settled index are same true h =
+      let left = settled.leaves h in
+      let gone : Updates e.slab new.slab key None = record { changed = left.updates.changed; others = λ other d. left.updates.others other d ∙ written.others other d } in
+      let leads : (b : Bool) (on : ℕ) → hears_link on f ≡ b → key_at new.senders on ≡ cond b None (key_at e.senders on) = λ b on heard. left.senders on ∙ ap (λ (x : Bool). cond x None (key_at e.senders on)) heard in
+      sending_changed e.senders new.senders e.slab new.slab key None index gone e.sending new.sending f are settled.sending
+      (λ on n. ap (passes (hears_link on)) at ∙ sym (same on) ∙ n)
+      (λ on n. leads false on n)
+      (λ on heard. ap (λ (o : Option ℕ). sends_at o new.slab) (leads true on heard) ∙ sym (over_sends_not f h))
+
   pub kept_acted : {A : Type 0} (act : Act A) → IsKept e → f ≡ after r act → marks f ≡ marks r → IsKept new
   kept_acted act t is h =
       let same : f.0 ≡ r.0 = ap (λ (x : Pair × End). x.0) is ∙ after_pair r act in
@@ -291,6 +326,7 @@ module _ {S : Type 0} (e new : Entries S) (key : ℕ) (r f : Pair × End) (at : 
         table = subst (λ (n : ℕ). IsTable (values new.slab) n) (sym (room_settled (is_over f.1) refl)) (table_acted (values e.slab) (below e.slab.slots key) r f (values new.slab) e.slab.capacity act t.table (vals_at e.slab.slots key r at) list_is is h);
         senders = index_settled hears_link (λ (x : Entries S). x.senders) t.senders refl (hears_marked r f same h) (λ o. (settled.leaves o).senders) (is_over f.1) refl;
         receivers = index_settled uses_link (λ (x : Entries S). x.receivers) t.receivers refl (uses_marked r f same h) (λ o. (settled.leaves o).receivers) (is_over f.1) refl;
+        sending = sending_settled t.senders t.sending (hears_marked r f same h) (is_over f.1) refl;
       }
 
   pub ends_acted : {A : Type 0} (act : Act A) (m : Ends) → from_entries (values e.slab) ≡ m → IsKept e → f ≡ after r act → from_entries {R = pair_cmp} (values new.slab) ≡ map_after m r.0 act
@@ -300,6 +336,10 @@ module _ {S : Type 0} (e new : Entries S) (key : ℕ) (r f : Pair × End) (at : 
   ends_kept m v t is = map_kept (values e.slab) (below e.slab.slots key) r f (values new.slab) m t.table.are v (vals_at e.slab.slots key r at) list_is is
 
 -- A request at an entry, whose links then lead to it.
+
+unheard : (a b : Bool) → (a ≡ true → b ≡ true) → b ≡ false → a ≡ false
+unheard false b h n = refl
+unheard true b h n = let both : true ≡ false = sym (h refl) ∙ n in absurd (cc)
 
 pub key_set : {S : Type 0} (e : Entries S) (key : ℕ) (r f : Pair × End) → get e.slab key ≡ Some r → get (with_value e.slab key f) key ≡ Some f
 key_set e key r f at = slot_set e.slab.slots key r f at
@@ -332,12 +372,21 @@ module _ {S : Type 0} (e new : Entries S) (key : ℕ) (r f : Pair × End) (at : 
       which on (inl h) = inl (ap (passes (test on)) at ∙ h)
       which on (inr z) = inr z
 
+  sending_led : ((on : ℕ) → hears_link on r ≡ true → hears_link on f ≡ true) → AreSending new.sending new.senders new.slab
+  sending_led heard =
+      let leads : (b : Bool) (on : ℕ) → hears_link on f ≡ b → key_at new.senders on ≡ cond b (Some key) (key_at e.senders on) = λ b on h. led_now.senders on ∙ ap (λ (x : Bool). cond x (Some key) (key_at e.senders on)) h in
+      sending_changed e.senders new.senders e.slab new.slab key (Some f) t.senders changes e.sending new.sending f t.sending led_now.sending
+      (λ on n. ap (passes (hears_link on)) at ∙ unheard (hears_link on r) (hears_link on f) (heard on) n)
+      (λ on n. leads false on n)
+      (λ on h. ap (λ (o : Option ℕ). sends_at o new.slab) (leads true on h) ∙ ap (passes sends_text) changes.changed)
+
   pub kept_asked : f.0 ≡ r.0 → count_by has_asked (values e.slab) + one f.1.asked ≤ 64 + one r.1.asked → count_by is_by_peer (values e.slab) + one (not f.1.asked) ≤ 64 + one (not r.1.asked) → ((on : ℕ) → Passes (hears_link on) (values e.slab) r f) → ((on : ℕ) → Passes (uses_link on) (values e.slab) r f) → ((on : ℕ) → hears_link on r ≡ true → hears_link on f ≡ true) → ((on : ℕ) → uses_link on r ≡ true → uses_link on f ≡ true) → IsKept new
   kept_asked same own by_peer hears uses heard used =
       record {
         table = subst (λ (x : List (Pair × End)). IsTable x new.slab.capacity) (sym list_led) (subst (λ (n : ℕ). IsTable (changed (values e.slab) (below e.slab.slots key) f) n) (sym (ap (λ (x : Slab (Pair × End)). x.capacity) led_now.slab)) (table_changed (values e.slab) (below e.slab.slots key) r f e.slab.capacity t.table (vals_at e.slab.slots key r at) same own by_peer hears uses));
         senders = index_now hears_link e.senders new.senders t.senders led_now.senders heard hears;
         receivers = index_now uses_link e.receivers new.receivers t.receivers led_now.receivers used uses;
+        sending = sending_led heard;
       }
 
   pub ends_asked : {A : Type 0} (act : Act A) (m : Ends) → from_entries (values e.slab) ≡ m → f ≡ after r act → from_entries {R = pair_cmp} (values new.slab) ≡ map_after m r.0 act
@@ -421,8 +470,16 @@ module _ {S : Type 0} (e new : Entries S) (key : ℕ) (f : Pair × End) (vacant 
       (subst (λ (xs : List (Pair × End)). find pair_cmp f.0 xs ≡ None) list_before n.none)
       n.over
 
-  pub kept_entered : IsKept e → Enters (values e.slab) f → IsKept new
-  kept_entered t n =
+  sending_entered : IsKept e → Notes f e.sending new.sending → AreSending new.sending new.senders new.slab
+  sending_entered t notes =
+      let leads : (b : Bool) (on : ℕ) → hears_link on f ≡ b → key_at new.senders on ≡ cond b (Some key) (key_at e.senders on) = λ b on h. p.senders on ∙ ap (λ (x : Bool). cond x (Some key) (key_at e.senders on)) h in
+      sending_changed e.senders new.senders e.slab new.slab key (Some f) t.senders p.updates e.sending new.sending f t.sending notes
+      (λ on n. ap (passes (hears_link on)) vacant)
+      (λ on n. leads false on n)
+      (λ on h. ap (λ (o : Option ℕ). sends_at o new.slab) (leads true on h) ∙ ap (passes sends_text) p.updates.changed)
+
+  pub kept_entered : IsKept e → Notes f e.sending new.sending → Enters (values e.slab) f → IsKept new
+  kept_entered t notes n =
       let a : count_by has_asked (values e.slab) + one f.1.asked ≡ count_by has_asked (values new.slab) = sum has_asked in
       let b : count_by is_by_peer (values e.slab) + one (not f.1.asked) ≡ count_by is_by_peer (values new.slab) = sum is_by_peer in
       let own : count_by has_asked (values new.slab) ≤ 64 = let x = n.own in omega (arith, a, x) in
@@ -438,6 +495,7 @@ module _ {S : Type 0} (e new : Entries S) (key : ℕ) (f : Pair × End) (vacant 
         };
         senders = index_entered hears_link e.senders new.senders t.senders p.senders n.hears;
         receivers = index_entered uses_link e.receivers new.receivers t.receivers p.receivers n.uses;
+        sending = sending_entered t notes;
       }
 
   pub ends_entered : (m : Ends) → from_entries (values e.slab) ≡ m → IsKept e → Enters (values e.slab) f → from_entries {R = pair_cmp} (values new.slab) ≡ insert m f.0 f.1

@@ -9,6 +9,7 @@ use Rattle.ncp_model.specs.Pairs.{pair_cmp}
 use Rattle.ncp_model.specs.End.{End, is_over}
 use Rattle.ncp_model.specs.Ends.{has_asked, is_by_peer, hears_link, uses_link}
 use Rattle.ncp_conn.specs.Indexes.{IsIndex, LeadsTo}
+use Rattle.ncp_conn.specs.Sending.{AreSending, Notes}
 use Rattle.ncp_conn.specs.declared.entries.Entries.{Entries}
 
 -- no two entries have one pair, and no end is over
@@ -28,11 +29,12 @@ pub record IsTable (es : List (Pair × End)) (capacity : ℕ) : Type 0 where
 
 module _ {S : Type 0} where
   -- that, and each link leads to the sending entry that heard it, and to the receiving entry that
-  -- asked with it
+  -- asked with it; and the links on which a text may go out are known
   pub record IsKept (e : Entries S) : Type 0 where
     pub table : IsTable (values e.slab) e.slab.capacity
     pub senders : IsIndex hears_link e.senders e.slab
     pub receivers : IsIndex uses_link e.receivers e.slab
+    pub sending : AreSending e.sending e.senders e.slab
 
   -- the slab has this under a key now, and the links of an entry lead to a key, or nowhere
   pub record Puts (old new : Entries S) (key : ℕ) (slot : Option (Pair × End)) (p : Pair × End) (to : Option ℕ) : Type 0 where
@@ -41,15 +43,18 @@ module _ {S : Type 0} where
     pub senders : LeadsTo hears_link p to old.senders new.senders
     pub receivers : LeadsTo uses_link p to old.receivers new.receivers
 
-  -- the links of an entry lead to its key
+  -- the links of an entry lead to its key, and whether a text may go out on them is noted
   pub record Led (old new : Entries S) (key : ℕ) (p : Pair × End) : Type 0 where
     pub slab : new.slab ≡ old.slab
     pub senders : LeadsTo hears_link p (Some key) old.senders new.senders
     pub receivers : LeadsTo uses_link p (Some key) old.receivers new.receivers
+    pub sending : Notes p old.sending new.sending
 
-  -- an entry is out where its end is over: its links lead nowhere
+  -- whether a text may go out on the links of an entry is noted; it is out where its end is over, and
+  -- its links lead nowhere
   pub record Settled (old new : Entries S) (key : ℕ) (p : Pair × End) : Type 0 where
-    pub stays : is_over p.1 ≡ false → new ≡ old
+    pub sending : Notes p old.sending new.sending
+    pub stays : is_over p.1 ≡ false → new ≡ record old { sending = new.sending }
     pub leaves : is_over p.1 ≡ true → Puts old new key None p None
 
 -- the first key whose value passes a test

@@ -6,4 +6,6 @@ pub mod Indexes
 pub mod Entries
 pub mod Asking
 pub mod Cutting
+pub mod Links
+pub mod Sending
 pub mod Walking

@@ -7,21 +7,25 @@ ghost use Rattle.ncp_model.specs.End.{End, is_over};
 ghost use Rattle.ncp_model.specs.Ends.{has_asked, hears_link, uses_link, lowest};
 ghost use Rattle.ncp_conn.specs.Entries.{Found, Led, Puts, Settled, key_of};
 ghost use Rattle.ncp_conn.specs.Indexes.{key_at, LeadsTo};
+ghost use Rattle.ncp_conn.specs.Links.{is_in};
+ghost use Rattle.ncp_conn.specs.Sending.{Notes};
 
 use crate::entry::Entry;
 use crate::fixed_slab::FixedSlab;
 use crate::link_index::LinkIndex;
+use crate::link_set::LinkSet;
 use ncp_bits::BitStore;
 use ncp_model::{LAST_LINK, MAX_BY_PEER, MAX_OWN, Pair};
 use std::alloc::{AllocError, Global};
 
 /// The entries under their keys, with the keys of the senders that heard a link and of the
-/// receivers that asked with one.
+/// receivers that asked with one, and the links on which a text may go out.
 #[derive(Drop)]
 pub(crate) struct Entries<S: BitStore> {
     pub(crate) slab: FixedSlab<Entry<S>>,
     pub(crate) senders: LinkIndex,
     pub(crate) receivers: LinkIndex,
+    pub(crate) sending: LinkSet,
 }
 
 impl<S: BitStore> Entries<S> {
@@ -31,11 +35,13 @@ impl<S: BitStore> Entries<S> {
         ensures room { IfOk result (λ new. MAX_OWN + MAX_BY_PEER ≤ new.slab.capacity) }
         ensures senders { IfOk result (λ new. (on : ℕ) → key_at new.senders on ≡ None) }
         ensures receivers { IfOk result (λ new. (on : ℕ) → key_at new.receivers on ≡ None) }
+        ensures sending { IfOk result (λ new. (on : ℕ) → is_in new.sending on ≡ false) }
     {
         Ok(Entries {
             slab: FixedSlab::with_capacity(alloc, MAX_OWN + MAX_BY_PEER)?,
             senders: LinkIndex::new(),
             receivers: LinkIndex::new(),
+            sending: LinkSet::none(),
         })
     }
 
@@ -45,10 +51,12 @@ impl<S: BitStore> Entries<S> {
         ensures room { self.new.slab.capacity ≡ self.old.slab.capacity }
         ensures senders { (on : ℕ) → key_at self.new.senders on ≡ None }
         ensures receivers { (on : ℕ) → key_at self.new.receivers on ≡ None }
+        ensures sending { (on : ℕ) → is_in self.new.sending on ≡ false }
     {
         self.slab.clear();
         self.senders = LinkIndex::new();
         self.receivers = LinkIndex::new();
+        self.sending = LinkSet::none();
     }
 
     // The first key with a pair.
@@ -85,7 +93,8 @@ impl<S: BitStore> Entries<S> {
         count
     }
 
-    /// The links of the entry under a key lead to it.
+    /// The links of the entry under a key lead to it, and whether a text may go out on them is
+    /// noted.
     pub(crate) fn lead(&mut self, key: usize)
         requires { ContainsKey self.old.slab key }
         ensures { (p : Pair × End) → get self.old.slab key ≡ Some p → Led self.old self.new key p }
@@ -96,13 +105,15 @@ impl<S: BitStore> Entries<S> {
             &mut self.receivers,
             Some(key),
         );
+        note(&self.slab[key], &mut self.sending);
     }
 
-    /// Stores a new entry, to which its links lead.
+    /// Stores a new entry, to which its links lead, and notes whether a text may go out on them.
     pub(crate) fn insert(&mut self, entry: Entry<S>)
         requires { HasRoomFor self.old.slab 1 }
         ensures vacant { get self.old.slab self.old.slab.vacant_key ≡ None }
         ensures enters { Puts self.old self.new self.old.slab.vacant_key (Some entry) entry (Some self.old.slab.vacant_key) }
+        ensures sending { Notes entry self.old.sending self.new.sending }
     {
         let key = self.slab.insert(entry);
         self.lead(key);
@@ -111,17 +122,20 @@ impl<S: BitStore> Entries<S> {
     // Takes an entry out: its links then lead nowhere.
     fn remove(&mut self, key: usize)
         requires { ContainsKey self.old.slab key }
-        ensures { (p : Pair × End) → get self.old.slab key ≡ Some p → Puts self.old self.new key None p None }
+        ensures out { (p : Pair × End) → get self.old.slab key ≡ Some p → Puts self.old self.new key None p None }
+        ensures sending { self.new.sending ≡ self.old.sending }
     {
         let entry = self.slab.remove(key);
         lead_to(&entry, &mut self.senders, &mut self.receivers, None);
     }
 
-    /// Takes an entry out whose end is over.
+    /// Notes whether a text may go out on the links of an entry that changed, and takes it out where
+    /// its end is over.
     pub(crate) fn settle(&mut self, key: usize)
         requires { ContainsKey self.old.slab key }
         ensures { (p : Pair × End) → get self.old.slab key ≡ Some p → Settled self.old self.new key p }
     {
+        note(&self.slab[key], &mut self.sending);
         if self.slab[key].is_over() {
             self.remove(key);
         }
@@ -144,6 +158,21 @@ fn lead_to<S: BitStore>(
     }
     if entry.uses(link) {
         receivers.set(link, key);
+    }
+}
+
+// Notes whether a text may go out on the link that an entry heard.
+fn note<S: BitStore>(entry: &Entry<S>, sending: &mut LinkSet)
+    ensures { Notes entry.now sending.old sending.new }
+{
+    let link = entry.link();
+    if !entry.hears(link) {
+        return;
+    }
+    if entry.may_send() {
+        sending.insert(link);
+    } else {
+        sending.remove(link);
     }
 }
 

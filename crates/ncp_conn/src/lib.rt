@@ -34,10 +34,12 @@ mod entry;
 pub mod equality;
 mod fixed_slab;
 mod link_index;
+mod link_set;
 mod pairs;
 mod record;
 mod table;
 
+pub use link_set::LinkSet;
 pub use ncp_model::{
     CallFault, FIRST_LINK, Heard, LAST_LINK, MAX_AMOUNT, MAX_BY_PEER, MAX_MESSAGES, MAX_OWN,
     MAX_ROOM, MAX_TEXT, Pair, Took,

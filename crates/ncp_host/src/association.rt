@@ -7,7 +7,7 @@ ghost use Rattle.ncp_model.specs.Ends.{cut_in};
 ghost use Rattle.ncp_model.specs.Sending.{next_commands};
 ghost use Rattle.ncp_control.specs.Spelling.{spellings};
 ghost use Rattle.ncp_model.specs.Peers.{new_peer, falls, makes, calls_reset, settles, frees, sends, cuts};
-ghost use Rattle.ncp_conn.specs.Cutting.{may_cut};
+ghost use Rattle.ncp_conn.specs.Cutting.{next_cut};
 ghost use Rattle.ncp_host.specs.Steps.{IsWholeIfAny};
 
 mod calls;
@@ -122,11 +122,11 @@ impl<S: BitStore> Association<S> {
         self.phase.take_text()
     }
 
-    /// Whether a text may go out on a link.
-    pub(crate) fn may_cut(&self, link: u8) -> bool
-        ensures { result ≡ may_cut self.now.ends link }
+    /// The lowest link from one on on which a text may go out, if any.
+    pub(crate) fn next_cut(&self, from: u8) -> Option<u8>
+        ensures { result ≡ next_cut from self.now.ends }
     {
-        self.table.may_cut(link)
+        self.table.next_cut(from)
     }
 
     /// The byte size and the text that goes out next on a link, if any.

@@ -10,7 +10,7 @@ ghost use Rattle.ncp_conn.specs.Cutting.{may_cut, next_cut};
 use crate::table::Table;
 use ncp_bits::{BitStore, Bits, Part};
 use ncp_control::Command;
-use ncp_model::{CallFault, LAST_LINK, Pair, Took};
+use ncp_model::{CallFault, Pair, Took};
 
 impl<S: BitStore> Table<S> {
     /// Gives text to send: it joins the bits that wait, at their end.
@@ -161,17 +161,11 @@ impl<S: BitStore> Table<S> {
     }
 
     /// The lowest link from `from` on, up to the last, on which [`Table::cut`] would answer a text.
-    /// No entry is passed over: it looks at no more than the links.
+    /// No entry and no other link is looked at.
     pub fn next_cut(&self, from: u8) -> Option<u8>
         ensures { result ≡ next_cut from self.now }
     {
-        if from > LAST_LINK {
-            return None;
-        }
-        if self.may_cut(from) {
-            return Some(from);
-        }
-        self.next_cut(from + 1)
+        self.entries.sending.first_from(from)
     }
 
     /// The text that went out on a link was taken (RFNM): the end is not busy any more. `Some` is

@@ -14,7 +14,7 @@ use crate::echoes::Errors;
 use crate::flags::Flags;
 use crate::peer::Peer;
 use ncp_bits::{BitStore, Bits};
-use ncp_conn::Record;
+use ncp_conn::{LinkSet, Record};
 use ncp_control::Command;
 use ncp_model::{CallFault, Pair};
 
@@ -25,7 +25,7 @@ impl<S: BitStore> Peer<S> {
         ensures state { self.new ≡ calls_reset self.old }
         ensures err { OnErr result (self.new ≡ self.old) }
     {
-        let quiet = self.slots.quiet();
+        let quiet = self.is_quiet();
         self.association.reset(quiet)
     }
 
@@ -113,6 +113,7 @@ impl<S: BitStore> Peer<S> {
         ensures { self.new ≡ calls_wake self.old }
     {
         self.slots.wake();
+        self.again = LinkSet::all();
     }
 
     /// A copy of what is known of a connection.

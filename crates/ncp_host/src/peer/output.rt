@@ -1,6 +1,5 @@
 //! What goes out to a peer.
-ghost use Rattle.std.specs.Prelude.{ℕ, ◌≡◌, ◌<◌, false, IfNone};
-ghost use Rattle.std.specs.declared.option.Option.TheVariants.{None};
+ghost use Rattle.std.specs.Prelude.{◌≡◌, ◌<◌, false, IfNone};
 ghost use Rattle.ncp_host.specs.PeerState.{control_link};
 ghost use Rattle.ncp_slot.specs.declared.slot.Slot.{Slot};
 ghost use Rattle.ncp_slot.specs.Slots.{HasSlot, slot_at, with_slot};
@@ -9,11 +8,12 @@ ghost use Rattle.ncp_model.specs.Ends.{cut_in};
 ghost use Rattle.ncp_model.specs.Sending.{next_commands};
 ghost use Rattle.ncp_model.specs.Peers.{sends, cuts};
 ghost use Rattle.ncp_host.specs.Output.{control_message, text_message, made_on, after_made, output_on, after_output_on, message_on, next_of, after_next};
+ghost use Rattle.ncp_host.specs.Silence.{IsSilent, SilentFrom, lower_of};
 
 use crate::peer::{CONTROL_LINK, CONTROL_SIZE, Peer};
 use crate::sending::{bits_of_text, message_to};
 use ncp_bits::{BitStore, Bits};
-use ncp_slot::{FIRST_DATA_LINK, LAST_LINK};
+use ncp_slot::FIRST_DATA_LINK;
 
 impl<S: BitStore> Peer<S> {
     // What goes out next on the control link, where its slot is empty.
@@ -63,6 +63,7 @@ impl<S: BitStore> Peer<S> {
     {
         self.slots.put(link, message).unwrap();
         let _message = self.slots.hand(link);
+        self.kept.insert(link);
     }
 
     // The message that is ready on a link, if any. It goes out.
@@ -72,6 +73,7 @@ impl<S: BitStore> Peer<S> {
         ensures state { self.new ≡ after_output_on link (output_on number link self.old) self.old }
     {
         if !self.slots.is_empty(link) {
+            self.again.remove(link);
             return self.slots.hand(link);
         }
         let message = self.make(number, link)?;
@@ -79,17 +81,25 @@ impl<S: BitStore> Peer<S> {
         Some(message)
     }
 
-    // Whether a data link may have a message that is ready. It takes no room for one, so links that
-    // have none cost little.
-    fn may_send(&self, link: u8) -> bool
-        requires slot { HasSlot link }
-        requires data { control_link < link }
-        ensures { result ≡ false → (number : ℕ) → output_on number link self.now ≡ None }
+    // Whether a message may be ready on the control link. It takes no room for one.
+    fn may_send_control(&self) -> bool
+        ensures { result ≡ false → IsSilent control_link self.now }
     {
-        if !self.slots.is_empty(link) {
-            return true;
+        if !self.slots.is_empty(CONTROL_LINK) {
+            return self.again.first_from(CONTROL_LINK) == Some(CONTROL_LINK);
         }
-        self.association.may_cut(link)
+        self.association.waiting(0).is_some()
+    }
+
+    // The lowest data link from one on on which a message may be ready, if any. No other link is
+    // looked at, and no room is taken for a message.
+    fn next_data_link(&self, from: u8) -> Option<u8>
+        requires { control_link < from }
+        ensures { SilentFrom from result self.now }
+    {
+        let again = self.again.first_from(from);
+        let cut = self.association.next_cut(from);
+        lower_of(again, cut)
     }
 
     /// The first message that is ready, on link 0 and then 2 to 71, if any. It goes out.
@@ -98,17 +108,29 @@ impl<S: BitStore> Peer<S> {
         ensures state { self.new ≡ after_next (next_of number self.old) self.old }
         ensures none { IfNone result (self.new ≡ self.old) }
     {
-        if let Some(message) = self.output_on(number, CONTROL_LINK) {
-            return Some(message);
-        }
-        for link in FIRST_DATA_LINK..LAST_LINK + 1 {
-            if !self.may_send(link) {
-                continue;
-            }
-            if let Some(message) = self.output_on(number, link) {
+        if self.may_send_control() {
+            if let Some(message) = self.output_on(number, CONTROL_LINK) {
                 return Some(message);
             }
         }
+        let mut from = FIRST_DATA_LINK;
+        while let Some(link) = self.next_data_link(from) {
+            if let Some(message) = self.output_on(number, link) {
+                return Some(message);
+            }
+            from = link + 1;
+        }
         None
+    }
+}
+
+// The lower of two links, where there are some.
+fn lower_of(one: Option<u8>, other: Option<u8>) -> Option<u8>
+    ensures { result ≡ lower_of one other }
+{
+    match (one, other) {
+        (Some(one), Some(other)) => Some(one.min(other)),
+        (Some(one), None) => Some(one),
+        (None, other) => other,
     }
 }

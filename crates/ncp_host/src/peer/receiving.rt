@@ -1,8 +1,11 @@
 //! What comes from a peer: regular messages (NIC 8246, message form), and the answers to those that
 //! went out (BBN 1822, section 3).
-ghost use Rattle.std.specs.Prelude.{◌≡◌, length};
+ghost use Rattle.std.specs.Prelude.{◌≡◌, ◌≤◌, length};
 ghost use Rattle.ncp_leader.specs.Message.{message_in};
-ghost use Rattle.ncp_host.specs.PeerState.{answer_comes};
+ghost use Rattle.ncp_slot.specs.declared.slot.Answer.TheVariants.{Rfnm};
+ghost use Rattle.ncp_slot.specs.declared.slot.Slot.{Slot};
+ghost use Rattle.ncp_slot.specs.Slots.{slot_at};
+ghost use Rattle.ncp_host.specs.PeerState.{answer_comes, after_answer};
 ghost use Rattle.ncp_host.specs.Hearing.{control_after, control_received, text_after, text_received, message_after, message_received, answer_of, answer_received, after_bits, received_of};
 
 use crate::counts::one_more;
@@ -14,6 +17,20 @@ use ncp_model::Took;
 use ncp_slot::{Answer, LAST_LINK, UNUSED_LINK};
 
 impl<S: BitStore> Peer<S> {
+    // The message that went out on a link was taken, and its slot is empty.
+    fn hear_rfnm(&mut self, link: u8)
+        requires link { link ≤ LAST_LINK }
+        requires empty { slot_at self.old.slots link ≡ Slot.Empty }
+        ensures { self.new ≡ record self.old { peer = after_answer link Rfnm self.old.slots self.old.peer } }
+    {
+        if link != CONTROL_LINK {
+            self.kept.remove(link);
+            self.association.free(link);
+        }
+        let quiet = self.is_quiet();
+        self.association.settle(quiet);
+    }
+
     // An answer to the message that went out on a link.
     fn hear_answer(&mut self, link: u8, answer: Answer) -> Received
         ensures received { result ≡ answer_received link self.old }
@@ -23,12 +40,10 @@ impl<S: BitStore> Peer<S> {
             self.counts.stray = one_more(self.counts.stray);
             return Received::Stray;
         }
-        if let Answer::Rfnm = answer {
-            if link != CONTROL_LINK {
-                self.association.free(link);
-            }
-            let quiet = self.slots.quiet();
-            self.association.settle(quiet);
+        match answer {
+            Answer::Rfnm => self.hear_rfnm(link),
+            Answer::Incomplete => self.again.insert(link),
+            Answer::Dead => (),
         }
         Received::Answered
     }
@@ -42,7 +57,7 @@ impl<S: BitStore> Peer<S> {
             self.counts.wrong_size = one_more(self.counts.wrong_size);
             return Received::WrongSize;
         }
-        let quiet = self.slots.quiet();
+        let quiet = self.is_quiet();
         let count = self
             .association
             .hear_all(quiet, message.text(), &mut self.counts);

@@ -8,7 +8,7 @@ insert-requires g c =
 
 pub invariant_of-self : goal.invariant_of-self
 invariant_of-self g c =
-    kept_entered c.self.inside.entries c.insert.new.self c.self.inside.entries.slab.vacant_key c.args.entry c.insert.ensures.vacant c.insert.ensures.enters c.self.invariant (enters_list (values c.self.inside.entries.slab) _ c.args.self.now c.args.entry c.self.view_is c.self.invariant.table c.requires.enters)
+    kept_entered c.self.inside.entries c.insert.new.self c.self.inside.entries.slab.vacant_key c.args.entry c.insert.ensures.vacant c.insert.ensures.enters c.self.invariant c.insert.ensures.sending (enters_list (values c.self.inside.entries.slab) _ c.args.self.now c.args.entry c.self.view_is c.self.invariant.table c.requires.enters)
 
 pub returns : goal.returns
 returns g c =

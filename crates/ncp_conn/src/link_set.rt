@@ -1,0 +1,73 @@
+//! `LinkSet`.
+ghost use Rattle.std.specs.Prelude.{◌≡◌, ◌≤◌, ◌==◌, ℕ, true, false, if◌then◌else◌, IfSome};
+ghost use Rattle.ncp_conn.specs.Links.{is_in, IsLowestIfAny};
+
+use ncp_model::LAST_LINK;
+use std::marker::Model;
+
+/// A set of links up to the last. The lowest is found without a look at the others.
+#[derive(Drop)]
+pub struct LinkSet {
+    bits: u128,
+}
+
+impl Model for LinkSet {
+    ghost use Rattle.std.specs.Prelude.{ℕ, ◌+◌, ◌^◌, ◌<◌};
+    ghost use Rattle.ncp_model.specs.declared.limits.TheConstants.{LAST_LINK};
+
+    ghost Value = { ℕ };
+
+    ghost view = { λ links. links.bits };
+
+    ghost invariant = { λ links. links.bits < 2 ^ (LAST_LINK + 1) };
+}
+
+impl LinkSet {
+    /// No link.
+    pub fn none() -> Self
+        ensures { (on : ℕ) → is_in result on ≡ false }
+    {
+        LinkSet { bits: 0 }
+    }
+
+    /// Each link up to the last.
+    pub fn all() -> Self
+        ensures { (on : ℕ) → on ≤ LAST_LINK → is_in result on ≡ true }
+    {
+        LinkSet {
+            bits: (1 << (LAST_LINK + 1)) - 1,
+        }
+    }
+
+    /// Puts a link in.
+    pub fn insert(&mut self, link: u8)
+        requires { link ≤ LAST_LINK }
+        ensures { (on : ℕ) → is_in self.new on ≡ (if on == link then true else is_in self.old on) }
+    {
+        self.bits |= 1 << link;
+    }
+
+    /// Takes a link out.
+    pub fn remove(&mut self, link: u8)
+        requires { link ≤ LAST_LINK }
+        ensures { (on : ℕ) → is_in self.new on ≡ (if on == link then false else is_in self.old on) }
+    {
+        self.bits &= !(1 << link);
+    }
+
+    /// The lowest link from one on.
+    pub fn first_from(&self, from: u8) -> Option<u8>
+        ensures lowest { IsLowestIfAny self.now from result }
+        ensures last { IfSome result (λ link. link ≤ LAST_LINK) }
+    {
+        let links = self.bits;
+        if from > LAST_LINK {
+            return None;
+        }
+        let above = links >> from;
+        if above == 0 {
+            return None;
+        }
+        Some(from + above.trailing_zeros() as u8)
+    }
+}
