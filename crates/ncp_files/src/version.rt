@@ -114,6 +114,8 @@ fn read_passage<S: Source>(
 
 /// The records of a file of one version, and how the next one is read.
 pub(crate) trait Records: Copy {
+    ghost use Rattle.ncp_files.specs.declared.version.Version.{Version};
+
     /// The version of the file.
     ghost version: { Self → Version };
 
@@ -139,7 +141,9 @@ pub(crate) struct PlainRecords {
 }
 
 impl Records for PlainRecords {
-    ghost version = { λ records. Version.One records.direction };
+    ghost use Rattle.ncp_files.specs.declared.version.Version.TheVariants.{One};
+
+    ghost version = { λ records. One records.direction };
 
     fn read_next<S: Source>(
         self,
@@ -163,7 +167,9 @@ impl Records for PlainRecords {
 pub(crate) struct PlacedRecords;
 
 impl Records for PlacedRecords {
-    ghost version = { λ records. Version.Two };
+    ghost use Rattle.ncp_files.specs.declared.version.Version.TheVariants.{Two};
+
+    ghost version = { λ _. Two };
 
     fn read_next<S: Source>(
         self,
