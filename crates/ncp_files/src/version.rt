@@ -84,6 +84,7 @@ pub(crate) fn direction_by(byte: u8) -> Option<Direction>
 
 // Reads the passage in front of a message, if one begins there. The direction is judged before the
 // host is read.
+#[inline(always)]
 fn read_passage<S: Source>(
     window: &mut Window,
     source: &mut S,
@@ -145,6 +146,7 @@ impl Records for PlainRecords {
 
     ghost version = { λ records. One records.direction };
 
+    #[inline(always)]
     fn read_next<S: Source>(
         self,
         window: &mut Window,
@@ -171,6 +173,7 @@ impl Records for PlacedRecords {
 
     ghost version = { λ _. Two };
 
+    #[inline(always)]
     fn read_next<S: Source>(
         self,
         window: &mut Window,
