@@ -8,25 +8,25 @@ ghost use Rattle.ncp_files.specs.Checked.{Checked};
 
 use crate::file::FileFault;
 use crate::tally::{Tally, push_tally};
-use crate::version::{Version, read_next, read_version};
+use crate::version::{PlacedRecords, PlainRecords, Records, Version, read_version};
 use ncp_bits::Bits;
 use ncp_page::{Page, Window};
 use ncp_stream::{Sink, Source};
 
 // Counts the messages behind the header.
-fn tally_records<S: Source>(
+fn tally_records<S: Source, R: Records>(
     window: &mut Window,
     source: &mut S,
-    version: Version,
+    records: R,
 ) -> Result<Tally, FileFault>
-    ensures told { (bytes : List ℕ) → Ahead window.old (S.left source.old) bytes → TalliesFrom version bytes no_messages result (S.left source.new) }
+    ensures told { (bytes : List ℕ) → Ahead window.old (S.left source.old) bytes → TalliesFrom (R.version records) bytes no_messages result (S.left source.new) }
     ensures mark { S.has_failed source.new ≡ (S.has_failed source.old || is_read_failed result) }
     ensures other { is_write_failed result ≡ false }
     ensures reads { reads_beyond S.gives_all (S.reads source.old) (S.left source.old) ≤ reads_beyond S.gives_all (S.reads source.new) (S.left source.new) + 1 }
 {
     let mut message = Bits::new();
     let mut tally = Tally::new();
-    while let Some(_passage) = read_next(window, source, version, &mut message)? {
+    while let Some(_passage) = records.read_next(window, source, &mut message)? {
         tally = tally.count(&message);
     }
     Ok(tally)
@@ -40,8 +40,10 @@ fn tally_file<S: Source>(source: &mut S) -> Result<Tally, FileFault>
     ensures reads { reads_beyond S.gives_all (S.reads source.old) (S.left source.old) ≤ reads_beyond S.gives_all (S.reads source.new) (S.left source.new) + 1 }
 {
     let mut window = Window::new();
-    let version = read_version(&mut window, source)?;
-    tally_records(&mut window, source, version)
+    match read_version(&mut window, source)? {
+        Version::One(direction) => tally_records(&mut window, source, PlainRecords { direction }),
+        Version::Two => tally_records(&mut window, source, PlacedRecords),
+    }
 }
 
 /// Reads a message file to its end, writes one line that counts its messages, and answers whether

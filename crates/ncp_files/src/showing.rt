@@ -11,24 +11,24 @@ ghost use Rattle.ncp_files.specs.Shown.{ShownAs, ShownCut, Shown};
 
 use crate::file::FileFault;
 use crate::record::say_record;
-use crate::version::{Version, read_next, read_version};
+use crate::version::{PlacedRecords, PlainRecords, Records, Version, read_version};
 use ncp_bits::Bits;
 use ncp_page::{Page, Window};
 use ncp_stream::{LEAST_PIECE, Sink, Source};
 
 // Reads the next record into `message` and shows it, and answers whether there was one.
-fn show_next<S: Source, W: Sink>(
+fn show_next<S: Source, W: Sink, R: Records>(
     window: &mut Window,
     source: &mut S,
     message: &mut Bits,
     page: &mut Page,
     sink: &mut W,
-    version: Version,
+    records: R,
     number: u32,
 ) -> Result<bool, FileFault>
     ensures told { (bytes : List ℕ) (was : List ℕ) (said : List ℕ)
         → Ahead window.old (S.left source.old) bytes → SaidSoFar was page.old (W.written sink.old) said
-        → SaysNext (next_in version) record_lines number bytes was said result window.new (S.left source.new) page.new (W.written sink.new) }
+        → SaysNext (next_in (R.version records)) record_lines number bytes was said result window.new (S.left source.new) page.new (W.written sink.new) }
     ensures source_mark { S.has_failed source.new ≡ (S.has_failed source.old || is_read_failed result) }
     ensures writes { bytes_and_writes W.takes_all (W.writes sink.old) (W.written sink.old) ≤ bytes_and_writes W.takes_all (W.writes sink.new) (W.written sink.new) + lost_pieces (is_write_failed result) }
     ensures sink_mark { W.has_failed sink.new ≡ (W.has_failed sink.old || is_write_failed result) }
@@ -36,7 +36,7 @@ fn show_next<S: Source, W: Sink>(
     ensures taken { IfOk result (λ more. more ≡ true → reads_beyond S.gives_all (S.reads source.old) (S.left source.old) ≤ reads_beyond S.gives_all (S.reads source.new) (S.left source.new)) }
     ensures effort { IfOk result (λ more. more ≡ true → effort (S.reads source.new) window.new < effort (S.reads source.old) window.old) }
 {
-    let Some(passage) = read_next(window, source, version, message)? else {
+    let Some(passage) = records.read_next(window, source, message)? else {
         return Ok(false);
     };
     match say_record(page, sink, passage, number, message) {
@@ -46,16 +46,16 @@ fn show_next<S: Source, W: Sink>(
 }
 
 // Shows the records behind the header.
-fn show_records<S: Source, W: Sink>(
+fn show_records<S: Source, W: Sink, R: Records>(
     window: &mut Window,
     source: &mut S,
     page: &mut Page,
     sink: &mut W,
-    version: Version,
+    records: R,
 ) -> Result<(), FileFault>
     ensures told { (bytes : List ℕ) (was : List ℕ) (said : List ℕ)
         → Ahead window.old (S.left source.old) bytes → SaidSoFar was page.old (W.written sink.old) said
-        → SaysFrom (next_in version) record_lines 1 bytes was said result (S.left source.new) page.new (W.written sink.new) }
+        → SaysFrom (next_in (R.version records)) record_lines 1 bytes was said result (S.left source.new) page.new (W.written sink.new) }
     ensures source_mark { S.has_failed source.new ≡ (S.has_failed source.old || is_read_failed result) }
     ensures writes { bytes_and_writes W.takes_all (W.writes sink.old) (W.written sink.old) ≤ bytes_and_writes W.takes_all (W.writes sink.new) (W.written sink.new) + lost_pieces (is_write_failed result) }
     ensures sink_mark { W.has_failed sink.new ≡ (W.has_failed sink.old || is_write_failed result) }
@@ -63,7 +63,7 @@ fn show_records<S: Source, W: Sink>(
 {
     let mut message = Bits::new();
     let mut number = 1u32;
-    while show_next(window, source, &mut message, page, sink, version, number)? {
+    while show_next(window, source, &mut message, page, sink, records, number)? {
         number = number.saturating_add(1);
     }
     Ok(())
@@ -85,8 +85,12 @@ fn show_file<S: Source, W: Sink>(
     ensures reads { reads_beyond S.gives_all (S.reads source.old) (S.left source.old) ≤ reads_beyond S.gives_all (S.reads source.new) (S.left source.new) + 1 }
 {
     let mut window = Window::new();
-    let version = read_version(&mut window, source)?;
-    show_records(&mut window, source, page, sink, version)
+    match read_version(&mut window, source)? {
+        Version::One(direction) => {
+            show_records(&mut window, source, page, sink, PlainRecords { direction })
+        }
+        Version::Two => show_records(&mut window, source, page, sink, PlacedRecords),
+    }
 }
 
 /// Writes the lines of each record of a message file, up to its first fault, and answers that

@@ -39,6 +39,7 @@ pub(crate) struct Tally {
 }
 
 // Whether a control text has a fault.
+#[inline(never)]
 fn has_fault(text: Part<'_>) -> bool
     requires { length text % 8 ≡ 0 }
     ensures { result ≡ is_some (fault_in (bytes_of text.entry)) }

@@ -84,6 +84,7 @@ pub(crate) fn direction_by(byte: u8) -> Option<Direction>
 
 // Reads the passage in front of a message, if one begins there. The direction is judged before the
 // host is read.
+#[inline(always)]
 fn read_passage<S: Source>(
     window: &mut Window,
     source: &mut S,
@@ -112,49 +113,81 @@ fn read_passage<S: Source>(
     }))
 }
 
-// Reads the next record of version 2 into `message`, and answers its passage.
-fn read_placed<S: Source>(
-    window: &mut Window,
-    source: &mut S,
-    message: &mut Bits,
-) -> Result<Option<Passage>, FileFault>
-    ensures told { (bytes : List ℕ) → Ahead window.old (S.left source.old) bytes → ReadsNext Version.Two bytes result message.new window.new (S.left source.new) }
-    ensures mark { S.has_failed source.new ≡ (S.has_failed source.old || is_read_failed result) }
-    ensures other { is_write_failed result ≡ false }
-    ensures reads { reads_beyond S.gives_all (S.reads source.old) (S.left source.old) ≤ reads_beyond S.gives_all (S.reads source.new) (S.left source.new) + 1 }
-    ensures taken { IfOk result (λ found. is_some found ≡ true → reads_beyond S.gives_all (S.reads source.old) (S.left source.old) ≤ reads_beyond S.gives_all (S.reads source.new) (S.left source.new)) }
-    ensures effort { IfOk result (λ found. is_some found ≡ true → effort (S.reads source.new) window.new < effort (S.reads source.old) window.old) }
-{
-    let Some(passage) = read_passage(window, source)? else {
-        return Ok(None);
-    };
-    if !read_record(window, source, message)? {
-        return Err(FileFault::Truncated);
-    }
-    Ok(Some(passage))
+/// The records of a file of one version, and how the next one is read.
+pub(crate) trait Records: Copy {
+    ghost use Rattle.ncp_files.specs.declared.version.Version.{Version};
+
+    /// The version of the file.
+    ghost version: { Self → Version };
+
+    /// Reads the next record into `message`, and answers the passage of the message, if there was one.
+    fn read_next<S: Source>(
+        self,
+        window: &mut Window,
+        source: &mut S,
+        message: &mut Bits,
+    ) -> Result<Option<Passage>, FileFault>
+        ensures told { (bytes : List ℕ) → Ahead window.old (S.left source.old) bytes → ReadsNext (version self) bytes result message.new window.new (S.left source.new) }
+        ensures mark { S.has_failed source.new ≡ (S.has_failed source.old || is_read_failed result) }
+        ensures other { is_write_failed result ≡ false }
+        ensures reads { reads_beyond S.gives_all (S.reads source.old) (S.left source.old) ≤ reads_beyond S.gives_all (S.reads source.new) (S.left source.new) + 1 }
+        ensures taken { IfOk result (λ found. is_some found ≡ true → reads_beyond S.gives_all (S.reads source.old) (S.left source.old) ≤ reads_beyond S.gives_all (S.reads source.new) (S.left source.new)) }
+        ensures effort { IfOk result (λ found. is_some found ≡ true → effort (S.reads source.new) window.new < effort (S.reads source.old) window.old) };
 }
 
-// Reads the next record of version 1 into `message`, and answers its passage.
-fn read_plain<S: Source>(
-    window: &mut Window,
-    source: &mut S,
-    direction: Direction,
-    message: &mut Bits,
-) -> Result<Option<Passage>, FileFault>
-    ensures told { (bytes : List ℕ) → Ahead window.old (S.left source.old) bytes → ReadsNext (Version.One direction) bytes result message.new window.new (S.left source.new) }
-    ensures mark { S.has_failed source.new ≡ (S.has_failed source.old || is_read_failed result) }
-    ensures other { is_write_failed result ≡ false }
-    ensures reads { reads_beyond S.gives_all (S.reads source.old) (S.left source.old) ≤ reads_beyond S.gives_all (S.reads source.new) (S.left source.new) + 1 }
-    ensures taken { IfOk result (λ found. is_some found ≡ true → reads_beyond S.gives_all (S.reads source.old) (S.left source.old) ≤ reads_beyond S.gives_all (S.reads source.new) (S.left source.new)) }
-    ensures effort { IfOk result (λ found. is_some found ≡ true → effort (S.reads source.new) window.new < effort (S.reads source.old) window.old) }
-{
-    if !read_record(window, source, message)? {
-        return Ok(None);
+/// The records of a file of version 1, whose messages all go this way.
+#[derive(Clone, Copy, Drop)]
+pub(crate) struct PlainRecords {
+    pub direction: Direction,
+}
+
+impl Records for PlainRecords {
+    ghost use Rattle.ncp_files.specs.declared.version.Version.TheVariants.{One};
+
+    ghost version = { λ records. One records.direction };
+
+    #[inline(always)]
+    fn read_next<S: Source>(
+        self,
+        window: &mut Window,
+        source: &mut S,
+        message: &mut Bits,
+    ) -> Result<Option<Passage>, FileFault> {
+        if !read_record(window, source, message)? {
+            return Ok(None);
+        }
+        Ok(Some(Passage {
+            direction: self.direction,
+            at: None,
+        }))
     }
-    Ok(Some(Passage {
-        direction,
-        at: None,
-    }))
+}
+
+/// The records of a file of version 2. A byte that names no direction is judged before the host behind
+/// it is read, then the message as in version 1.
+#[derive(Clone, Copy, Drop)]
+pub(crate) struct PlacedRecords;
+
+impl Records for PlacedRecords {
+    ghost use Rattle.ncp_files.specs.declared.version.Version.TheVariants.{Two};
+
+    ghost version = { λ _. Two };
+
+    #[inline(always)]
+    fn read_next<S: Source>(
+        self,
+        window: &mut Window,
+        source: &mut S,
+        message: &mut Bits,
+    ) -> Result<Option<Passage>, FileFault> {
+        let Some(passage) = read_passage(window, source)? else {
+            return Ok(None);
+        };
+        if !read_record(window, source, message)? {
+            return Err(FileFault::Truncated);
+        }
+        Ok(Some(passage))
+    }
 }
 
 /// Reads the next record of a file of this version into `message`, and answers the passage of the
@@ -174,7 +207,7 @@ pub fn read_next<S: Source>(
     ensures effort { IfOk result (λ found. is_some found ≡ true → effort (S.reads source.new) window.new < effort (S.reads source.old) window.old) }
 {
     match version {
-        Version::One(direction) => read_plain(window, source, direction, message),
-        Version::Two => read_placed(window, source, message),
+        Version::One(direction) => PlainRecords { direction }.read_next(window, source, message),
+        Version::Two => PlacedRecords.read_next(window, source, message),
     }
 }

@@ -1,11 +1,11 @@
 //! `Page`: bytes for a sink, written in pieces.
-ghost use Rattle.std.specs.Prelude.{◌≡◌, ℕ, ◌+◌, ◌*◌, ◌<◌, ◌≤◌, ◌||◌, true, [], ◌∷◌, ◌++◌, min, length, take, decimal, is_err, OnOk, OnErr};
+ghost use Rattle.std.specs.Prelude.{◌≡◌, ℕ, ◌+◌, ◌*◌, ◌<◌, ◌≤◌, ◌^◌, ◌||◌, true, [], ◌∷◌, ◌++◌, min, length, take, decimal, is_err, OnOk, OnErr};
 ghost use Rattle.std.specs.Io.KnownBytes.{Appends};
 ghost use Rattle.ncp_page.specs.Lines.{hex_digit, hex_of};
 ghost use Rattle.ncp_stream.specs.Pieces.{bytes_and_writes, lost_pieces};
 ghost use Rattle.ncp_stream.specs.Streams.{SaysText, SaysBeginning};
 
-use arrayvec::ArrayVec;
+use itoa::write_digits;
 use ncp_stream::{Failed, LEAST_PIECE, Sink};
 use std::marker::Model;
 
@@ -22,15 +22,19 @@ pub const LONGEST_LONG: usize = 20;
 /// makes it.
 #[derive(Drop)]
 pub struct Page {
-    bytes: ArrayVec<u8, PAGE_SIZE>,
+    bytes: [u8; PAGE_SIZE],
+    len: usize,
 }
 
 impl Model for Page {
-    ghost use Rattle.std.specs.Prelude.{ℕ, List};
+    ghost use Rattle.std.specs.Prelude.{ℕ, List, ◌≤◌, take};
+    ghost use Rattle.ncp_page.specs.declared.page.TheConstants.{PAGE_SIZE};
 
     ghost Value = { List ℕ };
 
-    ghost view = { λ page. page.bytes.items };
+    ghost view = { λ page. take page.len page.bytes };
+
+    ghost invariant = { λ page. page.len ≤ PAGE_SIZE };
 }
 
 // Writes all bytes of a piece. Where that fails a beginning of them was written.
@@ -48,17 +52,19 @@ fn put_all<W: Sink>(sink: &mut W, piece: &[u8]) -> Result<(), Failed>
     Ok(())
 }
 
-// Appends the digits of a number in decimal.
-fn push_digits(bytes: &mut ArrayVec<u8, PAGE_SIZE>, number: u64)
-    requires { length bytes.old.items + length (decimal number) ≤ PAGE_SIZE }
-    ensures { bytes.new.items ≡ bytes.old.items ++ decimal number }
+// How many digits a number has in decimal.
+fn count_digits(number: u64) -> usize
+    ensures { result ≡ length (decimal number) }
 {
     if number < 10 {
-        bytes.push(b'0' + number as u8);
-        return;
+        1
+    } else if number < 100 {
+        2
+    } else if number < 1000 {
+        3
+    } else {
+        3 + count_digits(number / 1000)
     }
-    push_digits(bytes, number / 10);
-    bytes.push(b'0' + (number % 10) as u8);
 }
 
 // A digit of a hexadecimal number.
@@ -73,15 +79,14 @@ fn digit_of(number: u8) -> u8
     }
 }
 
-// Appends bytes in hexadecimal.
-fn push_hex_digits(page: &mut ArrayVec<u8, PAGE_SIZE>, bytes: &[u8])
-    requires { length page.old.items + 2 * length bytes.now ≤ PAGE_SIZE }
-    ensures bytes { page.new.items ≡ page.old.items ++ hex_of bytes.now }
-    ensures len { length page.new.items ≡ length page.old.items + 2 * length bytes.now }
+// Writes bytes in hexadecimal.
+fn write_hex(out: &mut [u8], bytes: &[u8])
+    requires { length out.old ≡ 2 * length bytes.now }
+    ensures { out.new ≡ hex_of bytes.now }
 {
-    for byte in bytes {
-        page.push(digit_of(*byte / 16));
-        page.push(digit_of(*byte % 16));
+    for place in 0..bytes.len() {
+        out[2 * place] = digit_of(bytes[place] / 16);
+        out[2 * place + 1] = digit_of(bytes[place] % 16);
     }
 }
 
@@ -91,7 +96,8 @@ impl Page {
         ensures { result ≡ [] }
     {
         Page {
-            bytes: ArrayVec::new(),
+            bytes: [0; PAGE_SIZE],
+            len: 0,
         }
     }
 
@@ -104,8 +110,8 @@ impl Page {
         ensures twice { W.takes_all ≡ true → W.writes sink.old ≤ W.writes sink.new + 2 }
         ensures mark { W.has_failed sink.new ≡ (W.has_failed sink.old || is_err result) }
     {
-        put_all(sink, self.bytes.as_slice())?;
-        self.bytes.clear();
+        put_all(sink, &self.bytes[..self.len])?;
+        self.len = 0;
         Ok(())
     }
 
@@ -119,7 +125,7 @@ impl Page {
         ensures writes { bytes_and_writes W.takes_all (W.writes sink.old) (W.written sink.old) ≤ bytes_and_writes W.takes_all (W.writes sink.new) (W.written sink.new) + lost_pieces (is_err result) }
         ensures mark { W.has_failed sink.new ≡ (W.has_failed sink.old || is_err result) }
     {
-        if count > self.bytes.remaining_capacity() {
+        if count > PAGE_SIZE - self.len {
             self.flush(sink)?;
         }
         Ok(())
@@ -131,7 +137,18 @@ impl Page {
         ensures bytes { self.new ≡ self.old ++ byte ∷ [] }
         ensures len { length self.new ≡ length self.old + 1 }
     {
-        self.bytes.push(byte);
+        self.bytes[self.len] = byte;
+        self.len += 1;
+    }
+
+    // Appends the digits of a number in decimal.
+    fn push_digits(&mut self, number: u64)
+        requires { length self.old + length (decimal number) ≤ PAGE_SIZE }
+        ensures { self.new ≡ self.old ++ decimal number }
+    {
+        let end = self.len + count_digits(number);
+        write_digits(number, &mut self.bytes, end);
+        self.len = end;
     }
 
     /// Appends the digits of a number of 32 bits in decimal. There has to be room for the longest one.
@@ -140,7 +157,7 @@ impl Page {
         ensures bytes { self.new ≡ self.old ++ decimal number }
         ensures len { length self.new ≤ length self.old + LONGEST_NUMBER }
     {
-        push_digits(&mut self.bytes, u64::from(number));
+        self.push_digits(u64::from(number));
     }
 
     /// Appends the digits of a number of 64 bits in decimal. There has to be room for the longest one.
@@ -149,7 +166,7 @@ impl Page {
         ensures bytes { self.new ≡ self.old ++ decimal number }
         ensures len { length self.new ≤ length self.old + LONGEST_LONG }
     {
-        push_digits(&mut self.bytes, number);
+        self.push_digits(number);
     }
 
     /// Appends bytes in hexadecimal, for which there has to be room: two digits for each byte.
@@ -158,7 +175,9 @@ impl Page {
         ensures bytes { self.new ≡ self.old ++ hex_of bytes.now }
         ensures len { length self.new ≡ length self.old + 2 * length bytes.now }
     {
-        push_hex_digits(&mut self.bytes, bytes);
+        let end = self.len + 2 * bytes.len();
+        write_hex(&mut self.bytes[self.len..end], bytes);
+        self.len = end;
     }
 
     /// Appends a text, for which there has to be room.
@@ -167,6 +186,8 @@ impl Page {
         ensures bytes { self.new ≡ self.old ++ text.now }
         ensures len { length self.new ≡ length self.old + length text.now }
     {
-        self.bytes.try_extend_from_slice(text).unwrap();
+        let end = self.len + text.len();
+        self.bytes[self.len..end].copy_from_slice(text);
+        self.len = end;
     }
 }

@@ -68,6 +68,7 @@ impl Window {
     }
 
     // Reads once behind what is there, and answers whether a byte came.
+    #[inline(never)]
     fn refill<S: Source>(&mut self, source: &mut S) -> Result<bool, Failed>
         requires { length self.old + LEAST_PIECE ≤ WINDOW_SIZE }
         ensures moved { Moves self.old (S.left source.old) self.new (S.left source.new) }
@@ -90,6 +91,7 @@ impl Window {
 
     /// Reads until the window has `count` bytes, and answers whether it has. It has room for no more
     /// than [`WINDOW_SIZE`] less [`LEAST_PIECE`].
+    #[inline(always)]
     pub fn need<S: Source>(&mut self, source: &mut S, count: usize) -> Result<bool, Failed>
         requires { count + LEAST_PIECE ≤ WINDOW_SIZE }
         ensures moved { Moves self.old (S.left source.old) self.new (S.left source.new) }

@@ -12,7 +12,7 @@ invariant-loop-passage g l =
     let s = g.S.Source in
     record {
       told : (bytes : List ℕ) → Ahead l.initial.window (s.left l.initial.source) bytes
-          → (now : List ℕ) × Ahead l.window (s.left l.source) now × ((r : Result Tally FileFault) (left : Option (List ℕ)) → TalliesFrom l.version now l.tally r left → TalliesFrom l.version bytes no_messages r left);
+          → (now : List ℕ) × Ahead l.window (s.left l.source) now × ((r : Result Tally FileFault) (left : Option (List ℕ)) → TalliesFrom (g.R.Records.version l.records) now l.tally r left → TalliesFrom (g.R.Records.version l.records) bytes no_messages r left);
       reads : reads_beyond s.gives_all (s.reads l.initial.source) (s.left l.initial.source) ≤ reads_beyond s.gives_all (s.reads l.source) (s.left l.source);
       mark : s.has_failed l.source ≡ s.has_failed l.initial.source;
     }

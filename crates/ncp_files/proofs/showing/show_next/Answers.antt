@@ -8,7 +8,7 @@ pub returns-in_err-passage-clause-told : goal.returns-in_err-passage-clause-told
 returns-in_err-passage-clause-told g c = λ bytes was said a k.
     let p = err_from_is_err_and c.from_residual.result c.from_residual.ensures.1 in
     rw (p.1, p.2) (
-    next_ends (next_in c.args.version) record_lines c.args.number bytes was said c.read_next.new.window c.args.page.now (g.S.Source.left c.read_next.new.source) (g.W.Sink.written c.args.sink.now) c.in_err-passage.field-0.0
+    next_ends (next_in (g.R.Records.version c.args.records)) record_lines c.args.number bytes was said c.read_next.new.window c.args.page.now (g.S.Source.left c.read_next.new.source) (g.W.Sink.written c.args.sink.now) c.in_err-passage.field-0.0
     (c.in_err-passage.ensures.told bytes a) k)
 
 pub returns-in_default-clause-told : goal.returns-in_default-clause-told

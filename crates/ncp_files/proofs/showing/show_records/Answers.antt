@@ -16,7 +16,7 @@ returns-in_err-show_next-clause-told g c = λ bytes was said a k.
     let one = c.in_err-show_next.ensures.told before.0 was before.1 before.2 before.3 in
     rw (p.1, p.2) (
     before.4 (Err c.in_err-show_next.field-0.0) left c.show_next.new.page written
-    (from_err (next_in c.args.version) (in_front c.args.version) record_lines c.loop-number.number before.0 was before.1 c.show_next.new.window c.show_next.new.page left written c.in_err-show_next.field-0.0 one))
+    (from_err (next_in (g.R.Records.version c.args.records)) (in_front (g.R.Records.version c.args.records)) record_lines c.loop-number.number before.0 was before.1 c.show_next.new.window c.show_next.new.page left written c.in_err-show_next.field-0.0 one))
 
 pub loop-number-preserved : goal.loop-number-preserved
 loop-number-preserved g c =
@@ -31,8 +31,8 @@ loop-number-preserved g c =
             one.4,
             λ r left page written h.
                 before.4 r left page written (
-                from_more (next_in c.args.version) (in_front c.args.version) record_lines c.loop-number.number before.0 one.1 was before.1 page left written one.0 r one.2
-                (subst (λ (n : ℕ). SaysFrom (next_in c.args.version) record_lines n one.1 was more r left page written) c.saturating_add-number.ensures h)),
+                from_more (next_in (g.R.Records.version c.args.records)) (in_front (g.R.Records.version c.args.records)) record_lines c.loop-number.number before.0 one.1 was before.1 page left written one.0 r one.2
+                (subst (λ (n : ℕ). SaysFrom (next_in (g.R.Records.version c.args.records)) record_lines n one.1 was more r left page written) c.saturating_add-number.ensures h)),
           );
       reads = let taken = c.in_ok-show_next.ensures.taken c.if-branch.true in omega (arith, taken, c.loop-number.invariant.reads);
       source_mark = c.in_ok-show_next.ensures.source_mark ∙ or-false _ ∙ c.loop-number.invariant.source_mark;
@@ -46,4 +46,4 @@ returns-clause-told g c = λ bytes was said a k.
     let before = c.loop-number.invariant.told bytes was said a k in
     let one = rw c.if-branch.false at (c.in_ok-show_next.ensures.told before.0 was before.1 before.2 before.3) in
     before.4 (Ok tt) left c.show_next.new.page written
-    (from_end (next_in c.args.version) (in_front c.args.version) record_lines c.loop-number.number before.0 was before.1 c.show_next.new.window c.show_next.new.page left written one)
+    (from_end (next_in (g.R.Records.version c.args.records)) (in_front (g.R.Records.version c.args.records)) record_lines c.loop-number.number before.0 was before.1 c.show_next.new.window c.show_next.new.page left written one)

@@ -14,8 +14,8 @@ invariant-loop-number g l =
     record {
       told : (bytes was said : List ℕ) → Ahead l.initial.window (s.left l.initial.source) bytes → SaidSoFar was l.initial.page (w.written l.initial.sink) said
           → (now now_said : List ℕ) × Ahead l.window (s.left l.source) now × SaidSoFar was l.page (w.written l.sink) now_said
-          × ((r : Result Unit FileFault) (left : Option (List ℕ)) (page : List ℕ) (written : Option (List ℕ)) → SaysFrom (next_in l.version) record_lines l.number now was now_said r left page written
-          → SaysFrom (next_in l.version) record_lines 1 bytes was said r left page written);
+          × ((r : Result Unit FileFault) (left : Option (List ℕ)) (page : List ℕ) (written : Option (List ℕ)) → SaysFrom (next_in (g.R.Records.version l.records)) record_lines l.number now was now_said r left page written
+          → SaysFrom (next_in (g.R.Records.version l.records)) record_lines 1 bytes was said r left page written);
       reads : reads_beyond s.gives_all (s.reads l.initial.source) (s.left l.initial.source) ≤ reads_beyond s.gives_all (s.reads l.source) (s.left l.source);
       source_mark : s.has_failed l.source ≡ s.has_failed l.initial.source;
       writes : bytes_and_writes w.takes_all (w.writes l.initial.sink) (w.written l.initial.sink) ≤ bytes_and_writes w.takes_all (w.writes l.sink) (w.written l.sink);

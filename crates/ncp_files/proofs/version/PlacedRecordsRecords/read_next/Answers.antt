@@ -3,7 +3,7 @@ use Rattle.std.proofs.lemmas.Result.{err_from_is_err_and}
 use Rattle.ncp_files.specs.declared.file.FileFault.TheVariants.{Truncated}
 use Rattle.ncp_files.specs.Versions.{recorded, behind_passage}
 use Rattle.ncp_files.proofs.Placing.{passage_stops, message_stops}
-use Rattle.ncp_files.proofs.version.read_placed.Goals as goal
+use Rattle.ncp_files.proofs.version.PlacedRecordsRecords.read_next.Goals as goal
 
 pub returns-in_err-passage-clause-told : goal.returns-in_err-passage-clause-told
 returns-in_err-passage-clause-told g c = λ bytes a.
