@@ -3,7 +3,10 @@
 //! `main`.
 #![tactic(auto)]
 
-ghost use Rattle.std.specs.Prelude.{◌≡◌, false};
+ghost use Rattle.std.specs.Prelude.{◌≡◌, ◌≤◌, map, true, false, IsErr};
+ghost use Rattle.std.specs.Process.{exit_status};
+ghost use Rattle.ncp_program.specs.Orders.{seen, Does};
+ghost use Rattle.ncp_program.specs.Obeying.{heard, Tells, status_after, Obeys};
 
 use anyhow::Result;
 use ncp_player::{
@@ -29,13 +32,21 @@ fn carry_out<S: Source, W: Sink>(
 ) -> Result<bool, PlayFault>
     requires source_clean { S.has_failed source.old ≡ false }
     requires sink_clean { W.has_failed sink.old ≡ false }
+    ensures does { Does
+        (seen (S.left source.old) (S.has_failed source.old) (W.written sink.old) (W.has_failed sink.old)) result
+        (seen (S.left source.new) (S.has_failed source.new) (W.written sink.new) (W.has_failed sink.new)) order }
+    ensures read_failed { S.has_failed source.new ≡ true → IsErr result }
+    ensures write_failed { W.has_failed sink.new ≡ true → IsErr result }
 {
     match order {
         Order::Show => match show(source, sink) {
             Ok(()) => Ok(true),
             Err(fault) => Err(PlayFault::Feed(fault)),
         },
-        Order::Check => check(source, sink).map_err(|fault| PlayFault::Feed(fault)),
+        Order::Check => match check(source, sink) {
+            Ok(sound) => Ok(sound),
+            Err(fault) => Err(PlayFault::Feed(fault)),
+        },
         Order::Convert(at) => match convert(source, sink, at) {
             Ok(()) => Ok(true),
             Err(fault) => Err(PlayFault::Feed(fault)),
@@ -43,6 +54,21 @@ fn carry_out<S: Source, W: Sink>(
         Order::Host => play_host::<PackedStore, _, _>(alloc, source, sink),
         Order::World => play_world::<PackedStore, _, _>(alloc, source, sink),
         Order::Record => record_world::<PackedStore, _, _>(alloc, source, sink),
+    }
+}
+
+// Tells the fault of an answer, if it has one, and gives the status after it.
+fn conclude<E: Sink>(answer: Result<bool, PlayFault>, errors: &mut E) -> u8
+    ensures told { Tells answer (heard (E.written errors.old) (E.has_failed errors.old)) (heard (E.written errors.new) (E.has_failed errors.new)) }
+    ensures status { result ≡ status_after answer }
+{
+    match answer {
+        Ok(good) => status(Ok(good)),
+        Err(fault) => {
+            // The status tells the fault, even where nothing can be told on standard error.
+            let _untold = fault.tell(errors);
+            status(Err(()))
+        }
     }
 }
 
@@ -60,6 +86,18 @@ where
     E: Sink,
     requires source_clean { S.has_failed source.old ≡ false }
     requires sink_clean { W.has_failed sink.old ≡ false }
+
+    // The words are an order, which was carried out, and its fault told; or they are none, and nothing was read,
+    // written or told.
+    ensures obeyed { Obeys (map T.text words.entry.now)
+        (seen (S.left source.old) (S.has_failed source.old) (W.written sink.old) (W.has_failed sink.old))
+        (heard (E.written errors.old) (E.has_failed errors.old)) result
+        (seen (S.left source.new) (S.has_failed source.new) (W.written sink.new) (W.has_failed sink.new))
+        (heard (E.written errors.new) (E.has_failed errors.new)) }
+
+    // A read or a write that failed is never hidden.
+    ensures read_failed { S.has_failed source.new ≡ true → result ≡ 2 }
+    ensures write_failed { W.has_failed sink.new ≡ true → result ≡ 2 }
 {
     let alloc = rt.alloc();
     let order = match order(alloc, words) {
@@ -69,12 +107,8 @@ where
             return error.exit_code() as u8;
         }
     };
-    let outcome = carry_out(alloc, order, source, sink);
-    if let Err(fault) = outcome {
-        // The status tells the fault, even where nothing can be told on standard error.
-        let _untold = fault.tell(errors);
-    }
-    status(outcome.map_err(|_| ()))
+    let answer = carry_out(alloc, order, source, sink);
+    conclude(answer, errors)
 }
 
 // The words of the command line, which are text.
@@ -90,6 +124,7 @@ where
     I: Read + Drop,
     O: Write + Drop,
     E: Write + Drop,
+    ensures { exit_status result ≤ 2 }
 {
     let words = match words_in(rt) {
         Ok(words) => words,

@@ -243,6 +243,6 @@ pub ledger-balanced : (ns : List Note) (w : Hosts) → IsTranscript ns w → (si
 ledger-balanced ns w t A pair l e = balanced pair (seen w) (histories_of ns w) (watched-all ns w t) l e
 ledger-balanced ns w t B pair l e = balanced pair (swap (seen w)) (turn (histories_of ns w)) (turned-over (seen w) (histories_of ns w) (watched-all ns w t)) l e
 
-pub if-balanced : (o : Option Ledger) → ((l : Ledger) → o ≡ Some l → IsBalanced l) → IfSome o IsBalanced
-if-balanced None k = tt
-if-balanced (Some l) k = k l refl
+pub if-some : (P : Ledger → Type 0) (o : Option Ledger) → ((l : Ledger) → o ≡ Some l → P l) → IfSome o P
+if-some P None k = tt
+if-some P (Some l) k = k l refl

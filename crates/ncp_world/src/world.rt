@@ -4,6 +4,7 @@ ghost use Rattle.ncp_two.specs.Between.{new_hosts, host_of, after_notes};
 ghost use Rattle.ncp_two.specs.Ledgers.{ledger_of, IsBalanced};
 ghost use Rattle.ncp_two.specs.Transcript.{new_world, IsStep, AreNotes, IsTranscript};
 ghost use Rattle.ncp_promises.specs.Promised.{SubnetHonest, GotBegins, EachByteOnce, WithinAllocation, LedgersBalanced, CameInOrder, CommandsInOrder, EachActedOnce, NoErrMade, NoErrUnderway, OnlyResetsActed, WaitsAlone, OpenedUnderNoText, EachByItself};
+ghost use Rattle.ncp_world.specs.Booked.{IsBooked};
 
 use crate::hosts::Hosts;
 use ncp_bits::BitStore;
@@ -146,6 +147,7 @@ impl<S: BitStore> World<S> {
     pub fn ledger(&self, side: Side, pair: Pair) -> Option<Ledger>
         ensures ledger { result ≡ ledger_of side pair self.now.hosts }
         ensures balanced { IfSome result IsBalanced }
+        ensures booked { IfSome result (IsBooked side pair self.now.notes self.now.hosts) }
     {
         self.hosts.ledger(side, pair)
     }
