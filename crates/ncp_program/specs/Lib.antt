@@ -1,2 +1,4 @@
+pub mod CommandLine
+pub mod Examples
 pub mod Orders
 pub mod Obeying

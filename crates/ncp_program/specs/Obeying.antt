@@ -11,7 +11,7 @@ use Rattle.clap.specs.declared.error.kind.ErrorKind.TheVariants.{DisplayHelp, Di
 use Rattle.ncp_stream.specs.declared.source.Failed.{Failed}
 use Rattle.ncp_play.specs.declared.fault.PlayFault.{PlayFault}
 use Rattle.ncp_play.specs.Faults.{fault_line, Wrote}
-use Rattle.ncp_player.specs.CommandLine.{order_in, program, status_of}
+use Rattle.ncp_program.specs.CommandLine.{order_in, program, status_of}
 use Rattle.ncp_program.specs.Orders.{Streams, Does}
 
 -- what is seen of what is told of faults: its bytes, where they are told, and whether a write of it has failed

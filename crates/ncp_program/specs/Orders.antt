@@ -15,8 +15,8 @@ use Rattle.ncp_world_player.specs.ManyNotes.{lines_of_many}
 use Rattle.ncp_world_player.specs.ManyRules.{is_many_script}
 use Rattle.ncp_world_player.specs.Players.{PlaysWorld, PlaysMany}
 use Rattle.ncp_world_player.specs.Tales.{recording_of, recording_of_many}
-use Rattle.ncp_player.specs.declared.orders.Order.{Order}
-use Rattle.ncp_player.specs.declared.orders.Order.TheVariants.{Show, Check, Convert, Host, World, Record}
+use Rattle.ncp_program.specs.declared.orders.Order.{Order}
+use Rattle.ncp_program.specs.declared.orders.Order.TheVariants.{Show, Check, Convert, Host, World, Record}
 
 -- what is seen of what the program reads and writes: the bytes that are left to read and those that were written,
 -- where they are told, and whether a read or a write has failed

@@ -4,7 +4,8 @@
 use crate::conversions::{ANSWERS, PLACED};
 use crate::shown::{checked, converted, shown};
 use crate::streams::{Bytewise, Piecemeal, is_front};
-use ncp_player::{FileFault, MemorySink, MemorySource};
+use ncp_files::FileFault;
+use ncp_stream::{MemorySink, MemorySource};
 use std::alloc::Global;
 use std::process::Abort;
 use std::test::Fail;

@@ -1,7 +1,8 @@
 //! Files of one version as files of the other.
 
 use crate::shown::converted;
-use ncp_player::{FileFault, MemorySink, MemorySource};
+use ncp_files::FileFault;
+use ncp_stream::{MemorySink, MemorySource};
 use std::alloc::Global;
 use std::process::Abort;
 use std::test::Fail;

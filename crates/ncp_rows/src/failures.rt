@@ -2,7 +2,8 @@
 
 use crate::shown::{checked, shown};
 use crate::streams::{Bytewise, Piecemeal, is_front};
-use ncp_player::{FileFault, MemorySink, MemorySource, Sink, Source};
+use ncp_files::FileFault;
+use ncp_stream::{MemorySink, MemorySource, Sink, Source};
 use std::alloc::Global;
 use std::process::Abort;
 use std::test::Fail;

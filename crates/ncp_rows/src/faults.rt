@@ -1,6 +1,8 @@
 //! The numbers, names and texts of faults, and the exit statuses.
 
-use ncp_player::{Failed, FileFault, status};
+use ncp_files::FileFault;
+use ncp_program::status;
+use ncp_stream::Failed;
 use std::test::Fail;
 
 #[test]

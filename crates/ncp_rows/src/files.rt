@@ -1,7 +1,8 @@
 //! Files, with what is shown of them and what is checked.
 
 use crate::shown::{checked, shown};
-use ncp_player::{FileFault, MemorySink, MemorySource};
+use ncp_files::FileFault;
+use ncp_stream::{MemorySink, MemorySource};
 use std::alloc::{AllocError, Global};
 use std::process::Abort;
 use std::test::Fail;

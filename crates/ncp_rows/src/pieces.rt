@@ -1,9 +1,8 @@
 //! That the adapters to readers and writers pass on each failure once, and move all that they can.
 
 use crate::shown::{checked, shown};
-use ncp_player::{
-    Failed, FileFault, FromRead, LEAST_PIECE, MemorySink, MemorySource, Sink, Source, ToWrite,
-};
+use ncp_files::FileFault;
+use ncp_stream::{Failed, FromRead, LEAST_PIECE, MemorySink, MemorySource, Sink, Source, ToWrite};
 use std::alloc::{AllocError, Global};
 use std::io::{self, ErrorKind, Read, Write};
 use std::process::Abort;

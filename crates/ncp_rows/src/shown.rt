@@ -1,6 +1,7 @@
 //! `show`, `check` and `convert` without their clauses: what they answer and write is found by running them, so
 //! the prover need not follow them through a test.
-use ncp_player::{FileFault, Sink, Source, check, convert, show};
+use ncp_files::{FileFault, check, convert, show};
+use ncp_stream::{Sink, Source};
 
 /// What `show` answers, where neither mark is set.
 pub(crate) fn shown<R: Source, W: Sink>(

@@ -1,5 +1,5 @@
 //! Sources and sinks that move a byte at a time.
-use ncp_player::{Failed, MemorySink, MemorySource, Sink, Source};
+use ncp_stream::{Failed, MemorySink, MemorySource, Sink, Source};
 
 /// Reads a byte at a time.
 #[derive(Drop)]

@@ -1,6 +1,6 @@
 //! The command line of the program `ncp`.
 ghost use Rattle.std.specs.Prelude.{◌≡◌, IfOk, map, false};
-ghost use Rattle.ncp_player.specs.CommandLine.{bare_program, converting, named, number_in, of_files, of_players, order_in, order_of, program, status_of};
+ghost use Rattle.ncp_program.specs.CommandLine.{bare_program, converting, named, number_in, of_files, of_players, order_in, order_of, program, status_of};
 ghost use Rattle.clap.specs.Faults.{fault_of};
 ghost use Rattle.clap.specs.Kinds.{FailsBy};
 ghost use Rattle.clap.specs.Simple.{app_of, shape_of, subcommand_rows_of};

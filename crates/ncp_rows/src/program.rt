@@ -1,7 +1,7 @@
 //! What the program does with each subcommand: its lines, what it tells, and its status.
 
-use crate::obey;
-use ncp_player::{MemorySink, MemorySource, Sink, Source};
+use ncp_program::obey;
+use ncp_stream::{MemorySink, MemorySource, Sink, Source};
 use std::process::Abort;
 use std::test::Fail;
 

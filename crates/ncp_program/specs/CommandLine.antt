@@ -5,8 +5,8 @@ use Rattle.std.specs.Str.{bytes_eq}
 use Rattle.clap.specs.Simple.{App, Shape, new_app, new_rule, new_shape, with_rule, with_subcommand, subcommand_of}
 use Rattle.clap.specs.Walk.{Row, Rule, Text, byte_or_zero, one_of}
 use Rattle.clap.specs.declared.builder.value_parser.ValueParser.TheVariants.{Signed}
-use Rattle.ncp_player.specs.declared.orders.Order.{Order}
-use Rattle.ncp_player.specs.declared.orders.Order.TheVariants.{Show, Check, Convert, Host, World, Record}
+use Rattle.ncp_program.specs.declared.orders.Order.{Order}
+use Rattle.ncp_program.specs.declared.orders.Order.TheVariants.{Show, Check, Convert, Host, World, Record}
 
 -- `--at H`, which is required: a number from 0 to 255
 abbrev pub number_wanted : Rule

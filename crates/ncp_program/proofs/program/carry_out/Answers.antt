@@ -2,7 +2,7 @@ use Rattle.std.proofs.Common.{false, Ok, Err, refl}
 use Rattle.ncp_files.specs.Results.{is_read, is_write}
 use Rattle.ncp_program.specs.Orders.{seen}
 use Rattle.ncp_program.proofs.Blaming.{blames-exactly}
-use Rattle.ncp_program.proofs.carry_out.Goals as goal
+use Rattle.ncp_program.proofs.program.carry_out.Goals as goal
 
 pub returns-in-Err-clause-does : goal.returns-in-Err-clause-does
 returns-in-Err-clause-does g c = rw c.in-Show.is (Err c.in-Err.fault, refl, record { read_failed = c.in-Err.ensures.read_failed; write_failed = c.in-Err.ensures.write_failed; blamed = c.in-Err.ensures.blamed }, c.in-Err.ensures.told)

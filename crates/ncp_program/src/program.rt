@@ -1,0 +1,140 @@
+//! What the program does with the words of its command line.
+ghost use Rattle.std.specs.Prelude.{◌≡◌, ◌≤◌, map, true, false, IsErr};
+ghost use Rattle.std.specs.Process.{exit_status};
+ghost use Rattle.ncp_program.specs.Orders.{seen, Does};
+ghost use Rattle.ncp_program.specs.Obeying.{heard, Tells, status_after, Obeys};
+
+use crate::command_line::{order, status};
+use crate::orders::Order;
+use anyhow::Result;
+use ncp_bits::PackedStore;
+use ncp_files::{check, convert, show};
+use ncp_host_player::play_host;
+use ncp_play::PlayFault;
+use ncp_stream::{FromRead, Sink, Source, ToWrite};
+use ncp_world_player::{play_world, record_world};
+use std::alloc::{AllocGlobal, Global};
+use std::convert::AsStr;
+use std::env::{self, Env};
+use std::io::{Read, Write};
+use std::process::ExitCode;
+
+// The status where the words of the command line cannot be had.
+const FAULT: u8 = 2;
+
+// Carries out an order, and answers whether all was good. A fault of a message file is told as one of a
+// feed is.
+fn carry_out<S: Source, W: Sink>(
+    alloc: Global,
+    order: Order,
+    source: &mut S,
+    sink: &mut W,
+) -> Result<bool, PlayFault>
+    requires source_clean { S.has_failed source.old ≡ false }
+    requires sink_clean { W.has_failed sink.old ≡ false }
+    ensures does { Does
+        (seen (S.left source.old) (S.has_failed source.old) (W.written sink.old) (W.has_failed sink.old)) result
+        (seen (S.left source.new) (S.has_failed source.new) (W.written sink.new) (W.has_failed sink.new)) order }
+    ensures read_failed { S.has_failed source.new ≡ true → IsErr result }
+    ensures write_failed { W.has_failed sink.new ≡ true → IsErr result }
+{
+    match order {
+        Order::Show => match show(source, sink) {
+            Ok(()) => Ok(true),
+            Err(fault) => Err(PlayFault::Feed(fault)),
+        },
+        Order::Check => match check(source, sink) {
+            Ok(sound) => Ok(sound),
+            Err(fault) => Err(PlayFault::Feed(fault)),
+        },
+        Order::Convert(at) => match convert(source, sink, at) {
+            Ok(()) => Ok(true),
+            Err(fault) => Err(PlayFault::Feed(fault)),
+        },
+        Order::Host => play_host::<PackedStore, _, _>(alloc, source, sink),
+        Order::World => play_world::<PackedStore, _, _>(alloc, source, sink),
+        Order::Record => record_world::<PackedStore, _, _>(alloc, source, sink),
+    }
+}
+
+// Tells the fault of an answer, if it has one, and gives the status after it.
+fn conclude<E: Sink>(answer: Result<bool, PlayFault>, errors: &mut E) -> u8
+    ensures told { Tells answer (heard (E.written errors.old) (E.has_failed errors.old)) (heard (E.written errors.new) (E.has_failed errors.new)) }
+    ensures status { result ≡ status_after answer }
+{
+    match answer {
+        Ok(good) => status(Ok(good)),
+        Err(fault) => {
+            // The status tells the fault, even where nothing can be told on standard error.
+            let _untold = fault.tell(errors);
+            status(Err(()))
+        }
+    }
+}
+
+/// Does what the words of a command line say, the program's name first, and answers the status with which
+/// the program ends: 0 where all is good, 1 where a check or a player answered that it is not, 2 after a
+/// fault, which is told on `errors`.
+///
+/// What `clap` says of the words goes where the runtime prints; after help the status is 0.
+pub fn obey<R, T, S, W, E>(rt: &R, words: &[T], source: &mut S, sink: &mut W, errors: &mut E) -> u8
+where
+    R: AllocGlobal + Print + Eprint,
+    T: AsStr,
+    S: Source,
+    W: Sink,
+    E: Sink,
+    requires source_clean { S.has_failed source.old ≡ false }
+    requires sink_clean { W.has_failed sink.old ≡ false }
+
+    // The words are an order, which was carried out, and its fault told; or they are none, and nothing was read,
+    // written or told.
+    ensures obeyed { Obeys (map T.text words.entry.now)
+        (seen (S.left source.old) (S.has_failed source.old) (W.written sink.old) (W.has_failed sink.old))
+        (heard (E.written errors.old) (E.has_failed errors.old)) result
+        (seen (S.left source.new) (S.has_failed source.new) (W.written sink.new) (W.has_failed sink.new))
+        (heard (E.written errors.new) (E.has_failed errors.new)) }
+
+    // A read or a write that failed is never hidden.
+    ensures read_failed { S.has_failed source.new ≡ true → result ≡ 2 }
+    ensures write_failed { W.has_failed sink.new ≡ true → result ≡ 2 }
+{
+    let alloc = rt.alloc();
+    let order = match order(alloc, words) {
+        Ok(order) => order,
+        Err(error) => {
+            let _untold = error.print(rt);
+            return error.exit_code() as u8;
+        }
+    };
+    let answer = carry_out(alloc, order, source, sink);
+    conclude(answer, errors)
+}
+
+// The words of the command line, which are text.
+fn words_in<R: Env + AllocGlobal>(rt: &R) -> Result<Vec<String>> {
+    Ok(env::args(rt)?.collect(rt.alloc())?)
+}
+
+/// Does what the words of the command line say ([`obey`]) with what is read, and answers the status with
+/// which the program ends.
+pub fn run<R, I, O, E>(rt: &R, input: I, output: O, errors: E) -> ExitCode
+where
+    R: Env + AllocGlobal + Print + Eprint,
+    I: Read + Drop,
+    O: Write + Drop,
+    E: Write + Drop,
+    ensures { exit_status result ≤ 2 }
+{
+    let words = match words_in(rt) {
+        Ok(words) => words,
+        Err(error) => {
+            let _untold = eprintln!(rt; "ncp: {error}");
+            return ExitCode::from(FAULT);
+        }
+    };
+    let mut source = FromRead::new(input);
+    let mut sink = ToWrite::new(output);
+    let mut errors = ToWrite::new(errors);
+    ExitCode::from(obey(rt, words.as_slice(), &mut source, &mut sink, &mut errors))
+}
