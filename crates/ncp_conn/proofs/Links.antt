@@ -44,8 +44,8 @@ module _ (links from : ℕ) (some : 0 < links / 2 ^ from) (fits : links / 2 ^ fr
         least = omega arith;
         here = ap (λ (n : ℕ). n == 1) (sym (above links from lowest) ∙ t.1);
         lower = λ other l b.
-        let there : from + (other - from) ≡ other = omega arith in
-        out_of links other (ap (bit_at links) (sym there) ∙ sym (above links from (other - from)) ∙ t.2 (other - from) (omega arith));
+            let there : from + (other - from) ≡ other = omega arith in
+            out_of links other (ap (bit_at links) (sym there) ∙ sym (above links from (other - from)) ∙ t.2 (other - from) (omega arith));
       }
 
   pub not_past : (last : ℕ) → links < 2 ^ (last + 1) → from + lowest ≤ last

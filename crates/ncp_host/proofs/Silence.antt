@@ -1,11 +1,12 @@
 -- On which links no message is ready: what tells it, and what keeps it.
-use Rattle.std.proofs.Common.{◌≡◌, ℕ, ◌==◌, ◌≤◌, ◌<◌, Bool, true, false, if◌then◌else◌, List, [], ◌∷◌, Option, None, Some, IfSome, is_some, refl, sym, ap, ◌∙◌, arith}
+use Rattle.std.proofs.Common.{◌≡◌, inl, inr, ℕ, ◌==◌, ◌≤◌, ◌<◌, Bool, true, false, if◌then◌else◌, List, [], ◌∷◌, Option, None, Some, IfSome, is_some, refl, sym, ap, ◌∙◌, arith}
+use Rattle.std.proofs.lemmas.Bool.Decides.{eqb_tells}
 use Rattle.std.specs.List.{slice_get}
 use Rattle.ncp_control.specs.declared.command.Command.{Command}
 use Rattle.ncp_slot.specs.declared.slot.Slot.TheVariants.{Empty, Ready, Travelling, Held}
 use Rattle.ncp_slot.specs.Slot.{is_empty, is_ready}
-use Rattle.ncp_slot.specs.Slots.{LinkSlot, LinkSlots, slot_at, is_quiet}
-use Rattle.ncp_slot.proofs.Places.{is_quiet-tells}
+use Rattle.ncp_slot.specs.Slots.{LinkSlot, LinkSlots, slot_at, with_slot, is_quiet}
+use Rattle.ncp_slot.proofs.Places.{is_quiet-tells, slot_at-changed, OthersStay-changed}
 use Rattle.ncp_model.specs.Act.{answer}
 use Rattle.ncp_model.specs.Ends.{cut_in}
 use Rattle.ncp_model.specs.Sending.{next_commands}
@@ -14,7 +15,7 @@ use Rattle.ncp_conn.specs.Cutting.{may_cut, next_cut}
 use Rattle.ncp_conn.proofs.Cutting.{PassedBy, passed_by_first}
 use Rattle.ncp_host.specs.PeerState.{PeerState, control_link}
 use Rattle.ncp_host.specs.Output.{control_message, text_message, made_on, output_by}
-use Rattle.ncp_host.specs.Silence.{HasReady, HasKept, IsSilent, SilentFrom, lower_of}
+use Rattle.ncp_host.specs.Silence.{HasReady, HasKept, AreMarked, IsSilent, SilentFrom, lower_of}
 use Rattle.ncp_host.proofs.Cutting.{not_cut}
 
 -- no message is to go out again on a link that is not in the set
@@ -96,3 +97,16 @@ not_quiet slots on low high full = go (is_quiet slots) refl
     go : (b : Bool) → is_quiet slots ≡ b → is_quiet slots ≡ false
     go false e = e
     go true e = let both : true ≡ false = sym (ap is_empty ((is_quiet-tells slots).0 e on low high)) ∙ full in absurd (cc)
+
+-- a message goes out on a link, which may have one now
+pub marked_sent : (kept now again : ℕ) (before after : LinkSlots) (on : ℕ) (message : List Bool) → AreMarked kept again before → after ≡ with_slot before on (Travelling message) → ((link : ℕ) → is_in now link ≡ (if link == on then true else is_in kept link)) → AreMarked now again after
+marked_sent kept now again before after on message marked sent inserted = record {
+  has_kept = λ link low high full. elim (eqb_tells link on) [
+    | inl e ↦ inserted link ∙ ap (λ (b : Bool). if b then true else is_in kept link) e.0
+    | inr d ↦ inserted link ∙ ap (λ (b : Bool). if b then true else is_in kept link) d.0 ∙ marked.has_kept link low high (sym (ap is_empty (OthersStay-changed after before on (Travelling message) sent link d.1)) ∙ full)
+  ];
+  has_ready = λ link high ready. elim (eqb_tells link on) [
+    | inl e ↦ (let there : is_ready (slot_at after link) ≡ false = ap (λ (k : ℕ). is_ready (slot_at after k)) e.1 ∙ ap is_ready (slot_at-changed after before on (Travelling message) sent) in let both : true ≡ false = sym ready ∙ there in absurd (cc))
+    | inr d ↦ marked.has_ready link high (sym (ap is_ready (OthersStay-changed after before on (Travelling message) sent link d.1)) ∙ ready)
+  ];
+}

@@ -126,6 +126,16 @@ impl Slots {
         self.slots[place_of(link)].hand()
     }
 
+    /// Keeps a copy of a message that goes out on a link at once: [`Slots::put`] and then
+    /// [`Slots::hand`], without a second copy. It is kept until it is taken.
+    pub fn send(&mut self, link: u8, bits: &Bits)
+        requires link { HasSlot link }
+        requires empty { slot_at self.old link ≡ Slot.Empty }
+        ensures { self.new ≡ with_slot self.old link (Slot.Travelling bits.now) }
+    {
+        self.slots[place_of(link)] = Slot::Travelling(bits.whole().to_bits());
+    }
+
     /// Takes the subnet's answer to the message that went out on a link. After Ready For Next
     /// Message it is gone; after Incomplete Transmission it is to go out again; after Destination
     /// Dead it is held, until [`Slots::wake`].

@@ -61,8 +61,7 @@ impl<S: BitStore> Peer<S> {
         requires empty { slot_at self.old.slots link ≡ Slot.Empty }
         ensures { self.new ≡ record self.old { slots = with_slot self.old.slots link (Slot.Travelling message.now) } }
     {
-        self.slots.put(link, message).unwrap();
-        let _message = self.slots.hand(link);
+        self.slots.send(link, message);
         self.kept.insert(link);
     }
 
