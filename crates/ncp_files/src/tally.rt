@@ -38,7 +38,7 @@ pub(crate) struct Tally {
     pub bad: u32,
 }
 
-// Whether a control text has a fault.
+// Whether a control text has a fault. It stays out of the loop that counts, as few messages have such a text.
 #[inline(never)]
 fn has_fault(text: Part<'_>) -> bool
     requires { length text % 8 ≡ 0 }

@@ -67,7 +67,8 @@ impl Window {
         self.from += count;
     }
 
-    // Reads once behind what is there, and answers whether a byte came.
+    // Reads once behind what is there, and answers whether a byte came. It stays out of the loops that
+    // read, as it is called for few of their records.
     #[inline(never)]
     fn refill<S: Source>(&mut self, source: &mut S) -> Result<bool, Failed>
         requires { length self.old + LEAST_PIECE ≤ WINDOW_SIZE }
