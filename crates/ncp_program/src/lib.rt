@@ -10,6 +10,7 @@ use ncp_player::{
     FromRead, Order, PackedStore, PlayFault, Sink, Source, ToWrite, check, convert, order,
     play_host, play_world, record_world, show, status,
 };
+pub use ncp_player::{MemorySink, MemorySource};
 use std::alloc::{AllocGlobal, Global};
 use std::convert::AsStr;
 use std::env::{self, Env};
