@@ -18,6 +18,8 @@ mod files;
 #[cfg(test)]
 mod pieces;
 #[cfg(test)]
+mod refused;
+#[cfg(test)]
 mod shown;
 #[cfg(test)]
 mod streams;
