@@ -49,6 +49,12 @@ fn comes<'a>(rt: &impl Abort, bytes: &[u8], want: Want<'a>) -> Step<'a> {
     }
 }
 
+/// The answer to the control message that went out, which this byte stands for.
+fn answered<'a>(rt: &impl Abort, kind: u8, answer: Answer) -> Step<'a> {
+    let want = Want::Answered(0, answer, Received::Answered);
+    comes(rt, &[kind, PEER, 0, 0], want)
+}
+
 /// Output is asked for, and what is noted of it.
 fn output(want: Want<'_>) -> Step<'_> {
     Step {
@@ -59,7 +65,7 @@ fn output(want: Want<'_>) -> Step<'_> {
 
 /// A new host with one peer goes through the first steps and then the others, over both stores.
 fn goes_on(
-    rt: &impl Abort,
+    rt: &(impl Abort + Print),
     alloc: Global,
     first: &[Step<'_>],
     steps: &[Step<'_>],
@@ -70,15 +76,18 @@ fn goes_on(
     let mut packed = Tried::<PackedStore>::new(alloc, ME, PEER)?;
     packed.goes(rt, first);
     packed.goes(rt, steps);
+    if plain.was_refused() || packed.was_refused() {
+        println!(rt; "refused: nothing happened but that a call's refusal is noted")?;
+    }
     Ok(())
 }
 
-fn goes(rt: &impl Abort, alloc: Global, steps: &[Step<'_>]) -> Result<(), Fail> {
+fn goes(rt: &(impl Abort + Print), alloc: Global, steps: &[Step<'_>]) -> Result<(), Fail> {
     goes_on(rt, alloc, &[], steps)
 }
 
 /// So does one whose connections are open, and whose sender may send.
-fn goes_open(rt: &impl Abort, alloc: Global, steps: &[Step<'_>]) -> Result<(), Fail> {
+fn goes_open(rt: &(impl Abort + Print), alloc: Global, steps: &[Step<'_>]) -> Result<(), Fail> {
     let peer = PEER;
     let opening = [
         call(Call::Reset { peer }, Want::Done),
@@ -215,6 +224,32 @@ fn calls_are_noted(rt: HostRuntime) -> Result<(), Fail> {
             call(Call::Wake { peer }, Want::Done),
             output(Want::Out(&control)),
             output(Want::Out(&[0, 2, 2, 0, 0, 8, 0, 2, 0, 0x61, 0x62])),
+            output(Want::Nothing),
+        ],
+    )
+}
+
+// A message goes out again after Incomplete Transmission, and after Destination Dead once it is asked for.
+#[test]
+fn what_goes_out_again_is_noted(rt: HostRuntime) -> Result<(), Fail> {
+    let peer = PEER;
+    // RST, RRP, STR and RTS, as they were made.
+    let control = [
+        0, 2, 0, 0, 0, 8, 0, 22, 0, 12, 13, 2, 0, 0, 0, 3, 0, 0, 0, 2, 8, 1, 0, 0, 0, 4, 0, 0, 0,
+        5, 2,
+    ];
+    goes_open(
+        &rt,
+        rt.alloc(),
+        &[
+            output(Want::Out(&control)),
+            answered(&rt, 9, Answer::Incomplete),
+            output(Want::Out(&control)),
+            answered(&rt, 7, Answer::Dead),
+            output(Want::Nothing),
+            call(Call::Wake { peer }, Want::Done),
+            output(Want::Out(&control)),
+            answered(&rt, 5, Answer::Rfnm),
             output(Want::Nothing),
         ],
     )

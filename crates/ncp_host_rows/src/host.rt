@@ -20,16 +20,16 @@ use steps::Step;
 use tried::Tried;
 
 /// The types of the messages that an IMP hands to its host.
-const REGULAR: u8 = 0;
+pub(crate) const REGULAR: u8 = 0;
 
-const RFNM: u8 = 5;
+pub(crate) const RFNM: u8 = 5;
 
 const DEAD: u8 = 7;
 
 const INCOMPLETE: u8 = 9;
 
 /// The link of the control messages.
-const CONTROL: u8 = 0;
+pub(crate) const CONTROL: u8 = 0;
 
 /// Another peer of the host, and no peer of it.
 const OTHER: u8 = 3;
@@ -37,13 +37,13 @@ const OTHER: u8 = 3;
 const NOBODY: u8 = 9;
 
 /// Socket 2 receives from socket 3.
-const INWARD: Pair = Pair {
+pub(crate) const INWARD: Pair = Pair {
     local: 2,
     remote: 3,
 };
 
 /// How many bits an end can store in the examples that do not say otherwise.
-const ROOM: u32 = 1024;
+pub(crate) const ROOM: u32 = 1024;
 
 /// The matching STR of size 8 for the receiver, and RTS on link 2 for the sender.
 const STR: [u8; 10] = [2, 0, 0, 0, 3, 0, 0, 0, 2, 8];

@@ -8,3 +8,5 @@ mod alone;
 mod host;
 #[cfg(test)]
 mod known;
+#[cfg(test)]
+mod refused;

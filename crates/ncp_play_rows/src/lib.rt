@@ -7,6 +7,8 @@ mod faults;
 #[cfg(test)]
 mod lines;
 #[cfg(test)]
+mod refused;
+#[cfg(test)]
 mod runs;
 #[cfg(test)]
 mod said;

@@ -7,7 +7,7 @@ use std::alloc::Global;
 use std::test::Fail;
 
 /// Room for the lines of a script.
-const ROOM: usize = 16384;
+pub(crate) const ROOM: usize = 16384;
 
 /// Reads a byte at a time.
 #[derive(Drop)]

@@ -20,6 +20,8 @@ mod pieces;
 #[cfg(test)]
 mod program;
 #[cfg(test)]
+mod refused;
+#[cfg(test)]
 mod shown;
 #[cfg(test)]
 mod streams;

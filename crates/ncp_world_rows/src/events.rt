@@ -4,9 +4,8 @@ use crate::wanted::bits_of;
 use ncp_host::Pair;
 use ncp_transcript::{Call, Message};
 use ncp_world::{Event, Side};
-use std::alloc::Global;
+use std::alloc::{AllocError, Global};
 use std::process::Abort;
-use std::test::Fail;
 
 /// The link of the connection.
 pub(super) const LINK: u8 = 2;
@@ -104,7 +103,7 @@ pub(super) fn reset(side: Side) -> Event {
 }
 
 /// Adds events behind others.
-pub(super) fn push(events: &mut Vec<Event>, more: Vec<Event>) -> Result<(), Fail> {
+pub(super) fn push(events: &mut Vec<Event>, more: Vec<Event>) -> Result<(), AllocError> {
     for event in more {
         events.push(event)?;
     }
@@ -112,7 +111,7 @@ pub(super) fn push(events: &mut Vec<Event>, more: Vec<Event>) -> Result<(), Fail
 }
 
 /// Both hosts come up, and ask for the connection.
-fn asking(alloc: Global) -> Result<Vec<Event>, Fail> {
+fn asking(alloc: Global) -> Result<Vec<Event>, AllocError> {
     Ok(vec![in alloc;
         reset(Side::A),
         out(Side::A),
@@ -127,7 +126,7 @@ fn asking(alloc: Global) -> Result<Vec<Event>, Fail> {
 }
 
 /// It opens, two messages of 16 bits are allowed, three bytes are given, and two go out.
-fn opening(alloc: Global, text: Message) -> Result<Vec<Event>, Fail> {
+fn opening(alloc: Global, text: Message) -> Result<Vec<Event>, AllocError> {
     Ok(vec![in alloc;
         out(Side::B),
         deliver(Side::B, 0),
@@ -159,7 +158,7 @@ fn opening(alloc: Global, text: Message) -> Result<Vec<Event>, Fail> {
     ]?)
 }
 
-pub(super) fn beginning(rt: &impl Abort, alloc: Global) -> Result<Vec<Event>, Fail> {
+pub(super) fn beginning(rt: &impl Abort, alloc: Global) -> Result<Vec<Event>, AllocError> {
     let text = Message::from_bits(alloc, &bits_of(rt, b"abc"))?;
     let mut events = asking(alloc)?;
     push(&mut events, opening(alloc, text)?)?;
@@ -167,7 +166,7 @@ pub(super) fn beginning(rt: &impl Abort, alloc: Global) -> Result<Vec<Event>, Fa
 }
 
 /// What is behind the beginning: the text comes and is taken, and no more goes out.
-fn ending(alloc: Global) -> Result<Vec<Event>, Fail> {
+fn ending(alloc: Global) -> Result<Vec<Event>, AllocError> {
     Ok(vec![in alloc;
         deliver(Side::A, LINK),
         answer(Side::A, LINK),
@@ -184,14 +183,14 @@ fn ending(alloc: Global) -> Result<Vec<Event>, Fail> {
 }
 
 /// All events of the first script.
-pub(super) fn one_connection(rt: &impl Abort, alloc: Global) -> Result<Vec<Event>, Fail> {
+pub(super) fn one_connection(rt: &impl Abort, alloc: Global) -> Result<Vec<Event>, AllocError> {
     let mut events = beginning(rt, alloc)?;
     push(&mut events, ending(alloc)?)?;
     Ok(events)
 }
 
 /// All events of the script in which the text is lost twice.
-pub(super) fn lost_twice(rt: &impl Abort, alloc: Global) -> Result<Vec<Event>, Fail> {
+pub(super) fn lost_twice(rt: &impl Abort, alloc: Global) -> Result<Vec<Event>, AllocError> {
     let mut events = beginning(rt, alloc)?;
     let rest = vec![in alloc;
         lose(Side::A, LINK),

@@ -5,7 +5,7 @@ use crate::tried::{A, Tried};
 use ncp_bits::{BitStore, PackedStore, PlainStore};
 use ncp_transcript::Call;
 use ncp_world::{Amount, Event, Ledger, Side};
-use std::alloc::Global;
+use std::alloc::{AllocError, Global};
 use std::process::Abort;
 use std::test::Fail;
 
@@ -111,7 +111,7 @@ fn of_called_back(events: usize) -> Option<Ledger> {
 }
 
 /// Half is called back in place of a text that is given.
-fn called_back(rt: &impl Abort, alloc: Global) -> Result<Vec<Event>, Fail> {
+fn called_back(rt: &impl Abort, alloc: Global) -> Result<Vec<Event>, AllocError> {
     let mut events = events::beginning(rt, alloc)?;
     events.truncate(19);
     let rest = vec![in alloc;
@@ -143,7 +143,7 @@ enum Script {
     CalledBack,
 }
 
-fn events_of(rt: &impl Abort, alloc: Global, script: Script) -> Result<Vec<Event>, Fail> {
+fn events_of(rt: &impl Abort, alloc: Global, script: Script) -> Result<Vec<Event>, AllocError> {
     match script {
         Script::OneConnection => events::one_connection(rt, alloc),
         Script::LostTwice => events::lost_twice(rt, alloc),

@@ -15,6 +15,10 @@ mod many;
 #[cfg(test)]
 mod many_tried;
 #[cfg(test)]
+mod reading;
+#[cfg(test)]
+mod refused;
+#[cfg(test)]
 mod scripts;
 #[cfg(test)]
 mod states;

@@ -9,15 +9,15 @@ use std::alloc::Global;
 use std::process::Abort;
 use std::test::Fail;
 
-const THREE: [u8; 3] = [1, 2, 3];
+pub(super) const THREE: [u8; 3] = [1, 2, 3];
 
 /// A connection, at its sender and at its receiver.
-const SENDER: Pair = Pair {
+pub(super) const SENDER: Pair = Pair {
     local: 3,
     remote: 2,
 };
 
-const RECEIVER: Pair = Pair {
+pub(super) const RECEIVER: Pair = Pair {
     local: 2,
     remote: 3,
 };
@@ -39,19 +39,19 @@ const DOWN: Flags = Flags {
     wait: false,
 };
 
-fn call(host: u8, call: Call) -> ManyEvent {
+pub(super) fn call(host: u8, call: Call) -> ManyEvent {
     ManyEvent::Call { host, call }
 }
 
-fn out(host: u8) -> ManyEvent {
+pub(super) fn out(host: u8) -> ManyEvent {
     ManyEvent::Out { host }
 }
 
-fn deliver(from: u8, to: u8, link: u8) -> ManyEvent {
+pub(super) fn deliver(from: u8, to: u8, link: u8) -> ManyEvent {
     ManyEvent::Deliver { from, to, link }
 }
 
-fn answer(from: u8, to: u8, link: u8) -> ManyEvent {
+pub(super) fn answer(from: u8, to: u8, link: u8) -> ManyEvent {
     ManyEvent::Answer { from, to, link }
 }
 

@@ -28,6 +28,7 @@ struct Reading {
 pub(super) struct Tried<S: BitStore> {
     alone: Alone<S>,
     peer: u8,
+    refused: bool,
 }
 
 impl<S: BitStore> Tried<S> {
@@ -37,7 +38,16 @@ impl<S: BitStore> Tried<S> {
             Err(HostFault::OutOfMemory) => Alone::new(alloc, me, &[peer])?,
             first => first?,
         };
-        Ok(Tried { alone, peer })
+        Ok(Tried {
+            alone,
+            peer,
+            refused: false,
+        })
+    }
+
+    /// Whether a step was refused memory.
+    pub(super) fn was_refused(&self) -> bool {
+        self.refused
     }
 
     /// Goes through all steps.
@@ -67,6 +77,7 @@ impl<S: BitStore> Tried<S> {
             Ok(()) if self.has_no_memory() => many.saturating_add(1),
             Ok(()) => return self.alone.transcript().len() == many.saturating_add(1),
         };
+        self.refused = true;
         self.alone.transcript().len() == noted
             && self.read() == before
             && self.alone.step(input).is_ok()

@@ -1,0 +1,129 @@
+//! What stands where a host, or the slots of its links, are refused memory. Here each test has ample memory. `bench/refuse.py` runs each test
+//! again and again, refuses it one request after the other, and reads what is printed of the request.
+use crate::host::{CONTROL, INWARD, REGULAR, RFNM, ROOM};
+use crate::known::{LINK, ME, OUTWARD, PEER, UP, bits_of};
+use ncp_bits::{BitStore, PackedStore, PlainStore};
+use ncp_host::{CallFault, Host, HostFault, Pair};
+use ncp_slot::laws::{LinkEvent, LinkNote, run_link};
+use ncp_slot::{Answer, Slots};
+use std::alloc::Global;
+use std::process::Abort;
+use std::test::Fail;
+
+/// RST and RRP from the peer.
+const COMING_UP: [u8; 11] = [REGULAR, PEER, CONTROL, 0, 0, 8, 0, 2, 0, 12, 13];
+
+/// A new host, and whether memory for it was refused once.
+fn made<S: BitStore>(alloc: Global) -> Result<(Host<S>, bool), HostFault> {
+    match Host::new(alloc, ME, &[PEER]) {
+        Err(HostFault::OutOfMemory) => Ok((Host::new(alloc, ME, &[PEER])?, true)),
+        Err(fault) => Err(fault),
+        Ok(host) => Ok((host, false)),
+    }
+}
+
+/// A host that is up with its peer, and for which no command waits.
+fn up<S: BitStore>(rt: &impl Abort, alloc: Global) -> Result<Host<S>, Fail> {
+    let (mut host, _refused) = made::<S>(alloc)?;
+    host.reset(PEER)?;
+    let _up = host.receive(&bits_of(rt, &COMING_UP));
+    let _out = host.next_output();
+    let _answered = host.receive(&bits_of(rt, &[RFNM, PEER, CONTROL, 0]));
+    assert!(rt; host.phase(PEER) == Ok(UP));
+    Ok(host)
+}
+
+/// Whether nothing came of a request: the pair has no record, no command waits, and no link is used, since the next
+/// request to receive takes the first.
+fn is_as_before<S: BitStore>(host: &mut Host<S>, pair: Pair) -> bool {
+    let has_none = host.state(PEER, pair) == Err(CallFault::NoEntry);
+    let waits_none = host.waiting(PEER, 0).is_none();
+    let asked = host.ask_receive(PEER, INWARD, ROOM).is_ok();
+    let first = host
+        .state(PEER, INWARD)
+        .is_ok_and(|record| record.link == LINK);
+    has_none && waits_none && asked && first
+}
+
+/// Whether the request to send was refused.
+fn asks_to_send<S: BitStore>(rt: &impl Abort, alloc: Global) -> Result<bool, Fail> {
+    let mut host = up::<S>(rt, alloc)?;
+    let Err(fault) = host.ask_send(PEER, OUTWARD, 8, ROOM) else {
+        return Ok(false);
+    };
+    assert!(rt; fault == CallFault::OutOfMemory);
+    assert!(rt; is_as_before(&mut host, OUTWARD));
+    Ok(true)
+}
+
+/// Whether the request to receive was refused.
+fn asks_to_receive<S: BitStore>(rt: &impl Abort, alloc: Global) -> Result<bool, Fail> {
+    let mut host = up::<S>(rt, alloc)?;
+    let Err(fault) = host.ask_receive(PEER, INWARD, ROOM) else {
+        return Ok(false);
+    };
+    assert!(rt; fault == CallFault::OutOfMemory);
+    assert!(rt; is_as_before(&mut host, INWARD));
+    Ok(true)
+}
+
+#[test]
+fn host_new(rt: HostRuntime) -> Result<(), Fail> {
+    let (_plain, one) = made::<PlainStore>(rt.alloc())?;
+    let (_packed, other) = made::<PackedStore>(rt.alloc())?;
+    if one || other {
+        println!(rt; "refused: OutOfMemory, no host")?;
+    }
+    Ok(())
+}
+
+#[test]
+fn ask_send(rt: HostRuntime) -> Result<(), Fail> {
+    let plain = asks_to_send::<PlainStore>(&rt, rt.alloc())?;
+    let packed = asks_to_send::<PackedStore>(&rt, rt.alloc())?;
+    if plain || packed {
+        println!(rt; "refused: OutOfMemory, no entry, no command, no link used")?;
+    }
+    Ok(())
+}
+
+#[test]
+fn ask_receive(rt: HostRuntime) -> Result<(), Fail> {
+    let plain = asks_to_receive::<PlainStore>(&rt, rt.alloc())?;
+    let packed = asks_to_receive::<PackedStore>(&rt, rt.alloc())?;
+    if plain || packed {
+        println!(rt; "refused: OutOfMemory, no entry, no command, no link used")?;
+    }
+    Ok(())
+}
+
+#[test]
+fn slots_new(rt: HostRuntime) -> Result<(), Fail> {
+    if Slots::new(rt.alloc()).is_err() {
+        Slots::new(rt.alloc())?;
+        println!(rt; "refused: AllocError, no slots")?;
+    }
+    Ok(())
+}
+
+#[test]
+fn running_a_link(rt: HostRuntime) -> Result<(), Fail> {
+    let events = [
+        LinkEvent::Put(bits_of(&rt, &COMING_UP)),
+        LinkEvent::Hand,
+        LinkEvent::Answer(Answer::Rfnm),
+    ];
+    let ran = run_link(rt.alloc(), LINK, &events);
+    let is_refused = ran.is_err();
+    let (slots, notes) = match ran {
+        Ok(run) => run,
+        Err(_) => run_link(rt.alloc(), LINK, &events)?,
+    };
+    assert!(rt; slots.first_ready().is_none());
+    assert!(rt; notes.len() == 3);
+    assert!(rt; matches!(&notes[2], LinkNote::Answered(true)));
+    if is_refused {
+        println!(rt; "refused: AllocError, no notes")?;
+    }
+    Ok(())
+}
