@@ -9,6 +9,8 @@ mod opening;
 #[cfg(test)]
 mod recorded;
 #[cfg(test)]
+mod refused;
+#[cfg(test)]
 mod scripts;
 #[cfg(test)]
 mod streams;

@@ -7,18 +7,18 @@ use ncp_bits::{BitStore, PackedStore, PlainStore};
 use ncp_play::PlayFault;
 use ncp_world_player::record_world;
 use ncp_stream::{MemorySink, MemorySource};
-use std::alloc::Global;
+use std::alloc::{AllocError, Global};
 use std::process::Abort;
 use std::test::Fail;
 
 /// Room for a recording.
-const ROOM: usize = 16384;
+pub(crate) const ROOM: usize = 16384;
 
 /// The header of a recording.
 pub(crate) const HEADER: &[u8] = b"NCPJ";
 
 /// Appends these texts.
-pub(crate) fn append(all: &mut Vec<u8>, texts: &[&[u8]]) -> Result<(), Fail> {
+pub(crate) fn append(all: &mut Vec<u8>, texts: &[&[u8]]) -> Result<(), AllocError> {
     for text in texts {
         all.extend_from_slice(text)?;
     }

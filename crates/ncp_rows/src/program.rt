@@ -142,13 +142,14 @@ fn scripts_of_two_hosts_end_with_each_status(rt: HostRuntime) -> Result<(), Fail
     Ok(())
 }
 
-// Each subcommand, with what it may read.
-const EACH: [(&str, &[u8]); 5] = [
-    ("show", SOUND),
-    ("check", SOUND),
-    ("host", HOST),
-    ("world", WORLD),
-    ("record", WORLD),
+// The words of each subcommand, with what it may read.
+const EACH: [(&[&str], &[u8]); 6] = [
+    (&["ncp", "show"], SOUND),
+    (&["ncp", "check"], SOUND),
+    (&["ncp", "convert", "--at", "7"], SOUND),
+    (&["ncp", "host"], HOST),
+    (&["ncp", "world"], WORLD),
+    (&["ncp", "record"], WORLD),
 ];
 
 #[test]
@@ -157,9 +158,9 @@ fn a_closed_output_is_a_fault(rt: HostRuntime) -> Result<(), Fail> {
         read: None,
         write: Some(1),
     };
-    for (word, input) in EACH {
+    for (words, input) in EACH {
         let end: End = (2, b"", b"ncp: WriteFailed\n");
-        assert!(rt; ends(&rt, &["ncp", word], input, closed, end)?, "{word}");
+        assert!(rt; ends(&rt, words, input, closed, end)?, "{words:?}");
     }
     Ok(())
 }
@@ -170,9 +171,9 @@ fn a_closed_input_is_a_fault(rt: HostRuntime) -> Result<(), Fail> {
         read: Some(1),
         write: None,
     };
-    for (word, input) in EACH {
+    for (words, input) in EACH {
         let end: End = (2, b"", b"ncp: ReadFailed\n");
-        assert!(rt; ends(&rt, &["ncp", word], input, closed, end)?, "{word}");
+        assert!(rt; ends(&rt, words, input, closed, end)?, "{words:?}");
     }
     Ok(())
 }

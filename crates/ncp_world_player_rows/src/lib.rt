@@ -13,6 +13,8 @@ mod opening;
 #[cfg(test)]
 mod played;
 #[cfg(test)]
+mod refused;
+#[cfg(test)]
 mod scripts;
 #[cfg(test)]
 mod streams;

@@ -5,15 +5,15 @@ use ncp_bits::{BitStore, PackedStore, PlainStore};
 use ncp_play::PlayFault;
 use ncp_stream::{MemorySink, MemorySource};
 use ncp_world_player::play_world;
-use std::alloc::Global;
+use std::alloc::{AllocError, Global};
 use std::process::Abort;
 use std::test::Fail;
 
 /// Room for the lines of a script.
-const ROOM: usize = 16384;
+pub(crate) const ROOM: usize = 16384;
 
 /// These texts, one behind the other.
-pub(crate) fn joined(alloc: Global, texts: &[&[u8]]) -> Result<Vec<u8>, Fail> {
+pub(crate) fn joined(alloc: Global, texts: &[&[u8]]) -> Result<Vec<u8>, AllocError> {
     let mut all = Vec::new(alloc);
     for text in texts {
         all.extend_from_slice(text)?;

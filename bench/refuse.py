@@ -1,0 +1,219 @@
+#!/usr/bin/env python3
+"""Refuses each request for memory in turn, of each call that takes memory and of the program, and tells what stood then.
+
+`calls` or `program` behind its name does one of the two."""
+import glob
+import itertools
+import os
+import subprocess
+import sys
+import tempfile
+
+HERE = os.path.dirname(os.path.abspath(__file__))
+TOP = os.path.dirname(HERE)
+# A call, the crate whose tests make it, and these tests. A test sees what stands where it is refused memory, and prints it.
+CALLS = [
+    ("BitStore::with_room", "ncp_rows", ["refused::with_room"]),
+    ("Slots::new", "ncp_host_rows", ["refused::slots_new"]),
+    ("run_link", "ncp_host_rows", ["refused::running_a_link"]),
+    ("Table::new", "ncp_rows", ["refused::table_new"]),
+    ("order", "ncp_rows", ["refused::reading_an_order"]),
+    ("Host::new", "ncp_host_rows", ["refused::host_new"]),
+    ("ask_send", "ncp_host_rows", ["refused::ask_send"]),
+    ("ask_receive", "ncp_host_rows", ["refused::ask_receive"]),
+    (
+        "Alone::step",
+        "ncp_host_rows",
+        [
+            "alone::a_stray_answer_and_an_echo_are_noted",
+            "alone::calls_are_noted",
+            "alone::what_goes_out_again_is_noted",
+            "alone::what_is_read_is_noted",
+        ],
+    ),
+    ("World::new", "ncp_world_rows", ["refused::world::world_new"]),
+    ("World::step", "ncp_world_rows", ["refused::world::world_step"]),
+    ("run", "ncp_world_rows", ["refused::world::world_run"]),
+    ("Many::new", "ncp_world_rows", ["refused::many::many_new"]),
+    ("Many::step", "ncp_world_rows", ["refused::many::many_step"]),
+    ("Many::run", "ncp_world_rows", ["refused::many::many_run"]),
+    ("play_host", "ncp_play_rows", ["refused::playing_one_host"]),
+    ("play_world", "ncp_world_player_rows", ["refused::playing_two_hosts", "refused::playing_many_hosts"]),
+    ("record_world", "ncp_recorder_rows", ["refused::recording"]),
+]
+TOLD = "refused: "  # in front of what a test prints
+PASSED = "test result: ok"
+
+NO_MEMORY = b"ncp: OutOfMemory\n"
+REFUSED = b"refused OutOfMemory\n"
+HEADER = b"NCPJ"  # of a file that `record` writes
+# Which of the program's streams is no use to it, how the shell makes it so, and what the program then tells.
+SHUT = [("output closed", 'exec "$0" "$@" >&-', b"ncp: WriteFailed\n"), ("output full", 'exec "$0" "$@" >/dev/full', b"ncp: WriteFailed\n"), ("input closed", 'exec "$0" "$@" <&-', b"ncp: ReadFailed\n")]
+
+
+class Refuser:
+    """Runs programs with the library loaded that refuses them memory."""
+
+    def __init__(self, room):
+        self.library = os.path.join(room, "refuse.so")
+        self.counted = os.path.join(room, "counted")
+        subprocess.run(["cc", "-shared", "-fPIC", "-O1", "-o", self.library, os.path.join(HERE, "refuse.c")], check=True)
+
+    def run(self, words, number, given=os.devnull):
+        """Status, output and error of a run whose request of this number is refused, and how many requests it made."""
+        settings = {"LD_PRELOAD": self.library, "COUNTED": self.counted, "REFUSED": str(number)}
+        with open(self.counted, "w") as file:
+            file.write("0")
+        with open(given, "rb") as file:
+            ran = subprocess.run(words, stdin=file, env=settings, capture_output=True)
+        with open(self.counted) as file:
+            return (ran.returncode, ran.stdout, ran.stderr), int(file.read())
+
+    def runs(self, words, given=os.devnull):
+        """A run for each request, which is refused there, up to the first that makes no such request."""
+        for number in itertools.count(1):
+            ran, many = self.run(words, number, given)
+            if many and many < number:
+                return
+            yield number, ran
+
+
+# ---- calls
+
+
+def built_tests(crate):
+    """The tests of a crate as a program. The toolchain proves them first."""
+    folder = os.path.join(TOP, "crates", crate)
+    ran = subprocess.run(["rt", "test", "--", "refused"], cwd=folder, text=True, capture_output=True)
+    if ran.returncode:
+        sys.exit(f"{ran.stdout[-3000:]}{ran.stderr[-3000:]}{crate}: the tests were not built")
+    return os.path.join(folder, "out", f"{crate}_tests")
+
+
+def printed(test, number, ran):
+    """What a test printed of a request that was refused, or none where its call was not."""
+    status, output, error = ran
+    lines = [line for line in output.decode().splitlines() if line and line != PASSED]
+    if status or error or len(lines) > 1 or not all(line.startswith(TOLD) for line in lines):
+        sys.exit(f"{test}, request {number}: status {status}\n{output.decode()}{error.decode()}")
+    return lines[0].removeprefix(TOLD) if lines else None
+
+
+def call_refused(refuser, program, tests):
+    """How many requests of the call were refused in turn, and what stood."""
+    many, stood = 0, set()
+    for test in tests:
+        if printed(test, 0, refuser.run([program, test], 0)[0]):
+            sys.exit(f"{test}: it was refused memory that nothing refuses")
+        for number, ran in refuser.runs([program, test]):
+            what = printed(test, number, ran)
+            if what:
+                many += 1
+                stood.add(what)
+    if not many:
+        sys.exit(f"{tests}: nothing was refused")
+    return many, "; ".join(sorted(stood))
+
+
+def calls(refuser):
+    programs = {}
+    print("| call | requests refused | what stood |\n|---|---|---|")
+    for call, crate, tests in CALLS:
+        if crate not in programs:
+            programs[crate] = built_tests(crate)
+        many, stood = call_refused(refuser, programs[crate], tests)
+        print(f"| `{call}` | {many:,} | {stood} |", flush=True)
+
+
+# ---- the program
+
+
+def is_front(word, told, lines):
+    """Whether this is the output of the first things that were done: of lines, each with its details."""
+    rest = lines[len(told):]
+    whole = word in ("record", "convert") or ((not told or told.endswith(b"\n")) and not rest.startswith(b" "))
+    return lines.startswith(told) and whole
+
+
+def is_noted(word, told, lines):
+    """Whether the first line that differs is that of a call which was refused for want of memory. (Calls have no
+    place in what `record` writes.)"""
+    same = len(os.path.commonprefix([told, lines]))
+    return same >= len(HEADER) if word == "record" else told[same:].startswith(REFUSED) and lines[same:].startswith(b"ok\n")
+
+
+def stands(word, wanted, got):
+    """What a refused request did, if it did what it may."""
+    status, told, error = got
+    if got == wanted:
+        return "nothing"
+    if status == 2 and error == NO_MEMORY and is_front(word, told, wanted[1]):
+        return "fault"
+    if status == 1 and error == b"" and is_noted(word, told, wanted[1]):
+        return "noted"
+    if status == 2 and told == b"" and error:
+        return "command line not read"
+    return None
+
+
+def run_refused(refuser, words, example):
+    """How many requests of a run did what, each refused in turn."""
+    wanted, _ = refuser.run(words, 0, example)
+    found = {}
+    for number, got in refuser.runs(words, example):
+        what = stands(words[1], wanted, got)
+        if what is None:
+            sys.exit(f"{words[1:]} {example}, request {number}: {got}")
+        found[what] = found.get(what, 0) + 1
+    return found
+
+
+def is_told(words, example):
+    """Whether the program tells of each stream that is no use to it, writes nothing, and leaves with status 2."""
+    for name, command, error in SHUT:
+        with open(example, "rb") as file:
+            ran = subprocess.run(["sh", "-c", command, *words], stdin=file, capture_output=True)
+        if (ran.returncode, ran.stdout, ran.stderr) != (2, b"", error):
+            sys.exit(f"{words[1:]} {example}, {name}: {ran}")
+    return len(SHUT)
+
+
+def works():
+    """Each subcommand with each example that it reads."""
+    for file in sorted(glob.glob(os.path.join(TOP, "examples", "*.ncp"))):
+        yield from ((["show"], file), (["check"], file), (["convert", "--at", "1"], file))
+    for script in sorted(glob.glob(os.path.join(TOP, "examples", "*.script"))):
+        with open(script) as lines:
+            first = next(line for line in lines if line.strip() and not line.startswith("#")).split()[0]
+        yield from ((["host"], script),) if first == "host" else ((["world"], script), (["record"], script))
+
+
+def program(refuser):
+    if subprocess.run([os.path.join(TOP, "ncp"), "--help"], stdout=subprocess.DEVNULL).returncode:
+        sys.exit("the program was not built")
+    file = os.path.join(TOP, "crates", "ncp", "out", "ncp")
+    all_found = {}
+    for words, example in works():
+        found = all_found.setdefault(words[0], {"runs": 0, "streams": 0})
+        found["runs"] += 1
+        for what, count in run_refused(refuser, [file, *words], example).items():
+            found[what] = found.get(what, 0) + count
+        found["streams"] += is_told([file, *words], example)
+    kinds = ["command line not read", "fault", "noted", "nothing"]
+    print(f"\n| subcommand | runs | requests refused | {' | '.join(kinds)} | streams of no use told |\n|{'---|' * 8}")
+    for word, found in all_found.items():
+        counts = [found.get(kind, 0) for kind in kinds]
+        row = [found["runs"], sum(counts), *counts, found["streams"]]
+        print(f"| `{word}` | {' | '.join(f'{count:,}' for count in row)} |")
+
+
+def main():
+    parts = sys.argv[1:] or ["calls", "program"]
+    with tempfile.TemporaryDirectory(prefix="ncp-refuse-") as room:
+        refuser = Refuser(room)
+        for part in parts:
+            {"calls": calls, "program": program}[part](refuser)
+
+
+if __name__ == "__main__":
+    main()
