@@ -6,7 +6,7 @@ use crate::opening::{
 use crate::recorded::{HEADER, ROOM, append};
 use ncp_bits::{BitStore, PackedStore, PlainStore};
 use ncp_play::PlayFault;
-use ncp_recorder::record_world;
+use ncp_world_player::record_world;
 use ncp_stream::{MemorySink, MemorySource, Sink};
 use std::alloc::{AllocError, Global};
 use std::process::Abort;
