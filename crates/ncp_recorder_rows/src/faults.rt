@@ -3,8 +3,8 @@ use crate::recorded::expect;
 use crate::streams::{Bytewise, Piecemeal};
 use ncp_bits::PackedStore;
 use ncp_play::PlayFault;
-use ncp_world_player::record_world;
 use ncp_stream::{MemorySink, MemorySource, Sink, Source};
+use ncp_world_player::record_world;
 use std::alloc::Global;
 use std::test::Fail;
 

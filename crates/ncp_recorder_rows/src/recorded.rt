@@ -5,8 +5,8 @@ use crate::opening::{
 };
 use ncp_bits::{BitStore, PackedStore, PlainStore};
 use ncp_play::PlayFault;
-use ncp_world_player::record_world;
 use ncp_stream::{MemorySink, MemorySource};
+use ncp_world_player::record_world;
 use std::alloc::{AllocError, Global};
 use std::process::Abort;
 use std::test::Fail;

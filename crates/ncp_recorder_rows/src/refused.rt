@@ -6,8 +6,8 @@ use crate::opening::{
 use crate::recorded::{HEADER, ROOM, append};
 use ncp_bits::{BitStore, PackedStore, PlainStore};
 use ncp_play::PlayFault;
-use ncp_world_player::record_world;
 use ncp_stream::{MemorySink, MemorySource, Sink};
+use ncp_world_player::record_world;
 use std::alloc::{AllocError, Global};
 use std::process::Abort;
 use std::test::Fail;

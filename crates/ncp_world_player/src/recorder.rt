@@ -5,6 +5,10 @@ ghost use Rattle.ncp_world_player.specs.ManyRules.{is_many_script};
 ghost use Rattle.ncp_world_player.specs.Players.{PlaysWorld, PlaysMany};
 ghost use Rattle.ncp_world_player.specs.Tales.{recording_of, recording_of_many};
 
+use crate::first_line::FirstLine;
+use crate::many::ManyPlayed;
+use crate::many_lines::ManyHosts;
+use crate::player::play_script;
 use crate::recording::{say_many_record, say_world_record};
 use crate::two::TwoPlayed;
 use ncp_bits::BitStore;
@@ -15,10 +19,6 @@ use ncp_play::PlayFault;
 use ncp_scene::Teller;
 use ncp_stream::{Failed, Sink, Source};
 use ncp_world::{Note, World};
-use crate::first_line::FirstLine;
-use crate::many::ManyPlayed;
-use crate::many_lines::ManyHosts;
-use crate::player::play_script;
 use std::alloc::Global;
 
 // Tells what is recorded of notes, whatever is watched.
