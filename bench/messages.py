@@ -2,7 +2,7 @@
 from measuring import Row, built, instructions, least
 
 NAMES = ("ncp_bits", "ncp_host", "anyhow")
-COUNT, FEW = 300_000, 800
+COUNT, FEW = 60_000, 800
 PEERS = (1, 8)
 WORK = [
     ("text of 8 bytes in", "text-in", 8),
