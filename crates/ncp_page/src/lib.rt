@@ -2,6 +2,7 @@
 #![tactic(auto)]
 
 mod field;
+mod hex;
 mod page;
 mod window;
 

@@ -1,10 +1,11 @@
 //! `Page`: bytes for a sink, written in pieces.
 ghost use Rattle.std.specs.Prelude.{◌≡◌, ℕ, ◌+◌, ◌*◌, ◌<◌, ◌≤◌, ◌^◌, ◌||◌, true, [], ◌∷◌, ◌++◌, min, length, take, decimal, is_err, OnOk, OnErr};
 ghost use Rattle.std.specs.Io.KnownBytes.{Appends};
-ghost use Rattle.ncp_page.specs.Lines.{hex_digit, hex_of};
+ghost use Rattle.ncp_page.specs.Lines.{hex_of};
 ghost use Rattle.ncp_stream.specs.Pieces.{bytes_and_writes, lost_pieces};
 ghost use Rattle.ncp_stream.specs.Streams.{SaysText, SaysBeginning};
 
+use crate::hex::write_hex;
 use itoa::write_digits;
 use ncp_stream::{Failed, LEAST_PIECE, Sink};
 use std::marker::Model;
@@ -64,29 +65,6 @@ fn count_digits(number: u64) -> usize
         3
     } else {
         3 + count_digits(number / 1000)
-    }
-}
-
-// A digit of a hexadecimal number.
-fn digit_of(number: u8) -> u8
-    requires { number < 16 }
-    ensures { result ≡ hex_digit number }
-{
-    if number < 10 {
-        b'0' + number
-    } else {
-        b'a' + (number - 10)
-    }
-}
-
-// Writes bytes in hexadecimal.
-fn write_hex(out: &mut [u8], bytes: &[u8])
-    requires { length out.old ≡ 2 * length bytes.now }
-    ensures { out.new ≡ hex_of bytes.now }
-{
-    for place in 0..bytes.len() {
-        out[2 * place] = digit_of(bytes[place] / 16);
-        out[2 * place + 1] = digit_of(bytes[place] % 16);
     }
 }
 
