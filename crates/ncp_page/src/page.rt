@@ -63,8 +63,10 @@ fn count_digits(number: u64) -> usize
         2
     } else if number < 1000 {
         3
+    } else if number < 10_000 {
+        4
     } else {
-        3 + count_digits(number / 1000)
+        4 + count_digits(number / 10_000)
     }
 }
 
@@ -119,14 +121,35 @@ impl Page {
         self.len += 1;
     }
 
-    // Appends the digits of a number in decimal.
+    // Appends the digits of a number in decimal, of which there are so many.
+    #[inline(always)]
+    fn push_counted(&mut self, number: u64, count: usize)
+        requires counted { count ≡ length (decimal number) }
+        requires room { length self.old + count ≤ PAGE_SIZE }
+        ensures { self.new ≡ self.old ++ decimal number }
+    {
+        let end = self.len + count;
+        write_digits(number, &mut self.bytes, end);
+        self.len = end;
+    }
+
+    // Appends the digits of a number in decimal. Most numbers are short: where the count is known, the
+    // digits are written with no further question.
     fn push_digits(&mut self, number: u64)
         requires { length self.old + length (decimal number) ≤ PAGE_SIZE }
         ensures { self.new ≡ self.old ++ decimal number }
     {
-        let end = self.len + count_digits(number);
-        write_digits(number, &mut self.bytes, end);
-        self.len = end;
+        if number < 10 {
+            self.push_counted(number, 1);
+        } else if number < 100 {
+            self.push_counted(number, 2);
+        } else if number < 1000 {
+            self.push_counted(number, 3);
+        } else if number < 10_000 {
+            self.push_counted(number, 4);
+        } else {
+            self.push_counted(number, count_digits(number));
+        }
     }
 
     /// Appends the digits of a number of 32 bits in decimal. There has to be room for the longest one.
