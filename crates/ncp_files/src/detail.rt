@@ -27,7 +27,9 @@ type Field<'a> = (&'a [u8], u32);
 // How many bytes the name of a field has at most.
 const LONGEST_NAME: usize = 10;
 
-// Appends a command's name and field.
+// Appends a command's name and field. It is inlined, as the two below, so that each name is of a known
+// length and copied in one or two moves.
+#[inline(always)]
 fn push_one(page: &mut Page, name: &[u8; 3], one: Field<'_>)
     requires one { length one.0.now ≤ LONGEST_NAME }
     requires room { length page.old + LONGEST_WORDS ≤ PAGE_SIZE }
@@ -39,6 +41,7 @@ fn push_one(page: &mut Page, name: &[u8; 3], one: Field<'_>)
 }
 
 // Appends a command's name and two fields.
+#[inline(always)]
 fn push_two(page: &mut Page, name: &[u8; 3], one: Field<'_>, two: Field<'_>)
     requires one { length one.0.now ≤ LONGEST_NAME }
     requires two { length two.0.now ≤ LONGEST_NAME }
@@ -52,6 +55,7 @@ fn push_two(page: &mut Page, name: &[u8; 3], one: Field<'_>, two: Field<'_>)
 }
 
 // Appends a command's name and three fields.
+#[inline(always)]
 fn push_three(page: &mut Page, name: &[u8; 3], one: Field<'_>, two: Field<'_>, three: Field<'_>)
     requires one { length one.0.now ≤ LONGEST_NAME }
     requires two { length two.0.now ≤ LONGEST_NAME }
