@@ -365,3 +365,21 @@ fault_small (opcode ∷ bytes) fault small e =
 
 pub error_at_fault : (bytes : List ℕ) (fault : CommandFault) → All IsByte bytes → fault_in bytes ≡ Some fault → IsCommand (Err fault.code fault.bytes)
 error_at_fault bytes fault small e = fault_small (rest_in bytes) fault (All-drop IsByte (length (spellings (commands_in bytes))) bytes small) e
+
+-- ---- the fault of a text
+
+pub fault_nil : fault_in [] ≡ None
+unfolding commands_within
+fault_nil = refl
+
+-- behind a command the same fault is still to come
+pub fault_next : (bytes : List ℕ) (size : ℕ) → All IsByte bytes → size_of (byte_at bytes 0) ≡ Some size → 0 < size → size ≤ length bytes → fault_in bytes ≡ fault_in (drop size bytes)
+fault_next bytes size small is_size some there =
+    let command = command_with (byte_at bytes 0) bytes in
+    let begins : Begins command size bytes = read_begins bytes small size is_size there in
+    ap fault_of (rest_next bytes command (size_there bytes size (omega arith) is_size there))
+    ∙ ap (λ n. fault_in (drop n bytes)) begins.takes
+
+-- where no command is, the fault is there
+pub fault_here : (bytes : List ℕ) (fault : CommandFault) → command_at bytes ≡ None → fault_of bytes ≡ Some fault → fault_in bytes ≡ Some fault
+fault_here bytes fault none is = ap fault_of (rest_none bytes none) ∙ is

@@ -1,5 +1,5 @@
 //! The front of a control text, read in place.
-ghost use Rattle.std.specs.Prelude.{◌≡◌, ◌+◌, ◌*◌, ◌≤◌, ◌<◌, ◌%◌, length, drop, Some, None, IfSome, MatchResult};
+ghost use Rattle.std.specs.Prelude.{◌≡◌, ◌+◌, ◌*◌, ◌≤◌, ◌<◌, ◌%◌, length, drop, Some, None, IfSome, IfOk, IfErr, OnErr, MatchResult};
 ghost use Rattle.ncp_bits.specs.Bits.{bytes_of};
 ghost use Rattle.ncp_control.specs.Spelling.{spelling, padded};
 ghost use Rattle.ncp_control.specs.Texts.{fault_of};
@@ -8,11 +8,12 @@ ghost use Rattle.ncp_control.specs.Reading.{size_of, byte_at, short_at, word_at,
 use crate::command::{Command, ERROR_DATA, LONGEST_COMMAND};
 use crate::fault::{CommandFault, ILLEGAL_OPCODE, SHORT_PARAMETER_SPACE};
 use crate::opcodes::*;
-use ncp_bits::Part;
+use ncp_bits::{MAX_BITS, Part};
 
 // How many bytes the command with an opcode has.
 fn command_size(opcode: u8) -> Option<usize>
-    ensures { result ≡ size_of opcode }
+    ensures size { result ≡ size_of opcode }
+    ensures some { IfSome result (λ size. 0 < size) }
 {
     match opcode {
         NOP | RST | RRP => Some(1),
@@ -28,7 +29,7 @@ fn command_size(opcode: u8) -> Option<usize>
 
 // The byte at a place.
 fn byte_in(text: &Part<'_>, place: usize) -> u8
-    requires near { place < LONGEST_COMMAND }
+    requires near { 8 * place < MAX_BITS }
     requires inside { 8 * place + 8 ≤ length text.now }
     ensures { result ≡ byte_at (bytes_of text.now) place }
 {
@@ -55,7 +56,6 @@ fn word_in(text: &Part<'_>, place: usize) -> u32
 
 // The next ten bytes from a place, zeros after the end.
 fn data_in(text: &Part<'_>, place: usize) -> [u8; ERROR_DATA]
-    requires near { place < LONGEST_COMMAND }
     requires whole { length text.now % 8 ≡ 0 }
     requires inside { 8 * place ≤ length text.now }
     ensures { result ≡ padded ERROR_DATA (drop place (bytes_of text.now)) }
@@ -151,17 +151,37 @@ fn command_in(text: &Part<'_>, opcode: u8) -> Command
     }
 }
 
-// A fault at the front of a text.
-fn fault_at_front(text: &Part<'_>, code: u8) -> CommandFault
+// The fault at a place, with a code.
+fn fault_at(text: &Part<'_>, place: usize, code: u8) -> CommandFault
     requires whole { length text.now % 8 ≡ 0 }
-    requires some { 0 < length text.now }
+    requires inside { 8 * place < length text.now }
     ensures code { result.code ≡ code }
-    ensures bytes { result.bytes ≡ padded ERROR_DATA (bytes_of text.now) }
+    ensures bytes { result.bytes ≡ padded ERROR_DATA (drop place (bytes_of text.now)) }
 {
     CommandFault {
         code,
-        bytes: data_in(text, 0),
+        bytes: data_in(text, place),
     }
+}
+
+/// How many bytes the command has that begins at a place; else the fault there.
+pub(crate) fn size_at(text: &Part<'_>, place: usize) -> Result<usize, CommandFault>
+    requires whole { length text.now % 8 ≡ 0 }
+    requires inside { 8 * place < length text.now }
+    ensures size { IfOk result (λ size. size_of (byte_at (bytes_of text.now) place) ≡ Some size) }
+    ensures some { IfOk result (λ size. 0 < size) }
+    ensures there { IfOk result (λ size. 8 * (place + size) ≤ length text.now) }
+    ensures none { OnErr result (command_at (drop place (bytes_of text.now)) ≡ None) }
+    ensures fault { IfErr result (λ fault. fault_of (drop place (bytes_of text.now)) ≡ Some fault) }
+{
+    let left = text.len() - 8 * place;
+    let Some(size) = command_size(byte_in(text, place)) else {
+        return Err(fault_at(text, place, ILLEGAL_OPCODE));
+    };
+    if left < 8 * size {
+        return Err(fault_at(text, place, SHORT_PARAMETER_SPACE));
+    }
+    Ok(size)
 }
 
 /// The command that begins a text, and the text behind it; else the fault at its front.
@@ -171,13 +191,8 @@ pub(crate) fn read_front<'a>(text: &Part<'a>) -> Result<(Command, Part<'a>), Com
     ensures command { MatchResult result (λ read. command_at (bytes_of text.now) ≡ Some read.0) (λ _. command_at (bytes_of text.now) ≡ None) }
     ensures rest { MatchResult result (λ read. read.1 ≡ drop (8 * length (spelling read.0)) text.now) (λ fault. fault_of (bytes_of text.now) ≡ Some fault) }
 {
-    let opcode = byte_in(text, 0);
-    let Some(size) = command_size(opcode) else {
-        return Err(fault_at_front(text, ILLEGAL_OPCODE));
-    };
-    if text.len() < 8 * size {
-        return Err(fault_at_front(text, SHORT_PARAMETER_SPACE));
-    }
+    let size = size_at(text, 0)?;
+    let command = command_in(text, byte_in(text, 0));
     let rest = text.slice(8 * size, text.len() - 8 * size);
-    Ok((command_in(text, opcode), rest))
+    Ok((command, rest))
 }
