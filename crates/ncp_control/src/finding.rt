@@ -4,22 +4,23 @@ ghost use Rattle.ncp_bits.specs.Bits.{bytes_of};
 ghost use Rattle.ncp_control.specs.Reading.{fault_in};
 
 use crate::fault::CommandFault;
-use crate::front::size_at;
+use crate::front::{byte_in, fault_at, size_within};
 use ncp_bits::Part;
 
-/// The fault of a control text of whole bytes, if it has one. It reads the opcode of each command,
-/// and makes no command.
+/// The fault of a control text of whole bytes, if it has one: the one that [`crate::Commands`] gives
+/// behind the commands. It reads the opcode of each command, and makes no command.
+// It stays out of the loops that call it, as few messages have a control text.
+#[inline(never)]
 pub fn find_fault(text: &Part<'_>) -> Option<CommandFault>
     requires { length text.now % 8 ≡ 0 }
-    // The fault that `Commands` gives behind the commands.
     ensures { result ≡ fault_in (bytes_of text.now) }
 {
-    let len = text.len();
+    let count = text.len() / 8;
     let mut place = 0;
-    while 8 * place < len {
-        match size_at(text, place) {
-            Ok(size) => place += size,
-            Err(fault) => return Some(fault),
+    while place < count {
+        match size_within(byte_in(text, place), count - place) {
+            Some(size) => place += size,
+            None => return Some(fault_at(text, place)),
         }
     }
     None

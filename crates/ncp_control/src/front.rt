@@ -1,5 +1,5 @@
 //! The front of a control text, read in place.
-ghost use Rattle.std.specs.Prelude.{◌≡◌, ◌+◌, ◌*◌, ◌≤◌, ◌<◌, ◌%◌, length, drop, Some, None, IfSome, IfOk, IfErr, OnErr, MatchResult};
+ghost use Rattle.std.specs.Prelude.{◌≡◌, ◌+◌, ◌*◌, ◌≤◌, ◌<◌, ◌%◌, length, drop, Some, None, IfSome, MatchResult};
 ghost use Rattle.ncp_bits.specs.Bits.{bytes_of};
 ghost use Rattle.ncp_control.specs.Spelling.{spelling, padded};
 ghost use Rattle.ncp_control.specs.Texts.{fault_of};
@@ -27,8 +27,8 @@ fn command_size(opcode: u8) -> Option<usize>
     }
 }
 
-// The byte at a place.
-fn byte_in(text: &Part<'_>, place: usize) -> u8
+/// The byte at a place.
+pub(crate) fn byte_in(text: &Part<'_>, place: usize) -> u8
     requires near { 8 * place < MAX_BITS }
     requires inside { 8 * place + 8 ≤ length text.now }
     ensures { result ≡ byte_at (bytes_of text.now) place }
@@ -151,37 +151,36 @@ fn command_in(text: &Part<'_>, opcode: u8) -> Command
     }
 }
 
-// The fault at a place, with a code.
-fn fault_at(text: &Part<'_>, place: usize, code: u8) -> CommandFault
-    requires whole { length text.now % 8 ≡ 0 }
-    requires inside { 8 * place < length text.now }
-    ensures code { result.code ≡ code }
-    ensures bytes { result.bytes ≡ padded ERROR_DATA (drop place (bytes_of text.now)) }
+/// How many bytes the command with an opcode has, if there is one and no more than so many.
+pub(crate) fn size_within(opcode: u8, left: usize) -> Option<usize>
+    ensures size { IfSome result (λ size. size_of opcode ≡ Some size) }
+    ensures some { IfSome result (λ size. 0 < size) }
+    ensures fits { IfSome result (λ size. size ≤ left) }
+    ensures none { result ≡ None → IfSome (size_of opcode) (λ size. left < size) }
 {
+    let size = command_size(opcode)?;
+    if left < size {
+        return None;
+    }
+    Some(size)
+}
+
+/// The fault at a place where no command begins.
+#[cold]
+pub(crate) fn fault_at(text: &Part<'_>, place: usize) -> CommandFault
+    requires whole { length text.now % 8 ≡ 0 }
+    requires near { 8 * place < MAX_BITS }
+    requires inside { 8 * place < length text.now }
+    ensures { fault_of (drop place (bytes_of text.now)) ≡ Some result }
+{
+    let code = match command_size(byte_in(text, place)) {
+        Some(_) => SHORT_PARAMETER_SPACE,
+        None => ILLEGAL_OPCODE,
+    };
     CommandFault {
         code,
         bytes: data_in(text, place),
     }
-}
-
-/// How many bytes the command has that begins at a place; else the fault there.
-pub(crate) fn size_at(text: &Part<'_>, place: usize) -> Result<usize, CommandFault>
-    requires whole { length text.now % 8 ≡ 0 }
-    requires inside { 8 * place < length text.now }
-    ensures size { IfOk result (λ size. size_of (byte_at (bytes_of text.now) place) ≡ Some size) }
-    ensures some { IfOk result (λ size. 0 < size) }
-    ensures there { IfOk result (λ size. 8 * (place + size) ≤ length text.now) }
-    ensures none { OnErr result (command_at (drop place (bytes_of text.now)) ≡ None) }
-    ensures fault { IfErr result (λ fault. fault_of (drop place (bytes_of text.now)) ≡ Some fault) }
-{
-    let left = text.len() - 8 * place;
-    let Some(size) = command_size(byte_in(text, place)) else {
-        return Err(fault_at(text, place, ILLEGAL_OPCODE));
-    };
-    if left < 8 * size {
-        return Err(fault_at(text, place, SHORT_PARAMETER_SPACE));
-    }
-    Ok(size)
 }
 
 /// The command that begins a text, and the text behind it; else the fault at its front.
@@ -191,8 +190,10 @@ pub(crate) fn read_front<'a>(text: &Part<'a>) -> Result<(Command, Part<'a>), Com
     ensures command { MatchResult result (λ read. command_at (bytes_of text.now) ≡ Some read.0) (λ _. command_at (bytes_of text.now) ≡ None) }
     ensures rest { MatchResult result (λ read. read.1 ≡ drop (8 * length (spelling read.0)) text.now) (λ fault. fault_of (bytes_of text.now) ≡ Some fault) }
 {
-    let size = size_at(text, 0)?;
-    let command = command_in(text, byte_in(text, 0));
+    let opcode = byte_in(text, 0);
+    let Some(size) = size_within(opcode, text.len() / 8) else {
+        return Err(fault_at(text, 0));
+    };
     let rest = text.slice(8 * size, text.len() - 8 * size);
-    Ok((command, rest))
+    Ok((command_in(text, opcode), rest))
 }
