@@ -3,7 +3,7 @@ use Rattle.std.proofs.Common.{◌≡◌, ℕ, ◌+◌, ◌-◌, ◌^◌, ◌<◌
 use Rattle.std.specs.List.{All}
 use Rattle.std.specs.Int.{to_be_bytes, w16, w32}
 use Rattle.std.proofs.lemmas.Bool.{cases_lt}
-use Rattle.std.proofs.lemmas.List.{length-take-le, length-drop, drop-drop, drop_more, take-append-drop, get_or_past}
+use Rattle.std.proofs.lemmas.List.{length-take-le, length-drop, drop-drop, drop_more, take-append-drop, get_or_past, get_or-drop}
 use Rattle.std.proofs.lemmas.List.Elements.{All-get_or, All-drop, All-take}
 use Rattle.std.proofs.lemmas.Nat.{be_bytes_2, be_bytes_4}
 use Rattle.ncp_control.specs.Spelling.{IsByte}
@@ -65,3 +65,7 @@ module _ (bytes : List ℕ) (small : All IsByte bytes) (place : ℕ) where
   pub word_fits : word_at bytes place < 2 ^ 32
   unfolding field
   word_fits = let fits = field_small bytes small place 4 in omega (arith, fits 0, fits 1, fits 2, fits 3)
+
+-- the byte at a place is the first of those from there on
+pub byte_front_at : (bytes : List ℕ) (place : ℕ) → byte_at (drop place bytes) 0 ≡ byte_at bytes place
+byte_front_at bytes place = get_or-drop place bytes 0 0 ∙ ap (byte_at bytes) (omega arith)

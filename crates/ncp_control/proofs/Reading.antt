@@ -1,17 +1,17 @@
 -- The one reading of a text.
-use Rattle.std.proofs.Common.{◌≡◌, ℕ, zero, suc, ◌+◌, ◌-◌, ◌/◌, ◌^◌, ◌<◌, ◌≤◌, List, [], ◌∷◌, ◌++◌, length, drop, replicate, leb, ltb, cond, Option, Some, None, Ok, refl, sym, ap, subst, ◌∙◌, arith, append_assoc, append-nil, length-append}
+use Rattle.std.proofs.Common.{◌≡◌, ℕ, zero, suc, ◌+◌, ◌-◌, ◌/◌, ◌^◌, ◌<◌, ◌≤◌, List, [], ◌∷◌, ◌++◌, length, drop, get_or, inl, inr, replicate, leb, ltb, cond, Option, Some, None, Ok, refl, sym, ap, subst, ◌∙◌, arith, append_assoc, append-nil, length-append}
 use Rattle.std.specs.List.{All, AllByRecursion}
-use Rattle.std.specs.Option.{option_map_or, option_and_then}
+use Rattle.std.specs.Option.{option_map_or, option_and_then, IfSome}
 use Rattle.std.specs.declared.result.Result.TheVariants.{Err as Fault}
-use Rattle.std.proofs.lemmas.Bool.{leb-true, le-leb, lt-leb, cond-true, cond-false, cond_both}
+use Rattle.std.proofs.lemmas.Bool.{cases_lt, leb-true, le-leb, lt-leb, lt-ltb, le-ltb, cond-true, cond-false, cond_both}
 use Rattle.std.proofs.lemmas.List.{length-drop, length-take-le, drop-drop, drop_at, append_cancel_left}
 use Rattle.std.proofs.lemmas.List.Elements.{All-nil, All-cons, All-head, All-tail, All-drop, All-take, All-append, All-replicate, All-from_recursion, recursion_from_All}
 use Rattle.std.proofs.lemmas.Nat.{mod_below}
 use Rattle.std.specs.Int.{byte_at as digit}
-use Rattle.std.proofs.lemmas.Option.{none-some, same_Some, cond_some, option_and_then_some}
+use Rattle.std.proofs.lemmas.Option.{none-some, same_Some, cond_some, option_and_then_some, slice_get-get_or, slice_get_within}
 use Rattle.ncp_control.specs.Spelling.{spelling, spellings, IsByte, IsCommand, padded, error_of}
 use Rattle.ncp_control.specs.Texts.{Reads, NoneBegins, fault_of, items_of, commands_of, fault_among, EndsAtFault}
-use Rattle.ncp_control.specs.Reading.{size_of, byte_at, command_with, command_at, commands_within, commands_in, rest_in, fault_in, items_in}
+use Rattle.ncp_control.specs.Reading.{sizes, size_of, byte_at, command_with, command_at, commands_within, commands_in, rest_in, fault_in, items_in}
 use Rattle.ncp_control.specs.declared.command.Command.{Command}
 use Rattle.ncp_control.specs.declared.command.Command.TheVariants.{Nop, Rts, Str, Cls, All as Allocate, Gvb, Ret, Inr, Ins, Eco, Erp, Err, Rst, Rrp}
 use Rattle.ncp_control.specs.declared.fault.CommandFault.{CommandFault}
@@ -123,6 +123,11 @@ size_short [] size is_size short = refl
 size_short (opcode ∷ bytes) size is_size short =
     ap (option_and_then (λ size. cond (leb size (length (opcode ∷ bytes))) (Some (command_with opcode (opcode ∷ bytes))) None)) is_size
     ∙ cond-false (leb size (length (opcode ∷ bytes))) (Some (command_with opcode (opcode ∷ bytes))) None (lt-leb size (length (opcode ∷ bytes)) short)
+
+-- an opcode whose command is not there
+pub size_over : (bytes : List ℕ) (left : ℕ) (found : Option ℕ) → length bytes ≡ left → size_of (byte_at bytes 0) ≡ found → IfSome found (λ size. left < size) → command_at bytes ≡ None
+size_over bytes left None long none over = size_none bytes none
+size_over bytes left (Some size) long is_size over = let short : left < size = over in size_short bytes size is_size (omega arith)
 
 pub size_there : (bytes : List ℕ) (size : ℕ) → 0 < length bytes → size_of (byte_at bytes 0) ≡ Some size → size ≤ length bytes → command_at bytes ≡ Some (command_with (byte_at bytes 0) bytes)
 unfolding command_at
@@ -365,3 +370,43 @@ fault_small (opcode ∷ bytes) fault small e =
 
 pub error_at_fault : (bytes : List ℕ) (fault : CommandFault) → All IsByte bytes → fault_in bytes ≡ Some fault → IsCommand (Err fault.code fault.bytes)
 error_at_fault bytes fault small e = fault_small (rest_in bytes) fault (All-drop IsByte (length (spellings (commands_in bytes))) bytes small) e
+
+-- ---- the fault of a text
+
+pub fault_nil : fault_in [] ≡ None
+unfolding commands_within
+fault_nil = refl
+
+-- behind a command the same fault is still to come
+pub fault_next : (bytes : List ℕ) (size : ℕ) → All IsByte bytes → size_of (byte_at bytes 0) ≡ Some size → 0 < size → size ≤ length bytes → fault_in bytes ≡ fault_in (drop size bytes)
+fault_next bytes size small is_size some there =
+    let command = command_with (byte_at bytes 0) bytes in
+    let begins : Begins command size bytes = read_begins bytes small size is_size there in
+    ap fault_of (rest_next bytes command (size_there bytes size (omega arith) is_size there))
+    ∙ ap (λ n. fault_in (drop n bytes)) begins.takes
+
+-- the fault at an opcode whose command is not there, by its code
+abbrev pub code_at : ℕ → ℕ
+code_at opcode = cond (ltb 13 opcode) 1 2
+
+pub code_unknown : (opcode : ℕ) → size_of opcode ≡ None → code_at opcode ≡ 1
+code_unknown opcode none = elim (cases_lt opcode 14) [
+  | inl h ↦ absurd (none-some (get_or sizes opcode 0) (sym none ∙ slice_get-get_or sizes opcode 0 h))
+  | inr h ↦ cond-true (ltb 13 opcode) 1 2 (lt-ltb 13 opcode (omega arith))
+]
+
+pub code_short : (opcode size : ℕ) → size_of opcode ≡ Some size → code_at opcode ≡ 2
+code_short opcode size is_size =
+    let few : opcode < 14 = slice_get_within sizes opcode size is_size in
+    cond-false (ltb 13 opcode) 1 2 (le-ltb 13 opcode (omega arith))
+
+abbrev pub fault_with : ℕ → List ℕ → CommandFault
+fault_with code shown = record { code = code; bytes = shown }
+
+pub fault_front : (bytes : List ℕ) (code : ℕ) → 0 < length bytes → code_at (byte_at bytes 0) ≡ code → fault_of bytes ≡ Some (fault_with code (padded 10 bytes))
+fault_front [] code some is = absurd (omega arith)
+fault_front (opcode ∷ bytes) code some is = ap (λ code. Some (fault_with code (padded 10 (opcode ∷ bytes)))) is
+
+-- where no command is, the fault is there
+pub fault_here : (bytes : List ℕ) (fault : CommandFault) → command_at bytes ≡ None → fault_of bytes ≡ Some fault → fault_in bytes ≡ Some fault
+fault_here bytes fault none is = ap fault_of (rest_none bytes none) ∙ is

@@ -8,11 +8,12 @@ ghost use Rattle.ncp_control.specs.Reading.{size_of, byte_at, short_at, word_at,
 use crate::command::{Command, ERROR_DATA, LONGEST_COMMAND};
 use crate::fault::{CommandFault, ILLEGAL_OPCODE, SHORT_PARAMETER_SPACE};
 use crate::opcodes::*;
-use ncp_bits::Part;
+use ncp_bits::{MAX_BITS, Part};
 
 // How many bytes the command with an opcode has.
 fn command_size(opcode: u8) -> Option<usize>
-    ensures { result ≡ size_of opcode }
+    ensures size { result ≡ size_of opcode }
+    ensures some { IfSome result (λ size. 0 < size) }
 {
     match opcode {
         NOP | RST | RRP => Some(1),
@@ -26,9 +27,9 @@ fn command_size(opcode: u8) -> Option<usize>
     }
 }
 
-// The byte at a place.
-fn byte_in(text: &Part<'_>, place: usize) -> u8
-    requires near { place < LONGEST_COMMAND }
+/// The byte at a place.
+pub(crate) fn byte_in(text: &Part<'_>, place: usize) -> u8
+    requires near { 8 * place < MAX_BITS }
     requires inside { 8 * place + 8 ≤ length text.now }
     ensures { result ≡ byte_at (bytes_of text.now) place }
 {
@@ -55,7 +56,6 @@ fn word_in(text: &Part<'_>, place: usize) -> u32
 
 // The next ten bytes from a place, zeros after the end.
 fn data_in(text: &Part<'_>, place: usize) -> [u8; ERROR_DATA]
-    requires near { place < LONGEST_COMMAND }
     requires whole { length text.now % 8 ≡ 0 }
     requires inside { 8 * place ≤ length text.now }
     ensures { result ≡ padded ERROR_DATA (drop place (bytes_of text.now)) }
@@ -151,16 +151,35 @@ fn command_in(text: &Part<'_>, opcode: u8) -> Command
     }
 }
 
-// A fault at the front of a text.
-fn fault_at_front(text: &Part<'_>, code: u8) -> CommandFault
-    requires whole { length text.now % 8 ≡ 0 }
-    requires some { 0 < length text.now }
-    ensures code { result.code ≡ code }
-    ensures bytes { result.bytes ≡ padded ERROR_DATA (bytes_of text.now) }
+/// How many bytes the command with an opcode has, if there is one and no more than so many.
+pub(crate) fn size_within(opcode: u8, left: usize) -> Option<usize>
+    ensures size { IfSome result (λ size. size_of opcode ≡ Some size) }
+    ensures some { IfSome result (λ size. 0 < size) }
+    ensures fits { IfSome result (λ size. size ≤ left) }
+    ensures none { result ≡ None → IfSome (size_of opcode) (λ size. left < size) }
 {
+    let size = command_size(opcode)?;
+    if left < size {
+        return None;
+    }
+    Some(size)
+}
+
+/// The fault at a place where no command begins.
+#[cold]
+pub(crate) fn fault_at(text: &Part<'_>, place: usize) -> CommandFault
+    requires whole { length text.now % 8 ≡ 0 }
+    requires near { 8 * place < MAX_BITS }
+    requires inside { 8 * place < length text.now }
+    ensures { fault_of (drop place (bytes_of text.now)) ≡ Some result }
+{
+    let code = match command_size(byte_in(text, place)) {
+        Some(_) => SHORT_PARAMETER_SPACE,
+        None => ILLEGAL_OPCODE,
+    };
     CommandFault {
         code,
-        bytes: data_in(text, 0),
+        bytes: data_in(text, place),
     }
 }
 
@@ -172,12 +191,9 @@ pub(crate) fn read_front<'a>(text: &Part<'a>) -> Result<(Command, Part<'a>), Com
     ensures rest { MatchResult result (λ read. read.1 ≡ drop (8 * length (spelling read.0)) text.now) (λ fault. fault_of (bytes_of text.now) ≡ Some fault) }
 {
     let opcode = byte_in(text, 0);
-    let Some(size) = command_size(opcode) else {
-        return Err(fault_at_front(text, ILLEGAL_OPCODE));
+    let Some(size) = size_within(opcode, text.len() / 8) else {
+        return Err(fault_at(text, 0));
     };
-    if text.len() < 8 * size {
-        return Err(fault_at_front(text, SHORT_PARAMETER_SPACE));
-    }
     let rest = text.slice(8 * size, text.len() - 8 * size);
     Ok((command_in(text, opcode), rest))
 }

@@ -8,6 +8,7 @@ mod command;
 mod commands;
 pub mod equality;
 mod fault;
+mod finding;
 mod front;
 pub mod laws;
 mod opcodes;
@@ -18,3 +19,4 @@ pub use fault::{
     CommandFault, ERRONEOUS_PARAMETERS, ILLEGAL_OPCODE, NONEXISTENT_SOCKET, SHORT_PARAMETER_SPACE,
     SOCKET_NOT_CONNECTED,
 };
+pub use finding::find_fault;

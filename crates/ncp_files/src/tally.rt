@@ -1,15 +1,13 @@
 //! `Tally`: how many messages of which kinds there are.
-ghost use Rattle.std.specs.Prelude.{◌≡◌, ◌+◌, ◌≤◌, ◌%◌, ◌++◌, length, is_some};
-ghost use Rattle.ncp_bits.specs.Bits.{bytes_of};
+ghost use Rattle.std.specs.Prelude.{◌≡◌, ◌+◌, ◌≤◌, ◌++◌, length};
 ghost use Rattle.ncp_leader.specs.Message.{message_in};
-ghost use Rattle.ncp_control.specs.Reading.{fault_in};
 ghost use Rattle.ncp_files.specs.Checked.{is_bad_text, verdict_of_message, verdict_of, is_sound, tally_line};
 ghost use Rattle.ncp_files.specs.Tallies.{no_messages, tally_with, one_more};
 
 use crate::control::{is_of_control, is_on_control_link};
 use crate::line::LONGEST_LINE;
-use ncp_bits::{Bits, Part};
-use ncp_control::Commands;
+use ncp_bits::Bits;
+use ncp_control::find_fault;
 use ncp_leader::{REGULAR, Regular, read_leader, read_regular};
 use ncp_page::{PAGE_SIZE, Page, push_field};
 
@@ -38,20 +36,6 @@ pub(crate) struct Tally {
     pub bad: u32,
 }
 
-// Whether a control text has a fault. It stays out of the loop that counts, as few messages have such a text.
-#[inline(never)]
-fn has_fault(text: Part<'_>) -> bool
-    requires { length text % 8 ≡ 0 }
-    ensures { result ≡ is_some (fault_in (bytes_of text.entry)) }
-{
-    for item in Commands::new(text) {
-        if let Err(_) = item {
-            return true;
-        }
-    }
-    false
-}
-
 // Whether something is wrong with a message of the control link.
 fn is_bad(message: &Regular<'_>) -> bool
     ensures { result ≡ is_bad_text message.now }
@@ -59,10 +43,7 @@ fn is_bad(message: &Regular<'_>) -> bool
     if !is_on_control_link(message) {
         return false;
     }
-    if !is_of_control(message) {
-        return true;
-    }
-    has_fault(message.text())
+    !is_of_control(message) || find_fault(&message.text()).is_some()
 }
 
 // What is found of a message of type 0.

@@ -7,8 +7,8 @@ ghost use Rattle.ncp_control.specs.Reading.{commands_in, fault_in};
 use ncp_bits::{Bits, Part};
 use ncp_control::{
     Command, CommandFault, Commands, ERRONEOUS_PARAMETERS, ILLEGAL_OPCODE, LONGEST_COMMAND,
-    NONEXISTENT_SOCKET, SHORT_PARAMETER_SPACE, SOCKET_NOT_CONNECTED, equality, error_for, laws,
-    put_command,
+    NONEXISTENT_SOCKET, SHORT_PARAMETER_SPACE, SOCKET_NOT_CONNECTED, equality, error_for,
+    find_fault, laws, put_command,
 };
 use std::alloc::AllocError;
 use std::process::Abort;
@@ -27,7 +27,8 @@ fn text_of(rt: &impl Abort, bytes: &[u8]) -> Bits
     Bits::from_bytes(bytes, 8 * bytes.len()).expect(rt, "whole bytes")
 }
 
-// That bytes are read as these commands, and then the fault, and then no more.
+// That bytes are read as these commands, and then the fault, and then no more, and that the fault is found
+// by itself.
 fn is_read(rt: &impl Abort, bytes: &[u8], commands: &[Command], fault: Option<CommandFault>)
     requires { length bytes.now ≤ 1024 }
 {
@@ -41,6 +42,7 @@ fn is_read(rt: &impl Abort, bytes: &[u8], commands: &[Command], fault: Option<Co
     }
     assert!(rt; items.next() == None);
     assert!(rt; items.next() == None);
+    assert!(rt; find_fault(&text.whole()) == fault);
 }
 
 // That a command is written as these bytes, and they are read as it.

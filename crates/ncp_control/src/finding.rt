@@ -1,0 +1,27 @@
+//! `find_fault`.
+ghost use Rattle.std.specs.Prelude.{◌≡◌, ◌%◌, length};
+ghost use Rattle.ncp_bits.specs.Bits.{bytes_of};
+ghost use Rattle.ncp_control.specs.Reading.{fault_in};
+
+use crate::fault::CommandFault;
+use crate::front::{byte_in, fault_at, size_within};
+use ncp_bits::Part;
+
+/// The fault of a control text of whole bytes, if it has one: the one that [`crate::Commands`] gives
+/// behind the commands. It reads the opcode of each command, and makes no command.
+// It stays out of the loops that call it, as few messages have a control text.
+#[inline(never)]
+pub fn find_fault(text: &Part<'_>) -> Option<CommandFault>
+    requires { length text.now % 8 ≡ 0 }
+    ensures { result ≡ fault_in (bytes_of text.now) }
+{
+    let count = text.len() / 8;
+    let mut place = 0;
+    while place < count {
+        match size_within(byte_in(text, place), count - place) {
+            Some(size) => place += size,
+            None => return Some(fault_at(text, place)),
+        }
+    }
+    None
+}
