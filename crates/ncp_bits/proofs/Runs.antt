@@ -129,9 +129,9 @@ number_of_bytes-more bytes i number byte few h small b n =
     ∙ ap number_of (bits_of_bytes-more [] bytes i h)
 
 -- a run of whole bytes
-pub run_of_bytes : (bytes : List ℕ) (from width : ℕ) → from % 8 ≡ 0 → width % 8 ≡ 0 → from + width ≤ 8 * length bytes → bits_of_bytes (slice_range bytes (from / 8) ((from + width) / 8)) ≡ run bytes from width
+pub run_of_bytes : (bytes : List ℕ) (from width : ℕ) → from % 8 ≡ 0 → width % 8 ≡ 0 → from + width ≤ 8 * length bytes → bits_of_bytes (slice_range bytes (from / 8) (from / 8 + width / 8)) ≡ run bytes from width
 run_of_bytes bytes from width a b h =
-    let count : (from + width) / 8 - from / 8 ≡ width / 8 = omega arith in
+    let count : from / 8 + width / 8 - from / 8 ≡ width / 8 = omega arith in
     let inside : width / 8 ≤ length (drop (from / 8) bytes) = simp length-drop (omega arith) in
     let long : length (take (width / 8) (drop (from / 8) bytes)) ≡ width / 8 = length-take-le (width / 8) (drop (from / 8) bytes) inside in
     ap (λ (k : ℕ). bits_of_bytes (take k (drop (from / 8) bytes))) count

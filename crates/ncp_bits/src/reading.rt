@@ -62,7 +62,9 @@ pub(crate) fn number_in(bytes: &[u8], from: usize, width: usize) -> u64
     ensures { result ≡ number_of (run bytes.now from width) }
 {
     if from % 8 == 0 && width % 8 == 0 {
-        return number_of_bytes(&bytes[from / 8..(from + width) / 8]);
+        // Most callers' width is a constant. So is the length of these bytes then, and no loop is left.
+        let first = from / 8;
+        return number_of_bytes(&bytes[first..first + width / 8]);
     }
     number_across(bytes, from, width)
 }
@@ -77,7 +79,8 @@ pub(crate) fn bytes_in(bytes: &[u8], from: usize, len: usize) -> Option<&[u8]>
     if from % 8 != 0 || len % 8 != 0 {
         return None;
     }
-    Some(&bytes[from / 8..(from + len) / 8])
+    let first = from / 8;
+    Some(&bytes[first..first + len / 8])
 }
 
 /// Whether a bit behind the first `len` is set, in bytes that these bits just need.

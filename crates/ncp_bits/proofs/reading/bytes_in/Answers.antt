@@ -14,7 +14,7 @@ pub returns-clause-bytes : goal.returns-clause-bytes
 unfolding IsByte
 returns-clause-bytes c =
     let first = c.args.from / 8 in
-    let count = (c.args.from + c.args.len) / 8 - c.args.from / 8 in
+    let count = c.args.from / 8 + c.args.len / 8 - c.args.from / 8 in
     let small : All IsByte c.args.bytes.now = All-from_get_or IsByte c.args.bytes.now 0 (λ place h. let fits = c.type_inv.bytes place in omega arith) in
     ap bytes_of (sym (run_of_bytes c.args.bytes.now c.args.from c.args.len c.if-from-ne0.false c.if-len-ne0.false c.requires.inside))
     ∙ bytes_of-bits_of_bytes (take count (drop first c.args.bytes.now)) (All-take IsByte count (drop first c.args.bytes.now) (All-drop IsByte first c.args.bytes.now small))
@@ -22,6 +22,6 @@ returns-clause-bytes c =
 pub returns-clause-len : goal.returns-clause-len
 returns-clause-len c =
     let first = c.args.from / 8 in
-    let count = (c.args.from + c.args.len) / 8 - c.args.from / 8 in
+    let count = c.args.from / 8 + c.args.len / 8 - c.args.from / 8 in
     let inside : count ≤ length (drop first c.args.bytes.now) = simp length-drop (omega arith) in
     ap (λ (n : ℕ). 8 * n) (length-take-le count (drop first c.args.bytes.now) inside) ∙ omega arith
