@@ -9,7 +9,7 @@ use Rattle.std.proofs.lemmas.Nat.{pow-add}
 use Rattle.std.proofs.Math.Seq.{take-add}
 use Rattle.ncp_bits.specs.Numbers.{number_of, bits_of}
 use Rattle.ncp_bits.specs.Bits.{byte_bits, bits_of_bytes, bytes_for, spare_for, byte_of, bytes_of, read_bytes}
-use Rattle.ncp_bits.specs.Packed.{run, IsPacked}
+use Rattle.ncp_bits.specs.Packed.{run}
 use Rattle.ncp_bits.proofs.Numbers.{bits_of-number_of}
 use Rattle.ncp_bits.proofs.Bytes.{length-bits_of_bytes, number_of-zeros, read_bytes-ok}
 use Rattle.ncp_bits.proofs.Packing.{bits_of_bytes-bytes_of}
@@ -61,44 +61,28 @@ joined_bits front back byte spare eight is_byte =
     ap (bits_of 8) (sym spelled) ∙ ap (λ (k : ℕ). bits_of k (number_of ((front ++ back) ++ replicate spare false))) (sym long) ∙ bits_of-number_of ((front ++ back) ++ replicate spare false)
 
 -- what was written, up to the last bit of it
-pub take_written : (ws old : List ℕ) (part : List Bool) (at n : ℕ) → n ≡ at + length part → at ≤ 8 * length old
-    → take (8 * bytes_for n) (bits_of_bytes ws) ≡ (take at (bits_of_bytes old) ++ part) ++ replicate (spare_for n) false → take n (bits_of_bytes ws) ≡ take at (bits_of_bytes old) ++ part
-take_written ws old part at n is_n inside written =
+pub run_behind : (ws old : List ℕ) (part : List Bool) (at : ℕ) → at ≤ 8 * length old
+    → take (8 * bytes_for (at + length part)) (bits_of_bytes ws) ≡ (take at (bits_of_bytes old) ++ part) ++ replicate (spare_for (at + length part)) false → run ws 0 (at + length part) ≡ run old 0 at ++ part
+unfolding run
+run_behind ws old part at inside written =
+    let n = at + length part in
     let l : length (bits_of_bytes old) ≡ 8 * length old = length-bits_of_bytes old in
     let front : length (take at (bits_of_bytes old)) ≡ at = length-take-le at (bits_of_bytes old) (omega arith) in
     let long : length (take at (bits_of_bytes old) ++ part) ≡ n = length-append (take at (bits_of_bytes old)) part ∙ omega arith in
     sym (take-take n (8 * bytes_for n) (bits_of_bytes ws) (omega arith)) ∙ ap (take n) written ∙ take_at (take at (bits_of_bytes old) ++ part) (replicate (spare_for n) false) n long
 
 -- the same of a run that begins anywhere
-pub run_written : (ws old : List ℕ) (part : List Bool) (from len n : ℕ) → n ≡ from + len + length part → from + len ≤ 8 * length old
-    → take (8 * bytes_for n) (bits_of_bytes ws) ≡ (take (from + len) (bits_of_bytes old) ++ part) ++ replicate (spare_for n) false → run ws from (len + length part) ≡ run old from len ++ part
+pub run_written : (ws old : List ℕ) (part : List Bool) (from len : ℕ) → from + len ≤ 8 * length old → run ws 0 (from + len + length part) ≡ run old 0 (from + len) ++ part → run ws from (len + length part) ≡ run old from len ++ part
 unfolding run
-run_written ws old part from len n is_n inside written =
+run_written ws old part from len inside written =
     let l : length (bits_of_bytes old) ≡ 8 * length old = length-bits_of_bytes old in
     let front : length (take (from + len) (bits_of_bytes old)) ≡ from + len = length-take-le (from + len) (bits_of_bytes old) (omega arith) in
-    let whole : from + (len + length part) ≡ n = omega arith in
+    let whole : from + (len + length part) ≡ from + len + length part = omega arith in
     sym (drop-take from (len + length part) (bits_of_bytes ws))
     ∙ ap (λ (k : ℕ). drop from (take k (bits_of_bytes ws))) whole
-    ∙ ap (drop from) (take_written ws old part (from + len) n is_n inside written)
+    ∙ ap (drop from) written
     ∙ drop-append-le from (take (from + len) (bits_of_bytes old)) part (omega arith)
     ∙ ap (λ bits. bits ++ part) (drop-take from len (bits_of_bytes old))
-
-pub run_behind : (ws old : List ℕ) (part : List Bool) (at : ℕ) → at ≤ 8 * length old
-    → take (8 * bytes_for (at + length part)) (bits_of_bytes ws) ≡ (take at (bits_of_bytes old) ++ part) ++ replicate (spare_for (at + length part)) false → run ws 0 (at + length part) ≡ run old 0 at ++ part
-unfolding run
-run_behind ws old part at inside written = take_written ws old part at (at + length part) refl inside written
-
-pub packed_written : (ws old : List ℕ) (part : List Bool) (at : ℕ) → at + length part ≤ 8192 → at ≤ 8 * length old → length ws ≡ bytes_for (at + length part)
-    → take (8 * bytes_for (at + length part)) (bits_of_bytes ws) ≡ (take at (bits_of_bytes old) ++ part) ++ replicate (spare_for (at + length part)) false → IsPacked ws (at + length part)
-unfolding run
-packed_written ws old part at fits inside long written =
-    let l : length (bits_of_bytes ws) ≡ 8 * length ws = length-bits_of_bytes ws in
-    record {
-      fits = fits;
-      long = long;
-      spare = sym (take_all (8 * bytes_for (at + length part)) (bits_of_bytes ws) (omega arith)) ∙ written
-          ∙ ap (λ bits. bits ++ replicate (spare_for (at + length part)) false) (sym (take_written ws old part at (at + length part) refl inside written));
-    }
 
 -- the bits up to a place inside a byte
 pub take_inside : (out : List ℕ) (first kept : ℕ) → first < length out → kept ≤ 8 → take (8 * first + kept) (bits_of_bytes out) ≡ bits_of_bytes (take first out) ++ take kept (byte_bits (get_or out first 0))

@@ -9,8 +9,8 @@ use Rattle.std.proofs.Math.Nat.{mod-eq_of_lt}
 use Rattle.std.proofs.lemmas.Bool.{ne_eqb}
 use Rattle.std.proofs.Math.Seq.{drop-cons, take-add}
 use Rattle.ncp_bits.specs.Numbers.{number_of, bits_of, bit_of}
-use Rattle.ncp_bits.specs.Bits.{byte_bits, bits_of_bytes, bytes_for, spare_for, byte_of, read_bytes}
-use Rattle.ncp_bits.specs.Packed.{run, IsPart, IsPacked, HoldsRun}
+use Rattle.ncp_bits.specs.Bits.{byte_bits, bits_of_bytes, bytes_for, byte_of, read_bytes}
+use Rattle.ncp_bits.specs.Packed.{run, IsPart, HoldsBits, HoldsRun}
 use Rattle.ncp_bits.proofs.Numbers.{length-bits_of, number_of-bits_of, number_of-below}
 use Rattle.ncp_bits.proofs.Bytes.{length-bits_of_bytes, bits_of_bytes-more, byte_of-long, byte_of-short, read_bytes-ok, take-bits_of_bytes}
 use Rattle.ncp_bits.proofs.Packing.{drop-bits_of_bytes}
@@ -129,9 +129,9 @@ number_of_bytes-more bytes i number byte few h small b n =
     ∙ ap number_of (bits_of_bytes-more [] bytes i h)
 
 -- a run of whole bytes
-pub run_of_bytes : (bytes : List ℕ) (from width : ℕ) → from % 8 ≡ 0 → width % 8 ≡ 0 → from + width ≤ 8 * length bytes → bits_of_bytes (slice_range bytes (from / 8) ((from + width) / 8)) ≡ run bytes from width
+pub run_of_bytes : (bytes : List ℕ) (from width : ℕ) → from % 8 ≡ 0 → width % 8 ≡ 0 → from + width ≤ 8 * length bytes → bits_of_bytes (slice_range bytes (from / 8) (from / 8 + width / 8)) ≡ run bytes from width
 run_of_bytes bytes from width a b h =
-    let count : (from + width) / 8 - from / 8 ≡ width / 8 = omega arith in
+    let count : from / 8 + width / 8 - from / 8 ≡ width / 8 = omega arith in
     let inside : width / 8 ≤ length (drop (from / 8) bytes) = simp length-drop (omega arith) in
     let long : length (take (width / 8) (drop (from / 8) bytes)) ≡ width / 8 = length-take-le (width / 8) (drop (from / 8) bytes) inside in
     ap (λ (k : ℕ). bits_of_bytes (take k (drop (from / 8) bytes))) count
@@ -181,17 +181,11 @@ last_of-run bytes from len k rest few is_len inside =
 pub length-part : {bytes : List ℕ} {skip len : ℕ} {bits : List Bool} → IsPart bytes skip len → run bytes skip len ≡ bits → len ≡ length bits
 length-part {bytes} {skip} {len} h seen = sym (length-run bytes skip len h.inside) ∙ ap length seen
 
-pub length-packed : {bytes : List ℕ} {len : ℕ} {bits : List Bool} → IsPacked bytes len → run bytes 0 len ≡ bits → len ≡ length bits
-length-packed {bytes} {len} h seen = sym (length-run bytes 0 len (let long : length bytes ≡ bytes_for len = h.long in omega arith)) ∙ ap length seen
+pub length-packed : {bytes : List ℕ} {len : ℕ} {bits : List Bool} → HoldsBits bytes len → run bytes 0 len ≡ bits → len ≡ length bits
+length-packed {bytes} {len} h seen = sym (length-run bytes 0 len (omega (arith, h.inside))) ∙ ap length seen
 
 pub length-held : {bytes : List ℕ} {from len capacity : ℕ} {bits : List Bool} → HoldsRun bytes from len capacity → run bytes from len ≡ bits → len ≡ length bits
 length-held {bytes} {from} {len} h seen = sym (length-run bytes from len h.inside) ∙ ap length seen
-
--- no bit set
-pub none_set : (bits : List Bool) → list_any (λ bit. bit) bits ≡ false → bits ≡ replicate (length bits) false
-none_set [] h = refl
-none_set (true ∷ bits) h = cc
-none_set (false ∷ bits) h = ap (λ xs. false ∷ xs) (none_set bits h)
 
 -- whether a bit is set, by the number that they spell
 pub any_set : (bits : List Bool) → not (eqb (number_of bits) 0) ≡ list_any (λ bit. bit) bits
@@ -204,23 +198,17 @@ any_set (false ∷ bits) =
     let e : 0 + number_of bits ≡ number_of bits = omega arith in
     ap (λ (n : ℕ). not (eqb n 0)) e ∙ any_set bits
 
--- a copy of the bytes used is what was read
-pub read_packed : (bytes : List ℕ) (len used : ℕ) → len ≤ 8192 → used ≡ bytes_for len → used ≤ length bytes → list_any (λ bit. bit) (drop len (bits_of_bytes (take used bytes))) ≡ false → read_bytes bytes len ≡ Ok (run (take used bytes) 0 len)
+-- the bits of the bytes used are what was read
+read_packed : (bytes : List ℕ) (len used : ℕ) → len ≤ 8192 → used ≡ bytes_for len → used ≤ length bytes → list_any (λ bit. bit) (drop len (bits_of_bytes (take used bytes))) ≡ false → read_bytes bytes len ≡ Ok (run (take used bytes) 0 len)
 unfolding run
 read_packed bytes len used small is_used long none =
     read_bytes-ok bytes len used small is_used long none ∙ ap Ok (sym (take-bits_of_bytes bytes len used long (omega arith)))
 
-pub packed_copy : (bytes : List ℕ) (len used : ℕ) → len ≤ 8192 → used ≡ bytes_for len → used ≤ length bytes → list_any (λ bit. bit) (drop len (bits_of_bytes (take used bytes))) ≡ false → IsPacked (take used bytes) len
-unfolding run
-packed_copy bytes len used small is_used long none =
+-- a copy of the bytes used, in front of any others, is what was read
+pub read_copied : (bytes rest : List ℕ) (len used : ℕ) → len ≤ 8192 → used ≡ bytes_for len → used ≤ length bytes → list_any (λ bit. bit) (drop len (bits_of_bytes (take used bytes))) ≡ false → read_bytes bytes len ≡ Ok (run (take used bytes ++ rest) 0 len)
+read_copied bytes rest len used small is_used long none =
     let l : length (take used bytes) ≡ used = length-take-le used bytes long in
-    let b : length (bits_of_bytes (take used bytes)) ≡ 8 * length (take used bytes) = length-bits_of_bytes (take used bytes) in
-    let spare : length (drop len (bits_of_bytes (take used bytes))) ≡ spare_for len = length-drop len (bits_of_bytes (take used bytes)) ∙ omega arith in
-    record {
-      fits = small;
-      long = omega arith;
-      spare = sym (take-append-drop len (bits_of_bytes (take used bytes))) ∙ ap (λ bits. take len (bits_of_bytes (take used bytes)) ++ bits) (none_set (drop len (bits_of_bytes (take used bytes))) none ∙ ap (λ (n : ℕ). replicate n false) spare);
-    }
+    read_packed bytes len used small is_used long none ∙ ap Ok (sym (run-append (take used bytes) rest 0 len (omega arith)))
 
 -- bytes of zero
 bits_of_zeros : (n : ℕ) → bits_of_bytes (replicate n 0) ≡ replicate (8 * n) false

@@ -1,17 +1,16 @@
 -- Bits in bytes, eight a byte, at any bit.
-use Rattle.std.specs.Prelude.{ℕ, ◌≡◌, ◌+◌, ◌*◌, ◌<◌, ◌≤◌, ◌^◌, Bool, false, List, length, take, drop, replicate, ◌++◌}
-use Rattle.ncp_bits.specs.Bits.{bits_of_bytes, bytes_for, spare_for}
+use Rattle.std.specs.Prelude.{ℕ, ◌+◌, ◌*◌, ◌<◌, ◌≤◌, ◌^◌, Bool, List, length, take, drop}
+use Rattle.ncp_bits.specs.Bits.{bits_of_bytes}
 use Rattle.ncp_bits.specs.declared.bits.TheConstants.{MAX_BITS}
 
 -- the run of so many bits of bytes from a place on
 unfoldable pub run : List ℕ → ℕ → ℕ → List Bool
 run bytes from len = take len (drop from (bits_of_bytes bytes))
 
--- bytes that hold so many bits and no more: each spare bit of the last is zero
-pub record IsPacked (bytes : List ℕ) (len : ℕ) : Type 0 where
+-- bytes that begin with so many bits, whatever lies behind them
+pub record HoldsBits (bytes : List ℕ) (len : ℕ) : Type 0 where
   pub fits : len ≤ MAX_BITS
-  pub long : length bytes ≡ bytes_for len
-  pub spare : bits_of_bytes bytes ≡ run bytes 0 len ++ replicate (spare_for len) false
+  pub inside : len ≤ 8 * length bytes
 
 -- bytes with room for so many bits, that hold a run of no more: the run can begin in any byte's middle
 pub record HoldsRun (bytes : List ℕ) (from len capacity : ℕ) : Type 0 where

@@ -1,7 +1,8 @@
 //! Appending a part to bits that lie in bytes.
-ghost use Rattle.std.specs.Prelude.{◌≡◌, ◌+◌, ◌*◌, ◌-◌, ◌<◌, ◌≤◌, ◌^◌, ◌++◌, false, length, take, replicate};
+ghost use Rattle.std.specs.Prelude.{◌≡◌, ◌+◌, ◌*◌, ◌-◌, ◌<◌, ◌≤◌, ◌^◌, ◌++◌, length, take};
 ghost use Rattle.ncp_bits.specs.Numbers.{number_of};
-ghost use Rattle.ncp_bits.specs.Bits.{byte_bits, bits_of_bytes, bytes_for, spare_for};
+ghost use Rattle.ncp_bits.specs.Bits.{byte_bits};
+ghost use Rattle.ncp_bits.specs.Packed.{run};
 
 use crate::part::Part;
 
@@ -15,14 +16,13 @@ fn joined_byte(byte: u8, kept: usize, number: u8, count: usize) -> u8
     ((byte >> (8 - kept)) << (8 - kept)) | (number << (8 - kept - count))
 }
 
-/// Writes a part behind the first `at` bits of bytes. The bits behind it become zero, up to the
-/// end of its last byte.
+/// Writes a part behind the first `at` bits of bytes. What lies behind it in its last byte is lost.
 ///
 /// A part that fills the byte at hand up to its end and begins with a byte then is copied; else
 /// each byte takes two shifts.
 pub(crate) fn write_behind(out: &mut [u8], at: usize, part: &Part<'_>)
     requires { at + length part.now ≤ 8 * length out.old }
-    ensures { take (8 * bytes_for (at + length part.now)) (bits_of_bytes out.new) ≡ (take at (bits_of_bytes out.old) ++ part.now) ++ replicate (spare_for (at + length part.now)) false }
+    ensures { run out.new 0 (at + length part.now) ≡ run out.old 0 at ++ part.now }
 {
     let first = at / 8;
     let kept = at % 8;

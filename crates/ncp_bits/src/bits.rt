@@ -20,7 +20,7 @@ const MAX_BYTES: usize = MAX_BITS / 8;
 // How many bits a number has.
 const NUMBER_BITS: usize = u64::BITS as usize;
 
-// What bytes are before bits are written into them.
+// What bytes are before they are written.
 static ZEROS: [u8; MAX_BYTES] = [0; MAX_BYTES];
 
 /// Why bits are refused, in the order in which it is judged.
@@ -38,30 +38,42 @@ pub enum BitsFault {
 /// its [`MAX_BITS`] / 8 bytes once, and a move copies them.
 #[derive(Drop)]
 pub struct Bits {
+    // At least as many bytes as the bits take. They are never shortened, as that would write zeros
+    // over those that go, and what lies behind the bits is not looked at.
     bytes: ArrayVec<u8, MAX_BYTES>,
     len: usize,
 }
 
 impl Model for Bits {
     ghost use Rattle.std.specs.Prelude.{List, Bool};
-    ghost use Rattle.ncp_bits.specs.Packed.{run, IsPacked};
+    ghost use Rattle.ncp_bits.specs.Packed.{run, HoldsBits};
 
     ghost Value = { List Bool };
 
     ghost view = { λ bits. run bits.bytes.items 0 bits.len };
 
-    ghost invariant = { λ bits. IsPacked bits.bytes.items bits.len };
+    ghost invariant = { λ bits. HoldsBits bits.bytes.items bits.len };
 }
 
-// Lengthens bytes to so many, by zeros.
+// Lengthens bytes to so many, by zeros, where there are fewer.
 fn lengthen(bytes: &mut ArrayVec<u8, MAX_BYTES>, len: usize)
-    requires longer { length bytes.old.items ≤ len }
-    requires fits { len ≤ MAX_BYTES }
+    requires { len ≤ MAX_BYTES }
     ensures front { take (length bytes.old.items) bytes.new.items ≡ bytes.old.items }
-    ensures len { length bytes.new.items ≡ len }
+    ensures kept { length bytes.old.items ≤ length bytes.new.items }
+    ensures len { len ≤ length bytes.new.items }
 {
-    let more = len - bytes.len();
-    bytes.try_extend_from_slice(&ZEROS[..more]).unwrap();
+    let held = bytes.len();
+    if held < len {
+        bytes.try_extend_from_slice(&ZEROS[..len - held]).unwrap();
+    }
+}
+
+// Copies bytes over the first of others.
+fn overwrite(out: &mut [u8], bytes: &[u8])
+    requires { length bytes.now ≤ length out.old }
+    ensures { out.new ≡ bytes.now ++ drop (length bytes.now) out.old }
+{
+    out[..bytes.len()].copy_from_slice(bytes);
 }
 
 impl Bits {
@@ -93,8 +105,8 @@ impl Bits {
     /// Becomes the first `len` bits of bytes, where `from_bytes` does not refuse them. A refusal
     /// changes nothing.
     ///
-    /// It zeroes the bytes that were there and copies those that come, in place, where a new
-    /// [`Bits`] writes all its bytes. So one [`Bits`] takes one message after the other.
+    /// It copies the bytes that come over those that were there, where a new [`Bits`] writes all its
+    /// bytes. So one [`Bits`] takes one message after the other.
     pub fn copy_from_bytes(&mut self, bytes: &[u8], len: usize) -> Result<(), BitsFault>
         ensures ok { OnOk result (read_bytes bytes.now len ≡ Ok self.new) }
         ensures len { OnOk result (length self.new ≡ len) }
@@ -112,8 +124,8 @@ impl Bits {
         if is_spare_set(front, len) {
             return Err(BitsFault::SpareNotZero);
         }
-        self.bytes.clear();
-        self.bytes.try_extend_from_slice(front).unwrap();
+        lengthen(&mut self.bytes, used);
+        overwrite(self.bytes.as_mut_slice(), front);
         self.len = len;
         Ok(())
     }
@@ -201,8 +213,8 @@ impl Bits {
 
     /// Appends a part. `TooLong` where it does not fit.
     ///
-    /// It makes the new bytes zero, and completes the last byte. Where the rest of the part begins
-    /// with a byte then, it is copied; else each byte takes two shifts.
+    /// It completes the last byte. Where the rest of the part begins with a byte then, it is copied;
+    /// else each byte takes two shifts. Bytes that were not there yet are made zero first.
     pub fn append(&mut self, part: Part<'_>) -> Result<(), BitsFault>
         ensures variant { IsOk result ↔ (length self.old + length part.entry ≤ MAX_BITS) }
         ensures ok { OnOk result (self.new ≡ self.old ++ part.entry) }

@@ -1,11 +1,11 @@
 //! `Part`.
-ghost use Rattle.std.specs.Prelude.{◌≡◌, ◌+◌, ◌*◌, ◌<◌, ◌≤◌, ◌^◌, ◌++◌, ◌↔◌, IsTrue, [], length, drop, slice_range, slice_get, Some};
+ghost use Rattle.std.specs.Prelude.{◌≡◌, ◌+◌, ◌*◌, ◌<◌, ◌≤◌, ◌^◌, ◌++◌, ◌↔◌, IsTrue, [], length, drop, slice_range, slice_get, Some, IfSome};
 ghost use Rattle.ncp_bits.specs.Numbers.{number_of};
 ghost use Rattle.ncp_bits.specs.Bits.{bytes_for, bytes_of};
 ghost use Rattle.ncp_bits.specs.Packed.{run};
 
 use crate::bits::{Bits, MAX_BITS};
-use crate::reading::{bit_in, number_in};
+use crate::reading::{bit_in, bytes_in, number_in};
 use crate::writing::write_run;
 use std::fmt;
 use std::marker::Model;
@@ -96,6 +96,18 @@ impl<'a> Part<'a> {
         let mut bits = Bits::new();
         bits.append(self.slice(0, self.len())).unwrap();
         bits
+    }
+
+    /// The part's own bytes, where it begins with a byte of what it is borrowed from and has no spare
+    /// bit. Nothing is copied; `None` where they would have to be.
+    ///
+    /// No contract says where a part begins, so none says when there is an answer.
+    pub fn whole_bytes(&self) -> Option<&'a [u8]>
+        ensures bytes { IfSome result (λ bytes. bytes_of self.now ≡ bytes.now) }
+        ensures len { IfSome result (λ bytes. 8 * length bytes.now ≡ length self.now) }
+        ensures fits { IfSome result (λ bytes. 8 * length bytes.now ≤ MAX_BITS) }
+    {
+        bytes_in(self.bytes, self.skip, self.len)
     }
 
     /// Writes the bits as bytes, the spare bits zero, and gives the number of bytes. Later bytes

@@ -1,8 +1,8 @@
 //! Reading bits that lie in bytes, eight a byte.
-ghost use Rattle.std.specs.Prelude.{◌≡◌, ◌+◌, ◌*◌, ◌<◌, ◌≤◌, ◌^◌, length, take, drop, false, slice_index_or};
+ghost use Rattle.std.specs.Prelude.{◌≡◌, ◌+◌, ◌*◌, ◌<◌, ◌≤◌, ◌^◌, length, take, drop, false, slice_index_or, IfSome};
 ghost use Rattle.std.specs.List.{list_any};
 ghost use Rattle.ncp_bits.specs.Numbers.{number_of};
-ghost use Rattle.ncp_bits.specs.Bits.{byte_bits, bits_of_bytes, bytes_for};
+ghost use Rattle.ncp_bits.specs.Bits.{byte_bits, bits_of_bytes, bytes_for, bytes_of};
 ghost use Rattle.ncp_bits.specs.Packed.{run};
 
 /// The bit at a place of bytes.
@@ -62,9 +62,25 @@ pub(crate) fn number_in(bytes: &[u8], from: usize, width: usize) -> u64
     ensures { result ≡ number_of (run bytes.now from width) }
 {
     if from % 8 == 0 && width % 8 == 0 {
-        return number_of_bytes(&bytes[from / 8..(from + width) / 8]);
+        // Most callers' width is a constant. So is the length of these bytes then, and no loop is left.
+        let first = from / 8;
+        return number_of_bytes(&bytes[first..first + width / 8]);
     }
     number_across(bytes, from, width)
+}
+
+/// The bytes of a run that begins with a byte and has no spare bit.
+pub(crate) fn bytes_in(bytes: &[u8], from: usize, len: usize) -> Option<&[u8]>
+    requires inside { from + len ≤ 8 * length bytes.now }
+    requires counted { from + len < 2 ^ 64 }
+    ensures bytes { IfSome result (λ found. bytes_of (run bytes.now from len) ≡ found.now) }
+    ensures len { IfSome result (λ found. 8 * length found.now ≡ len) }
+{
+    if from % 8 != 0 || len % 8 != 0 {
+        return None;
+    }
+    let first = from / 8;
+    Some(&bytes[first..first + len / 8])
 }
 
 /// Whether a bit behind the first `len` is set, in bytes that these bits just need.

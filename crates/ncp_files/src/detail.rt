@@ -180,6 +180,19 @@ fn say_commands<W: Sink>(page: &mut Page, sink: &mut W, text: Part<'_>) -> Resul
     Ok(())
 }
 
+// Appends the bytes of a text that have to be copied first. It is a function of its own, so that a
+// text whose bytes need no copy does not pay for the room of one.
+fn push_copied(page: &mut Page, text: &Part<'_>)
+    requires { length page.old + MAX_BITS / 4 ≤ PAGE_SIZE }
+    ensures bytes { page.new ≡ page.old ++ hex_of (bytes_of text.now) }
+    ensures len { length page.new ≤ length page.old + MAX_BITS / 4 }
+{
+    let mut bytes = [0u8; MAX_BITS / 8];
+    let used = &mut bytes[..text.len().div_ceil(8)];
+    text.to_bytes(used);
+    page.push_hex(used);
+}
+
 /// Appends a space and a text in hexadecimal, if it has a bit. There has to be room for those of the
 /// longest text: a space, and a digit for each four of [`MAX_BITS`].
 pub fn push_text_word(page: &mut Page, text: &Part<'_>)
@@ -190,11 +203,11 @@ pub fn push_text_word(page: &mut Page, text: &Part<'_>)
     if text.is_empty() {
         return;
     }
-    let mut bytes = [0u8; MAX_BITS / 8];
-    let used = &mut bytes[..text.len().div_ceil(8)];
-    text.to_bytes(used);
     page.push(b' ');
-    page.push_hex(used);
+    match text.whole_bytes() {
+        Some(bytes) => page.push_hex(bytes),
+        None => push_copied(page, text),
+    }
 }
 
 // Appends the line of a text.

@@ -117,6 +117,17 @@ fn appends_parts(rt: HostRuntime) -> Result<(), Fail> {
 }
 
 #[test]
+fn lends_whole_bytes(rt: HostRuntime) -> Result<(), Fail> {
+    let row = Bits::from_bytes(&LONG_BYTE, 108)?;
+    assert!(rt; row.len() == 108);
+    assert!(rt; row.slice(40, 32).whole_bytes() == Some(&LONG_BYTE[5..9]));
+    assert!(rt; row.slice(40, 0).whole_bytes() == Some(&[]));
+    assert!(rt; row.slice(41, 32).whole_bytes() == None);
+    assert!(rt; row.slice(40, 31).whole_bytes() == None);
+    Ok(())
+}
+
+#[test]
 fn pads_wide_numbers(rt: HostRuntime) -> Result<(), Fail> {
     let mut bits = bits_in(&rt, "101");
     bits.push_number(u64::MAX, 70)?;

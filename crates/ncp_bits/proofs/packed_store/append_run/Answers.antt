@@ -1,8 +1,8 @@
-use Rattle.std.proofs.Common.{◌+◌, ◌++◌, length, ap, ◌∙◌, refl, arith}
+use Rattle.std.proofs.Common.{◌++◌, ap, ◌∙◌, arith}
 use Rattle.ncp_bits.proofs.Joins.{run_written}
 use Rattle.ncp_bits.proofs.packed_store.append_run.Goals as goal
 
 pub returns-clause-held : goal.returns-clause-held
 returns-clause-held c =
-    run_written c.write_behind.new.out c.make_room-front.new.bytes c.args.part.now c.make_room-front.result c.args.len (c.make_room-front.result + c.args.len + length c.args.part.now) refl (omega arith) c.write_behind.ensures
+    run_written c.write_behind.new.out c.make_room-front.new.bytes c.args.part.now c.make_room-front.result c.args.len (omega arith) c.write_behind.ensures
     ∙ ap (λ bits. bits ++ c.args.part.now) c.make_room-front.ensures.held

@@ -1,8 +1,7 @@
 use Rattle.std.proofs.Common.{◌≡◌, ◌+◌, ◌++◌, List, ℕ, length, take, drop, refl, sym, ap, ◌∙◌, arith}
 use Rattle.std.proofs.lemmas.List.{take_at, length-append}
-use Rattle.ncp_bits.specs.Packed.{run, IsPacked}
+use Rattle.ncp_bits.specs.Packed.{run}
 use Rattle.ncp_bits.proofs.Runs.{length-packed, run-take}
-use Rattle.ncp_bits.proofs.Joins.{run_behind, packed_written}
 use Rattle.ncp_bits.proofs.bits.Bits.append.Goals as goal
 
 pub returns-then-len-self-clause-variant : goal.returns-then-len-self-clause-variant
@@ -22,8 +21,7 @@ now c = ap (λ (n : ℕ). c.self.inside.len + n) c.len-2.ensures.len
 pub invariant_of-self : goal.invariant_of-self
 invariant_of-self c =
     let e : length c.as_mut_slice.result.now ≡ length c.lengthen.new.bytes.items = ap length c.as_mut_slice.ensures.value in
-    let h : IsPacked c.write_behind.new.out (c.self.inside.len + length c.args.part) = packed_written c.write_behind.new.out c.as_mut_slice.result.now c.args.part c.self.inside.len (omega arith) (omega (arith, c.self.invariant.long)) (omega arith) c.write_behind.ensures in
-    rw (same c, now c) h
+    rw (same c, now c) (record { fits = omega arith; inside = omega arith })
 
 pub returns-clause-variant : goal.returns-clause-variant
 returns-clause-variant c =
@@ -35,10 +33,10 @@ returns-clause-ok c =
     let e : length c.as_mut_slice.result.now ≡ length c.lengthen.new.bytes.items = ap length c.as_mut_slice.ensures.value in
     ap (λ (bytes : List ℕ). run bytes 0 (c.self.inside.len + c.len-2.result)) (same c)
     ∙ ap (run c.write_behind.new.out 0) (now c)
-    ∙ run_behind c.write_behind.new.out c.as_mut_slice.result.now c.args.part c.self.inside.len (omega (arith, c.self.invariant.long)) c.write_behind.ensures
+    ∙ c.write_behind.ensures
     ∙ ap (λ bits. bits ++ c.args.part) (
     ap (λ (bytes : List ℕ). run bytes 0 c.self.inside.len) c.as_mut_slice.ensures.value
-    ∙ sym (run-take c.lengthen.new.bytes.items (length c.self.inside.bytes.items) 0 c.self.inside.len (omega arith) (omega (arith, c.self.invariant.long)))
+    ∙ sym (run-take c.lengthen.new.bytes.items (length c.self.inside.bytes.items) 0 c.self.inside.len (omega arith) (omega (arith, c.self.invariant.inside)))
     ∙ ap (λ (bytes : List ℕ). run bytes 0 c.self.inside.len) c.lengthen.ensures.front
     ∙ c.self.view_is)
 

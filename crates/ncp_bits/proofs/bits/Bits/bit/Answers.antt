@@ -8,7 +8,7 @@ pub bit_in-requires : goal.bit_in-requires
 bit_in-requires c =
     let l : c.self.inside.len ≡ length c.args.self.now = length-packed c.self.invariant c.self.view_is in
     let same : length c.as_slice.result.now ≡ length c.self.inside.bytes.items = ap length c.as_slice.ensures.value in
-    omega (arith, c.self.invariant.long)
+    omega (arith, c.self.invariant.inside)
 
 pub returns : goal.returns
 returns c =
