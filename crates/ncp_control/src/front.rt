@@ -10,21 +10,16 @@ use crate::fault::{CommandFault, ILLEGAL_OPCODE, SHORT_PARAMETER_SPACE};
 use crate::opcodes::*;
 use ncp_bits::{MAX_BITS, Part};
 
+// How many bytes a command has, by its opcode: NOP, RTS, STR, CLS, ALL, GVB, RET, INR, INS, ECO, ERP,
+// ERR, RST, RRP.
+static SIZES: [usize; 14] = [1, 10, 10, 9, 8, 4, 8, 2, 2, 2, 2, 12, 1, 1];
+
 // How many bytes the command with an opcode has.
 fn command_size(opcode: u8) -> Option<usize>
     ensures size { result ≡ size_of opcode }
     ensures some { IfSome result (λ size. 0 < size) }
 {
-    match opcode {
-        NOP | RST | RRP => Some(1),
-        INR | INS | ECO | ERP => Some(2),
-        GVB => Some(4),
-        ALL | RET => Some(8),
-        CLS => Some(9),
-        RTS | STR => Some(10),
-        ERR => Some(12),
-        _ => None,
-    }
+    SIZES.get(usize::from(opcode)).copied()
 }
 
 /// The byte at a place.
