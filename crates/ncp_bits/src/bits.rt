@@ -107,6 +107,8 @@ impl Bits {
     ///
     /// It copies the bytes that come over those that were there, where a new [`Bits`] writes all its
     /// bytes. So one [`Bits`] takes one message after the other.
+    // It stands in the loop that reads messages, which knows already that the bytes are enough.
+    #[inline(always)]
     pub fn copy_from_bytes(&mut self, bytes: &[u8], len: usize) -> Result<(), BitsFault>
         ensures ok { OnOk result (read_bytes bytes.now len ≡ Ok self.new) }
         ensures len { OnOk result (length self.new ≡ len) }

@@ -102,6 +102,8 @@ fn fault_of(fault: BitsFault) -> FileFault
 }
 
 /// Reads the next record of a file of version 1 into `message`, and answers whether there was one.
+// It stands in the loops that read, where most records take no more than this.
+#[inline(always)]
 pub fn read_record<S: Source>(
     window: &mut Window,
     source: &mut S,
