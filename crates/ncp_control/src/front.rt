@@ -161,6 +161,7 @@ pub(crate) fn size_within(opcode: u8, left: usize) -> Option<usize>
 }
 
 /// The fault at a place where no command begins.
+// It stays out of the loops that read commands, as few texts have a fault.
 #[cold]
 pub(crate) fn fault_at(text: &Part<'_>, place: usize) -> CommandFault
     requires whole { length text.now % 8 ≡ 0 }
