@@ -55,6 +55,8 @@ fn number_across(bytes: &[u8], from: usize, width: usize) -> u64
 
 /// The number that a run spells. Each byte that the run touches is read once, and most cheaply
 /// where the run is of whole bytes.
+// Most callers' width is a constant, so it stands where it is called.
+#[inline(always)]
 pub(crate) fn number_in(bytes: &[u8], from: usize, width: usize) -> u64
     requires width { width ≤ 64 }
     requires inside { from + width ≤ 8 * length bytes.now }
@@ -62,7 +64,7 @@ pub(crate) fn number_in(bytes: &[u8], from: usize, width: usize) -> u64
     ensures { result ≡ number_of (run bytes.now from width) }
 {
     if from % 8 == 0 && width % 8 == 0 {
-        // Most callers' width is a constant. So is the length of these bytes then, and no loop is left.
+        // Where the width is a constant the length of these bytes is one too, and no loop is left.
         let first = from / 8;
         return number_of_bytes(&bytes[first..first + width / 8]);
     }
