@@ -1,9 +1,10 @@
 """Message files: `show`, `check` and `convert` of both versions, beside `xxd -p` and `cat`, which also read each byte."""
 import os
 
-from measuring import NCP, Row, best, build_ncp, generated, instructions, kept
+from measuring import NCP, Row, best_of, build_ncp, generated, instructions, kept, once
 
 SIZES = (32, 64)  # MiB
+ROUNDS = 20
 SHOW, XXD, CAT = "ncp show", "xxd -p", "cat"
 WORK = [
     (SHOW, [NCP, "show"], 1),
@@ -23,12 +24,16 @@ def made(size, version):
 
 
 def rows(_room):
+    """The rows of each size, which are run in turns: what else the machine does meanwhile falls on all of them."""
     build_ncp()
     for size in SIZES:
-        for what, command, version in WORK:
-            path = made(size, version)
-            seconds, peak = best(command, path, STATUSES)
-            yield Row(what, f"{size} MiB", os.path.getsize(path), "bytes", seconds, peak)
+        runs = {what: [] for what, _, _ in WORK}
+        for _ in range(ROUNDS):
+            for what, command, version in WORK:
+                runs[what].append(once(command, made(size, version), STATUSES))
+        for what, _, version in WORK:
+            seconds, peak = best_of(runs[what])
+            yield Row(what, f"{size} MiB", os.path.getsize(made(size, version)), "bytes", seconds, peak)
 
 
 def counts(room):

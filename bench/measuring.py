@@ -70,10 +70,13 @@ def peak_of(process):
         return 0
 
 
-def best(command, path, statuses=(0,)):
-    """The least time of some runs, and the most memory."""
-    runs = [once(command, path, statuses) for _ in range(RUNS)]
+def best_of(runs):
+    """The least time of these runs, and the most memory."""
     return min(seconds for seconds, _ in runs), max(peak for _, peak in runs)
+
+
+def best(command, path, statuses=(0,)):
+    return best_of([once(command, path, statuses) for _ in range(RUNS)])
 
 
 def least(program, given, wanted):

@@ -66,4 +66,5 @@ def main():
             counts(room)
 
 
-main()
+if __name__ == "__main__":
+    main()

@@ -199,16 +199,10 @@ any_set (false ∷ bits) =
     ap (λ (n : ℕ). not (eqb n 0)) e ∙ any_set bits
 
 -- the bits of the bytes used are what was read
-read_packed : (bytes : List ℕ) (len used : ℕ) → len ≤ 8192 → used ≡ bytes_for len → used ≤ length bytes → list_any (λ bit. bit) (drop len (bits_of_bytes (take used bytes))) ≡ false → read_bytes bytes len ≡ Ok (run (take used bytes) 0 len)
+pub read_packed : (bytes : List ℕ) (len used : ℕ) → len ≤ 8192 → used ≡ bytes_for len → used ≤ length bytes → list_any (λ bit. bit) (drop len (bits_of_bytes (take used bytes))) ≡ false → read_bytes bytes len ≡ Ok (run (take used bytes) 0 len)
 unfolding run
 read_packed bytes len used small is_used long none =
     read_bytes-ok bytes len used small is_used long none ∙ ap Ok (sym (take-bits_of_bytes bytes len used long (omega arith)))
-
--- a copy of the bytes used, in front of any others, is what was read
-pub read_copied : (bytes rest : List ℕ) (len used : ℕ) → len ≤ 8192 → used ≡ bytes_for len → used ≤ length bytes → list_any (λ bit. bit) (drop len (bits_of_bytes (take used bytes))) ≡ false → read_bytes bytes len ≡ Ok (run (take used bytes ++ rest) 0 len)
-read_copied bytes rest len used small is_used long none =
-    let l : length (take used bytes) ≡ used = length-take-le used bytes long in
-    read_packed bytes len used small is_used long none ∙ ap Ok (sym (run-append (take used bytes) rest 0 len (omega arith)))
 
 -- bytes of zero
 bits_of_zeros : (n : ℕ) → bits_of_bytes (replicate n 0) ≡ replicate (8 * n) false

@@ -5,7 +5,7 @@ ghost use Rattle.ncp_bits.specs.Bits.{read_bytes, bytes_for, bytes_of};
 
 use crate::append::write_behind;
 use crate::part::Part;
-use crate::reading::{bit_in, is_spare_set};
+use crate::reading::{bit_in, bytes_taken};
 use arrayvec::ArrayVec;
 use std::fmt;
 use std::marker::Model;
@@ -115,19 +115,9 @@ impl Bits {
         ensures err { IfErr result (λ fault. read_bytes bytes.now len ≡ Err fault) }
         ensures stays { OnErr result (self.new ≡ self.old) }
     {
-        if len > MAX_BITS {
-            return Err(BitsFault::TooLong);
-        }
-        let used = len.div_ceil(8);
-        if bytes.len() < used {
-            return Err(BitsFault::ShortBytes);
-        }
-        let front = &bytes[..used];
-        if is_spare_set(front, len) {
-            return Err(BitsFault::SpareNotZero);
-        }
-        lengthen(&mut self.bytes, used);
-        overwrite(self.bytes.as_mut_slice(), front);
+        let taken = bytes_taken(bytes, len)?;
+        lengthen(&mut self.bytes, taken.len());
+        overwrite(self.bytes.as_mut_slice(), taken);
         self.len = len;
         Ok(())
     }

@@ -1,11 +1,11 @@
 //! `Part`.
-ghost use Rattle.std.specs.Prelude.{◌≡◌, ◌+◌, ◌*◌, ◌<◌, ◌≤◌, ◌^◌, ◌++◌, ◌↔◌, IsTrue, [], length, drop, slice_range, slice_get, Some, IfSome};
+ghost use Rattle.std.specs.Prelude.{◌≡◌, ◌+◌, ◌*◌, ◌<◌, ◌≤◌, ◌^◌, ◌++◌, ◌↔◌, IsTrue, [], length, drop, slice_range, slice_get, Some, IfSome, IfOk};
 ghost use Rattle.ncp_bits.specs.Numbers.{number_of};
-ghost use Rattle.ncp_bits.specs.Bits.{bytes_for, bytes_of};
+ghost use Rattle.ncp_bits.specs.Bits.{bytes_for, bytes_of, read_bytes};
 ghost use Rattle.ncp_bits.specs.Packed.{run};
 
-use crate::bits::{Bits, MAX_BITS};
-use crate::reading::{bit_in, bytes_in, number_in};
+use crate::bits::{Bits, BitsFault, MAX_BITS};
+use crate::reading::{bit_in, bytes_in, bytes_taken, number_in};
 use crate::writing::write_run;
 use std::fmt;
 use std::marker::Model;
@@ -31,6 +31,20 @@ impl<'a> Model for Part<'a> {
 }
 
 impl<'a> Part<'a> {
+    /// The first `len` bits of bytes, where they stand. Bytes behind the last one used are not looked
+    /// at. Nothing is copied.
+    ///
+    /// Refused as by [`Bits::from_bytes`], in this order: `TooLong` (over [`MAX_BITS`]), `ShortBytes`,
+    /// `SpareNotZero` (a bit after `len` in the last byte used).
+    #[inline(always)]
+    pub fn from_bytes(bytes: &'a [u8], len: usize) -> Result<Part<'a>, BitsFault>
+        ensures read { result ≡ read_bytes bytes.now len }
+        ensures len { IfOk result (λ part. length part ≡ len) }
+    {
+        let taken = bytes_taken(bytes, len)?;
+        Ok(Part::of_bytes(taken, 0, len))
+    }
+
     /// The run of `len` bits of bytes from `from` on.
     pub(crate) fn of_bytes(bytes: &'a [u8], from: usize, len: usize) -> Part<'a>
         requires fits { len ≤ MAX_BITS }
@@ -70,6 +84,8 @@ impl<'a> Part<'a> {
 
     /// The number that `width` bits from `at` on spell, the first the most significant. It reads
     /// each byte that they touch once, nine at most.
+    // A part that is known to begin with a byte is read with no loop.
+    #[inline(always)]
     #[tactic(auto, using(crate::proofs::Numbers::number_of_range))]
     pub fn number(&self, at: usize, width: usize) -> u64
         requires width { width ≤ 64 }

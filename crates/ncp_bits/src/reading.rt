@@ -1,9 +1,12 @@
 //! Reading bits that lie in bytes, eight a byte.
-ghost use Rattle.std.specs.Prelude.{◌≡◌, ◌+◌, ◌*◌, ◌<◌, ◌≤◌, ◌^◌, length, take, drop, false, slice_index_or, IfSome};
+ghost use Rattle.std.specs.Prelude.{◌≡◌, ◌+◌, ◌*◌, ◌<◌, ◌≤◌, ◌^◌, length, take, drop, false, slice_index_or, IfSome, IfOk, IfErr, Ok, Err};
 ghost use Rattle.std.specs.List.{list_any};
 ghost use Rattle.ncp_bits.specs.Numbers.{number_of};
-ghost use Rattle.ncp_bits.specs.Bits.{byte_bits, bits_of_bytes, bytes_for, bytes_of};
+ghost use Rattle.ncp_bits.specs.Bits.{byte_bits, bits_of_bytes, bytes_for, bytes_of, read_bytes};
 ghost use Rattle.ncp_bits.specs.Packed.{run};
+ghost use Rattle.ncp_bits.specs.declared.bits.TheConstants.{MAX_BITS};
+
+use crate::bits::{BitsFault, MAX_BITS};
 
 /// The bit at a place of bytes.
 pub(crate) fn bit_in(bytes: &[u8], place: usize) -> bool
@@ -85,8 +88,8 @@ pub(crate) fn bytes_in(bytes: &[u8], from: usize, len: usize) -> Option<&[u8]>
     Some(&bytes[first..first + len / 8])
 }
 
-/// Whether a bit behind the first `len` is set, in bytes that these bits just need.
-pub(crate) fn is_spare_set(bytes: &[u8], len: usize) -> bool
+// Whether a bit behind the first `len` is set, in bytes that these bits just need.
+fn is_spare_set(bytes: &[u8], len: usize) -> bool
     requires used { length bytes.now ≡ bytes_for len }
     requires counted { 8 * length bytes.now < 2 ^ 64 }
     ensures { result ≡ list_any (λ bit. bit) (drop len (bits_of_bytes bytes.now)) }
@@ -96,4 +99,27 @@ pub(crate) fn is_spare_set(bytes: &[u8], len: usize) -> bool
         return false;
     }
     bits_in(bytes[len / 8], len % 8, spare) != 0
+}
+
+/// The bytes that the first `len` bits take, where these bits can be read.
+// It stands in the loops that read messages, which know already that the bytes are enough.
+#[inline(always)]
+pub(crate) fn bytes_taken(bytes: &[u8], len: usize) -> Result<&[u8], BitsFault>
+    ensures read { IfOk result (λ taken. read_bytes bytes.now len ≡ Ok (run taken.now 0 len)) }
+    ensures fits { IfOk result (λ taken. len ≤ MAX_BITS) }
+    ensures used { IfOk result (λ taken. length taken.now ≡ bytes_for len) }
+    ensures err { IfErr result (λ fault. read_bytes bytes.now len ≡ Err fault) }
+{
+    if len > MAX_BITS {
+        return Err(BitsFault::TooLong);
+    }
+    let used = len.div_ceil(8);
+    if bytes.len() < used {
+        return Err(BitsFault::ShortBytes);
+    }
+    let taken = &bytes[..used];
+    if is_spare_set(taken, len) {
+        return Err(BitsFault::SpareNotZero);
+    }
+    Ok(taken)
 }

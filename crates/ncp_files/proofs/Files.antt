@@ -11,10 +11,11 @@ use Rattle.ncp_bits.specs.Bits.{read_bytes, bytes_for}
 use Rattle.ncp_bits.specs.declared.bits.BitsFault.{BitsFault}
 use Rattle.ncp_bits.specs.declared.bits.BitsFault.TheVariants as bits
 use Rattle.ncp_bits.proofs.Bytes.{read_bytes-append}
-use Rattle.ncp_files.specs.declared.file.FileFault.TheVariants.{Truncated, TooLong}
+use Rattle.ncp_files.specs.declared.file.FileFault.{FileFault}
+use Rattle.ncp_files.specs.declared.file.FileFault.TheVariants.{BadHeader, Truncated, TooLong, SpareNotZero, ReadFailed, WriteFailed, BadDirection, Mixed}
 use Rattle.ncp_files.specs.File.{version_of, one_direction, direction_of, next_record, record_of, fault_of_bits}
 use Rattle.ncp_stream.specs.Streams.{Ahead}
-use Rattle.ncp_files.specs.Steps.{CutOff, ReadsRecord}
+use Rattle.ncp_files.specs.Steps.{CutOff, StandsWhole, HasFaultInFront, ReadsRecord}
 
 -- ---- the bytes ahead
 
@@ -112,25 +113,32 @@ cut_in_bytes window bytes left len h e small k a = (Some Truncated, refl, next_s
 pub number_grows : (was more now : List ℕ) → now ≡ was ++ more → 2 ≤ length was → big_number 2 now ≡ big_number 2 was
 number_grows was more now e h = ap (big_number 2) e ∙ big_from-append 2 was more h
 
--- a fault that stands where a record should begin
-pub told_fault : (bytes window : List ℕ) (message : List Bool) (left : Option (List ℕ)) (fault : BitsFault) → next_record bytes ≡ Err (fault_of_bits fault) → ReadsRecord bytes (Err (fault_of_bits fault)) message window left
-told_fault bytes window message left bits.TooLong h = h
-told_fault bytes window message left bits.ShortBytes h = h
-told_fault bytes window message left bits.SpareNotZero h = h
-
--- what was read behind a length is the next record, or its fault
-pub next_told : (window rest bytes piece : List ℕ) (len used : ℕ) (read : Result (List Bool) BitsFault) → 2 ≤ length window → len ≡ big_number 2 window → used ≡ bytes_for len → 2 + used ≤ length window
-    → window ++ rest ≡ bytes → piece ≡ window → read ≡ read_bytes (slice_range piece 2 (2 + used)) len → next_record bytes ≡ record_of len (drop 2 bytes) read
-next_told window rest bytes piece len used read h e u k w p r =
-    ap next_record (sym w) ∙ next_whole window rest len h e (omega (arith, u))
-    ∙ ap (λ xs. record_of len (drop 2 xs) (read_bytes (slice_range window 2 (2 + bytes_for len)) len)) w
-    ∙ ap (record_of len (drop 2 bytes)) (ap (λ n. read_bytes (slice_range window 2 (2 + n)) len) (sym u) ∙ ap (λ xs. read_bytes (slice_range xs 2 (2 + used)) len) (sym p) ∙ sym r)
+-- a record that stands in a window is the next one, as its message's bytes are read
+pub record_told : (window piece bytes : List ℕ) (left : Option (List ℕ)) (len : ℕ) (read : Result (List Bool) BitsFault) → StandsWhole window len → Ahead window left bytes → piece ≡ slice_range window 2 (2 + bytes_for len)
+    → read ≡ read_bytes piece len → next_record bytes ≡ record_of len (drop 2 bytes) read
+record_told window piece bytes left len read h a p r =
+    ap next_record (sym a.2) ∙ next_whole window a.0 len (omega (arith, h.inside)) h.number h.inside
+    ∙ ap (λ xs. record_of len (drop 2 xs) (read_bytes (slice_range window 2 (2 + bytes_for len)) len)) a.2
+    ∙ ap (record_of len (drop 2 bytes)) (sym (r ∙ ap (λ xs. read_bytes xs len) p))
 
 -- and what stands behind it
-pub ahead_behind : (window skipped bytes : List ℕ) (left : Option (List ℕ)) (len used : ℕ) → used ≡ bytes_for len → 2 + used ≤ length window → skipped ≡ drop (2 + used) window → Ahead window left bytes
-    → Ahead skipped left (drop (bytes_for len) (drop 2 bytes))
-ahead_behind window skipped bytes left len used u h e a = (
-  a.0,
-  a.1,
-  ap (λ xs. xs ++ a.0) e ∙ ap (λ n. drop (2 + n) window ++ a.0) u ∙ sym (behind_record window a.0 len (omega (arith, u))) ∙ ap (λ xs. drop (bytes_for len) (drop 2 xs)) a.2,
-)
+pub record_behind : (window skipped bytes : List ℕ) (left : Option (List ℕ)) (len : ℕ) → StandsWhole window len → skipped ≡ drop (2 + bytes_for len) window → Ahead window left bytes → Ahead skipped left (drop (bytes_for len) (drop 2 bytes))
+record_behind window skipped bytes left len h e a =
+    (a.0, a.1, ap (λ xs. xs ++ a.0) e ∙ sym (behind_record window a.0 len h.inside) ∙ ap (λ xs. drop (bytes_for len) (drop 2 xs)) a.2)
+
+-- a fault of its bits
+pub told_fault : (bytes : List ℕ) (fault : BitsFault) → next_record bytes ≡ Err (fault_of_bits fault) → HasFaultInFront bytes (fault_of_bits fault)
+told_fault bytes bits.TooLong h = h
+told_fault bytes bits.ShortBytes h = h
+told_fault bytes bits.SpareNotZero h = h
+
+-- and as it is read
+pub fault_read : (bytes window : List ℕ) (message : List Bool) (left : Option (List ℕ)) (fault : FileFault) → HasFaultInFront bytes fault → ReadsRecord bytes (Err fault) message window left
+fault_read bytes window message left BadHeader h = h
+fault_read bytes window message left Truncated h = h
+fault_read bytes window message left TooLong h = h
+fault_read bytes window message left SpareNotZero h = h
+fault_read bytes window message left BadDirection h = h
+fault_read bytes window message left Mixed h = h
+fault_read bytes window message left ReadFailed h = absurd h
+fault_read bytes window message left WriteFailed h = absurd h

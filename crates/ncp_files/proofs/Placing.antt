@@ -9,7 +9,7 @@ use Rattle.ncp_files.specs.declared.version.Version.TheVariants.{One, Two}
 use Rattle.ncp_files.specs.declared.version.Passage.{Passage}
 use Rattle.ncp_files.specs.File.{Next, next_record, ending, one_direction}
 use Rattle.ncp_files.specs.Versions.{Recorded, NextRecorded, plain, placed, recorded, direction_by, passage_toward, next_passage, behind_passage, next_in}
-use Rattle.ncp_files.specs.Steps.{IsInside, ReadsHeader, ReadsVersion, ReadsRecord, Stops}
+use Rattle.ncp_files.specs.Steps.{IsInside, ReadsHeader, ReadsVersion, FindsRecord, HasFaultInFront, Stops}
 use Rattle.ncp_files.proofs.Contents.{IsFront, next_record-front}
 
 -- a message that has a record was read
@@ -101,15 +101,15 @@ ends_one passage None r h = ap (recorded passage (Ok None)) h
 ends_one passage (Some fault) r h = ap (recorded passage (Ok None)) h
 
 -- in version 1
-pub one_stops : (direction : Direction) (bytes window : List ℕ) (message : List Bool) (left : Option (List ℕ)) (fault : FileFault) → ReadsRecord bytes (Err fault) message window left → Stops (next_in (One direction)) bytes left fault
-one_stops direction bytes window message left BadHeader h = ap (recorded (plain direction) (Ok None)) h
-one_stops direction bytes window message left Truncated h = ap (recorded (plain direction) (Ok None)) h
-one_stops direction bytes window message left TooLong h = ap (recorded (plain direction) (Ok None)) h
-one_stops direction bytes window message left SpareNotZero h = ap (recorded (plain direction) (Ok None)) h
-one_stops direction bytes window message left BadDirection h = ap (recorded (plain direction) (Ok None)) h
-one_stops direction bytes window message left Mixed h = ap (recorded (plain direction) (Ok None)) h
-one_stops direction bytes window message left ReadFailed h = (window, h.3.0, h.0, sym h.3.2, h.3.1, h.1, ends_one (plain direction) h.0 (next_record window) h.2)
-one_stops direction bytes window message left WriteFailed h = absurd h
+pub one_stops : (direction : Direction) (bytes window : List ℕ) (left : Option (List ℕ)) (fault : FileFault) → FindsRecord bytes (Err fault) window left → Stops (next_in (One direction)) bytes left fault
+one_stops direction bytes window left BadHeader h = ap (recorded (plain direction) (Ok None)) h
+one_stops direction bytes window left Truncated h = ap (recorded (plain direction) (Ok None)) h
+one_stops direction bytes window left TooLong h = ap (recorded (plain direction) (Ok None)) h
+one_stops direction bytes window left SpareNotZero h = ap (recorded (plain direction) (Ok None)) h
+one_stops direction bytes window left BadDirection h = ap (recorded (plain direction) (Ok None)) h
+one_stops direction bytes window left Mixed h = ap (recorded (plain direction) (Ok None)) h
+one_stops direction bytes window left ReadFailed h = (window, h.3.0, h.0, sym h.3.2, h.3.1, h.1, ends_one (plain direction) h.0 (next_record window) h.2)
+one_stops direction bytes window left WriteFailed h = absurd h
 
 ends_behind : (fault : Option FileFault) (r : Result (Option (Passage × List ℕ)) FileFault) → r ≡ ending fault → behind_passage r ≡ ending fault
 ends_behind None r h = ap behind_passage h
@@ -131,15 +131,15 @@ cut_behind passage None r i h = ap (recorded passage (Err Truncated)) h
 cut_behind passage (Some fault) r i h = ap (recorded passage (Err Truncated)) h ∙ ap Err i
 
 -- and behind it
-pub message_stops : (bytes rest window : List ℕ) (passage : Passage) (message : List Bool) (left : Option (List ℕ)) (fault : FileFault) → next_passage bytes ≡ Ok (Some (passage, rest)) → ReadsRecord rest (Err fault) message window left
+pub message_stops : (bytes rest window : List ℕ) (passage : Passage) (left : Option (List ℕ)) (fault : FileFault) → next_passage bytes ≡ Ok (Some (passage, rest)) → FindsRecord rest (Err fault) window left
     → Stops (next_in Two) bytes left fault
-message_stops bytes rest window passage message left BadHeader h k = ap behind_passage h ∙ ap (recorded passage (Err Truncated)) k
-message_stops bytes rest window passage message left Truncated h k = ap behind_passage h ∙ ap (recorded passage (Err Truncated)) k
-message_stops bytes rest window passage message left TooLong h k = ap behind_passage h ∙ ap (recorded passage (Err Truncated)) k
-message_stops bytes rest window passage message left SpareNotZero h k = ap behind_passage h ∙ ap (recorded passage (Err Truncated)) k
-message_stops bytes rest window passage message left BadDirection h k = ap behind_passage h ∙ ap (recorded passage (Err Truncated)) k
-message_stops bytes rest window passage message left Mixed h k = ap behind_passage h ∙ ap (recorded passage (Err Truncated)) k
-message_stops bytes rest window passage message left ReadFailed h k =
+message_stops bytes rest window passage left BadHeader h k = ap behind_passage h ∙ ap (recorded passage (Err Truncated)) k
+message_stops bytes rest window passage left Truncated h k = ap behind_passage h ∙ ap (recorded passage (Err Truncated)) k
+message_stops bytes rest window passage left TooLong h k = ap behind_passage h ∙ ap (recorded passage (Err Truncated)) k
+message_stops bytes rest window passage left SpareNotZero h k = ap behind_passage h ∙ ap (recorded passage (Err Truncated)) k
+message_stops bytes rest window passage left BadDirection h k = ap behind_passage h ∙ ap (recorded passage (Err Truncated)) k
+message_stops bytes rest window passage left Mixed h k = ap behind_passage h ∙ ap (recorded passage (Err Truncated)) k
+message_stops bytes rest window passage left ReadFailed h k =
     let front = passage_front bytes rest passage h in (
       front.0 ++ window,
       k.3.0,
@@ -149,7 +149,19 @@ message_stops bytes rest window passage message left ReadFailed h k =
       refl,
       ap behind_passage (front.2 window) ∙ cut_behind passage k.0 (next_record window) k.1 k.2,
     )
-message_stops bytes rest window passage message left WriteFailed h k = absurd k
+message_stops bytes rest window passage left WriteFailed h k = absurd k
+
+-- in either, in a message that stands behind its passage
+pub found_stops : (version : Version) (bytes behind : List ℕ) (passage : Passage) (none : Result NextRecorded FileFault) (left : Option (List ℕ)) (fault : FileFault) → next_in version bytes ≡ recorded passage none (next_record behind)
+    → HasFaultInFront behind fault → Stops (next_in version) bytes left fault
+found_stops version bytes behind passage none left BadHeader h k = h ∙ ap (recorded passage none) k
+found_stops version bytes behind passage none left Truncated h k = h ∙ ap (recorded passage none) k
+found_stops version bytes behind passage none left TooLong h k = h ∙ ap (recorded passage none) k
+found_stops version bytes behind passage none left SpareNotZero h k = h ∙ ap (recorded passage none) k
+found_stops version bytes behind passage none left BadDirection h k = h ∙ ap (recorded passage none) k
+found_stops version bytes behind passage none left Mixed h k = h ∙ ap (recorded passage none) k
+found_stops version bytes behind passage none left ReadFailed h k = absurd k
+found_stops version bytes behind passage none left WriteFailed h k = absurd k
 
 -- ---- a header that is none of version 1
 

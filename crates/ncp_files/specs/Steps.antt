@@ -1,13 +1,17 @@
 -- What the parts of `show` and `convert` do to the bytes that are to come and to the text that was said.
-use Rattle.std.specs.Prelude.{◌≡◌, ◌<◌, ℕ, Bool, true, false, List, length, drop, ◌++◌, Option, Some, None, Result, Ok, Err}
+use Rattle.std.specs.Prelude.{◌≡◌, ◌+◌, ◌<◌, ◌≤◌, ℕ, Bool, true, false, List, length, drop, ◌++◌, Option, Some, None, Result, Ok, Err}
+use Rattle.byteorder.specs.Endian.{big_number}
+use Rattle.ncp_bits.specs.Bits.{bytes_for}
+use Rattle.ncp_bits.specs.declared.bits.TheConstants.{MAX_BITS}
 use Rattle.ncp_files.specs.declared.file.Direction.{Direction}
 use Rattle.ncp_files.specs.declared.file.FileFault.{FileFault}
 use Rattle.ncp_files.specs.declared.file.FileFault.TheVariants.{BadHeader, Truncated}
 use Rattle.ncp_files.specs.Results.{MatchFault}
 use Rattle.ncp_files.specs.declared.version.Version.{Version}
 use Rattle.ncp_files.specs.declared.version.Passage.{Passage}
+use Rattle.ncp_files.specs.declared.version.Found.{Found}
 use Rattle.ncp_files.specs.File.{direction_of, version_of, next_record, ending, HoldsBy}
-use Rattle.ncp_files.specs.Versions.{next_in}
+use Rattle.ncp_files.specs.Versions.{NextRecorded, recorded, next_in}
 use Rattle.ncp_files.specs.Lines.{told_from}
 use Rattle.ncp_files.specs.Writing.{Told, ToldCut}
 use Rattle.ncp_stream.specs.Streams.{Ahead, SaidSoFar}
@@ -37,6 +41,28 @@ IsInside (Some fault) = fault ≡ Truncated
 abbrev pub CutOff : List ℕ → List ℕ → Option (List ℕ) → Type 0
 CutOff bytes window left =
     (fault : Option FileFault) × IsInside fault × (next_record window ≡ ending fault) × Ahead window left bytes
+
+-- a record stands at the front of a window with all its bytes, and its message has so many bits
+pub record StandsWhole (window : List ℕ) (len : ℕ) : Type 0 where
+  pub number : len ≡ big_number 2 window
+  pub fits : len ≤ MAX_BITS
+  pub inside : 2 + bytes_for len ≤ length window
+
+-- no byte was lost in looking for a record, or none was there, or the fault stands there
+abbrev pub FindsRecord : List ℕ → Result (Option ℕ) FileFault → List ℕ → Option (List ℕ) → Type 0
+FindsRecord bytes (Ok (Some len)) window left = Ahead window left bytes
+FindsRecord bytes (Ok None) window left = next_record bytes ≡ Ok None
+FindsRecord bytes (Err fault) window left = MatchFault (λ f. next_record bytes ≡ Err f) (CutOff bytes window left) ⊥ fault
+
+-- the fault of a record stands there, and no read or write has failed
+abbrev pub HasFaultInFront : List ℕ → FileFault → Type 0
+HasFaultInFront bytes fault = MatchFault (λ f. next_record bytes ≡ Err f) ⊥ ⊥ fault
+
+-- this message was taken, or the fault stands there
+abbrev pub TakesRecord : List ℕ → Result Unit FileFault → List Bool → List ℕ → Option (List ℕ) → Type 0
+TakesRecord bytes (Ok done) message window left =
+    (rest : List ℕ) × (next_record bytes ≡ Ok (Some (message, rest))) × Ahead window left rest
+TakesRecord bytes (Err fault) message window left = HasFaultInFront bytes fault
 
 -- this message was read, or no record was there, or the fault stands there
 abbrev pub ReadsRecord : List ℕ → Result Bool FileFault → List Bool → List ℕ → Option (List ℕ) → Type 0
@@ -69,6 +95,13 @@ abbrev pub ReadsOne : {X : Type 0} → Reader X → List ℕ → Result (Option 
 ReadsOne next bytes (Ok (Some first)) window left = (rest : List ℕ) × (next bytes ≡ Ok (Some (first, rest))) × Ahead window left rest
 ReadsOne next bytes (Ok None) window left = next bytes ≡ Ok None
 ReadsOne next bytes (Err fault) window left = Stops next bytes left fault
+
+-- a record of this passage was found, whose message has still to be taken, or no record was there, or the fault stands there
+abbrev pub FindsNext : Version → List ℕ → Result (Option Found) FileFault → List ℕ → Option (List ℕ) → Type 0
+FindsNext version bytes (Ok (Some found)) window left =
+    (behind : List ℕ) × (none : Result NextRecorded FileFault) × (next_in version bytes ≡ recorded found.passage none (next_record behind)) × Ahead window left behind
+FindsNext version bytes (Ok None) window left = next_in version bytes ≡ Ok None
+FindsNext version bytes (Err fault) window left = Stops (next_in version) bytes left fault
 
 -- this message was read and has this passage, or no record was there, or the fault stands there
 abbrev pub ReadsNext : Version → List ℕ → Result (Option Passage) FileFault → List Bool → List ℕ → Option (List ℕ) → Type 0

@@ -5,11 +5,29 @@ use Rattle.ncp_files.specs.declared.tally.Verdict.{Verdict}
 use Rattle.ncp_files.specs.declared.tally.Tally.{Tally}
 use Rattle.ncp_files.specs.Results.{MatchFault}
 use Rattle.ncp_files.specs.declared.version.Version.{Version}
-use Rattle.ncp_files.specs.File.{HoldsBy, IsCut}
+use Rattle.ncp_files.specs.File.{next_record, HoldsBy, IsCut}
 use Rattle.ncp_files.specs.Versions.{Recorded, next_in}
-use Rattle.ncp_files.specs.Steps.{IsInside}
+use Rattle.ncp_files.specs.Steps.{IsInside, HasFaultInFront, Stops}
 use Rattle.ncp_page.specs.Lines.{number_after}
-use Rattle.ncp_files.specs.Checked.{verdict_of_record, is_short, is_of_type_0, is_faulty, is_bad, tally_of, FileHolds}
+use Rattle.ncp_stream.specs.Streams.{Ahead}
+use Rattle.ncp_files.specs.Checked.{verdict_of, verdict_of_record, is_short, is_of_type_0, is_faulty, is_bad, tally_of, FileHolds}
+
+-- ---- one message
+
+-- a message was judged and its record used up, or the fault stands there
+abbrev pub JudgesRecord : List ℕ → Result Verdict FileFault → List ℕ → Option (List ℕ) → Type 0
+JudgesRecord bytes (Ok verdict) window left =
+    (message : List Bool) × (rest : List ℕ) × (next_record bytes ≡ Ok (Some (message, rest))) × (verdict ≡ verdict_of message) × Ahead window left rest
+JudgesRecord bytes (Err fault) window left = HasFaultInFront bytes fault
+
+-- and one of either version, or no record was there, or the fault stands there
+abbrev pub JudgesNext : Version → List ℕ → Result (Option Verdict) FileFault → List ℕ → Option (List ℕ) → Type 0
+JudgesNext version bytes (Ok (Some verdict)) window left =
+    (found : Recorded) × (rest : List ℕ) × (next_in version bytes ≡ Ok (Some (found, rest))) × (verdict ≡ verdict_of_record found) × Ahead window left rest
+JudgesNext version bytes (Ok None) window left = next_in version bytes ≡ Ok None
+JudgesNext version bytes (Err fault) window left = Stops (next_in version) bytes left fault
+
+-- ---- the counts
 
 -- one more, where a test passes
 abbrev pub one_more : Bool → ℕ → ℕ

@@ -1,17 +1,57 @@
 //! `check`: whether a message file is sound.
-ghost use Rattle.std.specs.Prelude.{◌≡◌, ℕ, ◌+◌, ◌<◌, ◌≤◌, ◌||◌, List, Some, true, false, length};
+ghost use Rattle.std.specs.Prelude.{◌≡◌, ℕ, ◌+◌, ◌<◌, ◌≤◌, ◌||◌, List, Option, Some, true, false, length, is_some, IfOk, OnOk};
 ghost use Rattle.ncp_stream.specs.Pieces.{reads_for, reads_beyond};
 ghost use Rattle.ncp_files.specs.Results.{is_read_failed, is_write_failed};
 ghost use Rattle.ncp_stream.specs.Streams.{Ahead};
-ghost use Rattle.ncp_files.specs.Tallies.{no_messages, TalliesFrom, TalliesFile};
+ghost use Rattle.ncp_page.specs.Windows.{effort};
+ghost use Rattle.ncp_files.specs.Steps.{StandsWhole};
+ghost use Rattle.ncp_files.specs.Tallies.{no_messages, JudgesRecord, JudgesNext, TalliesFrom, TalliesFile};
 ghost use Rattle.ncp_files.specs.Checked.{Checked};
 
-use crate::file::FileFault;
-use crate::tally::{Tally, push_tally};
+use crate::file::{FileFault, fault_of, message_bytes, skip_record};
+use crate::tally::{Tally, Verdict, judge, push_tally};
 use crate::version::{PlacedRecords, PlainRecords, Records, Version, read_version};
-use ncp_bits::Bits;
+use ncp_bits::Part;
 use ncp_page::{Page, Window};
 use ncp_stream::{Sink, Source};
+
+// Judges the message of a record that stands in the window, where it stands, and uses up the record.
+#[inline(always)]
+fn judge_record(window: &mut Window, len: usize) -> Result<Verdict, FileFault>
+    requires { StandsWhole window.old len }
+    ensures told { (bytes : List ℕ) (left : Option (List ℕ)) → Ahead window.old left bytes → JudgesRecord bytes result window.new left }
+    ensures shorter { OnOk result (length window.new < length window.old) }
+    ensures read { is_read_failed result ≡ false }
+    ensures write { is_write_failed result ≡ false }
+{
+    let verdict = match Part::from_bytes(message_bytes(window.unread(), len), len) {
+        Ok(message) => judge(&message),
+        Err(fault) => return Err(fault_of(fault)),
+    };
+    skip_record(window, len);
+    Ok(verdict)
+}
+
+// Judges the message of the next of these records, if there is one.
+#[inline(always)]
+fn judge_next<S: Source, R: Records>(
+    window: &mut Window,
+    source: &mut S,
+    records: R,
+) -> Result<Option<Verdict>, FileFault>
+    ensures told { (bytes : List ℕ) → Ahead window.old (S.left source.old) bytes → JudgesNext (R.version records) bytes result window.new (S.left source.new) }
+    ensures mark { S.has_failed source.new ≡ (S.has_failed source.old || is_read_failed result) }
+    ensures other { is_write_failed result ≡ false }
+    ensures reads { reads_beyond S.gives_all (S.reads source.old) (S.left source.old) ≤ reads_beyond S.gives_all (S.reads source.new) (S.left source.new) + 1 }
+    ensures taken { IfOk result (λ found. is_some found ≡ true → reads_beyond S.gives_all (S.reads source.old) (S.left source.old) ≤ reads_beyond S.gives_all (S.reads source.new) (S.left source.new)) }
+    ensures effort { IfOk result (λ found. is_some found ≡ true → effort (S.reads source.new) window.new < effort (S.reads source.old) window.old) }
+{
+    let Some(found) = records.find_next(window, source)? else {
+        return Ok(None);
+    };
+    let verdict = judge_record(window, found.len)?;
+    Ok(Some(verdict))
+}
 
 // Counts the messages behind the header.
 fn tally_records<S: Source, R: Records>(
@@ -24,10 +64,9 @@ fn tally_records<S: Source, R: Records>(
     ensures other { is_write_failed result ≡ false }
     ensures reads { reads_beyond S.gives_all (S.reads source.old) (S.left source.old) ≤ reads_beyond S.gives_all (S.reads source.new) (S.left source.new) + 1 }
 {
-    let mut message = Bits::new();
     let mut tally = Tally::new();
-    while let Some(_passage) = records.read_next(window, source, &mut message)? {
-        tally = tally.count(&message);
+    while let Some(verdict) = judge_next(window, source, records)? {
+        tally = tally.count(verdict);
     }
     Ok(tally)
 }

@@ -1,11 +1,14 @@
 //! A message file: its faults, and the header and the records of version 1.
-ghost use Rattle.std.specs.Prelude.{◌≡◌, ℕ, ◌+◌, ◌<◌, ◌≤◌, ◌||◌, List, true, false, length, IfOk, OnOk};
+ghost use Rattle.std.specs.Prelude.{◌≡◌, ℕ, Option, ◌+◌, ◌<◌, ◌≤◌, ◌||◌, List, true, false, length, drop, slice_range, is_some, IfSome, IfOk, OnOk};
+ghost use Rattle.ncp_bits.specs.Bits.{bytes_for};
+ghost use Rattle.ncp_bits.specs.declared.bits.TheConstants.{MAX_BITS};
 ghost use Rattle.ncp_files.specs.File.{name_of_fault, fault_of_bits};
 ghost use Rattle.ncp_stream.specs.Pieces.{reads_beyond};
 ghost use Rattle.ncp_files.specs.Results.{is_read_failed, is_write_failed};
-ghost use Rattle.ncp_files.specs.Steps.{ReadsHeader, ReadsRecord};
+ghost use Rattle.ncp_files.specs.Steps.{ReadsHeader, StandsWhole, FindsRecord, TakesRecord, ReadsRecord};
 ghost use Rattle.ncp_page.specs.Windows.{effort};
 ghost use Rattle.ncp_stream.specs.Streams.{Ahead};
+ghost use Rattle.ncp_files.specs.declared.file.TheConstants.{LENGTH};
 
 use crate::version::{Version, read_version};
 use byteorder::{BigEndian, ByteOrder};
@@ -90,8 +93,8 @@ pub fn read_header<S: Source>(window: &mut Window, source: &mut S) -> Result<Dir
     }
 }
 
-// A fault of bits, as a fault of a file.
-fn fault_of(fault: BitsFault) -> FileFault
+/// A fault of bits, as a fault of a file.
+pub(crate) fn fault_of(fault: BitsFault) -> FileFault
     ensures { result ≡ fault_of_bits fault }
 {
     match fault {
@@ -101,8 +104,81 @@ fn fault_of(fault: BitsFault) -> FileFault
     }
 }
 
-/// Reads the next record of a file of version 1 into `message`, and answers whether there was one.
+/// Reads until the window has the next record of a file of version 1, and answers how many bits its
+/// message has; `None` where no record begins. The record is not used up.
 // It stands in the loops that read, where most records take no more than this.
+#[inline(always)]
+pub(crate) fn need_record<S: Source>(
+    window: &mut Window,
+    source: &mut S,
+) -> Result<Option<usize>, FileFault>
+    ensures told { (bytes : List ℕ) → Ahead window.old (S.left source.old) bytes → FindsRecord bytes result window.new (S.left source.new) }
+    ensures stands { IfOk result (λ found. IfSome found (λ len. StandsWhole window.new len)) }
+    ensures mark { S.has_failed source.new ≡ (S.has_failed source.old || is_read_failed result) }
+    ensures other { is_write_failed result ≡ false }
+    ensures reads { reads_beyond S.gives_all (S.reads source.old) (S.left source.old) ≤ reads_beyond S.gives_all (S.reads source.new) (S.left source.new) + 1 }
+    ensures taken { IfOk result (λ found. is_some found ≡ true → reads_beyond S.gives_all (S.reads source.old) (S.left source.old) ≤ reads_beyond S.gives_all (S.reads source.new) (S.left source.new)) }
+    ensures effort { effort (S.reads source.new) window.new ≤ effort (S.reads source.old) window.old }
+{
+    if !window.need(source, LENGTH)? {
+        return if window.unread().is_empty() {
+            Ok(None)
+        } else {
+            Err(FileFault::Truncated)
+        };
+    }
+    let len = usize::from(BigEndian::read_u16(window.unread()));
+    if len > MAX_BITS {
+        return Err(FileFault::TooLong);
+    }
+    if !window.need(source, LENGTH + len.div_ceil(8))? {
+        return Err(FileFault::Truncated);
+    }
+    Ok(Some(len))
+}
+
+/// The bytes of the message of a record that stands in a window, which has so many bits.
+#[inline(always)]
+pub(crate) fn message_bytes(window: &[u8], len: usize) -> &[u8]
+    requires { StandsWhole window.now len }
+    ensures { result.now ≡ slice_range window.now LENGTH (LENGTH + bytes_for len) }
+{
+    &window[LENGTH..LENGTH + len.div_ceil(8)]
+}
+
+/// Uses up a record that stands in a window, whose message has so many bits.
+#[inline(always)]
+pub(crate) fn skip_record(window: &mut Window, len: usize)
+    requires { StandsWhole window.old len }
+    ensures rest { window.new ≡ drop (LENGTH + bytes_for len) window.old }
+    ensures shorter { length window.new < length window.old }
+{
+    window.skip(LENGTH + len.div_ceil(8));
+}
+
+/// Takes a record that stands in a window, whose message has so many bits, into `message`.
+#[inline(always)]
+pub(crate) fn take_record(
+    window: &mut Window,
+    len: usize,
+    message: &mut Bits,
+) -> Result<(), FileFault>
+    requires { StandsWhole window.old len }
+    ensures told { (bytes : List ℕ) (left : Option (List ℕ)) → Ahead window.old left bytes → TakesRecord bytes result message.new window.new left }
+    ensures shorter { OnOk result (length window.new < length window.old) }
+    ensures read { is_read_failed result ≡ false }
+    ensures write { is_write_failed result ≡ false }
+{
+    match message.copy_from_bytes(message_bytes(window.unread(), len), len) {
+        Ok(()) => {
+            skip_record(window, len);
+            Ok(())
+        }
+        Err(fault) => Err(fault_of(fault)),
+    }
+}
+
+/// Reads the next record of a file of version 1 into `message`, and answers whether there was one.
 #[inline(always)]
 pub fn read_record<S: Source>(
     window: &mut Window,
@@ -116,26 +192,9 @@ pub fn read_record<S: Source>(
     ensures taken { IfOk result (λ found. found ≡ true → reads_beyond S.gives_all (S.reads source.old) (S.left source.old) ≤ reads_beyond S.gives_all (S.reads source.new) (S.left source.new)) }
     ensures effort { IfOk result (λ found. found ≡ true → effort (S.reads source.new) window.new < effort (S.reads source.old) window.old) }
 {
-    if !window.need(source, LENGTH)? {
-        return if window.unread().is_empty() {
-            Ok(false)
-        } else {
-            Err(FileFault::Truncated)
-        };
-    }
-    let len = usize::from(BigEndian::read_u16(window.unread()));
-    if len > MAX_BITS {
-        return Err(FileFault::TooLong);
-    }
-    let used = LENGTH + len.div_ceil(8);
-    if !window.need(source, used)? {
-        return Err(FileFault::Truncated);
-    }
-    match message.copy_from_bytes(&window.unread()[LENGTH..used], len) {
-        Ok(()) => {
-            window.skip(used);
-            Ok(true)
-        }
-        Err(fault) => Err(fault_of(fault)),
-    }
+    let Some(len) = need_record(window, source)? else {
+        return Ok(false);
+    };
+    take_record(window, len, message)?;
+    Ok(true)
 }

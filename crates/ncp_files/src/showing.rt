@@ -11,7 +11,7 @@ ghost use Rattle.ncp_files.specs.Shown.{ShownAs, ShownCut, Shown};
 
 use crate::file::FileFault;
 use crate::record::say_record;
-use crate::version::{PlacedRecords, PlainRecords, Records, Version, read_version};
+use crate::version::{PlacedRecords, PlainRecords, Records, Version, read_next_of, read_version};
 use ncp_bits::Bits;
 use ncp_page::{Page, Window};
 use ncp_stream::{LEAST_PIECE, Sink, Source};
@@ -36,7 +36,7 @@ fn show_next<S: Source, W: Sink, R: Records>(
     ensures taken { IfOk result (λ more. more ≡ true → reads_beyond S.gives_all (S.reads source.old) (S.left source.old) ≤ reads_beyond S.gives_all (S.reads source.new) (S.left source.new)) }
     ensures effort { IfOk result (λ more. more ≡ true → effort (S.reads source.new) window.new < effort (S.reads source.old) window.old) }
 {
-    let Some(passage) = records.read_next(window, source, message)? else {
+    let Some(passage) = read_next_of(window, source, records, message)? else {
         return Ok(false);
     };
     match say_record(page, sink, passage, number, message) {

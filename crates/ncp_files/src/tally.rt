@@ -6,9 +6,9 @@ ghost use Rattle.ncp_files.specs.Tallies.{no_messages, tally_with, one_more};
 
 use crate::control::{is_of_control, is_on_control_link};
 use crate::line::LONGEST_LINE;
-use ncp_bits::Bits;
+use ncp_bits::Part;
 use ncp_control::find_fault;
-use ncp_leader::{REGULAR, Regular, read_leader, read_regular};
+use ncp_leader::{REGULAR, Regular, read_leader_in, read_regular_in};
 use ncp_page::{PAGE_SIZE, Page, push_field};
 
 /// What is found of a message.
@@ -47,13 +47,14 @@ fn is_bad(message: &Regular<'_>) -> bool
 }
 
 // What is found of a message of type 0.
-fn judge_regular(bits: &Bits) -> Verdict
-    ensures { result ≡ verdict_of_message (message_in bits.now) }
+#[inline(always)]
+fn judge_regular(message: &Part<'_>) -> Verdict
+    ensures { result ≡ verdict_of_message (message_in message.now) }
 {
-    match read_regular(bits) {
+    match read_regular_in(message) {
         Err(_) => Verdict::Faulty,
-        Ok(message) => {
-            if is_bad(&message) {
+        Ok(regular) => {
+            if is_bad(&regular) {
                 Verdict::Bad
             } else {
                 Verdict::Sound
@@ -62,15 +63,17 @@ fn judge_regular(bits: &Bits) -> Verdict
     }
 }
 
-// What is found of a message.
-fn judge(bits: &Bits) -> Verdict
-    ensures { result ≡ verdict_of bits.now }
+/// What is found of a message.
+// It stands in the loop that judges, where it is seen that a message begins with a byte.
+#[inline(always)]
+pub(crate) fn judge(message: &Part<'_>) -> Verdict
+    ensures { result ≡ verdict_of message.now }
 {
-    match read_leader(bits) {
+    match read_leader_in(message) {
         Err(_) => Verdict::Short,
         Ok(leader) => {
             if leader.kind == REGULAR {
-                judge_regular(bits)
+                judge_regular(message)
             } else {
                 Verdict::Other
             }
@@ -104,10 +107,9 @@ impl Tally {
     }
 
     /// Counts a message.
-    pub(crate) fn count(&self, bits: &Bits) -> Tally
-        ensures { result ≡ tally_with self.now (verdict_of bits.now) }
+    pub(crate) fn count(&self, verdict: Verdict) -> Tally
+        ensures { result ≡ tally_with self.now verdict }
     {
-        let verdict = judge(bits);
         Tally {
             messages: self.messages.saturating_add(1),
             short: count_if(self.short, verdict == Verdict::Short),

@@ -1,14 +1,14 @@
 //! The two versions of a message file: their headers, and the records of both.
-ghost use Rattle.std.specs.Prelude.{◌≡◌, ℕ, ◌+◌, ◌<◌, ◌≤◌, ◌||◌, List, true, false, length, is_some, IfOk, OnOk};
+ghost use Rattle.std.specs.Prelude.{◌≡◌, ℕ, ◌+◌, ◌<◌, ◌≤◌, ◌||◌, List, true, false, length, is_some, IfSome, IfOk, OnOk};
 ghost use Rattle.ncp_files.specs.File.{version_of};
 ghost use Rattle.ncp_files.specs.Versions.{direction_by, next_passage, next_in};
 ghost use Rattle.ncp_files.specs.Results.{is_read_failed, is_write_failed};
-ghost use Rattle.ncp_files.specs.Steps.{ReadsVersion, ReadsOne, ReadsNext};
+ghost use Rattle.ncp_files.specs.Steps.{ReadsVersion, ReadsOne, StandsWhole, FindsNext, ReadsNext};
 ghost use Rattle.ncp_page.specs.Windows.{effort};
 ghost use Rattle.ncp_stream.specs.Pieces.{reads_beyond};
 ghost use Rattle.ncp_stream.specs.Streams.{Ahead};
 
-use crate::file::{Direction, FileFault, read_record};
+use crate::file::{Direction, FileFault, need_record, take_record};
 use ncp_bits::Bits;
 use ncp_page::Window;
 use ncp_stream::Source;
@@ -29,6 +29,15 @@ pub struct Passage {
     pub direction: Direction,
     /// The number of the host, where the file names it.
     pub at: Option<u8>,
+}
+
+/// A record that stands in a window, and has still to be taken.
+#[derive(Clone, Copy, Drop)]
+pub(crate) struct Found {
+    /// The passage of its message.
+    pub passage: Passage,
+    /// How many bits its message has.
+    pub len: usize,
 }
 
 /// How many bytes a header has.
@@ -113,26 +122,27 @@ fn read_passage<S: Source>(
     }))
 }
 
-/// The records of a file of one version, and how the next one is read.
+/// The records of a file of one version, and how the next one is found.
 pub(crate) trait Records: Copy {
     ghost use Rattle.ncp_files.specs.declared.version.Version.{Version};
 
     /// The version of the file.
     ghost version: { Self → Version };
 
-    /// Reads the next record into `message`, and answers the passage of the message, if there was one.
-    fn read_next<S: Source>(
+    /// Reads until the window has the message of the next record, if there is one. What is in front of
+    /// the message is used up.
+    fn find_next<S: Source>(
         self,
         window: &mut Window,
         source: &mut S,
-        message: &mut Bits,
-    ) -> Result<Option<Passage>, FileFault>
-        ensures told { (bytes : List ℕ) → Ahead window.old (S.left source.old) bytes → ReadsNext (version self) bytes result message.new window.new (S.left source.new) }
+    ) -> Result<Option<Found>, FileFault>
+        ensures told { (bytes : List ℕ) → Ahead window.old (S.left source.old) bytes → FindsNext (version self) bytes result window.new (S.left source.new) }
+        ensures stands { IfOk result (λ next. IfSome next (λ found. StandsWhole window.new found.len)) }
         ensures mark { S.has_failed source.new ≡ (S.has_failed source.old || is_read_failed result) }
         ensures other { is_write_failed result ≡ false }
         ensures reads { reads_beyond S.gives_all (S.reads source.old) (S.left source.old) ≤ reads_beyond S.gives_all (S.reads source.new) (S.left source.new) + 1 }
-        ensures taken { IfOk result (λ found. is_some found ≡ true → reads_beyond S.gives_all (S.reads source.old) (S.left source.old) ≤ reads_beyond S.gives_all (S.reads source.new) (S.left source.new)) }
-        ensures effort { IfOk result (λ found. is_some found ≡ true → effort (S.reads source.new) window.new < effort (S.reads source.old) window.old) };
+        ensures taken { IfOk result (λ next. is_some next ≡ true → reads_beyond S.gives_all (S.reads source.old) (S.left source.old) ≤ reads_beyond S.gives_all (S.reads source.new) (S.left source.new)) }
+        ensures effort { effort (S.reads source.new) window.new ≤ effort (S.reads source.old) window.old };
 }
 
 /// The records of a file of version 1, whose messages all go this way.
@@ -147,19 +157,19 @@ impl Records for PlainRecords {
     ghost version = { λ records. One records.direction };
 
     #[inline(always)]
-    fn read_next<S: Source>(
+    fn find_next<S: Source>(
         self,
         window: &mut Window,
         source: &mut S,
-        message: &mut Bits,
-    ) -> Result<Option<Passage>, FileFault> {
-        if !read_record(window, source, message)? {
+    ) -> Result<Option<Found>, FileFault> {
+        let Some(len) = need_record(window, source)? else {
             return Ok(None);
-        }
-        Ok(Some(Passage {
+        };
+        let passage = Passage {
             direction: self.direction,
             at: None,
-        }))
+        };
+        Ok(Some(Found { passage, len }))
     }
 }
 
@@ -174,20 +184,42 @@ impl Records for PlacedRecords {
     ghost version = { λ _. Two };
 
     #[inline(always)]
-    fn read_next<S: Source>(
+    fn find_next<S: Source>(
         self,
         window: &mut Window,
         source: &mut S,
-        message: &mut Bits,
-    ) -> Result<Option<Passage>, FileFault> {
+    ) -> Result<Option<Found>, FileFault> {
         let Some(passage) = read_passage(window, source)? else {
             return Ok(None);
         };
-        if !read_record(window, source, message)? {
+        let Some(len) = need_record(window, source)? else {
             return Err(FileFault::Truncated);
-        }
-        Ok(Some(passage))
+        };
+        Ok(Some(Found { passage, len }))
     }
+}
+
+/// Reads the next of these records into `message`, and answers the passage of the message, if there
+/// was one.
+#[inline(always)]
+pub(crate) fn read_next_of<S: Source, R: Records>(
+    window: &mut Window,
+    source: &mut S,
+    records: R,
+    message: &mut Bits,
+) -> Result<Option<Passage>, FileFault>
+    ensures told { (bytes : List ℕ) → Ahead window.old (S.left source.old) bytes → ReadsNext (R.version records) bytes result message.new window.new (S.left source.new) }
+    ensures mark { S.has_failed source.new ≡ (S.has_failed source.old || is_read_failed result) }
+    ensures other { is_write_failed result ≡ false }
+    ensures reads { reads_beyond S.gives_all (S.reads source.old) (S.left source.old) ≤ reads_beyond S.gives_all (S.reads source.new) (S.left source.new) + 1 }
+    ensures taken { IfOk result (λ found. is_some found ≡ true → reads_beyond S.gives_all (S.reads source.old) (S.left source.old) ≤ reads_beyond S.gives_all (S.reads source.new) (S.left source.new)) }
+    ensures effort { IfOk result (λ found. is_some found ≡ true → effort (S.reads source.new) window.new < effort (S.reads source.old) window.old) }
+{
+    let Some(found) = records.find_next(window, source)? else {
+        return Ok(None);
+    };
+    take_record(window, found.len, message)?;
+    Ok(Some(found.passage))
 }
 
 /// Reads the next record of a file of this version into `message`, and answers the passage of the
@@ -207,7 +239,9 @@ pub fn read_next<S: Source>(
     ensures effort { IfOk result (λ found. is_some found ≡ true → effort (S.reads source.new) window.new < effort (S.reads source.old) window.old) }
 {
     match version {
-        Version::One(direction) => PlainRecords { direction }.read_next(window, source, message),
-        Version::Two => PlacedRecords.read_next(window, source, message),
+        Version::One(direction) => {
+            read_next_of(window, source, PlainRecords { direction }, message)
+        }
+        Version::Two => read_next_of(window, source, PlacedRecords, message),
     }
 }

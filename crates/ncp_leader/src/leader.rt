@@ -2,7 +2,7 @@
 ghost use Rattle.std.specs.Prelude.{◌≡◌, ◌<◌, ◌≤◌, ◌++◌, ◌↔◌, length, IfOk, IsErr, List, Bool};
 ghost use Rattle.ncp_leader.specs.Leader.{leader_bits, leader_at, leader_in, BeginsWith};
 
-use ncp_bits::Bits;
+use ncp_bits::{Bits, Part};
 use thiserror::Error;
 
 /// How many bits a leader has.
@@ -35,30 +35,44 @@ pub struct Leader {
 pub struct Short;
 
 /// The leader of a message that is long enough. Places count from 0.
-pub(crate) fn leader_of(bits: &Bits) -> Leader
-    requires { LEADER_BITS ≤ length bits.now }
-    ensures { result ≡ leader_at bits.now }
+// This and all that reads a message stands where it is called: where it is seen that the message
+// begins with a byte, its numbers are read with no loop.
+#[inline(always)]
+pub(crate) fn leader_of(part: &Part<'_>) -> Leader
+    requires { LEADER_BITS ≤ length part.now }
+    ensures { result ≡ leader_at part.now }
 {
     Leader {
-        flags: bits.number(0, 4) as u8,
-        kind: bits.number(4, 4) as u8,
-        host: bits.number(8, 8) as u8,
-        link: bits.number(16, 8) as u8,
-        low: bits.number(24, 8) as u8,
+        flags: part.number(0, 4) as u8,
+        kind: part.number(4, 4) as u8,
+        host: part.number(8, 8) as u8,
+        link: part.number(16, 8) as u8,
+        low: part.number(24, 8) as u8,
     }
 }
 
 /// The leader in front of a message, whatever follows. `Short` where there are fewer than
 /// [`LEADER_BITS`].
+#[inline(always)]
 pub fn read_leader(bits: &Bits) -> Result<Leader, Short>
     ensures exact { result ≡ leader_in bits.now }
     ensures short { IsErr result ↔ (length bits.now < LEADER_BITS) }
     ensures found { IfOk result (λ leader. BeginsWith bits.now leader) }
 {
-    if bits.len() < LEADER_BITS {
+    read_leader_in(&bits.whole())
+}
+
+/// As [`read_leader`], of a message that stands in other bits or in bytes.
+#[inline(always)]
+pub fn read_leader_in(part: &Part<'_>) -> Result<Leader, Short>
+    ensures exact { result ≡ leader_in part.now }
+    ensures short { IsErr result ↔ (length part.now < LEADER_BITS) }
+    ensures found { IfOk result (λ leader. BeginsWith part.now leader) }
+{
+    if part.len() < LEADER_BITS {
         return Err(Short);
     }
-    Ok(leader_of(bits))
+    Ok(leader_of(part))
 }
 
 /// The bits of a leader.

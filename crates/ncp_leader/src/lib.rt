@@ -14,5 +14,9 @@ mod regular;
 
 pub use fault::MessageFault;
 pub use kinds::{DESTINATION_DEAD, INCOMPLETE, REGULAR, RFNM};
-pub use leader::{LEADER_BITS, Leader, MAX_FLAGS, MAX_KIND, Short, put_leader, read_leader};
-pub use regular::{FRONT_BITS, MAX_MADE_BITS, MAX_TEXT_BITS, Regular, put_regular, read_regular};
+pub use leader::{
+    LEADER_BITS, Leader, MAX_FLAGS, MAX_KIND, Short, put_leader, read_leader, read_leader_in,
+};
+pub use regular::{
+    FRONT_BITS, MAX_MADE_BITS, MAX_TEXT_BITS, Regular, put_regular, read_regular, read_regular_in,
+};

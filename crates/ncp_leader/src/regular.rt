@@ -113,32 +113,33 @@ impl<'a> Eq for Regular<'a> {
 }
 
 // The message in front of bits, or the first fault. Places count from 0.
-fn message_of(bits: &Bits) -> Result<Regular<'_>, MessageFault>
-    ensures { result ≡ message_in bits.now }
+#[inline(always)]
+fn message_of<'a>(part: &Part<'a>) -> Result<Regular<'a>, MessageFault>
+    ensures { result ≡ message_in part.now }
 {
-    if bits.len() < FRONT_BITS {
+    if part.len() < FRONT_BITS {
         return Err(MessageFault::ShortPrefix);
     }
-    if bits.number(32, 8) != 0 {
+    if part.number(32, 8) != 0 {
         return Err(MessageFault::M1NotZero);
     }
-    let size = bits.number(40, 8) as u8;
+    let size = part.number(40, 8) as u8;
     if size == 0 {
         return Err(MessageFault::SizeZero);
     }
-    if bits.number(64, 8) != 0 {
+    if part.number(64, 8) != 0 {
         return Err(MessageFault::M2NotZero);
     }
-    let count = bits.number(48, 16) as u16;
+    let count = part.number(48, 16) as u16;
     let len = usize::from(size) * usize::from(count);
-    if bits.len() - FRONT_BITS < len {
+    if part.len() - FRONT_BITS < len {
         return Err(MessageFault::TextMissing);
     }
     Ok(Regular {
-        leader: leader_of(bits),
+        leader: leader_of(part),
         size,
         count,
-        text: bits.slice(FRONT_BITS, len),
+        text: part.slice(FRONT_BITS, len),
     })
 }
 
@@ -146,6 +147,7 @@ fn message_of(bits: &Bits) -> Result<Regular<'_>, MessageFault>
 ///
 /// Refused, in this order: `ShortPrefix` (under [`FRONT_BITS`]), `M1NotZero`, `SizeZero`,
 /// `M2NotZero`, `TextMissing`.
+#[inline(always)]
 pub fn read_regular(bits: &Bits) -> Result<Regular<'_>, MessageFault>
     ensures exact { result ≡ message_in bits.now }
     // What is read stands there.
@@ -153,7 +155,20 @@ pub fn read_regular(bits: &Bits) -> Result<Regular<'_>, MessageFault>
     // What stands there is read.
     ensures only { (message : Message) → StandsFor bits.now message → result ≡ Ok message }
 {
-    message_of(bits)
+    read_regular_in(&bits.whole())
+}
+
+/// As [`read_regular`], of a message that stands in other bits or in bytes. The text is borrowed from
+/// what the part is borrowed from.
+#[inline(always)]
+pub fn read_regular_in<'a>(part: &Part<'a>) -> Result<Regular<'a>, MessageFault>
+    ensures exact { result ≡ message_in part.now }
+    // What is read stands there.
+    ensures found { IfOk result (λ message. StandsFor part.now message) }
+    // What stands there is read.
+    ensures only { (message : Message) → StandsFor part.now message → result ≡ Ok message }
+{
+    message_of(part)
 }
 
 // The bits of the message that a leader, a byte size and a text of whole bytes make.

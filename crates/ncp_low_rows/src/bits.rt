@@ -1,6 +1,6 @@
 //! What no clause says: that the calls succeed, that memory is asked for where it is needed, and
 //! that the definitions mean what the worked examples mean.
-use ncp_bits::{BitStore, Bits, BitsFault, NoRoom, PackedStore, PlainStore, equality, laws};
+use ncp_bits::{BitStore, Bits, BitsFault, NoRoom, PackedStore, Part, PlainStore, equality, laws};
 use std::alloc::Global;
 use std::process::Abort;
 use std::test::Fail;
@@ -58,6 +58,29 @@ fn takes_one_message_after_the_other(rt: HostRuntime) -> Result<(), Fail> {
     assert!(rt; is_spelled(&bits, "1010"));
     bits.copy_from_bytes(&LONG_BYTE, 108)?;
     assert_eq!(rt; bits.number(72, 36), 0x123456789);
+    Ok(())
+}
+
+#[test]
+fn reads_bytes_where_they_stand(rt: HostRuntime) -> Result<(), Fail> {
+    let part = Part::from_bytes(&LONG_BYTE, 108)?;
+    assert_eq!(rt; part.len(), 108);
+    assert_eq!(rt; part.number(40, 8), 36);
+    assert_eq!(rt; part.number(72, 36), 0x123456789);
+    assert!(rt; part == Bits::from_bytes(&LONG_BYTE, 108)?.whole());
+    assert!(rt;
+        matches!(
+            Part::from_bytes(&LONG_BYTE, 105),
+            Err(BitsFault::SpareNotZero)
+        )
+    );
+    assert!(rt;
+        matches!(
+            Part::from_bytes(&LONG_BYTE, 113),
+            Err(BitsFault::ShortBytes)
+        )
+    );
+    assert!(rt; matches!(Part::from_bytes(&LONG_BYTE, 8193), Err(BitsFault::TooLong)));
     Ok(())
 }
 

@@ -3,7 +3,7 @@
 use ncp_bits::{Bits, BitsFault, Part};
 use ncp_leader::{
     Leader, MAX_TEXT_BITS, MessageFault, Regular, Short, equality, laws, put_leader, put_regular,
-    read_leader, read_regular,
+    read_leader, read_leader_in, read_regular, read_regular_in,
 };
 use std::process::Abort;
 use std::test::Fail;
@@ -83,6 +83,28 @@ fn reads_and_writes_the_rts(rt: HostRuntime) -> Result<(), Fail> {
     let written = put_regular(&RTS_LEADER, 8, text.whole())?;
     assert!(rt; is_written(&written.whole(), 152, &RTS));
     assert!(rt; is_written(&put_leader(&RTS_LEADER).whole(), 32, &RTS[..4]));
+    Ok(())
+}
+
+#[test]
+fn reads_the_rts_where_it_stands(rt: HostRuntime) -> Result<(), Fail> {
+    let part = Part::from_bytes(&RTS, 152)?;
+    assert!(rt; read_leader_in(&part) == Ok(RTS_LEADER));
+    assert!(rt; is_rts(&read_regular_in(&part)?));
+    // In the middle of other bits.
+    let mut bits = Bits::new();
+    bits.push_number(5, 3)?;
+    bits.append(part)?;
+    bits.push_number(1, 1)?;
+    assert!(rt; read_leader_in(&bits.slice(3, 152)) == Ok(RTS_LEADER));
+    assert!(rt; is_rts(&read_regular_in(&bits.slice(3, 152))?));
+    assert!(rt; read_leader_in(&bits.slice(3, 31)) == Err(Short));
+    assert!(rt;
+        matches!(
+            read_regular_in(&bits.slice(3, 151)),
+            Err(MessageFault::TextMissing)
+        )
+    );
     Ok(())
 }
 

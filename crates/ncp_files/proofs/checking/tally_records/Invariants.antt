@@ -7,8 +7,8 @@ use Rattle.ncp_page.specs.Windows.{effort}
 use Rattle.ncp_files.specs.Tallies.{no_messages, TalliesFrom}
 use Rattle.ncp_files.proofs.checking.tally_records.Given as goal
 
-abbrev pub invariant-loop-passage : goal.invariant-loop-passage
-invariant-loop-passage g l =
+abbrev pub invariant-loop-verdict : goal.invariant-loop-verdict
+invariant-loop-verdict g l =
     let s = g.S.Source in
     record {
       told : (bytes : List ℕ) → Ahead l.initial.window (s.left l.initial.source) bytes
@@ -17,5 +17,5 @@ invariant-loop-passage g l =
       mark : s.has_failed l.source ≡ s.has_failed l.initial.source;
     }
 
-abbrev pub decreases-loop-passage : goal.decreases-loop-passage
-decreases-loop-passage g l = effort (g.S.Source.reads l.source) l.window
+abbrev pub decreases-loop-verdict : goal.decreases-loop-verdict
+decreases-loop-verdict g l = effort (g.S.Source.reads l.source) l.window

@@ -1,86 +1,23 @@
-use Rattle.std.proofs.Common.{◌≡◌, ◌≢◌, ◌<◌, ◌++◌, Ok, Err, length, drop, sym, ap, ◌∙◌, arith}
-use Rattle.std.proofs.lemmas.List.{length-append}
-use Rattle.std.proofs.lemmas.Bool.{eqb-false}
-use Rattle.std.proofs.lemmas.Bool.Decides.{nat_tests}
-use Rattle.byteorder.specs.Endian.{big_number}
-use Rattle.byteorder.specs.Numbers.{big_from-append}
 use Rattle.std.proofs.lemmas.Result.{err_from_is_err_and}
-use Rattle.ncp_files.specs.File.{next_record}
-use Rattle.ncp_files.proofs.Files.{ahead_at_end, next_none, next_cut, next_too_long, next_short, cut_in_length, cut_in_bytes, number_grows, next_told, ahead_behind, told_fault}
-use Rattle.ncp_bits.specs.Bits.{bytes_for}
+use Rattle.ncp_files.proofs.Files.{fault_read}
 use Rattle.ncp_files.proofs.file.read_record.Goals as goal
 
-pub returns-in_err-need-clause-told : goal.returns-in_err-need-clause-told
-returns-in_err-need-clause-told g c = λ bytes a.
+pub returns-in_err-len-clause-told : goal.returns-in_err-len-clause-told
+returns-in_err-len-clause-told g c = λ bytes a.
     let p = err_from_is_err_and c.from_residual.result c.from_residual.ensures.1 in
-    rw (p.1, p.2) (cut_in_length c.need.new.self bytes (g.S.Source.left c.need.new.source) c.in_err-need.ensures.err (c.in_err-need.ensures.moved bytes a))
+    rw (p.1, p.2) (c.in_err-len.ensures.told bytes a)
 
-pub returns-then-is_empty-clause-told : goal.returns-then-is_empty-clause-told
-returns-then-is_empty-clause-told g c = λ bytes a.
-    let whole = ahead_at_end c.need.new.self bytes (g.S.Source.left c.need.new.source) (c.in_ok-need.ensures.moved bytes a) (c.in_ok-need.ensures.short c.if-not-branch.true).1 in
-    let none : length c.unread.result.now ≡ 0 = grind (arith, nat_tests, c.if-is_empty.ensures) in
-    next_none bytes (ap length (whole ∙ sym c.unread.ensures.bytes) ∙ none)
+pub returns-in_default-clause-told : goal.returns-in_default-clause-told
+returns-in_default-clause-told g c = λ bytes a. rw c.in_default.is at (c.in_ok-len.ensures.told bytes a)
 
-pub returns-else-is_empty-clause-told : goal.returns-else-is_empty-clause-told
-returns-else-is_empty-clause-told g c = λ bytes a.
-    let short = c.in_ok-need.ensures.short c.if-not-branch.true in
-    let whole = ahead_at_end c.need.new.self bytes (g.S.Source.left c.need.new.source) (c.in_ok-need.ensures.moved bytes a) short.1 in
-    let some : length c.unread.result.now ≢ 0 = eqb-false _ _ (sym c.if-is_empty.ensures) in
-    let same : length bytes ≡ length c.unread.result.now = ap length (whole ∙ sym c.unread.ensures.bytes) in
-    let less : length bytes < 2 = omega (arith, short.0, ap length whole) in
-    next_cut bytes (λ e. some (sym same ∙ e)) less
+pub returns-in_err-take_record-clause-told : goal.returns-in_err-take_record-clause-told
+returns-in_err-take_record-clause-told g c = λ bytes a.
+    let p = err_from_is_err_and c.from_residual-in_err-take_record.result c.from_residual-in_err-take_record.ensures.1 in
+    let left = g.S.Source.left c.need_record.new.source in
+    let ahead = rw c.in-Some.is at (c.in_ok-len.ensures.told bytes a) in
+    rw (p.1, p.2) (fault_read bytes c.take_record.new.window c.take_record.new.message left c.in_err-take_record.field-0.0 (c.in_err-take_record.ensures.told bytes left ahead))
 
-pub returns-then-len-gt-MAX_BITS-clause-told : goal.returns-then-len-gt-MAX_BITS-clause-told
-returns-then-len-gt-MAX_BITS-clause-told g c = λ bytes a.
-    let ahead = c.in_ok-need.ensures.moved bytes a in
-    let there = c.in_ok-need.ensures.there c.if-not-branch.false in
-    let len : c.from-len.result ≡ big_number 2 c.need.new.self = c.from-len.ensures ∙ c.read_u16.ensures ∙ ap (big_number 2) c.unread-2.ensures.bytes in
-    ap next_record (sym ahead.2) ∙ next_too_long (c.need.new.self ++ ahead.0) c.from-len.result (simp length-append (omega arith)) (len ∙ sym (big_from-append 2 c.need.new.self ahead.0 there)) c.if-len-gt-MAX_BITS.true
-
-pub returns-in_err-need-2-clause-told : goal.returns-in_err-need-2-clause-told
-returns-in_err-need-2-clause-told g c = λ bytes a.
-    let p = err_from_is_err_and c.from_residual-in_err-need-2.result c.from_residual-in_err-need-2.ensures.1 in
-    let there = c.in_ok-need.ensures.there c.if-not-branch.false in
-    let grows = c.in_err-need-2.ensures.grows in
-    let len : c.from-len.result ≡ big_number 2 c.need.new.self = c.from-len.ensures ∙ c.read_u16.ensures ∙ ap (big_number 2) c.unread-2.ensures.bytes in
-    rw (p.1, p.2) (
-    cut_in_bytes c.need-2.new.self bytes (g.S.Source.left c.need-2.new.source) c.from-len.result
-    (omega (arith, simp length-append at (ap length grows.1)))
-    (len ∙ sym (number_grows c.need.new.self grows.0 c.need-2.new.self grows.1 there)) c.if-len-gt-MAX_BITS.false
-    (omega (arith, c.in_err-need-2.ensures.err, c.div_ceil-used.ensures))
-    (c.in_err-need-2.ensures.moved bytes (c.in_ok-need.ensures.moved bytes a)))
-
-pub returns-then-not-branch-2-clause-told : goal.returns-then-not-branch-2-clause-told
-returns-then-not-branch-2-clause-told g c = λ bytes a.
-    let there = c.in_ok-need.ensures.there c.if-not-branch.false in
-    let grows = c.in_ok-need-2.ensures.grows in
-    let short = c.in_ok-need-2.ensures.short c.if-not-branch-2.true in
-    let len : c.from-len.result ≡ big_number 2 c.need.new.self = c.from-len.ensures ∙ c.read_u16.ensures ∙ ap (big_number 2) c.unread-2.ensures.bytes in
-    ap next_record (ahead_at_end c.need-2.new.self bytes (g.S.Source.left c.need-2.new.source) (c.in_ok-need-2.ensures.moved bytes (c.in_ok-need.ensures.moved bytes a)) short.1)
-    ∙ next_short c.need-2.new.self c.from-len.result (omega (arith, simp length-append at (ap length grows.1)))
-    (len ∙ sym (number_grows c.need.new.self grows.0 c.need-2.new.self grows.1 there)) c.if-len-gt-MAX_BITS.false (omega (arith, short.0, c.div_ceil-used.ensures))
-
-pub returns-in-Ok-clause-told : goal.returns-in-Ok-clause-told
-returns-in-Ok-clause-told g c = λ bytes a.
-    let grows = c.in_ok-need-2.ensures.grows in
-    let there = c.in_ok-need.ensures.there c.if-not-branch.false in
-    let there-2 = c.in_ok-need-2.ensures.there c.if-not-branch-2.false in
-    let ahead = c.in_ok-need-2.ensures.moved bytes (c.in_ok-need.ensures.moved bytes a) in
-    let len : c.from-len.result ≡ big_number 2 c.need.new.self = c.from-len.ensures ∙ c.read_u16.ensures ∙ ap (big_number 2) c.unread-2.ensures.bytes in (
-      drop (bytes_for c.from-len.result) (drop 2 bytes),
-      next_told c.need-2.new.self ahead.0 bytes c.unread-3.result.now c.from-len.result c.div_ceil-used.result (Ok c.copy_from_bytes.new.self) (omega (arith, there-2))
-          (len ∙ sym (number_grows c.need.new.self grows.0 c.need-2.new.self grows.1 there)) c.div_ceil-used.ensures there-2 ahead.2 c.unread-3.ensures.bytes (sym c.in-Ok.ensures.ok),
-      ahead_behind c.need-2.new.self c.skip.new.self bytes (g.S.Source.left c.need-2.new.source) c.from-len.result c.div_ceil-used.result c.div_ceil-used.ensures there-2 c.skip.ensures ahead,
-    )
-
-pub returns-in-Err-clause-told : goal.returns-in-Err-clause-told
-returns-in-Err-clause-told g c = λ bytes a.
-    let grows = c.in_ok-need-2.ensures.grows in
-    let there = c.in_ok-need.ensures.there c.if-not-branch.false in
-    let there-2 = c.in_ok-need-2.ensures.there c.if-not-branch-2.false in
-    let ahead = c.in_ok-need-2.ensures.moved bytes (c.in_ok-need.ensures.moved bytes a) in
-    let len : c.from-len.result ≡ big_number 2 c.need.new.self = c.from-len.ensures ∙ c.read_u16.ensures ∙ ap (big_number 2) c.unread-2.ensures.bytes in
-    rw c.fault_of.ensures (
-    told_fault bytes c.need-2.new.self c.copy_from_bytes.new.self (g.S.Source.left c.need-2.new.source) c.in-Err.fault
-    (next_told c.need-2.new.self ahead.0 bytes c.unread-3.result.now c.from-len.result c.div_ceil-used.result (Err c.in-Err.fault) (omega (arith, there-2))
-    (len ∙ sym (number_grows c.need.new.self grows.0 c.need-2.new.self grows.1 there)) c.div_ceil-used.ensures there-2 ahead.2 c.unread-3.ensures.bytes (sym c.in-Err.ensures.err)))
+pub returns-clause-told : goal.returns-clause-told
+returns-clause-told g c = λ bytes a.
+    let ahead = rw c.in-Some.is at (c.in_ok-len.ensures.told bytes a) in
+    c.in_ok-take_record.ensures.told bytes (g.S.Source.left c.need_record.new.source) ahead

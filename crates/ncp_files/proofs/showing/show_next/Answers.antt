@@ -8,7 +8,7 @@ pub returns-in_err-passage-clause-told : goal.returns-in_err-passage-clause-told
 returns-in_err-passage-clause-told g c = λ bytes was said a k.
     let p = err_from_is_err_and c.from_residual.result c.from_residual.ensures.1 in
     rw (p.1, p.2) (
-    next_ends (next_in (g.R.Records.version c.args.records)) record_lines c.args.number bytes was said c.read_next.new.window c.args.page.now (g.S.Source.left c.read_next.new.source) (g.W.Sink.written c.args.sink.now) c.in_err-passage.field-0.0
+    next_ends (next_in (g.R.Records.version c.args.records)) record_lines c.args.number bytes was said c.read_next_of.new.window c.args.page.now (g.S.Source.left c.read_next_of.new.source) (g.W.Sink.written c.args.sink.now) c.in_err-passage.field-0.0
     (c.in_err-passage.ensures.told bytes a) k)
 
 pub returns-in_default-clause-told : goal.returns-in_default-clause-told
@@ -17,10 +17,10 @@ returns-in_default-clause-told g c = λ bytes was said a k. (rw c.in_default.is 
 pub returns-in-Ok-clause-told : goal.returns-in-Ok-clause-told
 returns-in-Ok-clause-told g c = λ bytes was said a k.
     let read = rw c.in-Some.is at (c.in_ok-passage.ensures.told bytes a) in
-    (record { passage = c.in-Some.passage; message = c.read_next.new.message }, read.0, read.1, read.2, c.in-Ok.ensures.told was said k)
+    (record { passage = c.in-Some.passage; message = c.read_next_of.new.message }, read.0, read.1, read.2, c.in-Ok.ensures.told was said k)
 
 pub returns-in-Err-clause-told : goal.returns-in-Err-clause-told
 returns-in-Err-clause-told g c = λ bytes was said a k.
     let read = rw c.in-Some.is at (c.in_ok-passage.ensures.told bytes a) in
     let broken = c.in-Err.ensures.told in
-    (record { passage = c.in-Some.passage; message = c.read_next.new.message }, read.0, broken.0, read.1, broken.1 was said k)
+    (record { passage = c.in-Some.passage; message = c.read_next_of.new.message }, read.0, broken.0, read.1, broken.1 was said k)

@@ -4,7 +4,7 @@ use Rattle.ncp_leader.proofs.regular.message_of.Goals as goal
 
 pub invariant_of-result : goal.invariant_of-result
 invariant_of-result c = record {
-  leader = rw c.leader_of.ensures (IsLeader-at c.args.bits.now);
+  leader = rw c.leader_of.ensures (IsLeader-at c.args.part.now);
   some = omega arith;
   size = c.number-size.ensures.fits;
   count = c.number-count.ensures.fits;

@@ -1,8 +1,7 @@
-use Rattle.ncp_leader.proofs.Messages.{read_stands, only_law}
+use Rattle.std.proofs.Common.{◌∙◌, ap}
+use Rattle.ncp_leader.specs.Message.{message_in}
+use Rattle.ncp_leader.proofs.Messages.{only_law}
 use Rattle.ncp_leader.proofs.regular.read_regular.Goals as goal
 
-pub returns-clause-found : goal.returns-clause-found
-returns-clause-found c = rw c.message_of.ensures (read_stands c.args.bits.now)
-
 pub returns-clause-only : goal.returns-clause-only
-returns-clause-only c = only_law c.args.bits.now _ c.message_of.ensures
+returns-clause-only c = only_law c.args.bits.now _ (c.read_regular_in.ensures.exact ∙ ap message_in c.whole.ensures)

@@ -3,7 +3,7 @@ use Rattle.std.proofs.lemmas.Result.{err_from_is_err_and}
 use Rattle.ncp_files.specs.declared.file.FileFault.TheVariants.{Truncated}
 use Rattle.ncp_files.specs.Versions.{recorded, behind_passage}
 use Rattle.ncp_files.proofs.Placing.{passage_stops, message_stops}
-use Rattle.ncp_files.proofs.version.PlacedRecordsRecords.read_next.Goals as goal
+use Rattle.ncp_files.proofs.version.PlacedRecordsRecords.find_next.Goals as goal
 
 pub returns-in_err-passage-clause-told : goal.returns-in_err-passage-clause-told
 returns-in_err-passage-clause-told g c = λ bytes a.
@@ -13,21 +13,19 @@ returns-in_err-passage-clause-told g c = λ bytes a.
 pub returns-in_default-clause-told : goal.returns-in_default-clause-told
 returns-in_default-clause-told g c = λ bytes a. ap behind_passage (rw c.in_default.is at (c.in_ok-passage.ensures.told bytes a))
 
-pub returns-in_err-read_record-clause-told : goal.returns-in_err-read_record-clause-told
-returns-in_err-read_record-clause-told g c = λ bytes a.
-    let p = err_from_is_err_and c.from_residual-in_err-read_record.result c.from_residual-in_err-read_record.ensures.1 in
+pub returns-in_err-len-clause-told : goal.returns-in_err-len-clause-told
+returns-in_err-len-clause-told g c = λ bytes a.
+    let p = err_from_is_err_and c.from_residual-in_err-len.result c.from_residual-in_err-len.ensures.1 in
     let passed = rw c.in-Some.is at (c.in_ok-passage.ensures.told bytes a) in
     rw (p.1, p.2) (
-    message_stops bytes passed.0 c.read_record.new.window c.in-Some.passage c.read_record.new.message (g.S.Source.left c.read_record.new.source) c.in_err-read_record.field-0.0 passed.1
-    (c.in_err-read_record.ensures.told passed.0 passed.2))
+    message_stops bytes passed.0 c.need_record.new.window c.in-Some.passage (g.S.Source.left c.need_record.new.source) c.in_err-len.field-0.0 passed.1 (c.in_err-len.ensures.told passed.0 passed.2))
 
-pub returns-then-not-branch-clause-told : goal.returns-then-not-branch-clause-told
-returns-then-not-branch-clause-told g c = λ bytes a.
+pub returns-in_default-2-clause-told : goal.returns-in_default-2-clause-told
+returns-in_default-2-clause-told g c = λ bytes a.
     let passed = rw c.in-Some.is at (c.in_ok-passage.ensures.told bytes a) in
-    ap behind_passage passed.1 ∙ ap (recorded c.in-Some.passage (Err Truncated)) (rw c.if-not-branch.true at (c.in_ok-read_record.ensures.told passed.0 passed.2))
+    ap behind_passage passed.1 ∙ ap (recorded c.in-Some.passage (Err Truncated)) (rw c.in_default-2.is at (c.in_ok-len.ensures.told passed.0 passed.2))
 
 pub returns-clause-told : goal.returns-clause-told
 returns-clause-told g c = λ bytes a.
     let passed = rw c.in-Some.is at (c.in_ok-passage.ensures.told bytes a) in
-    let read = rw c.if-not-branch.false at (c.in_ok-read_record.ensures.told passed.0 passed.2) in
-    (read.0, ap behind_passage passed.1 ∙ ap (recorded c.in-Some.passage (Err Truncated)) read.1, read.2)
+    (passed.0, Err Truncated, ap behind_passage passed.1, rw c.in-Some-2.is at (c.in_ok-len.ensures.told passed.0 passed.2))
