@@ -54,12 +54,13 @@ def main():
     hosts = int(sys.argv[2]) if len(sys.argv) > 2 else 63
     header, place = (b"NCPJ", b"I\x01") if sys.argv[3:] == ["2"] else (b"NCPI", b"")
     r = random.Random(1972)
-    out = sys.stdout.buffer
-    written = out.write(header)
-    while written < size:
-        host = r.randrange(1, hosts + 1)
-        out.write(place)
-        written += out.write(r.choice((control, text, text, answer, answer, answer))(r, host))
+    # In large blocks, as a copy is written: what came in small ones takes the kernel longer to hand out.
+    with open(sys.stdout.fileno(), "wb", buffering=1 << 20, closefd=False) as out:
+        written = out.write(header)
+        while written < size:
+            host = r.randrange(1, hosts + 1)
+            out.write(place)
+            written += out.write(r.choice((control, text, text, answer, answer, answer))(r, host))
 
 
 main()
