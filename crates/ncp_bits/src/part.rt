@@ -10,8 +10,8 @@ use crate::writing::write_run;
 use std::fmt;
 use std::marker::Model;
 
-/// A borrowed run of bits of a [`Bits`], at any bit of its bytes. Nothing is copied until
-/// `to_bits`.
+/// A run of bits that is borrowed from a [`Bits`] or from bytes, at any bit of them. Nothing is copied
+/// until `to_bits`.
 #[derive(Drop)]
 pub struct Part<'a> {
     bytes: &'a [u8],
