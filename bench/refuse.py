@@ -39,7 +39,7 @@ CALLS = [
     ("Many::run", "ncp_world_rows", ["refused::many::many_run"]),
     ("play_host", "ncp_play_rows", ["refused::playing_one_host"]),
     ("play_world", "ncp_world_player_rows", ["refused::playing_two_hosts", "refused::playing_many_hosts"]),
-    ("record_world", "ncp_recorder_rows", ["refused::recording"]),
+    ("record_world", "ncp_world_player_rows", ["recorded::refused::recording"]),
 ]
 TOLD = "refused: "  # in front of what a test prints
 PASSED = "test result: ok"

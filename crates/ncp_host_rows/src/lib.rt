@@ -1,12 +1,26 @@
-//! The worked rows of a host, and of a host with its transcript, as tests of what the crates below
-//! show to everybody. They stand in a crate of their own, since a crate with tests is proved twice.
+//! The worked rows of a host, of a host with its transcript, and of what they stand on, as tests of what the crates below
+//! show to everybody: that calls succeed, that memory is asked for where it is needed, that definitions mean what the
+//! worked examples mean, and the texts and numbers of the faults. They stand in a crate of their own, since a crate with
+//! tests is proved twice.
 #![tactic(auto)]
 
 #[cfg(test)]
 mod alone;
 #[cfg(test)]
+mod bits;
+#[cfg(test)]
+mod control;
+#[cfg(test)]
 mod host;
 #[cfg(test)]
 mod known;
 #[cfg(test)]
+mod leader;
+#[cfg(test)]
+mod model;
+#[cfg(test)]
 mod refused;
+#[cfg(test)]
+mod slot;
+#[cfg(test)]
+mod subnet;

@@ -1,9 +1,14 @@
-//! The worked lines of notes and faults, as tests of what `ncp_play` shows to everybody. They stand in a
-//! crate of their own, since a crate with tests is proved twice.
+//! What scripts say (`script`), the worked lines of notes and faults, feeds (`feed`), and whole scripts of one host, as
+//! tests of what the crates below show to everybody. They stand in a crate of their own, since a crate with tests is
+//! proved twice.
 #![tactic(auto)]
 
 #[cfg(test)]
+mod bytewise;
+#[cfg(test)]
 mod faults;
+#[cfg(test)]
+mod feed;
 #[cfg(test)]
 mod lines;
 #[cfg(test)]
@@ -12,6 +17,8 @@ mod refused;
 mod runs;
 #[cfg(test)]
 mod said;
+#[cfg(test)]
+mod script;
 #[cfg(test)]
 mod scripts;
 #[cfg(test)]

@@ -1,60 +1,14 @@
-//! Sources and sinks that move a byte at a time, and a script that is played between two, or in one piece.
+//! A script that is played a byte at a time, or in one piece.
+use crate::bytewise::{Bytewise, Piecemeal};
 use ncp_bits::{BitStore, PackedStore};
 use ncp_host_player::play_host;
 use ncp_play::PlayFault;
-use ncp_stream::{Failed, MemorySink, MemorySource, Sink, Source};
+use ncp_stream::{MemorySink, MemorySource, Sink, Source};
 use std::alloc::Global;
 use std::test::Fail;
 
 /// Room for the lines of a script.
 pub(crate) const ROOM: usize = 16384;
-
-/// Reads a byte at a time.
-#[derive(Drop)]
-pub(crate) struct Bytewise<'a> {
-    source: MemorySource<'a>,
-}
-
-impl Source for Bytewise<'_> {
-    ghost use Rattle.std.specs.Prelude.{Some};
-
-    ghost left = { λ slow. Some slow.source.left };
-
-    ghost reads = { λ slow. slow.source.reads };
-
-    ghost has_failed = { λ slow. slow.source.failed };
-
-    fn read(&mut self, piece: &mut [u8]) -> Result<usize, Failed> {
-        let end = piece.len().min(1);
-        self.source.read(&mut piece[..end])
-    }
-
-    fn failed(&self) -> bool {
-        self.source.failed()
-    }
-}
-
-/// Writes a byte at a time.
-#[derive(Drop)]
-pub(crate) struct Piecemeal {
-    sink: MemorySink,
-}
-
-impl Sink for Piecemeal {
-    ghost use Rattle.std.specs.Prelude.{Some};
-
-    ghost written = { λ slow. Some slow.sink.written };
-
-    ghost has_failed = { λ slow. slow.sink.failed };
-
-    fn write(&mut self, piece: &[u8]) -> Result<usize, Failed> {
-        self.sink.write(&piece[..piece.len().min(1)])
-    }
-
-    fn failed(&self) -> bool {
-        self.sink.failed()
-    }
-}
 
 /// What was answered of a script, and what was written.
 #[derive(Drop)]

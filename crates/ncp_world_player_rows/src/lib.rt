@@ -1,7 +1,9 @@
-//! Scripts of two hosts, and of two to eight, with their lines, byte for byte, as tests of the public call. They stand in a
-//! crate of their own, since a crate with tests is proved twice.
+//! Scripts of two hosts, and of two to eight, with their lines and with their recordings, byte for byte, as tests of the
+//! public calls. They stand in a crate of their own, since a crate with tests is proved twice.
 #![tactic(auto)]
 
+#[cfg(test)]
+mod bytewise;
 #[cfg(test)]
 mod faults;
 #[cfg(test)]
@@ -12,6 +14,8 @@ mod many;
 mod opening;
 #[cfg(test)]
 mod played;
+#[cfg(test)]
+mod recorded;
 #[cfg(test)]
 mod refused;
 #[cfg(test)]

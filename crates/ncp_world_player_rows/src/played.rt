@@ -9,7 +9,7 @@ use std::alloc::{AllocError, Global};
 use std::process::Abort;
 use std::test::Fail;
 
-/// Room for the lines of a script.
+/// Room for the lines of a script, or for its recording.
 pub(crate) const ROOM: usize = 16384;
 
 /// These texts, one behind the other.

@@ -41,7 +41,7 @@ const MANY_LINES: &[u8] = b"1 1 reset 3 ok
 ";
 
 /// These texts one behind the other, made once more where memory is refused.
-fn text_of(alloc: Global, texts: &[&[u8]]) -> Result<Vec<u8>, AllocError> {
+pub(crate) fn text_of(alloc: Global, texts: &[&[u8]]) -> Result<Vec<u8>, AllocError> {
     match joined(alloc, texts) {
         Ok(text) => Ok(text),
         Err(_) => joined(alloc, texts),
@@ -49,7 +49,7 @@ fn text_of(alloc: Global, texts: &[&[u8]]) -> Result<Vec<u8>, AllocError> {
 }
 
 /// A sink, made once more where memory is refused.
-fn sink_of(alloc: Global) -> Result<MemorySink, AllocError> {
+pub(crate) fn sink_of(alloc: Global) -> Result<MemorySink, AllocError> {
     match MemorySink::new(alloc, ROOM, None) {
         Ok(sink) => Ok(sink),
         Err(_) => MemorySink::new(alloc, ROOM, None),

@@ -1,58 +1,12 @@
 //! Each read and each write of a script that fails in turn.
+use crate::bytewise::{Bytewise, Piecemeal};
 use crate::opening::{COMING_UP, COMING_UP_LINES};
 use ncp_bits::PackedStore;
 use ncp_play::PlayFault;
-use ncp_stream::{Failed, MemorySink, MemorySource, Sink, Source};
+use ncp_stream::{MemorySink, MemorySource, Sink, Source};
 use ncp_world_player::play_world;
 use std::alloc::Global;
 use std::test::Fail;
-
-/// Reads a byte at a time.
-#[derive(Drop)]
-struct Bytewise<'a> {
-    source: MemorySource<'a>,
-}
-
-impl Source for Bytewise<'_> {
-    ghost use Rattle.std.specs.Prelude.{Some};
-
-    ghost left = { λ slow. Some slow.source.left };
-
-    ghost reads = { λ slow. slow.source.reads };
-
-    ghost has_failed = { λ slow. slow.source.failed };
-
-    fn read(&mut self, piece: &mut [u8]) -> Result<usize, Failed> {
-        let end = piece.len().min(1);
-        self.source.read(&mut piece[..end])
-    }
-
-    fn failed(&self) -> bool {
-        self.source.failed()
-    }
-}
-
-/// Writes a byte at a time.
-#[derive(Drop)]
-struct Piecemeal {
-    sink: MemorySink,
-}
-
-impl Sink for Piecemeal {
-    ghost use Rattle.std.specs.Prelude.{Some};
-
-    ghost written = { λ slow. Some slow.sink.written };
-
-    ghost has_failed = { λ slow. slow.sink.failed };
-
-    fn write(&mut self, piece: &[u8]) -> Result<usize, Failed> {
-        self.sink.write(&piece[..piece.len().min(1)])
-    }
-
-    fn failed(&self) -> bool {
-        self.sink.failed()
-    }
-}
 
 /// Room for the lines.
 const ROOM: usize = 1024;

@@ -1,7 +1,7 @@
 //! Copies of events among many hosts.
 use crate::wanted::bits_of;
 use ncp_host::Pair;
-use ncp_pairs::ManyEvent;
+use ncp_many::ManyEvent;
 use ncp_transcript::{Call, Message};
 use std::test::Fail;
 

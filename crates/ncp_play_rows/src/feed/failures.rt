@@ -1,6 +1,6 @@
 //! Reads and writes that fail in a feed, each in turn.
+use super::{ROOM, fed, fed_to_page, joined};
 use crate::bytewise::{Bytewise, Piecemeal};
-use crate::fed::{ROOM, fed, fed_to_page, joined};
 use ncp_files::FileFault;
 use ncp_play::PlayFault;
 use ncp_stream::{MemorySink, MemorySource, Sink, Source};

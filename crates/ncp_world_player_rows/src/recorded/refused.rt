@@ -1,20 +1,21 @@
 //! What stands where the recorder is refused memory. Here each test has ample memory. `bench/refuse.py` runs each test
 //! again and again, refuses it one request after the other, and reads what is printed of the request.
-use crate::opening::{
-    COMING_UP, COMING_UP_RECORDS, GIVING, GIVING_RECORDS, SENDING, SENDING_RECORDS,
-};
-use crate::recorded::{HEADER, ROOM, append};
+use super::opening::{COMING_UP_RECORDS, GIVING_RECORDS, SENDING_RECORDS};
+use super::{HEADER, append};
+use crate::opening::{COMING_UP, GIVING, SENDING};
+use crate::refused::{sink_of, text_of};
 use ncp_bits::{BitStore, PackedStore, PlainStore};
 use ncp_play::PlayFault;
-use ncp_stream::{MemorySink, MemorySource, Sink};
+use ncp_stream::{MemorySource, Sink};
 use ncp_world_player::record_world;
 use std::alloc::{AllocError, Global};
 use std::process::Abort;
 use std::test::Fail;
 
-/// Texts one behind the other.
+/// A header and records behind it.
 fn joined(alloc: Global, parts: &[&[&[u8]]]) -> Result<Vec<u8>, AllocError> {
     let mut all = Vec::new(alloc);
+    all.extend_from_slice(HEADER)?;
     for part in parts {
         append(&mut all, part)?;
     }
@@ -22,18 +23,10 @@ fn joined(alloc: Global, parts: &[&[&[u8]]]) -> Result<Vec<u8>, AllocError> {
 }
 
 /// The same, made once more where memory is refused.
-fn text_of(alloc: Global, parts: &[&[&[u8]]]) -> Result<Vec<u8>, AllocError> {
+fn recording_of(alloc: Global, parts: &[&[&[u8]]]) -> Result<Vec<u8>, AllocError> {
     match joined(alloc, parts) {
-        Ok(text) => Ok(text),
+        Ok(recording) => Ok(recording),
         Err(_) => joined(alloc, parts),
-    }
-}
-
-/// A sink, made once more where memory is refused.
-fn sink_of(alloc: Global) -> Result<MemorySink, AllocError> {
-    match MemorySink::new(alloc, ROOM, None) {
-        Ok(sink) => Ok(sink),
-        Err(_) => MemorySink::new(alloc, ROOM, None),
     }
 }
 
@@ -67,17 +60,9 @@ fn is_refused<S: BitStore>(
 #[test]
 fn recording(rt: HostRuntime) -> Result<(), Fail> {
     let alloc = rt.alloc();
-    let script = text_of(alloc, &[&[COMING_UP, GIVING, SENDING]])?;
-    let before = text_of(alloc, &[&[HEADER], COMING_UP_RECORDS])?;
-    let all = text_of(
-        alloc,
-        &[
-            &[HEADER],
-            COMING_UP_RECORDS,
-            GIVING_RECORDS,
-            SENDING_RECORDS,
-        ],
-    )?;
+    let script = text_of(alloc, &[COMING_UP, GIVING, SENDING])?;
+    let before = recording_of(alloc, &[COMING_UP_RECORDS])?;
+    let all = recording_of(alloc, &[COMING_UP_RECORDS, GIVING_RECORDS, SENDING_RECORDS])?;
     let plain = is_refused::<PlainStore>(&rt, alloc, &script, &before, &all)?;
     let packed = is_refused::<PackedStore>(&rt, alloc, &script, &before, &all)?;
     if plain || packed {

@@ -2,7 +2,7 @@ use Rattle.std.proofs.Common.{◌≡◌}
 use Rattle.ncp_bits.specs.Bits.{bytes_of}
 use Rattle.ncp_control.specs.Texts.{fault_among}
 use Rattle.ncp_control.specs.Reading.{fault_in}
-use Rattle.ncp_low_rows.proofs.control.fault_of_text.Given as goal
+use Rattle.ncp_host_rows.proofs.control.fault_of_text.Given as goal
 
 -- the fault is still to come
 abbrev pub invariant-loop-item : goal.invariant-loop-item

@@ -1,21 +1,8 @@
-//! The beginning that most scripts have, and the records of it: both hosts come up, a connection opens, three
-//! bytes are given, and the first message with two of them goes out.
-//!
-//! A record is a direction, a host, a number of bits, and then a leader and what follows it.
-
-/// Both hosts come up.
-pub(crate) const COMING_UP: &[u8] = b"hosts 1 2
-a reset
-a out
-a deliver 0
-a answer 0
-b out
-b deliver 0
-b answer 0
-";
+//! The records of the beginning that most scripts have. A record is a direction, a host, a number of bits, and then a
+//! leader and what follows it.
 
 /// RST of host 1 and RRP of host 2: each as it goes out and as it comes, with its RFNM.
-pub(crate) const COMING_UP_RECORDS: &[&[u8]] = &[
+pub(super) const COMING_UP_RECORDS: &[&[u8]] = &[
     b"H\x01\x00\x50\x00\x02\x00\x00\x00\x08\x00\x01\x00\x0c",
     b"I\x02\x00\x50\x00\x01\x00\x00\x00\x08\x00\x01\x00\x0c",
     b"I\x01\x00\x20\x05\x02\x00\x00",
@@ -24,24 +11,8 @@ pub(crate) const COMING_UP_RECORDS: &[&[u8]] = &[
     b"I\x02\x00\x20\x05\x01\x00\x00",
 ];
 
-/// The connection opens, with room for two messages of 16 bits, and three bytes are given.
-pub(crate) const GIVING: &[u8] = b"b ask-receive 2 3 1024
-a ask-send 3 2 8 1024
-b out
-b deliver 0
-b answer 0
-a out
-a deliver 0
-a answer 0
-b allocate 2 3 2 16
-b out
-b deliver 0
-b answer 0
-a give 3 2 24 616263
-";
-
 /// RTS of host 2, STR of host 1, and ALL of host 2.
-pub(crate) const GIVING_RECORDS: &[&[u8]] = &[
+pub(super) const GIVING_RECORDS: &[&[u8]] = &[
     b"H\x02\x00\x98\x00\x01\x00\x00\x00\x08\x00\x0a\x00\x01\x00\x00\x00\x02\x00\x00\x00\x03\x02",
     b"I\x01\x00\x98\x00\x02\x00\x00\x00\x08\x00\x0a\x00\x01\x00\x00\x00\x02\x00\x00\x00\x03\x02",
     b"I\x02\x00\x20\x05\x01\x00\x00",
@@ -53,11 +24,7 @@ pub(crate) const GIVING_RECORDS: &[&[u8]] = &[
     b"I\x02\x00\x20\x05\x01\x00\x00",
 ];
 
-/// The first message goes out.
-pub(crate) const SENDING: &[u8] = b"a out
-";
-
 /// Two bytes of text on link 2.
-pub(crate) const SENDING_RECORDS: &[&[u8]] = &[
+pub(super) const SENDING_RECORDS: &[&[u8]] = &[
     b"H\x01\x00\x58\x00\x02\x02\x00\x00\x08\x00\x02\x00\x61\x62",
 ];

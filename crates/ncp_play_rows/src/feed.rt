@@ -1,5 +1,8 @@
 //! Feeds a host. Nothing is promised of it, so that the prover does not follow a page through a long
 //! test.
+mod failures;
+mod lines;
+
 use ncp_bits::PackedStore;
 use ncp_feed::feed;
 use ncp_page::{Page, Window};
@@ -11,7 +14,7 @@ use std::process::Abort;
 use std::test::Fail;
 
 /// Room for the lines of a feed.
-pub(crate) const ROOM: usize = 65536;
+const ROOM: usize = 65536;
 
 /// The host of the feeds, and its peers.
 const ME: u8 = 1;
@@ -22,7 +25,7 @@ const PEERS: [u8; 2] = [2, 3];
 const FIRST: u32 = 7;
 
 /// Feeds a new host with what the source has left: the answer, and the page with what stays on it.
-pub(crate) fn fed_to_page<R: Source, W: Sink>(
+fn fed_to_page<R: Source, W: Sink>(
     alloc: Global,
     source: &mut R,
     sink: &mut W,
@@ -46,7 +49,7 @@ pub(crate) fn fed_to_page<R: Source, W: Sink>(
 }
 
 /// Feeds a new host with what the source has left, and writes what then stays on the page.
-pub(crate) fn fed<R: Source, W: Sink>(
+fn fed<R: Source, W: Sink>(
     alloc: Global,
     source: &mut R,
     sink: &mut W,
@@ -59,7 +62,7 @@ pub(crate) fn fed<R: Source, W: Sink>(
 }
 
 /// Feeds a host with these bytes, and compares the answer and the lines.
-pub(crate) fn expect(
+fn expect(
     rt: &impl Abort,
     alloc: Global,
     bytes: &[u8],
@@ -75,7 +78,7 @@ pub(crate) fn expect(
 }
 
 /// These bytes, and behind them those.
-pub(crate) fn joined(alloc: Global, front: &[u8], rest: &[u8]) -> Result<Vec<u8>, Fail> {
+fn joined(alloc: Global, front: &[u8], rest: &[u8]) -> Result<Vec<u8>, Fail> {
     let mut bytes = Vec::new(alloc);
     bytes.extend_from_slice(front)?;
     bytes.extend_from_slice(rest)?;

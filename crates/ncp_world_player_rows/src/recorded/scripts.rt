@@ -1,5 +1,5 @@
 //! The worked scripts, each behind its beginning, and the records of it.
-use crate::recorded::{expect_given, expect_sent, expect_up};
+use super::{expect_given, expect_sent, expect_up};
 use std::test::Fail;
 
 #[test]

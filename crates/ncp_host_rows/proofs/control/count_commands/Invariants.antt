@@ -2,7 +2,7 @@ use Rattle.std.proofs.Common.{◌≡◌, ◌+◌, ◌≤◌, length}
 use Rattle.ncp_bits.specs.Bits.{bytes_of}
 use Rattle.ncp_control.specs.Texts.{commands_of}
 use Rattle.ncp_control.specs.Reading.{commands_in}
-use Rattle.ncp_low_rows.proofs.control.count_commands.Given as goal
+use Rattle.ncp_host_rows.proofs.control.count_commands.Given as goal
 
 -- the commands so far and those still to come are the text's
 abbrev pub invariant-loop-item : goal.invariant-loop-item

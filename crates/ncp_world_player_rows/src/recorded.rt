@@ -1,24 +1,26 @@
 //! Records scripts. Nothing is promised of it, so that the prover does not follow a page through a long
 //! test.
-use crate::opening::{
-    COMING_UP, COMING_UP_RECORDS, GIVING, GIVING_RECORDS, SENDING, SENDING_RECORDS,
-};
+mod faults;
+mod opening;
+mod refused;
+mod scripts;
+
+use crate::opening::{COMING_UP, GIVING, SENDING};
+use crate::played::{ROOM, joined};
 use ncp_bits::{BitStore, PackedStore, PlainStore};
 use ncp_play::PlayFault;
 use ncp_stream::{MemorySink, MemorySource};
 use ncp_world_player::record_world;
+use opening::{COMING_UP_RECORDS, GIVING_RECORDS, SENDING_RECORDS};
 use std::alloc::{AllocError, Global};
 use std::process::Abort;
 use std::test::Fail;
 
-/// Room for a recording.
-pub(crate) const ROOM: usize = 16384;
+// The header of a recording.
+const HEADER: &[u8] = b"NCPJ";
 
-/// The header of a recording.
-pub(crate) const HEADER: &[u8] = b"NCPJ";
-
-/// Appends these texts.
-pub(crate) fn append(all: &mut Vec<u8>, texts: &[&[u8]]) -> Result<(), AllocError> {
+// Appends these texts.
+fn append(all: &mut Vec<u8>, texts: &[&[u8]]) -> Result<(), AllocError> {
     for text in texts {
         all.extend_from_slice(text)?;
     }
@@ -42,7 +44,7 @@ fn expect_with<S: BitStore>(
 }
 
 /// Compares what a script answers, and its recording, over either store.
-pub(crate) fn expect(
+fn expect(
     rt: &impl Abort,
     alloc: Global,
     script: &[u8],
@@ -63,8 +65,7 @@ fn expect_behind(
     good: bool,
     records: &[&[u8]],
 ) -> Result<(), Fail> {
-    let mut all = Vec::new(alloc);
-    append(&mut all, beginning)?;
+    let mut all = joined(alloc, beginning)?;
     all.extend_from_slice(script)?;
     let mut recording = Vec::new(alloc);
     recording.extend_from_slice(HEADER)?;
@@ -76,7 +77,7 @@ fn expect_behind(
 }
 
 /// The same of a script behind the one by which both hosts come up.
-pub(crate) fn expect_up(
+fn expect_up(
     rt: &impl Abort,
     alloc: Global,
     script: &[u8],
@@ -95,7 +96,7 @@ pub(crate) fn expect_up(
 }
 
 /// The same of a script behind the one by which three bytes are given.
-pub(crate) fn expect_given(
+fn expect_given(
     rt: &impl Abort,
     alloc: Global,
     script: &[u8],
@@ -114,7 +115,7 @@ pub(crate) fn expect_given(
 }
 
 /// The same of a script behind the one by which the first message goes out.
-pub(crate) fn expect_sent(
+fn expect_sent(
     rt: &impl Abort,
     alloc: Global,
     script: &[u8],

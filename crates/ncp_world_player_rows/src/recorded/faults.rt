@@ -1,6 +1,6 @@
 //! The worked row, scripts at fault, and reads and writes that fail.
-use crate::recorded::expect;
-use crate::streams::{Bytewise, Piecemeal};
+use super::expect;
+use crate::bytewise::{Bytewise, Piecemeal};
 use ncp_bits::PackedStore;
 use ncp_play::PlayFault;
 use ncp_stream::{MemorySink, MemorySource, Sink, Source};

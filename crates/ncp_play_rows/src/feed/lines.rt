@@ -1,5 +1,5 @@
 //! What a feed gives, line by line.
-use crate::fed::{expect, joined};
+use super::{expect, joined};
 use ncp_files::FileFault;
 use ncp_play::PlayFault;
 use std::test::Fail;
