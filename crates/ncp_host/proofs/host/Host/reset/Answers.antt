@@ -1,0 +1,16 @@
+use Rattle.ncp_model.specs.Phase.{reset_answer}
+use Rattle.ncp_host.specs.PeerState.{calls_reset}
+use Rattle.ncp_host.proofs.Calling.{answered, became}
+use Rattle.ncp_host.proofs.host.Host.reset.Goals as goal
+
+pub returns-clause-reply : goal.returns-clause-reply
+returns-clause-reply g c =
+    answered c.self.inside.me c.self.inside.numbers.items c.self.inside.peers.items c.self.inside.ignored c.args.peer c.in_ok-place.place c.index_mut.result.now c.index_mut.result.now
+    c.args.self.now c.as_slice.result.now c.deref.result.now c.self.view_is c.as_slice.ensures.value c.deref.ensures.value c.in_ok-place.ensures.found c.in_ok-place.ensures.inside c.index_mut.ensures.value
+    (λ s. reset_answer s.peer.phase) c.reset.result c.reset.ensures.reply
+
+pub returns-clause-host : goal.returns-clause-host
+returns-clause-host g c =
+    became c.self.inside.me c.self.inside.numbers.items c.self.inside.peers.items c.self.inside.ignored c.args.peer c.in_ok-place.place c.index_mut.result.now c.index_mut.result.now
+    c.args.self.now c.as_slice.result.now c.deref.result.now c.self.view_is c.as_slice.ensures.value c.deref.ensures.value c.in_ok-place.ensures.found c.in_ok-place.ensures.inside c.index_mut.ensures.value
+    calls_reset c.reset.new.self c.reset.ensures.state

@@ -1,0 +1,16 @@
+use Rattle.ncp_model.specs.Peers.{Take, comes_of, reply_of_take}
+use Rattle.ncp_host.specs.PeerState.{calls}
+use Rattle.ncp_host.proofs.Calling.{answered, became}
+use Rattle.ncp_host.proofs.host.Host.take.Goals as goal
+
+pub returns-clause-reply : goal.returns-clause-reply
+returns-clause-reply g c =
+    answered c.self.inside.me c.self.inside.numbers.items c.self.inside.peers.items c.self.inside.ignored c.args.peer c.in_ok-place.place c.index_mut.result.now c.index_mut.result.now
+    c.args.self.now c.as_slice.result.now c.deref.result.now c.self.view_is c.as_slice.ensures.value c.deref.ensures.value c.in_ok-place.ensures.found c.in_ok-place.ensures.inside c.index_mut.ensures.value
+    (λ s. reply_of_take (comes_of c.args.pair (Take c.args.bytes) s.peer)) c.take.result c.take.ensures.reply
+
+pub returns-clause-host : goal.returns-clause-host
+returns-clause-host g c =
+    became c.self.inside.me c.self.inside.numbers.items c.self.inside.peers.items c.self.inside.ignored c.args.peer c.in_ok-place.place c.index_mut.result.now c.index_mut.result.now
+    c.args.self.now c.as_slice.result.now c.deref.result.now c.self.view_is c.as_slice.ensures.value c.deref.ensures.value c.in_ok-place.ensures.found c.in_ok-place.ensures.inside c.index_mut.ensures.value
+    (calls c.args.pair (Take c.args.bytes)) c.take.new.self c.take.ensures.state
