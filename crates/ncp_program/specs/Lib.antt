@@ -1,4 +1,2 @@
-pub mod CommandLine
-pub mod Examples
 pub mod Orders
 pub mod Obeying

@@ -1,6 +1,6 @@
 -- What the program does with the words of a command line, what it tells of it, and the status with which it ends (this
 -- profile).
-use Rattle.std.specs.Prelude.{◌≡◌, ◌⊎◌, ℕ, Bool, ◌||◌, List, [], Option, Some, Result, Ok, Err, is_err}
+use Rattle.std.specs.Prelude.{◌≡◌, ◌⊎◌, ℕ, Bool, true, false, ◌||◌, List, [], Option, Some, Result, Ok, Err, is_err}
 use Rattle.clap.specs.Faults.{fault_of}
 use Rattle.clap.specs.Kinds.{HasKind}
 use Rattle.clap.specs.Values.{kind_of}
@@ -8,10 +8,10 @@ use Rattle.clap.specs.Walk.{Text}
 use Rattle.clap.specs.declared.error.Error.{Error}
 use Rattle.clap.specs.declared.error.kind.ErrorKind.{ErrorKind}
 use Rattle.clap.specs.declared.error.kind.ErrorKind.TheVariants.{DisplayHelp, DisplayVersion}
+use Rattle.ncp_command_line.specs.CommandLine.{order_in, program}
 use Rattle.ncp_stream.specs.declared.source.Failed.{Failed}
 use Rattle.ncp_play.specs.declared.fault.PlayFault.{PlayFault}
 use Rattle.ncp_play.specs.Faults.{fault_line, Wrote}
-use Rattle.ncp_program.specs.CommandLine.{order_in, program, status_of}
 use Rattle.ncp_program.specs.Orders.{Streams, Does}
 
 -- what is seen of what is told of faults: its bytes, where they are told, and whether a write of it has failed
@@ -26,6 +26,12 @@ heard told failed = record { told = told; failed = failed }
 abbrev pub Tells : Result Bool PlayFault → Telling → Telling → Type 0
 Tells (Ok good) before now = now ≡ before
 Tells (Err fault) before now = (r : Result Unit Failed) × ((was : List ℕ) → before.told ≡ Some was → Wrote was (fault_line fault) r now.told) × (now.failed ≡ (before.failed || is_err r))
+
+-- 0 where all is good, 1 where the answer is no, 2 after a fault
+abbrev pub status_of : Result Bool Unit → ℕ
+status_of (Ok true) = 0
+status_of (Ok false) = 1
+status_of (Err fault) = 2
 
 -- the status after an answer: all faults have the same
 abbrev pub status_after : Result Bool PlayFault → ℕ

@@ -1,6 +1,8 @@
 -- What the program does of each order: what the subcommand promises of the bytes that it is to read and of what it
 -- writes, by its answer (this profile).
 use Rattle.std.specs.Prelude.{◌≡◌, ℕ, Bool, true, false, ◌||◌, List, Option, Some, Result, Ok, Err}
+use Rattle.ncp_command_line.specs.declared.orders.Order.{Order}
+use Rattle.ncp_command_line.specs.declared.orders.Order.TheVariants.{Show, Check, Convert, Host, World, Record}
 use Rattle.ncp_files.specs.declared.file.FileFault.{FileFault}
 use Rattle.ncp_files.specs.Results as files
 use Rattle.ncp_files.specs.Shown.{Shown}
@@ -15,8 +17,6 @@ use Rattle.ncp_world_player.specs.ManyNotes.{lines_of_many}
 use Rattle.ncp_world_player.specs.ManyRules.{is_many_script}
 use Rattle.ncp_world_player.specs.Players.{PlaysWorld, PlaysMany}
 use Rattle.ncp_world_player.specs.Tales.{recording_of, recording_of_many}
-use Rattle.ncp_program.specs.declared.orders.Order.{Order}
-use Rattle.ncp_program.specs.declared.orders.Order.TheVariants.{Show, Check, Convert, Host, World, Record}
 
 -- what is seen of what the program reads and writes: the bytes that are left to read and those that were written,
 -- where they are told, and whether a read or a write has failed

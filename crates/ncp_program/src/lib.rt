@@ -1,13 +1,9 @@
-//! The program `ncp`: its command line, and what it does with message files and scripts of ARPANET hosts,
-//! read from standard input. It stands in a library so that more than one run of the program can be stored:
+//! The program `ncp`: what it does with the words of its command line, and with message files and scripts of ARPANET
+//! hosts, read from standard input. It stands in a library so that more than one run of the program can be stored:
 //! each is a crate with a thin `main`.
 #![tactic(auto)]
 
-mod command_line;
-pub mod laws;
-mod orders;
 mod program;
 
-pub use command_line::{order, status};
-pub use orders::Order;
-pub use program::{obey, run};
+pub use ncp_command_line::{Order, order};
+pub use program::{obey, run, status};

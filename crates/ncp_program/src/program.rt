@@ -2,12 +2,11 @@
 ghost use Rattle.std.specs.Prelude.{◌≡◌, ◌≤◌, map, true, false, IsErr};
 ghost use Rattle.std.specs.Process.{exit_status};
 ghost use Rattle.ncp_program.specs.Orders.{seen, Does};
-ghost use Rattle.ncp_program.specs.Obeying.{heard, Tells, status_after, Obeys};
+ghost use Rattle.ncp_program.specs.Obeying.{heard, Tells, status_of, status_after, Obeys};
 
-use crate::command_line::{order, status};
-use crate::orders::Order;
 use anyhow::Result;
 use ncp_bits::PackedStore;
+use ncp_command_line::{Order, order};
 use ncp_files::{check, convert, show};
 use ncp_host_player::play_host;
 use ncp_play::PlayFault;
@@ -54,6 +53,18 @@ fn carry_out<S: Source, W: Sink>(
         Order::Host => play_host::<PackedStore, _, _>(alloc, source, sink),
         Order::World => play_world::<PackedStore, _, _>(alloc, source, sink),
         Order::Record => record_world::<PackedStore, _, _>(alloc, source, sink),
+    }
+}
+
+/// The program's exit status: 0 where all is good, 1 where a check or a player answered false, 2
+/// where a fault was answered.
+pub fn status(outcome: Result<bool, ()>) -> u8
+    ensures { result ≡ status_of outcome }
+{
+    match outcome {
+        Ok(true) => 0,
+        Ok(false) => 1,
+        Err(()) => 2,
     }
 }
 

@@ -1,6 +1,6 @@
 //! The command line: its orders, its faults, and its help.
 
-use ncp_program::{Order, order};
+use ncp_command_line::{Order, order};
 use std::alloc::Global;
 use std::process::Abort;
 use std::test::Fail;

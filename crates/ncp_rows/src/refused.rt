@@ -3,8 +3,8 @@
 //! printed of the request.
 use clap::error::ErrorKind;
 use ncp_bits::{BitStore, PackedStore, PlainStore};
+use ncp_command_line::{Order, order};
 use ncp_conn::Table;
-use ncp_program::{Order, order};
 use std::alloc::{AllocError, Global};
 use std::test::Fail;
 

@@ -1,12 +1,12 @@
--- The command line of the program, in clap's words, and its exit status.
-use Rattle.std.specs.Prelude.{ℕ, Bool, true, false, List, [], Option, Some, None, Result, Ok, Err, pos, codes, if◌then◌else◌}
+-- The command line of the program, in clap's words.
+use Rattle.std.specs.Prelude.{ℕ, true, List, [], Option, Some, None, pos, codes, if◌then◌else◌}
 use Rattle.std.specs.Option.{option_map_or}
 use Rattle.std.specs.Str.{bytes_eq}
 use Rattle.clap.specs.Simple.{App, Shape, new_app, new_rule, new_shape, with_rule, with_subcommand, subcommand_of}
 use Rattle.clap.specs.Walk.{Row, Rule, Text, byte_or_zero, one_of}
 use Rattle.clap.specs.declared.builder.value_parser.ValueParser.TheVariants.{Signed}
-use Rattle.ncp_program.specs.declared.orders.Order.{Order}
-use Rattle.ncp_program.specs.declared.orders.Order.TheVariants.{Show, Check, Convert, Host, World, Record}
+use Rattle.ncp_command_line.specs.declared.orders.Order.{Order}
+use Rattle.ncp_command_line.specs.declared.orders.Order.TheVariants.{Show, Check, Convert, Host, World, Record}
 
 -- `--at H`, which is required: a number from 0 to 255
 abbrev pub number_wanted : Rule
@@ -59,9 +59,3 @@ order_of (Some found) = named found.0 found.1
 -- the order that clap reads in words
 abbrev pub order_in : List Text → Order
 order_in words = order_of (subcommand_of program words)
-
--- 0 where all is good, 1 where the answer is no, 2 after a fault
-abbrev pub status_of : Result Bool Unit → ℕ
-status_of (Ok true) = 0
-status_of (Ok false) = 1
-status_of (Err fault) = 2

@@ -3,8 +3,8 @@ use Rattle.clap.specs.Faults.{fault_of, is_simple_and_free}
 use Rattle.clap.specs.Kinds.{HasKind}
 use Rattle.clap.specs.Simple.{app_of}
 use Rattle.clap.proofs.FaultLemmas.{failed_up}
-use Rattle.ncp_program.specs.CommandLine.{program}
-use Rattle.ncp_program.proofs.command_line.order.Goals as goal
+use Rattle.ncp_command_line.specs.CommandLine.{program}
+use Rattle.ncp_command_line.proofs.command_line.order.Goals as goal
 
 pub returns-clause-kinds : goal.returns-clause-kinds
 returns-clause-kinds g c =

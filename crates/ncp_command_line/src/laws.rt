@@ -2,9 +2,9 @@
 ghost use Rattle.std.specs.Prelude.{◌≡◌, ◌↔◌, ◌∷◌, [], IsTrue, codes};
 ghost use Rattle.clap.specs.Faults.{fault_of};
 ghost use Rattle.clap.specs.declared.error.kind.ErrorKind.TheVariants as kind;
-ghost use Rattle.ncp_program.specs.CommandLine.{order_in, program};
-ghost use Rattle.ncp_program.specs.Examples.{after_convert, after_ncp};
-ghost use Rattle.ncp_program.specs.declared.orders.Order.TheVariants.{Convert, Record, Show, World};
+ghost use Rattle.ncp_command_line.specs.CommandLine.{order_in, program};
+ghost use Rattle.ncp_command_line.specs.Examples.{after_convert, after_ncp};
+ghost use Rattle.ncp_command_line.specs.declared.orders.Order.TheVariants.{Convert, Record, Show, World};
 
 use crate::orders::Order;
 

@@ -1,9 +1,9 @@
 //! The command line of the program `ncp`.
 ghost use Rattle.std.specs.Prelude.{◌≡◌, IfOk, map, false};
-ghost use Rattle.ncp_program.specs.CommandLine.{bare_program, converting, named, number_in, of_files, of_players, order_in, order_of, program, status_of};
+ghost use Rattle.ncp_command_line.specs.CommandLine.{bare_program, converting, named, number_in, of_files, of_players, order_in, order_of, program};
 ghost use Rattle.clap.specs.Faults.{fault_of};
 ghost use Rattle.clap.specs.Kinds.{FailsBy};
-ghost use Rattle.clap.specs.Simple.{app_of, shape_of, subcommand_rows_of};
+ghost use Rattle.clap.specs.Simple.{app_of, new_shape, shape_of, subcommand_rows_of, with_subcommand};
 ghost use Rattle.clap.specs.Matches.{found_of};
 ghost use Rattle.clap.specs.declared.builder.command.Command.TheViews.{out-Command as fields_of};
 ghost use Rattle.clap.specs.Walk.{rows_of};
@@ -89,43 +89,53 @@ fn bare_program<'a>(alloc: Global) -> Command<'a>
         .about("Reads the messages of an ARPANET host, and plays hosts")
 }
 
+// The program with one more subcommand, which has no arguments.
+fn and_plain<'a>(
+    program: Command<'a>,
+    alloc: Global,
+    name: &'static str,
+    about: &'static str,
+) -> Result<Command<'a>, AllocError>
+    ensures { IfOk result (λ command. app_of command ≡ with_subcommand (app_of program.entry) (new_shape name.now)) }
+{
+    program.subcommand(Command::new(alloc, name).about(about))
+}
+
+// The program with `convert` too.
+fn and_convert<'a>(program: Command<'a>, alloc: Global) -> Result<Command<'a>, AllocError>
+    ensures { IfOk result (λ command. app_of command ≡ with_subcommand (app_of program.entry) converting) }
+{
+    program.subcommand(converting(alloc)?)
+}
+
 // The program with the subcommands that read message files.
 fn with_files<'a>(alloc: Global) -> Result<Command<'a>, AllocError>
     ensures { IfOk result (λ command. app_of command ≡ of_files) }
 {
-    let show = Command::new(alloc, SHOW).about(
-        "Shows each message of a message file, read from standard input",
-    );
-    let check = Command::new(alloc, CHECK).about(
-        "Counts the messages of a message file, and says whether all are sound",
-    );
-    bare_program(alloc)
-        .subcommand(show)?
-        .subcommand(check)?
-        .subcommand(converting(alloc)?)
+    let show = "Shows each message of a message file, read from standard input";
+    let check = "Counts the messages of a message file, and says whether all are sound";
+    let program = and_plain(bare_program(alloc), alloc, SHOW, show)?;
+    let program = and_plain(program, alloc, CHECK, check)?;
+    and_convert(program, alloc)
 }
 
 // The program with the subcommands that play scripts too.
 fn with_players<'a>(alloc: Global) -> Result<Command<'a>, AllocError>
     ensures { IfOk result (λ command. app_of command ≡ of_players) }
 {
-    let host = Command::new(alloc, HOST).about(
-        "Plays a script of one host, read from standard input",
-    );
-    let world = Command::new(alloc, WORLD).about(
-        "Plays a script of two hosts and the subnet between them, read from standard input",
-    );
-    with_files(alloc)?.subcommand(host)?.subcommand(world)
+    let host = "Plays a script of one host, read from standard input";
+    let world = "Plays a script of two hosts and the subnet between them, read from standard input";
+    let program = and_plain(with_files(alloc)?, alloc, HOST, host)?;
+    and_plain(program, alloc, WORLD, world)
 }
 
 // The program with all its subcommands: the one that records too.
 fn command_line<'a>(alloc: Global) -> Result<Command<'a>, AllocError>
     ensures { IfOk result (λ command. app_of command ≡ program) }
 {
-    let record = Command::new(alloc, RECORD).about(
-        "Plays a script of two hosts, read from standard input, and writes its messages as a message file",
-    );
-    with_players(alloc)?.subcommand(record)
+    let record =
+        "Plays a script of two hosts, read from standard input, and writes its messages as a message file";
+    and_plain(with_players(alloc)?, alloc, RECORD, record)
 }
 
 /// Reads the words of a command line, the program's name first. Without a subcommand it is `show`.
@@ -141,16 +151,4 @@ pub fn order<'a, S: AsStr>(alloc: Global, words: &'a [S]) -> Result<Order, Error
     let program = command_line(alloc)?;
     let matches = program.try_get_matches_from(words)?;
     Ok(order_of(&matches))
-}
-
-/// The program's exit status: 0 where all is good, 1 where a check or a player answered false, 2
-/// where a fault was answered.
-pub fn status(outcome: Result<bool, ()>) -> u8
-    ensures { result ≡ status_of outcome }
-{
-    match outcome {
-        Ok(true) => 0,
-        Ok(false) => 1,
-        Err(()) => 2,
-    }
 }

@@ -4,9 +4,9 @@ use Rattle.std.specs.Option.{option_map_or}
 use Rattle.std.specs.Str.Parse.{ParsesUnsigned, ExplainsUnsignedError, HasUnsignedDigitsIfOk}
 use Rattle.clap.specs.Matches.{found_of, one_text}
 use Rattle.clap.specs.Walk.{Text, byte_or_zero, rows_of}
-use Rattle.ncp_program.specs.CommandLine.{number_in}
-use Rattle.ncp_program.proofs.Numbers.{byte_of_read, same_text_read}
-use Rattle.ncp_program.proofs.command_line.number_in.Goals as goal
+use Rattle.ncp_command_line.specs.CommandLine.{number_in}
+use Rattle.ncp_command_line.proofs.Numbers.{byte_of_read, same_text_read}
+use Rattle.ncp_command_line.proofs.command_line.number_in.Goals as goal
 
 pub returns : goal.returns
 returns c = go (one_text (found_of c.args.given.now) (codes "at")) refl

@@ -1,6 +1,6 @@
 use Rattle.std.proofs.Common.{refl}
 use Rattle.clap.proofs.OnLiterals.{clap_on_literals}
-use Rattle.ncp_program.proofs.laws.numbers_are_read_so.Goals as goal
+use Rattle.ncp_command_line.proofs.laws.numbers_are_read_so.Goals as goal
 
 pub returns : goal.returns
 unfolding clap_on_literals
