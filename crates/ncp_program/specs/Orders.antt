@@ -10,11 +10,9 @@ use Rattle.ncp_play.specs.declared.fault.PlayFault.{PlayFault}
 use Rattle.ncp_play.specs.declared.fault.PlayFault.TheVariants.{Feed}
 use Rattle.ncp_play.specs.Faults.{is_read_failed, is_write_failed}
 use Rattle.ncp_host_player.specs.Played.{HostPlayed}
-use Rattle.ncp_world_player.specs.LedgerLines.{lines_of_script}
-use Rattle.ncp_world_player.specs.ManyNotes.{lines_of_many}
 use Rattle.ncp_world_player.specs.ManyRules.{is_many_script}
 use Rattle.ncp_world_player.specs.Players.{PlaysWorld, PlaysMany}
-use Rattle.ncp_world_player.specs.Tales.{recording_of, recording_of_many}
+use Rattle.ncp_world_player.specs.Tales.{lines_of_script, lines_of_many, recording_of, recording_of_many}
 use Rattle.ncp_program.specs.declared.orders.Order.{Order}
 use Rattle.ncp_program.specs.declared.orders.Order.TheVariants.{Show, Check, Convert, Host, World, Record}
 
