@@ -12,11 +12,9 @@ use Rattle.ncp_play.specs.declared.fault.PlayFault.{PlayFault}
 use Rattle.ncp_play.specs.declared.fault.PlayFault.TheVariants.{Feed}
 use Rattle.ncp_play.specs.Faults.{is_read_failed, is_write_failed}
 use Rattle.ncp_host_player.specs.Played.{HostPlayed}
-use Rattle.ncp_world_player.specs.LedgerLines.{lines_of_script}
-use Rattle.ncp_world_player.specs.ManyNotes.{lines_of_many}
 use Rattle.ncp_world_player.specs.ManyRules.{is_many_script}
 use Rattle.ncp_world_player.specs.Players.{PlaysWorld, PlaysMany}
-use Rattle.ncp_world_player.specs.Tales.{recording_of, recording_of_many}
+use Rattle.ncp_world_player.specs.Tales.{lines_of_script, lines_of_many, recording_of, recording_of_many}
 
 -- what is seen of what the program reads and writes: the bytes that are left to read and those that were written,
 -- where they are told, and whether a read or a write has failed

@@ -8,13 +8,13 @@ use Rattle.ncp_page.specs.Lines.{number_after}
 use Rattle.ncp_files.specs.Versions.{Recorded, bytes_of_record, header_of}
 use Rattle.ncp_two.specs.declared.note.Note.{Note}
 use Rattle.ncp_two.specs.Transcript.{Noted_world}
-use Rattle.ncp_world_player.specs.declared.first_line.FirstLine.{FirstLine}
+use Rattle.ncp_world_lines.specs.declared.first_line.FirstLine.{FirstLine}
 use Rattle.ncp_scene.specs.Telling.{told_from, told}
 use Rattle.ncp_world_player.specs.WorldRules.{noted}
 use Rattle.ncp_pairs.specs.declared.many_note.ManyNote.{ManyNote}
 use Rattle.ncp_pairs.specs.ManyTranscript.{Noted_many}
 use Rattle.ncp_world_player.specs.ManyRules.{many_noted}
-use Rattle.ncp_world_player.specs.Recorded.{record_of, record_of_many, bytes_if, note_bytes, many_note_bytes, records_of, records_of_many, file_of_notes, file_of_many_notes}
+use Rattle.ncp_world_lines.specs.Recorded.{record_of, record_of_many, bytes_if, note_bytes, many_note_bytes, records_of, records_of_many, file_of_notes, file_of_many_notes}
 use Rattle.ncp_world_player.specs.Tales.{recording_of, recording_of_many}
 
 one : (recorded : Option Recorded) → bytes_if recorded ≡ flat_map bytes_of_record (option_to_list recorded)

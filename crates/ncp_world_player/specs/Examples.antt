@@ -1,5 +1,5 @@
 -- Notes of two hosts by which the definitions show what they mean.
-use Rattle.std.specs.Prelude.{ℕ, List, [], ◌∷◌}
+use Rattle.std.specs.Prelude.{List, [], ◌∷◌}
 use Rattle.ncp_bits.specs.Bits.{bits_of_bytes}
 use Rattle.ncp_slot.specs.declared.slot.Answer.TheVariants as answers
 use Rattle.ncp_model.specs.declared.call_fault.CallFault.TheVariants.{NoEntry}
@@ -68,7 +68,3 @@ each_move =
     ∷ notes.Out A host_notes.Nothing
     ∷ notes.Called B (host_notes.Refused (calls.State 1 receiver) NoEntry)
     ∷ []
-
--- three hosts
-abbrev pub three : List ℕ
-three = 1 ∷ 2 ∷ 3 ∷ []

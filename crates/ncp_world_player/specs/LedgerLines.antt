@@ -1,16 +1,11 @@
--- The line of a ledger that is watched (this profile), and all lines of a note.
+-- The line of a ledger that is watched (this profile).
 use Rattle.std.specs.Prelude.{ℕ, List, [], ◌++◌, Option, Some, None, codes}
 use Rattle.ncp_page.specs.Lines.{field}
 use Rattle.ncp_two.specs.declared.ledger.Amount.{Amount}
 use Rattle.ncp_two.specs.declared.ledger.Ledger.{Ledger}
 use Rattle.ncp_two.specs.Between.{Hosts}
-use Rattle.ncp_two.specs.declared.note.Note.{Note}
 use Rattle.ncp_two.specs.Ledgers.{ledger_of}
-use Rattle.ncp_two.specs.Transcript.{Noted_world}
-use Rattle.ncp_world_player.specs.declared.first_line.Watch.{Watch}
-use Rattle.ncp_world_player.specs.declared.first_line.FirstLine.{FirstLine}
-use Rattle.ncp_world_player.specs.WorldNotes.{world_note_lines}
-use Rattle.ncp_scene.specs.Telling.{Tale}
+use Rattle.ncp_world_lines.specs.declared.first_line.Watch.{Watch}
 
 -- so many messages and so many bits, behind their name
 abbrev pub amount_words : List ℕ → Amount → List ℕ
@@ -31,14 +26,3 @@ watched_line watch w = codes "  ledger" ++ ledger_words (ledger_of watch.side wa
 abbrev pub ledger_line : Option Watch → Hosts → List ℕ
 ledger_line None w = []
 ledger_line (Some watch) w = watched_line watch w
-
--- the lines of a note, and behind them that of the ledger as the note left it
-abbrev pub lines_watching : Option Watch → Tale Note Noted_world
-lines_watching watch = record {
-  head = [];
-  of_note = λ number note w. world_note_lines number note ++ ledger_line watch w.hosts;
-}
-
--- what the lines of a script tell whose first line is this
-abbrev pub lines_of_script : FirstLine → Tale Note Noted_world
-lines_of_script first = lines_watching first.watch

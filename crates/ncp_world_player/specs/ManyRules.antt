@@ -11,7 +11,8 @@ use Rattle.ncp_pairs.specs.declared.many_note.ManyNote.TheVariants as many
 use Rattle.ncp_pairs.specs.Crowd.{are_hosts, after_many}
 use Rattle.ncp_pairs.specs.ManyTranscript.{Noted_many, IsManyStep, IsManyTranscript, new_many}
 use Rattle.ncp_scene.specs.Rules.{Rules, script}
-use Rattle.ncp_world_player.specs.ManyLines.{many_of, many_line_of}
+use Rattle.ncp_world_lines.specs.ManyLines.{many_line_of}
+use Rattle.ncp_world_player.specs.ManyHosts.{many_of}
 
 -- the first line that is not skipped begins with the word `many`
 abbrev pub names_many : Option Numbered → Bool

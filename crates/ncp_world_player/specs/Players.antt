@@ -7,7 +7,7 @@ use Rattle.ncp_pairs.specs.declared.many_note.ManyNote.{ManyNote}
 use Rattle.ncp_pairs.specs.ManyTranscript.{Noted_many}
 use Rattle.ncp_scene.specs.Telling.{Tale}
 use Rattle.ncp_scene.specs.Players.{PlaysScript}
-use Rattle.ncp_world_player.specs.declared.first_line.FirstLine.{FirstLine}
+use Rattle.ncp_world_lines.specs.declared.first_line.FirstLine.{FirstLine}
 use Rattle.ncp_world_player.specs.WorldRules.{world_rules}
 use Rattle.ncp_world_player.specs.ManyRules.{many_rules}
 

@@ -5,7 +5,7 @@ use Rattle.ncp_two.specs.declared.note.Note.{Note}
 use Rattle.ncp_two.specs.Between.{new_hosts}
 use Rattle.ncp_two.specs.Transcript.{Noted_world, IsStep}
 use Rattle.ncp_two.proofs.Growing.{transcript_new}
-use Rattle.ncp_world_player.specs.declared.first_line.FirstLine.{FirstLine}
+use Rattle.ncp_world_lines.specs.declared.first_line.FirstLine.{FirstLine}
 use Rattle.ncp_world_player.specs.WorldRules.{world_rules, noted}
 
 pub noted_none : (first : FirstLine) → world_rules.notes (world_rules.begun first) ≡ []

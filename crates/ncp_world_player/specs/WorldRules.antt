@@ -8,9 +8,9 @@ use Rattle.ncp_two.specs.declared.note.Note.TheVariants as notes
 use Rattle.ncp_two.specs.Between.{after_note}
 use Rattle.ncp_two.specs.Transcript.{Noted_world, IsStep, IsTranscript, new_world}
 use Rattle.ncp_scene.specs.Rules.{Rules, script}
-use Rattle.ncp_world_player.specs.declared.first_line.FirstLine.{FirstLine}
-use Rattle.ncp_world_player.specs.FirstLine.{first_line_of}
-use Rattle.ncp_world_player.specs.WorldLines.{world_line_of}
+use Rattle.ncp_world_lines.specs.declared.first_line.FirstLine.{FirstLine}
+use Rattle.ncp_world_lines.specs.FirstLine.{first_line_of}
+use Rattle.ncp_world_lines.specs.WorldLines.{world_line_of}
 
 -- a call was refused
 abbrev pub is_refusal : Note → Bool

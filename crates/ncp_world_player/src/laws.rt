@@ -3,7 +3,8 @@ ghost use Rattle.std.specs.Prelude.{◌≡◌, codes, None, Some};
 ghost use Rattle.ncp_two.specs.Transcript.{new_world};
 ghost use Rattle.ncp_scene.specs.Telling.{told, told_from};
 ghost use Rattle.ncp_world_player.specs.WorldRules.{noted};
-ghost use Rattle.ncp_world_player.specs.LedgerLines.{amount_words, ledger_words, lines_watching};
+ghost use Rattle.ncp_world_player.specs.LedgerLines.{amount_words, ledger_words};
+ghost use Rattle.ncp_world_player.specs.Tales.{lines_watching};
 ghost use Rattle.ncp_two.specs.Ledgers.{amount};
 ghost use Rattle.ncp_world_player.specs.Examples.{coming_up, each_move};
 

@@ -1,18 +1,15 @@
-//! The lines of notes, and of a ledger that is watched.
+//! The line of a ledger that is watched.
 ghost use Rattle.std.specs.Prelude.{◌≡◌, ◌+◌, ◌≤◌, ◌||◌, ◌++◌, codes, length, is_err};
 ghost use Rattle.ncp_stream.specs.Pieces.{bytes_and_writes, lost_pieces};
 ghost use Rattle.ncp_stream.specs.Streams.{SaysTextOrBeginning};
 ghost use Rattle.ncp_two.specs.Ledgers.{ledger_of};
-ghost use Rattle.ncp_world_player.specs.LedgerLines.{amount_words, ledger_words, watched_line, ledger_line, lines_of_script};
+ghost use Rattle.ncp_world_player.specs.LedgerLines.{amount_words, ledger_words, watched_line, ledger_line};
 
-use crate::first_line::{FirstLine, Watch};
-use crate::two::TwoPlayed;
-use crate::world_notes::say_world_note;
 use ncp_bits::BitStore;
 use ncp_page::{LONGEST_LONG, PAGE_SIZE, Page};
-use ncp_scene::Teller;
 use ncp_stream::{Failed, Sink};
-use ncp_world::{Amount, Ledger, Note, World};
+use ncp_world::{Amount, Ledger, World};
+use ncp_world_lines::Watch;
 
 // How many letters the longest name of an amount has.
 const LONGEST_NAME: usize = 10;
@@ -82,8 +79,8 @@ fn say_watched<S: BitStore, W: Sink>(
     Ok(())
 }
 
-// Says the line of the ledger that is watched, if one is.
-fn say_ledger<S: BitStore, W: Sink>(
+/// Says the line of the ledger that is watched, if one is.
+pub(crate) fn say_ledger<S: BitStore, W: Sink>(
     page: &mut Page,
     sink: &mut W,
     watch: Option<Watch>,
@@ -96,26 +93,5 @@ fn say_ledger<S: BitStore, W: Sink>(
     match watch {
         Some(watch) => say_watched(page, sink, watch, world),
         None => Ok(()),
-    }
-}
-
-/// The lines of notes, and behind those of each the ledger that is watched, if one is.
-pub struct NoteLines;
-
-impl<S: BitStore> Teller<TwoPlayed<S>> for NoteLines {
-    ghost tale = { lines_of_script };
-
-    fn begin(_first: &FirstLine, _page: &mut Page) {}
-
-    fn say<W: Sink>(
-        first: &FirstLine,
-        world: &World<S>,
-        number: u32,
-        note: &Note,
-        page: &mut Page,
-        sink: &mut W,
-    ) -> Result<(), Failed> {
-        say_world_note(page, sink, number, note)?;
-        say_ledger(page, sink, first.watch, world)
     }
 }

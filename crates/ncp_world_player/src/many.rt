@@ -1,9 +1,10 @@
 //! The scene of two to eight hosts.
-use crate::many_lines::{ManyHosts, many_hosts, many_line};
+use crate::many_hosts::{ManyHosts, many_hosts};
 use ncp_bits::BitStore;
 use ncp_many::{Many, ManyEvent, ManyNote};
 use ncp_scene::Scene;
 use ncp_script::Words;
+use ncp_world_lines::many_line;
 use std::alloc::{AllocError, Global};
 use std::marker::PhantomData;
 

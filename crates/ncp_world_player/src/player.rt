@@ -1,13 +1,12 @@
 //! `play_script` and `play_world`: a script of two hosts, or of two to eight, played line by line.
 ghost use Rattle.std.specs.Prelude.{◌≡◌, ◌||◌, ℕ, List, Some, true, false};
 ghost use Rattle.ncp_play.specs.Faults.{is_read_failed, is_write_failed};
-ghost use Rattle.ncp_world_player.specs.LedgerLines.{lines_of_script};
-ghost use Rattle.ncp_world_player.specs.ManyNotes.{lines_of_many};
 ghost use Rattle.ncp_world_player.specs.ManyRules.{is_many_script};
 ghost use Rattle.ncp_world_player.specs.Players.{PlaysWorld, PlaysMany};
+ghost use Rattle.ncp_world_player.specs.Tales.{lines_of_script, lines_of_many};
 
-use crate::ledger_lines::NoteLines;
 use crate::many::ManyPlayed;
+use crate::note_lines::NoteLines;
 use crate::two::TwoPlayed;
 use ncp_bits::BitStore;
 use ncp_play::PlayFault;

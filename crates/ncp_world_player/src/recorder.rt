@@ -5,11 +5,9 @@ ghost use Rattle.ncp_world_player.specs.ManyRules.{is_many_script};
 ghost use Rattle.ncp_world_player.specs.Players.{PlaysWorld, PlaysMany};
 ghost use Rattle.ncp_world_player.specs.Tales.{recording_of, recording_of_many};
 
-use crate::first_line::FirstLine;
 use crate::many::ManyPlayed;
-use crate::many_lines::ManyHosts;
+use crate::many_hosts::ManyHosts;
 use crate::player::play_script;
-use crate::recording::{say_many_record, say_world_record};
 use crate::two::TwoPlayed;
 use ncp_bits::BitStore;
 use ncp_files::{Version, push_header};
@@ -19,6 +17,7 @@ use ncp_play::PlayFault;
 use ncp_scene::Teller;
 use ncp_stream::{Failed, Sink, Source};
 use ncp_world::{Note, World};
+use ncp_world_lines::{FirstLine, say_many_record, say_world_record};
 use std::alloc::Global;
 
 // Tells what is recorded of notes, whatever is watched.

@@ -1,12 +1,11 @@
 //! The scene of two hosts.
 ghost use Rattle.std.specs.Prelude.{◌≢◌, ◌<◌};
 
-use crate::first_line::{FirstLine, first_line_of};
-use crate::world_lines::world_line;
 use ncp_bits::BitStore;
 use ncp_scene::Scene;
 use ncp_script::Words;
 use ncp_world::{Event, Note, World};
+use ncp_world_lines::{FirstLine, first_line_of, world_line};
 use std::alloc::{AllocError, Global};
 use std::marker::PhantomData;
 

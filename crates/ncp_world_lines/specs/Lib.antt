@@ -1,0 +1,9 @@
+pub mod Moves
+pub mod WorldLines
+pub mod FirstLine
+pub mod WorldNotes
+pub mod ManyLines
+pub mod ManyNotes
+pub mod Recorded
+pub mod Examples
+pub mod RecordedExamples
