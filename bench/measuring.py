@@ -11,6 +11,9 @@ from collections import namedtuple
 
 HERE = os.path.dirname(os.path.abspath(__file__))
 TOP = os.path.dirname(HERE)
+sys.path.append(os.path.join(TOP, "tools"))
+from build import below, uses_of_crates  # noqa: E402
+
 DATA = os.path.join(HERE, "data")
 LAUNCHER = os.path.join(TOP, "ncp")
 NCP = os.path.join(TOP, "crates", "ncp", "out", "ncp")
@@ -106,31 +109,11 @@ def expect(given, ran, wanted):
         sys.exit(f"{given}: status {ran.returncode}, printed {ran.stdout[-300:]!r}\n{ran.stderr[-3000:]}")
 
 
-def uses_of_crates():
-    with open(os.path.join(TOP, "crates.txt"), encoding="utf-8") as file:
-        lines = [line.split("#")[0].split(":") for line in file]
-    return {words[0].split()[0]: words[1].split() for words in lines if len(words) > 1}
-
-
-def below(names):
-    """The crates of this repository among these, with all that they use, each behind those that it uses."""
-    uses, found = uses_of_crates(), []
-
-    def add(name):
-        if name in uses and name not in found:
-            for used in uses[name]:
-                add(used)
-            found.append(name)
-
-    for name in names:
-        add(name)
-    return found
-
-
 @functools.cache
 def built(text, name, names, room):
     """A program of a file of this folder beside copies of the crates that it names and of those below, in a repository of its own."""
-    uses, crates, top = uses_of_crates(), below(names), os.path.join(room, name)
+    uses, top = uses_of_crates(), os.path.join(room, name)
+    crates = below(names, uses)
     folder = os.path.join(top, "crates", name)
     os.makedirs(os.path.join(folder, "src"))
     with open(os.path.join(top, "crates.txt"), "w", encoding="utf-8") as file:

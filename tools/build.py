@@ -1,0 +1,199 @@
+#!/usr/bin/env python3
+"""Proves and builds a crate with all that it stands on, crates that do not stand on one another side by side.
+
+    tools/build.py NAME
+
+The toolchain builds one crate at a time in a checkout. So each lane but the first has a room of its own, a copy of the
+crates' sources, and what one lane has built is given to all; the first lane works in the checkout itself. Lines on
+standard error say how far it is, on a terminal one line that changes; where a crate is not built, what was said last.
+"""
+import os
+import shutil
+import signal
+import subprocess
+import sys
+import tempfile
+import threading
+
+TOP = os.path.dirname(os.path.dirname(os.path.abspath(__file__)))
+SOURCES = ("src", "specs", "proofs")
+# What a lane may take of memory, in bytes.
+ROOM = 4_000_000_000
+
+
+def lines_of_crates():
+    """The lines of crates.txt, by the crates that they are of."""
+    with open(f"{TOP}/crates.txt", encoding="utf-8") as file:
+        lines = [line.split("#")[0].strip() for line in file]
+    return {line.split(":")[0].split()[0]: line for line in lines if ":" in line}
+
+
+def uses_of_crates():
+    """The libraries that each crate uses."""
+    return {name: line.partition(":")[2].split() for name, line in lines_of_crates().items()}
+
+
+def below(names, uses):
+    """The crates of this repository among these, with all that they stand on, each behind those that it uses."""
+    found = {}
+    for name in names:
+        if name in uses:
+            found.update(dict.fromkeys([*below(uses[name], uses), name]))
+    return list(found)
+
+
+def lines_of(name):
+    """The lines of a crate's code, to which the time that its proof takes is nearly proportional."""
+    count = 0
+    for at, _, names in os.walk(f"{TOP}/crates/{name}/src"):
+        for file in names:
+            with open(f"{at}/{file}", "rb") as source:
+                count += source.read().count(b"\n")
+    return count
+
+
+def chains(crates, uses):
+    """How many lines each crate has with the longest chain of crates that stand on it."""
+    behind = {}
+    for name in reversed(crates):
+        above = [behind[it] for it in crates if name in uses[it]]
+        behind[name] = lines_of(name) + max(above, default=0)
+    return behind
+
+
+def lanes():
+    memory = os.sysconf("SC_PAGE_SIZE") * os.sysconf("SC_PHYS_PAGES")
+    return max(1, min(len(os.sched_getaffinity(0)), memory // ROOM))
+
+
+class Build:
+    """A build under way. What is left waits for what it uses, and those with the longest chain come first."""
+
+    def __init__(self, top):
+        self.top, self.uses = top, uses_of_crates()
+        self.crates = below([top], self.uses)
+        self.behind = chains(self.crates, self.uses)
+        self.left = sorted(self.crates, key=self.behind.get, reverse=True)
+        self.built, self.running, self.failed = set(), {}, None
+        self.changed = threading.Condition()
+        self.places = [TOP]
+
+    def run(self):
+        """Builds all, and returns whether that went well. Where the sources stand is told in a file, for the launcher."""
+        os.makedirs(f"{TOP}/crates/{self.top}/out", exist_ok=True)
+        with open(f"{TOP}/crates/{self.top}/out/sources", "w", encoding="utf-8") as file:
+            file.writelines(f"crates/{name}/src\n" for name in self.crates)
+        with tempfile.TemporaryDirectory(prefix="ncp-rooms-") as rooms:
+            self.places += [self.furnished(f"{rooms}/{number}") for number in range(1, lanes())]
+            workers = [threading.Thread(target=self.work, args=(place,)) for place in self.places]
+            for worker in workers:
+                worker.start()
+            for worker in workers:
+                worker.join()
+            say("")
+        return self.failed is None
+
+    def furnished(self, room):
+        """A new room with the sources of these crates."""
+        os.mkdir(room)
+        shutil.copy(f"{TOP}/HANDLES", room)
+        with open(f"{room}/crates.txt", "w", encoding="utf-8") as file:
+            file.writelines(f"{line}\n" for name, line in lines_of_crates().items() if name in self.crates)
+        for name in self.crates:
+            os.makedirs(f"{room}/crates/{name}/out")
+            for part in SOURCES:
+                if os.path.isdir(f"{TOP}/crates/{name}/{part}"):
+                    shutil.copytree(f"{TOP}/crates/{name}/{part}", f"{room}/crates/{name}/{part}")
+        return room
+
+    def work(self, place):
+        """Builds one crate after the other in a place, until none is left for it."""
+        while True:
+            with self.changed:
+                self.changed.wait_for(lambda: self.failed or not self.next_in(place) is None or not self.left)
+                name = None if self.failed else self.next_in(place)
+                if name is None:
+                    return
+                self.left.remove(name)
+                self.running[name] = None
+                jobs = len(self.places) if self.is_first(name) else 1
+                self.tell()
+            status, log = self.build(place, name, jobs)
+            with self.changed:
+                del self.running[name]
+                self.give(place, name) if status == 0 else self.fail(name, log)
+                self.changed.notify_all()
+                self.tell()
+
+    def next_in(self, place):
+        """The next crate that can be built there now; the top one is built in the checkout."""
+        fits = lambda it: self.built.issuperset(below(self.uses[it], self.uses)) and (it != self.top or place == TOP)
+        return next((it for it in self.left if fits(it)), None)
+
+    def is_first(self, name):
+        return all(self.behind[name] >= self.behind[it] for it in self.running)
+
+    def build(self, place, name, jobs):
+        """Has the toolchain build a crate, a program by a run that asks nothing of it, and returns its status and what it said."""
+        folder = f"{place}/crates/{name}"
+        is_program = os.path.isfile(f"{folder}/src/main.rt")
+        words = ["rt", "run", "--jobs", str(jobs), "--", "--help"] if is_program else ["rt", "lib", "--jobs", str(jobs)]
+        ran = subprocess.Popen(words, cwd=folder, stdin=subprocess.DEVNULL, stdout=subprocess.PIPE, stderr=subprocess.STDOUT, text=True, errors="replace")
+        self.running[name] = ran
+        log = ran.communicate()[0]
+        return ran.returncode, log
+
+    def give(self, place, name):
+        """Gives what a place has built of a crate to the others."""
+        made = f"{place}/crates/{name}/out/rlib"
+        for other in self.places if os.path.isdir(made) else ():
+            if other != place:
+                to = f"{other}/crates/{name}/out/rlib"
+                shutil.rmtree(to, ignore_errors=True)
+                shutil.copytree(made, to, copy_function=link_or_copy)
+        self.built.add(name)
+
+    def fail(self, name, log):
+        if not self.failed:
+            self.failed = name
+            say("")
+            print("\n".join(log.splitlines()[-20:]), file=sys.stderr)
+
+    def tell(self):
+        now = sorted(self.running, key=self.behind.get, reverse=True)
+        if now and not self.failed:
+            say(f"{self.top}: {len(self.built)} of {len(self.crates)} crates built; now {', '.join(now)}")
+
+    def stop(self, *_):
+        """Ends what runs, as where somebody has enough of it."""
+        self.failed = self.top
+        for ran in list(self.running.values()):
+            if ran:
+                ran.terminate()
+
+
+def link_or_copy(one, other):
+    """Gives a file of a library a second name, where it can have one: the toolchain removes such a file before it makes it anew."""
+    try:
+        os.link(one, other)
+    except OSError:
+        shutil.copy2(one, other)
+
+
+def say(line):
+    """Says how far it is: on a terminal one line that changes."""
+    if os.isatty(2):
+        print(f"\r{line[:78]:78}\r{line[:78]}", end="", file=sys.stderr, flush=True)
+    elif line:
+        print(line, file=sys.stderr, flush=True)
+
+
+def main():
+    build = Build(sys.argv[1])
+    for number in (signal.SIGINT, signal.SIGTERM):
+        signal.signal(number, build.stop)
+    sys.exit(0 if build.run() else 1)
+
+
+if __name__ == "__main__":
+    main()
