@@ -99,7 +99,7 @@ fn names_faults_in_order(rt: HostRuntime) {
 
 #[test]
 fn tells_faults(rt: HostRuntime) -> Result<(), Fail> {
-    let told = [
+    const TOLD: &[(BitsFault, &str)] = &[
         (BitsFault::TooLong, "more than 8192 bits"),
         (BitsFault::ShortBytes, "fewer bytes than the bits take"),
         (
@@ -107,7 +107,7 @@ fn tells_faults(rt: HostRuntime) -> Result<(), Fail> {
             "a spare bit of the last byte is set",
         ),
     ];
-    for (fault, text) in told {
+    for &(fault, text) in TOLD {
         assert_eq!(rt; format!(in rt.alloc(); "{fault}")?.as_str(), text);
     }
     assert_eq!(rt;
@@ -299,7 +299,7 @@ fn stores_pass_the_same_bits(rt: HostRuntime) -> Result<(), Fail> {
 }
 
 // Rooms on both sides of a byte's end, of a word's and of the largest store's, and a large one.
-const ROOMS: [usize; 13] = [
+const ROOMS: &[usize] = &[
     0, 1, 7, 8, 9, 63, 64, 65, 8192, 65535, 65536, 65537, 1_000_000,
 ];
 
@@ -331,7 +331,7 @@ fn fills_and_empties<S: BitStore>(
 #[test]
 fn plain_stores_have_each_room(rt: HostRuntime) -> Result<(), Fail> {
     let row = Bits::from_bytes(&[0x5au8; 1024], 8191)?;
-    for room in ROOMS {
+    for &room in ROOMS {
         fills_and_empties::<PlainStore>(&rt, rt.alloc(), room, &row)?;
     }
     Ok(())
@@ -340,7 +340,7 @@ fn plain_stores_have_each_room(rt: HostRuntime) -> Result<(), Fail> {
 #[test]
 fn packed_stores_have_each_room(rt: HostRuntime) -> Result<(), Fail> {
     let row = Bits::from_bytes(&[0x5au8; 1024], 8191)?;
-    for room in ROOMS {
+    for &room in ROOMS {
         fills_and_empties::<PackedStore>(&rt, rt.alloc(), room, &row)?;
     }
     Ok(())

@@ -11,7 +11,7 @@ mod steps;
 mod tried;
 
 use crate::known::{ME, PEER};
-use ncp_bits::{PackedStore, PlainStore};
+use ncp_bits::{BitStore, PackedStore, PlainStore};
 use ncp_host::Pair;
 use std::alloc::Global;
 use std::process::Abort;
@@ -55,32 +55,38 @@ const SENDER_CLS: [u8; 9] = [3, 0, 0, 0, 3, 0, 0, 0, 2];
 
 const RECEIVER_CLS: [u8; 9] = [3, 0, 0, 0, 2, 0, 0, 0, 3];
 
-/// A new host with these peers goes through these steps, over both stores.
-fn goes(rt: &impl Abort, alloc: Global, peers: &[u8], steps: &[Step<'_>]) -> Result<(), Fail> {
-    Tried::<PlainStore>::new(alloc, ME, peers)?.goes(rt, steps);
-    Tried::<PackedStore>::new(alloc, ME, peers)?.goes(rt, steps);
+/// A new host with these peers goes through the first steps and then the others, over one store.
+fn goes_over<S: BitStore>(
+    rt: &impl Abort,
+    alloc: Global,
+    peers: &[u8],
+    first: &[Step<'_>],
+    steps: &[Step<'_>],
+) -> Result<(), Fail> {
+    let mut host = Tried::<S>::new(alloc, ME, peers)?;
+    host.goes(rt, first);
+    host.goes(rt, steps);
     Ok(())
 }
 
-/// A new host with one peer comes up with it, and goes through the first steps and then the others.
+/// A new host with these peers goes through these steps, over both stores.
+fn goes(rt: &impl Abort, alloc: Global, peers: &[u8], steps: &[Step<'_>]) -> Result<(), Fail> {
+    goes_over::<PlainStore>(rt, alloc, peers, &[], steps)?;
+    goes_over::<PackedStore>(rt, alloc, peers, &[], steps)
+}
+
+/// A new host with one peer goes through the first steps and then the others, over both stores.
 fn goes_on(
     rt: &impl Abort,
     alloc: Global,
     first: &[Step<'_>],
     steps: &[Step<'_>],
 ) -> Result<(), Fail> {
-    let mut plain = Tried::<PlainStore>::new(alloc, ME, &[PEER])?;
-    plain.goes(rt, &[Step::ComesUp]);
-    plain.goes(rt, first);
-    plain.goes(rt, steps);
-    let mut packed = Tried::<PackedStore>::new(alloc, ME, &[PEER])?;
-    packed.goes(rt, &[Step::ComesUp]);
-    packed.goes(rt, first);
-    packed.goes(rt, steps);
-    Ok(())
+    goes_over::<PlainStore>(rt, alloc, &[PEER], first, steps)?;
+    goes_over::<PackedStore>(rt, alloc, &[PEER], first, steps)
 }
 
 /// A new host with one peer comes up with it, and goes through these steps.
 fn goes_up(rt: &impl Abort, alloc: Global, steps: &[Step<'_>]) -> Result<(), Fail> {
-    goes_on(rt, alloc, &[], steps)
+    goes_on(rt, alloc, &[Step::ComesUp], steps)
 }

@@ -305,7 +305,7 @@ fn refuses_to_write_in_order(rt: HostRuntime) -> Result<(), Fail> {
 
 #[test]
 fn tells_faults(rt: HostRuntime) -> Result<(), Fail> {
-    let told = [
+    const TOLD: &[(u8, MessageFault, &str, &str)] = &[
         (
             1,
             MessageFault::ShortPrefix,
@@ -349,7 +349,7 @@ fn tells_faults(rt: HostRuntime) -> Result<(), Fail> {
             "the text is no whole number of bytes",
         ),
     ];
-    for (number, fault, name, text) in told {
+    for &(number, fault, name, text) in TOLD {
         assert_eq!(rt; fault as u8, number);
         assert_eq!(rt; fault.name(), name);
         assert_eq!(rt; format!(in rt.alloc(); "{fault}")?.as_str(), text);

@@ -9,7 +9,7 @@ use std::test::Fail;
 
 #[test]
 fn gives_back_in_128ths_rounded_up(rt: HostRuntime) {
-    let rows = [
+    const ROWS: &[(u32, u8, u32)] = &[
         (1_000, 0, 0),
         (1_000, 1, 8),
         (5, 128, 5),
@@ -19,7 +19,7 @@ fn gives_back_in_128ths_rounded_up(rt: HostRuntime) {
         (5, 64, 3),
         (2, 200, 2),
     ];
-    for (counter, fraction, back) in rows {
+    for &(counter, fraction, back) in ROWS {
         assert_eq!(rt;
             give_back(counter, fraction),
             back,
@@ -30,7 +30,7 @@ fn gives_back_in_128ths_rounded_up(rt: HostRuntime) {
 
 #[test]
 fn numbers_and_names_refusals(rt: HostRuntime) -> Result<(), Fail> {
-    let rows = [
+    const ROWS: &[(CallFault, u8, &str, &str)] = &[
         (CallFault::UnknownPeer, 1, "UnknownPeer", "no such peer"),
         (CallFault::NotUp, 2, "NotUp", "not up with this peer"),
         (
@@ -89,7 +89,7 @@ fn numbers_and_names_refusals(rt: HostRuntime) -> Result<(), Fail> {
         ),
         (CallFault::OutOfMemory, 17, "OutOfMemory", "out of memory"),
     ];
-    for (fault, number, name, text) in rows {
+    for &(fault, number, name, text) in ROWS {
         assert_eq!(rt; fault.number(), number);
         assert_eq!(rt; fault.name(), name);
         assert_eq!(rt; format!(in rt.alloc(); "{fault}")?.as_str(), text);
@@ -99,13 +99,13 @@ fn numbers_and_names_refusals(rt: HostRuntime) -> Result<(), Fail> {
 
 #[test]
 fn tells_which_end_a_pair_is(rt: HostRuntime) {
-    let rows = [
+    const ROWS: &[(u32, u32, bool, bool)] = &[
         (3, 2, true, false),
         (2, 3, false, true),
         (3, 5, false, false),
         (2, 4, false, false),
     ];
-    for (local, remote, sends, receives) in rows {
+    for &(local, remote, sends, receives) in ROWS {
         let pair = Pair::new(local, remote);
         assert_eq!(rt; (pair.local, pair.remote), (local, remote));
         assert_eq!(rt; pair.sends(), sends, "{local} {remote}");
@@ -127,27 +127,27 @@ fn has_the_limits_of_the_profile(rt: HostRuntime) {
 
 #[test]
 fn names_what_a_command_gave(rt: HostRuntime) {
-    let rows = [
+    const ROWS: &[(Heard, &str)] = &[
         (Heard::Nothing, "nothing"),
         (Heard::Reply(Command::Erp { byte: 65 }), "reply"),
         (Heard::Late, "late"),
         (Heard::Full, "full"),
     ];
-    for (heard, name) in rows {
+    for &(heard, name) in ROWS {
         assert_eq!(rt; heard.name(), name);
     }
 }
 
 #[test]
 fn names_what_became_of_a_text(rt: HostRuntime) {
-    let rows = [
+    const ROWS: &[(Took, &str)] = &[
         (Took::Admitted, "admitted"),
         (Took::Late, "late"),
         (Took::WrongSize, "wrong-size"),
         (Took::Over, "over"),
         (Took::NotOpen, "not-open"),
     ];
-    for (took, name) in rows {
+    for &(took, name) in ROWS {
         assert_eq!(rt; took.name(), name);
     }
 }

@@ -119,15 +119,16 @@ fn wakes_only_what_is_held(rt: HostRuntime) -> Result<(), Fail> {
 
 #[test]
 fn wakes_every_link(rt: HostRuntime) -> Result<(), Fail> {
+    const LINKS: &[u8] = &[0, FIRST_DATA_LINK, LAST_LINK];
     let mut slots = Slots::new(rt.alloc())?;
-    for link in [0, FIRST_DATA_LINK, LAST_LINK] {
+    for &link in LINKS {
         slots.put(link, &message(&rt, &TEXT))?;
         assert!(rt; slots.hand(link).is_some(), "at {link}");
         slots.answer(link, Answer::Dead)?;
     }
     assert!(rt; slots.first_ready().is_none());
     slots.wake();
-    for link in [0, FIRST_DATA_LINK, LAST_LINK] {
+    for &link in LINKS {
         assert!(rt; slots.hand(link).is_some(), "at {link}");
     }
     Ok(())
@@ -135,8 +136,9 @@ fn wakes_every_link(rt: HostRuntime) -> Result<(), Fail> {
 
 #[test]
 fn lends_what_is_kept(rt: HostRuntime) -> Result<(), Fail> {
+    const LINKS: &[u8] = &[0, UNUSED_LINK, FIRST_DATA_LINK, LAST_LINK, 72, 255];
     let mut slots = Slots::new(rt.alloc())?;
-    for link in [0, UNUSED_LINK, FIRST_DATA_LINK, LAST_LINK, 72, 255] {
+    for &link in LINKS {
         assert!(rt; slots.kept(link).is_none(), "at {link}");
     }
     slots.put(FIRST_DATA_LINK, &message(&rt, &TEXT))?;
@@ -166,8 +168,9 @@ fn lends_what_is_kept(rt: HostRuntime) -> Result<(), Fail> {
 
 #[test]
 fn is_quiet_without_the_control_link(rt: HostRuntime) -> Result<(), Fail> {
+    const ROWS: &[(u8, bool)] = &[(0, true), (2, false), (3, false), (71, false)];
     links_are_numbered();
-    for (link, quiet) in [(0, true), (2, false), (3, false), (71, false)] {
+    for &(link, quiet) in ROWS {
         let mut slots = Slots::new(rt.alloc())?;
         slots.put(link, &message(&rt, &RESET))?;
         assert_eq!(rt; slots.quiet(), quiet, "at {link}");
@@ -226,15 +229,16 @@ fn keeps_a_message_until_answered(rt: HostRuntime) -> Result<(), Fail> {
 
 #[test]
 fn knows_which_links_have_slots(rt: HostRuntime) -> Result<(), Fail> {
-    let mut slots = Slots::new(rt.alloc())?;
-    for (link, has) in [
+    const ROWS: &[(u8, bool)] = &[
         (0, true),
         (1, false),
         (2, true),
         (71, true),
         (72, false),
         (255, false),
-    ] {
+    ];
+    let mut slots = Slots::new(rt.alloc())?;
+    for &(link, has) in ROWS {
         assert_eq!(rt; has_slot(link), has, "at {link}");
         assert!(rt; slots.answer(link, Answer::Rfnm) == Err(Stray), "at {link}");
         assert!(rt;

@@ -90,6 +90,19 @@ fn answers_what_will_not_come(rt: HostRuntime) -> Result<(), Fail> {
 
 #[test]
 fn refuses_in_order(rt: HostRuntime) -> Result<(), Fail> {
+    const TOLD: &[(SubnetFault, u8, &str)] = &[
+        (SubnetFault::NotRegular, 1, "no regular message"),
+        (
+            SubnetFault::NoHost,
+            2,
+            "not from one host of the subnet to another",
+        ),
+        (
+            SubnetFault::Occupied,
+            3,
+            "the last message on this link is not answered yet",
+        ),
+    ];
     let mut subnet = Subnet::new(rt.alloc(), 1, 2)?;
     let reset = message(&rt, &RESET);
     // Shorter than a leader; of type 5, to a host that is not there; from a host that is not there,
@@ -113,19 +126,7 @@ fn refuses_in_order(rt: HostRuntime) -> Result<(), Fail> {
     assert!(rt; subnet.accept(2, &message(&rt, &[0, 1, 0, 0])).is_ok());
     assert!(rt; subnet.accept(1, &message(&rt, &[0, 2, 255, 0])).is_ok());
     assert!(rt; equal_faults(SubnetFault::NoHost, SubnetFault::NoHost));
-    for (fault, number, text) in [
-        (SubnetFault::NotRegular, 1, "no regular message"),
-        (
-            SubnetFault::NoHost,
-            2,
-            "not from one host of the subnet to another",
-        ),
-        (
-            SubnetFault::Occupied,
-            3,
-            "the last message on this link is not answered yet",
-        ),
-    ] {
+    for &(fault, number, text) in TOLD {
         assert_eq!(rt; fault as u8, number);
         assert_eq!(rt; format!(in rt.alloc(); "{fault}")?.as_str(), text);
     }

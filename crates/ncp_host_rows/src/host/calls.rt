@@ -8,95 +8,82 @@ use std::test::Fail;
 
 #[test]
 fn a_receiver_is_served(rt: HostRuntime) -> Result<(), Fail> {
-    let calling_back = Record {
+    const CALLING_BACK: Record = Record {
         messages: 2,
         bits: 16,
         recall: true,
         ..RECEIVER
     };
-    let left = Record {
+    const LEFT: Record = Record {
         messages: 1,
         bits: 0,
         left: true,
-        ..calling_back
+        ..CALLING_BACK
     };
-    goes_up(
-        &rt,
-        rt.alloc(),
-        &[
-            Step::OpensReceiver,
-            Step::Does(Call::Allocate(INWARD, 2, 16)),
-            Step::Does(Call::CallBack(INWARD, 64, 1)),
-            Step::Refuses(Call::CallBack(INWARD, 64, 1), CallFault::Busy),
-            Step::Does(Call::Interrupt(INWARD)),
-            Step::Knows(INWARD, calling_back),
-            Step::Says(&[4, 2, 0, 2, 0, 0, 0, 16, 5, 2, 64, 1, 7, 2]),
-            Step::Text(LINK, &[0x61, 0x62], Received::Text(Took::Admitted)),
-            Step::Takes(INWARD, 100, &[0x61, 0x62]),
-            Step::Does(Call::Close(INWARD)),
-            Step::Says(&RECEIVER_CLS),
-            Step::Knows(INWARD, left),
-        ],
-    )
+    const STEPS: &[Step<'static>] = &[
+        Step::OpensReceiver,
+        Step::Does(Call::Allocate(INWARD, 2, 16)),
+        Step::Does(Call::CallBack(INWARD, 64, 1)),
+        Step::Refuses(Call::CallBack(INWARD, 64, 1), CallFault::Busy),
+        Step::Does(Call::Interrupt(INWARD)),
+        Step::Knows(INWARD, CALLING_BACK),
+        Step::Says(&[4, 2, 0, 2, 0, 0, 0, 16, 5, 2, 64, 1, 7, 2]),
+        Step::Text(LINK, &[0x61, 0x62], Received::Text(Took::Admitted)),
+        Step::Takes(INWARD, 100, &[0x61, 0x62]),
+        Step::Does(Call::Close(INWARD)),
+        Step::Says(&RECEIVER_CLS),
+        Step::Knows(INWARD, LEFT),
+    ];
+    goes_up(&rt, rt.alloc(), STEPS)
 }
 
 #[test]
 fn a_sender_is_served(rt: HostRuntime) -> Result<(), Fail> {
-    let interrupted = Record {
+    const INTERRUPTED: Record = Record {
         interrupts: 1,
         ..SENDER
     };
-    goes_up(
-        &rt,
-        rt.alloc(),
-        &[
-            Step::OpensSender,
-            Step::Does(Call::Interrupt(OUTWARD)),
-            Step::Says(&[8, 2]),
-            Step::Hears(&[7, 2], 1),
-            Step::Knows(OUTWARD, interrupted),
-        ],
-    )
+    const STEPS: &[Step<'static>] = &[
+        Step::OpensSender,
+        Step::Does(Call::Interrupt(OUTWARD)),
+        Step::Says(&[8, 2]),
+        Step::Hears(&[7, 2], 1),
+        Step::Knows(OUTWARD, INTERRUPTED),
+    ];
+    goes_up(&rt, rt.alloc(), STEPS)
 }
 
 // One echo at a time: Busy is judged before QueueFull. An ERP that answers none is stray.
 #[test]
 fn echoes_are_answered(rt: HostRuntime) -> Result<(), Fail> {
-    let counts = Counts {
+    const COUNTS: Counts = Counts {
         stray: 1,
         ..NO_COUNTS
     };
-    goes_up(
-        &rt,
-        rt.alloc(),
-        &[
-            Step::OpensReceiver,
-            Step::Does(Call::Echo(65)),
-            Step::Repeats(Call::Interrupt(INWARD), MAX_CALLED - 1),
-            Step::Refuses(Call::Echo(66), CallFault::Busy),
-            Step::HasEchoed(None),
-            Step::Hears(&[10, 65, 10, 66], 2),
-            Step::HasEchoed(Some(65)),
-            Step::HasCounts(counts),
-            Step::Refuses(Call::Echo(66), CallFault::QueueFull),
-        ],
-    )
+    const STEPS: &[Step<'static>] = &[
+        Step::OpensReceiver,
+        Step::Does(Call::Echo(65)),
+        Step::Repeats(Call::Interrupt(INWARD), MAX_CALLED - 1),
+        Step::Refuses(Call::Echo(66), CallFault::Busy),
+        Step::HasEchoed(None),
+        Step::Hears(&[10, 65, 10, 66], 2),
+        Step::HasEchoed(Some(65)),
+        Step::HasCounts(COUNTS),
+        Step::Refuses(Call::Echo(66), CallFault::QueueFull),
+    ];
+    goes_up(&rt, rt.alloc(), STEPS)
 }
 
 // What is known of a peer and of a connection before anything came.
 #[test]
 fn nothing_is_known_at_first(rt: HostRuntime) -> Result<(), Fail> {
-    goes(
-        &rt,
-        rt.alloc(),
-        &[PEER],
-        &[
-            Step::Refuses(Call::State(INWARD), CallFault::NoEntry),
-            Step::HasEchoed(None),
-            Step::HasCounts(NO_COUNTS),
-            Step::Does(Call::Errors),
-            Step::Wait(0),
-            Step::IsSilent,
-        ],
-    )
+    const STEPS: &[Step<'static>] = &[
+        Step::Refuses(Call::State(INWARD), CallFault::NoEntry),
+        Step::HasEchoed(None),
+        Step::HasCounts(NO_COUNTS),
+        Step::Does(Call::Errors),
+        Step::Wait(0),
+        Step::IsSilent,
+    ];
+    goes(&rt, rt.alloc(), &[PEER], STEPS)
 }

@@ -24,47 +24,39 @@ fn peers_are_one_to_eight_others(rt: HostRuntime) {
 // Both have one command waiting: the first that was given goes first.
 #[test]
 fn peers_are_served_in_order(rt: HostRuntime) -> Result<(), Fail> {
-    goes(
-        &rt,
-        rt.alloc(),
-        &[OTHER, PEER],
-        &[
-            Step::Of(PEER),
-            Step::Does(Call::Reset),
-            Step::Of(OTHER),
-            Step::Does(Call::Reset),
-            Step::Says(&[12]),
-            Step::Of(PEER),
-            Step::Says(&[12]),
-            Step::IsSilent,
-        ],
-    )
+    const STEPS: &[Step<'static>] = &[
+        Step::Of(PEER),
+        Step::Does(Call::Reset),
+        Step::Of(OTHER),
+        Step::Does(Call::Reset),
+        Step::Says(&[12]),
+        Step::Of(PEER),
+        Step::Says(&[12]),
+        Step::IsSilent,
+    ];
+    goes(&rt, rt.alloc(), &[OTHER, PEER], STEPS)
 }
 
 // The text of one reset, lost once: it goes out again. An echo that comes before the host is up counts.
 #[test]
 fn a_host_comes_up(rt: HostRuntime) -> Result<(), Fail> {
-    let counts = Counts {
+    const COUNTS: Counts = Counts {
         not_up: 1,
         ..NO_COUNTS
     };
-    goes(
-        &rt,
-        rt.alloc(),
-        &[PEER],
-        &[
-            Step::HasFlags(DOWN),
-            Step::Does(Call::Reset),
-            Step::Puts(&[0, 2, 0, 0, 0, 8, 0, 1, 0, 12]),
-            Step::IsSilent,
-            Step::Answered(INCOMPLETE, 0, Received::Answered),
-            Step::Puts(&[0, 2, 0, 0, 0, 8, 0, 1, 0, 12]),
-            Step::Hears(&[9, 0x41], 1),
-            Step::Hears(&[13], 1),
-            Step::HasFlags(UP),
-            Step::HasCounts(counts),
-        ],
-    )?;
+    const STEPS: &[Step<'static>] = &[
+        Step::HasFlags(DOWN),
+        Step::Does(Call::Reset),
+        Step::Puts(&[0, 2, 0, 0, 0, 8, 0, 1, 0, 12]),
+        Step::IsSilent,
+        Step::Answered(INCOMPLETE, 0, Received::Answered),
+        Step::Puts(&[0, 2, 0, 0, 0, 8, 0, 1, 0, 12]),
+        Step::Hears(&[9, 0x41], 1),
+        Step::Hears(&[13], 1),
+        Step::HasFlags(UP),
+        Step::HasCounts(COUNTS),
+    ];
+    goes(&rt, rt.alloc(), &[PEER], STEPS)?;
     assert!(rt; UP.up() && !DOWN.up());
     Ok(())
 }
@@ -72,30 +64,26 @@ fn a_host_comes_up(rt: HostRuntime) -> Result<(), Fail> {
 // With the most peers the last is found, and none beside them.
 #[test]
 fn peers_are_known(rt: HostRuntime) -> Result<(), Fail> {
-    let peers: [u8; MAX_PEERS] = [2, 3, 4, 5, 6, 7, 8, 9];
-    let ignored = Ignored {
+    const IGNORED: Ignored = Ignored {
         short: 1,
         other: 1,
         unknown: 1,
     };
-    goes(
-        &rt,
-        rt.alloc(),
-        &peers,
-        &[
-            Step::Of(9),
-            Step::ComesUp,
-            Step::Comes(&[0, 10, 0, 0], Received::Unknown),
-            Step::Comes(&[0, 9], Received::Short),
-            Step::Comes(&[3, 9, 0, 0], Received::Other(3)),
-            Step::HasIgnored(ignored),
-            Step::HasCounts(NO_COUNTS),
-            Step::Of(8),
-            Step::HasFlags(DOWN),
-            Step::Of(10),
-            Step::Refuses(Call::Reset, CallFault::UnknownPeer),
-        ],
-    )
+    const STEPS: &[Step<'static>] = &[
+        Step::Of(9),
+        Step::ComesUp,
+        Step::Comes(&[0, 10, 0, 0], Received::Unknown),
+        Step::Comes(&[0, 9], Received::Short),
+        Step::Comes(&[3, 9, 0, 0], Received::Other(3)),
+        Step::HasIgnored(IGNORED),
+        Step::HasCounts(NO_COUNTS),
+        Step::Of(8),
+        Step::HasFlags(DOWN),
+        Step::Of(10),
+        Step::Refuses(Call::Reset, CallFault::UnknownPeer),
+    ];
+    let peers: [u8; MAX_PEERS] = [2, 3, 4, 5, 6, 7, 8, 9];
+    goes(&rt, rt.alloc(), &peers, STEPS)
 }
 
 // An unknown peer is judged before that the host is not up, and this before all else.
@@ -126,26 +114,22 @@ fn calls_are_for_peers_that_are_up(rt: HostRuntime) -> Result<(), Fail> {
 // Calls and readers that a host answers also while it is not up.
 #[test]
 fn other_calls_are_for_peers(rt: HostRuntime) -> Result<(), Fail> {
-    let unknown = CallFault::UnknownPeer;
-    goes(
-        &rt,
-        rt.alloc(),
-        &[PEER],
-        &[
-            Step::Of(NOBODY),
-            Step::Refuses(Call::Wake, unknown),
-            Step::Refuses(Call::Reset, unknown),
-            Step::Refuses(Call::State(INWARD), unknown),
-            Step::Refuses(Call::Phase, unknown),
-            Step::Refuses(Call::Echoed, unknown),
-            Step::Refuses(Call::Errors, unknown),
-            Step::Refuses(Call::Counts, unknown),
-            Step::Wait(0),
-            Step::KeepsNone(0),
-            Step::Of(PEER),
-            Step::Does(Call::Wake),
-            Step::Does(Call::Reset),
-            Step::Refuses(Call::Reset, CallFault::Busy),
-        ],
-    )
+    const UNKNOWN: CallFault = CallFault::UnknownPeer;
+    const STEPS: &[Step<'static>] = &[
+        Step::Of(NOBODY),
+        Step::Refuses(Call::Wake, UNKNOWN),
+        Step::Refuses(Call::Reset, UNKNOWN),
+        Step::Refuses(Call::State(INWARD), UNKNOWN),
+        Step::Refuses(Call::Phase, UNKNOWN),
+        Step::Refuses(Call::Echoed, UNKNOWN),
+        Step::Refuses(Call::Errors, UNKNOWN),
+        Step::Refuses(Call::Counts, UNKNOWN),
+        Step::Wait(0),
+        Step::KeepsNone(0),
+        Step::Of(PEER),
+        Step::Does(Call::Wake),
+        Step::Does(Call::Reset),
+        Step::Refuses(Call::Reset, CallFault::Busy),
+    ];
+    goes(&rt, rt.alloc(), &[PEER], STEPS)
 }
