@@ -116,9 +116,9 @@ class Build:
                     return
                 self.left.remove(name)
                 self.running[name] = None
-                jobs = len(self.places) if self.is_first(name) else 1
+                is_urgent = self.is_urgent(name)
                 self.tell()
-            status, log = self.build(place, name, jobs)
+            status, log = self.build(place, name, is_urgent)
             with self.changed:
                 del self.running[name]
                 self.give(place, name) if status == 0 else self.fail(name, log)
@@ -130,14 +130,17 @@ class Build:
         fits = lambda it: self.built.issuperset(below(self.uses[it], self.uses)) and (it != self.top or place == TOP)
         return next((it for it in self.left if fits(it)), None)
 
-    def is_first(self, name):
-        return all(self.behind[name] >= self.behind[it] for it in self.running)
+    def is_urgent(self, name):
+        """Whether nothing that runs has a much longer chain: the whole build takes as long as its longest."""
+        return self.behind[name] >= 0.9 * max(self.behind[it] for it in self.running)
 
-    def build(self, place, name, jobs):
-        """Has the toolchain build a crate, a program by a run that asks nothing of it, and returns its status and what it said."""
+    def build(self, place, name, is_urgent):
+        """Has the toolchain build a crate, a program by a run that asks nothing of it, and returns its status and what it said.
+        What is urgent has as many jobs as there are lanes, and goes before the others."""
         folder = f"{place}/crates/{name}"
         is_program = os.path.isfile(f"{folder}/src/main.rt")
-        words = ["rt", "run", "--jobs", str(jobs), "--", "--help"] if is_program else ["rt", "lib", "--jobs", str(jobs)]
+        first, jobs = ([], str(len(self.places))) if is_urgent else (["nice", "-n", "10"], "1")
+        words = [*first, "rt", *(["run", "--jobs", jobs, "--", "--help"] if is_program else ["lib", "--jobs", jobs])]
         ran = subprocess.Popen(words, cwd=folder, stdin=subprocess.DEVNULL, stdout=subprocess.PIPE, stderr=subprocess.STDOUT, text=True, errors="replace")
         self.running[name] = ran
         log = ran.communicate()[0]
