@@ -42,28 +42,39 @@ def below(names, uses):
     return list(found)
 
 
-def lines_of(name):
-    """The lines of a crate's code, to which the time that its proof takes is nearly proportional."""
+def lines_in(folder):
     count = 0
-    for at, _, names in os.walk(f"{TOP}/crates/{name}/src"):
+    for at, _, names in os.walk(folder):
         for file in names:
             with open(f"{at}/{file}", "rb") as source:
                 count += source.read().count(b"\n")
     return count
 
 
+def work_of(name):
+    """About how long a crate's proof takes, in lines of code: a line of a lemma takes a tenth of that, and each crate
+    a hundred for what stands below it."""
+    return 100 + lines_in(f"{TOP}/crates/{name}/src") + lines_in(f"{TOP}/crates/{name}/proofs") / 10
+
+
 def chains(crates, uses):
-    """How many lines each crate has with the longest chain of crates that stand on it."""
+    """The work of each crate with the longest chain of crates that stand on it."""
     behind = {}
     for name in reversed(crates):
         above = [behind[it] for it in crates if name in uses[it]]
-        behind[name] = lines_of(name) + max(above, default=0)
+        behind[name] = work_of(name) + max(above, default=0)
     return behind
 
 
+def processors():
+    return len(os.sched_getaffinity(0))
+
+
 def lanes():
+    """How many crates are built at a time: one more than there are processors, where memory holds them, so that a short
+    crate that takes long behind the others keeps none from its place."""
     memory = os.sysconf("SC_PAGE_SIZE") * os.sysconf("SC_PHYS_PAGES")
-    return max(1, min(len(os.sched_getaffinity(0)), memory // ROOM))
+    return max(1, min(processors() + 1, memory // ROOM))
 
 
 class Build:
@@ -116,31 +127,38 @@ class Build:
                     return
                 self.left.remove(name)
                 self.running[name] = None
-                is_urgent = self.is_urgent(name)
+                is_urgent, jobs = self.is_urgent(name), self.jobs(name)
                 self.tell()
-            status, log = self.build(place, name, is_urgent)
+            status, log = self.build(place, name, is_urgent, jobs)
             with self.changed:
                 del self.running[name]
                 self.give(place, name) if status == 0 else self.fail(name, log)
                 self.changed.notify_all()
                 self.tell()
 
+    def can_begin(self, name):
+        return self.built.issuperset(below(self.uses[name], self.uses))
+
     def next_in(self, place):
         """The next crate that can be built there now; the top one is built in the checkout."""
-        fits = lambda it: self.built.issuperset(below(self.uses[it], self.uses)) and (it != self.top or place == TOP)
-        return next((it for it in self.left if fits(it)), None)
+        return next((it for it in self.left if self.can_begin(it) and (it != self.top or place == TOP)), None)
 
     def is_urgent(self, name):
         """Whether nothing that runs has a much longer chain: the whole build takes as long as its longest."""
         return self.behind[name] >= 0.9 * max(self.behind[it] for it in self.running)
 
-    def build(self, place, name, is_urgent):
+    def jobs(self, name):
+        """How many jobs a crate may have: what is urgent one for each processor, and the others those that no crate needs."""
+        waiting = sum(map(self.can_begin, self.left))
+        return processors() if self.is_urgent(name) else max(1, processors() // (len(self.running) + waiting))
+
+    def build(self, place, name, is_urgent, jobs):
         """Has the toolchain build a crate, a program by a run that asks nothing of it, and returns its status and what it said.
-        What is urgent has as many jobs as there are lanes, and goes before the others."""
+        What is urgent goes before the others."""
         folder = f"{place}/crates/{name}"
         is_program = os.path.isfile(f"{folder}/src/main.rt")
-        first, jobs = ([], str(len(self.places))) if is_urgent else (["nice", "-n", "10"], "1")
-        words = [*first, "rt", *(["run", "--jobs", jobs, "--", "--help"] if is_program else ["lib", "--jobs", jobs])]
+        first = [] if is_urgent else ["nice", "-n", "10"]
+        words = [*first, "rt", *(["run", "--jobs", f"{jobs}", "--", "--help"] if is_program else ["lib", "--jobs", f"{jobs}"])]
         ran = subprocess.Popen(words, cwd=folder, stdin=subprocess.DEVNULL, stdout=subprocess.PIPE, stderr=subprocess.STDOUT, text=True, errors="replace")
         self.running[name] = ran
         log = ran.communicate()[0]
@@ -160,7 +178,8 @@ class Build:
         if not self.failed:
             self.failed = name
             say("")
-            print("\n".join(log.splitlines()[-20:]), file=sys.stderr)
+            lines = log.splitlines()
+            print("\n".join([it for it in lines if "error" in it][:20] or lines[-20:]), file=sys.stderr)
 
     def tell(self):
         now = sorted(self.running, key=self.behind.get, reverse=True)

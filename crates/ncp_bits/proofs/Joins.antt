@@ -7,13 +7,15 @@ use Rattle.std.proofs.lemmas.List.FromFn.{length-map-range_with_len}
 use Rattle.std.proofs.lemmas.Bool.{cases_lt}
 use Rattle.std.proofs.lemmas.Nat.{pow-add}
 use Rattle.std.proofs.Math.Seq.{take-add}
-use Rattle.ncp_bits.specs.Numbers.{number_of, bits_of}
-use Rattle.ncp_bits.specs.Bits.{byte_bits, bits_of_bytes, bytes_for, spare_for, byte_of, bytes_of, read_bytes}
+use Rattle.ncp_numbers.specs.Numbers.{number_of, bits_of}
+use Rattle.ncp_numbers.specs.Bytes.{byte_bits, bits_of_bytes, bytes_for, spare_for, byte_of, bytes_of}
+use Rattle.ncp_bits.specs.Bits.{read_bytes}
 use Rattle.ncp_bits.specs.Packed.{run}
-use Rattle.ncp_bits.proofs.Numbers.{bits_of-number_of}
-use Rattle.ncp_bits.proofs.Bytes.{length-bits_of_bytes, number_of-zeros, read_bytes-ok}
-use Rattle.ncp_bits.proofs.Packing.{bits_of_bytes-bytes_of}
-use Rattle.ncp_bits.proofs.Shifts.{number_of-append}
+use Rattle.ncp_numbers.proofs.Numbers.{bits_of-number_of}
+use Rattle.ncp_bits.proofs.Enough.{read_bytes-ok}
+use Rattle.ncp_numbers.proofs.Bytes.{length-bits_of_bytes, number_of-zeros}
+use Rattle.ncp_numbers.proofs.Packing.{bits_of_bytes-bytes_of}
+use Rattle.ncp_numbers.proofs.Shifts.{number_of-append}
 use Rattle.ncp_bits.proofs.Runs.{length-byte_bits, run_in_byte}
 
 pub length-bytes_of : (bits : List Bool) → length (bytes_of bits) ≡ bytes_for (length bits)

@@ -3,7 +3,8 @@ use Rattle.std.proofs.Common.{◌≡◌, ◌↔◌, ◌⊎◌, inl, inr, ℕ, �
 use Rattle.std.proofs.lemmas.Bool.Decides.{Decides-ltb}
 use Rattle.std.specs.Bool.{Decides}
 use Rattle.std.specs.List.{list_any}
-use Rattle.ncp_bits.specs.Bits.{read_bytes, bytes_for, spare_bits, bits_of_bytes, IsAtFault, judged}
+use Rattle.ncp_numbers.specs.Bytes.{bytes_for, bits_of_bytes}
+use Rattle.ncp_bits.specs.Bits.{read_bytes, spare_bits, IsAtFault, judged}
 use Rattle.ncp_bits.specs.Reasons.{IsFirst, NoneHolds}
 use Rattle.ncp_bits.specs.declared.bits.TheConstants.{MAX_BITS}
 use Rattle.ncp_bits.specs.declared.bits.BitsFault.{BitsFault}

@@ -1,8 +1,4 @@
-pub mod Numbers
-pub mod Bytes
-pub mod Fields
-pub mod Packing
-pub mod Shifts
+pub mod Enough
 pub mod Runs
 pub mod Joins
 pub mod Same

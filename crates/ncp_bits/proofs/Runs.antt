@@ -8,13 +8,15 @@ use Rattle.std.proofs.lemmas.Nat.{and_mask, pow_pos, or_shifted, shl_whole}
 use Rattle.std.proofs.Math.Nat.{mod-eq_of_lt}
 use Rattle.std.proofs.lemmas.Bool.{ne_eqb}
 use Rattle.std.proofs.Math.Seq.{drop-cons, take-add}
-use Rattle.ncp_bits.specs.Numbers.{number_of, bits_of, bit_of}
-use Rattle.ncp_bits.specs.Bits.{byte_bits, bits_of_bytes, bytes_for, byte_of, read_bytes}
+use Rattle.ncp_numbers.specs.Numbers.{number_of, bits_of, bit_of}
+use Rattle.ncp_numbers.specs.Bytes.{byte_bits, bits_of_bytes, bytes_for, byte_of}
+use Rattle.ncp_bits.specs.Bits.{read_bytes}
 use Rattle.ncp_bits.specs.Packed.{run, IsPart, HoldsBits, HoldsRun}
-use Rattle.ncp_bits.proofs.Numbers.{length-bits_of, number_of-bits_of, number_of-below}
-use Rattle.ncp_bits.proofs.Bytes.{length-bits_of_bytes, bits_of_bytes-more, byte_of-long, byte_of-short, read_bytes-ok, take-bits_of_bytes}
-use Rattle.ncp_bits.proofs.Packing.{drop-bits_of_bytes}
-use Rattle.ncp_bits.proofs.Shifts.{drop-bits_of, take-bits_of, bits_of-mod, number_of-append}
+use Rattle.ncp_numbers.proofs.Numbers.{length-bits_of, number_of-bits_of, number_of-below}
+use Rattle.ncp_bits.proofs.Enough.{read_bytes-ok}
+use Rattle.ncp_numbers.proofs.Bytes.{length-bits_of_bytes, bits_of_bytes-more, byte_of-long, byte_of-short, take-bits_of_bytes}
+use Rattle.ncp_numbers.proofs.Packing.{drop-bits_of_bytes}
+use Rattle.ncp_numbers.proofs.Shifts.{drop-bits_of, take-bits_of, bits_of-mod, number_of-append}
 
 pub length-byte_bits : (byte : ℕ) → length (byte_bits byte) ≡ 8
 unfolding byte_bits

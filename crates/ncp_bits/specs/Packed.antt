@@ -1,6 +1,6 @@
 -- Bits in bytes, eight a byte, at any bit.
 use Rattle.std.specs.Prelude.{ℕ, ◌+◌, ◌*◌, ◌<◌, ◌≤◌, ◌^◌, Bool, List, length, take, drop}
-use Rattle.ncp_bits.specs.Bits.{bits_of_bytes}
+use Rattle.ncp_numbers.specs.Bytes.{bits_of_bytes}
 use Rattle.ncp_bits.specs.declared.bits.TheConstants.{MAX_BITS}
 
 -- the run of so many bits of bytes from a place on

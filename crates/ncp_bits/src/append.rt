@@ -1,7 +1,7 @@
 //! Appending a part to bits that lie in bytes.
 ghost use Rattle.std.specs.Prelude.{◌≡◌, ◌+◌, ◌*◌, ◌-◌, ◌<◌, ◌≤◌, ◌^◌, ◌++◌, length, take};
-ghost use Rattle.ncp_bits.specs.Numbers.{number_of};
-ghost use Rattle.ncp_bits.specs.Bits.{byte_bits};
+ghost use Rattle.ncp_numbers.specs.Numbers.{number_of};
+ghost use Rattle.ncp_numbers.specs.Bytes.{byte_bits};
 ghost use Rattle.ncp_bits.specs.Packed.{run};
 
 use crate::part::Part;

@@ -1,7 +1,8 @@
 //! `Bits`.
 ghost use Rattle.std.specs.Prelude.{◌≡◌, ◌+◌, ◌<◌, ◌≤◌, ◌^◌, ◌++◌, ◌↔◌, IsTrue, [], length, take, drop, slice_range, slice_get, Some, Ok, Err, IfOk, IfErr, OnOk, OnErr, IsOk};
-ghost use Rattle.ncp_bits.specs.Numbers.{number_of, bits_of};
-ghost use Rattle.ncp_bits.specs.Bits.{read_bytes, bytes_for, bytes_of};
+ghost use Rattle.ncp_numbers.specs.Numbers.{number_of, bits_of};
+ghost use Rattle.ncp_numbers.specs.Bytes.{bytes_for, bytes_of};
+ghost use Rattle.ncp_bits.specs.Bits.{read_bytes};
 
 use crate::append::write_behind;
 use crate::part::Part;

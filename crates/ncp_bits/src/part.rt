@@ -1,7 +1,8 @@
 //! `Part`.
 ghost use Rattle.std.specs.Prelude.{◌≡◌, ◌+◌, ◌*◌, ◌<◌, ◌≤◌, ◌^◌, ◌++◌, ◌↔◌, IsTrue, [], length, drop, slice_range, slice_get, Some, IfSome, IfOk};
-ghost use Rattle.ncp_bits.specs.Numbers.{number_of};
-ghost use Rattle.ncp_bits.specs.Bits.{bytes_for, bytes_of, read_bytes};
+ghost use Rattle.ncp_numbers.specs.Numbers.{number_of};
+ghost use Rattle.ncp_numbers.specs.Bytes.{bytes_for, bytes_of};
+ghost use Rattle.ncp_bits.specs.Bits.{read_bytes};
 ghost use Rattle.ncp_bits.specs.Packed.{run};
 
 use crate::bits::{Bits, BitsFault, MAX_BITS};
@@ -86,7 +87,7 @@ impl<'a> Part<'a> {
     /// each byte that they touch once, nine at most.
     // A part that is known to begin with a byte is read with no loop.
     #[inline(always)]
-    #[tactic(auto, using(crate::proofs::Numbers::number_of_range))]
+    #[tactic(auto, using(ncp_numbers::proofs::Numbers::number_of_range))]
     pub fn number(&self, at: usize, width: usize) -> u64
         requires width { width ≤ 64 }
         requires inside { at + width ≤ length self.now }

@@ -1,8 +1,9 @@
 //! Reading bits that lie in bytes, eight a byte.
 ghost use Rattle.std.specs.Prelude.{◌≡◌, ◌+◌, ◌*◌, ◌<◌, ◌≤◌, ◌^◌, length, take, drop, false, slice_index_or, IfSome, IfOk, IfErr, Ok, Err};
 ghost use Rattle.std.specs.List.{list_any};
-ghost use Rattle.ncp_bits.specs.Numbers.{number_of};
-ghost use Rattle.ncp_bits.specs.Bits.{byte_bits, bits_of_bytes, bytes_for, bytes_of, read_bytes};
+ghost use Rattle.ncp_numbers.specs.Numbers.{number_of};
+ghost use Rattle.ncp_numbers.specs.Bytes.{byte_bits, bits_of_bytes, bytes_for, bytes_of};
+ghost use Rattle.ncp_bits.specs.Bits.{read_bytes};
 ghost use Rattle.ncp_bits.specs.Packed.{run};
 ghost use Rattle.ncp_bits.specs.declared.bits.TheConstants.{MAX_BITS};
 

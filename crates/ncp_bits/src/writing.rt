@@ -1,7 +1,7 @@
 //! Writing runs of bits as bytes.
 ghost use Rattle.std.specs.Prelude.{◌≡◌, ℕ, ◌+◌, ◌*◌, ◌<◌, ◌≤◌, ◌^◌, ◌++◌, length, take, drop, slice_index};
-ghost use Rattle.ncp_bits.specs.Numbers.{number_of};
-ghost use Rattle.ncp_bits.specs.Bits.{byte_bits, bytes_for, bytes_of};
+ghost use Rattle.ncp_numbers.specs.Numbers.{number_of};
+ghost use Rattle.ncp_numbers.specs.Bytes.{byte_bits, bytes_for, bytes_of};
 ghost use Rattle.ncp_bits.specs.Packed.{run};
 
 use crate::reading::number_in;

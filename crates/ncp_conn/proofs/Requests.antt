@@ -6,7 +6,7 @@ use Rattle.std.specs.FinMap.{insert, remove}
 use Rattle.slab.specs.Slab.{get, values, with_value}
 use Rattle.std.proofs.lemmas.Bool.{eqb-true}
 use Rattle.std.proofs.lemmas.Bool.Decides.{nat_tests}
-use Rattle.ncp_control.specs.declared.command.Command.TheVariants.{Rts, Str}
+use Rattle.ncp_terms.specs.declared.command.Command.TheVariants.{Rts, Str}
 use Rattle.ncp_model.specs.declared.pair.Pair.{Pair}
 use Rattle.ncp_model.specs.declared.call_fault.CallFault.{CallFault}
 use Rattle.ncp_model.specs.declared.call_fault.CallFault.TheVariants.{AlreadyAsked, Closing, TableFull, QueueFull}

@@ -18,8 +18,8 @@ use crate::pairs::Pairs;
 use crate::record::Record;
 use asking::Stores;
 use ncp_bits::BitStore;
-use ncp_control::Command;
 use ncp_model::{CallFault, MAX_BY_PEER, MAX_OWN, Pair};
+use ncp_terms::Command;
 use std::alloc::{AllocError, Global};
 use std::marker::Model;
 

@@ -1,8 +1,8 @@
 -- A command or a text that comes is taken, or is late.
 use Rattle.std.proofs.Common.{◌≡◌, ℕ, Bool, true, false, nat_lt, List, ◌∷◌, Option, None, Some, refl, arith}
 use Rattle.std.proofs.lemmas.Bool.{or_parts}
-use Rattle.ncp_control.specs.declared.command.Command.{Command}
-use Rattle.ncp_control.specs.declared.command.Command.TheVariants.{Rts, Str, Cls, All, Gvb, Ret, Inr, Ins}
+use Rattle.ncp_terms.specs.declared.command.Command.{Command}
+use Rattle.ncp_terms.specs.declared.command.Command.TheVariants.{Rts, Str, Cls, All, Gvb, Ret, Inr, Ins}
 use Rattle.ncp_model.specs.declared.pair.Pair.{Pair}
 use Rattle.ncp_model.specs.declared.limits.TheConstants.{MAX_BY_PEER}
 use Rattle.ncp_model.specs.Pairs.{sends, turned}

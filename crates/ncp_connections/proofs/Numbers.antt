@@ -1,7 +1,7 @@
 -- The books of two ends in one round, where what changes counts nothing.
 use Rattle.std.proofs.Common.{◌≡◌, Bool, true, false, List, [], length, refl, ap, sym, ◌∙◌, arith}
 use Rattle.std.proofs.lemmas.Bool.{both_ways}
-use Rattle.ncp_control.specs.declared.command.Command.{Command}
+use Rattle.ncp_terms.specs.declared.command.Command.{Command}
 use Rattle.ncp_model.specs.End.{End, is_going}
 use Rattle.ncp_connections.specs.Connections.{Text, No_text}
 use Rattle.ncp_connections.specs.Ledger.{sum_of, text_messages, text_bits}

@@ -3,8 +3,8 @@
 -- an end is an act; what it makes joins what is underway. A control link keeps order (BBN 1822,
 -- section 3), so the commands of each host come in the order in which they were made.
 use Rattle.std.specs.Prelude.{◌≡◌, ℕ, Bool, true, false, ◌||◌, nat_lt, if◌then◌else◌, List, [], ◌∷◌, ◌++◌, Option, None, Some}
-use Rattle.ncp_control.specs.declared.command.Command.{Command}
-use Rattle.ncp_control.specs.declared.command.Command.TheVariants.{Rts, Str, Cls, All, Gvb, Ret, Inr, Ins}
+use Rattle.ncp_terms.specs.declared.command.Command.{Command}
+use Rattle.ncp_terms.specs.declared.command.Command.TheVariants.{Rts, Str, Cls, All, Gvb, Ret, Inr, Ins}
 use Rattle.ncp_model.specs.declared.pair.Pair.{Pair}
 use Rattle.ncp_model.specs.declared.limits.TheConstants.{MAX_BY_PEER}
 use Rattle.ncp_model.specs.End.{End, or_new}

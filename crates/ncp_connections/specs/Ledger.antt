@@ -1,6 +1,6 @@
 -- What the two ends of a connection and what is underway between them have in common.
 use Rattle.std.specs.Prelude.{◌≡◌, ℕ, ◌+◌, Bool, true, false, List, [], ◌∷◌, ◌++◌, length}
-use Rattle.ncp_control.specs.declared.command.Command.{Command}
+use Rattle.ncp_terms.specs.declared.command.Command.{Command}
 use Rattle.ncp_model.specs.End.{End, is_open, is_live, or_new}
 use Rattle.ncp_connections.specs.Connections.{Text, No_text, Away, Here, Connection}
 use Rattle.ncp_watch.specs.Histories.{IsBeginning}

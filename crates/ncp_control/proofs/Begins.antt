@@ -7,10 +7,10 @@ use Rattle.std.proofs.lemmas.List.{length-take-le, length-drop, drop-drop, take-
 use Rattle.std.proofs.lemmas.List.Elements.{All-drop, All-take}
 use Rattle.std.proofs.lemmas.Option.{MatchOption-at_some, slice_get_within}
 use borrow.Author.Count.{below_none, below_more}
-use Rattle.ncp_control.specs.Spelling.{spelling, IsByte, IsCommand}
+use Rattle.ncp_terms.specs.Spelling.{spelling, IsByte, IsCommand}
 use Rattle.ncp_control.specs.Reading.{sizes, size_of, byte_at, short_at, word_at, command_with}
 use Rattle.ncp_control.proofs.Fields.{byte_front, short_front, word_front, byte_fits, short_fits, word_fits}
-use Rattle.ncp_control.specs.declared.command.Command.{Command}
+use Rattle.ncp_terms.specs.declared.command.Command.{Command}
 
 -- a command of so many bytes begins these bytes
 abbrev pub Begins : Command → ℕ → List ℕ → Type 0

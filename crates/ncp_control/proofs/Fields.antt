@@ -6,7 +6,7 @@ use Rattle.std.proofs.lemmas.Bool.{cases_lt}
 use Rattle.std.proofs.lemmas.List.{length-take-le, length-drop, drop-drop, drop_more, take-append-drop, get_or_past, get_or-drop}
 use Rattle.std.proofs.lemmas.List.Elements.{All-get_or, All-drop, All-take}
 use Rattle.std.proofs.lemmas.Nat.{be_bytes_2, be_bytes_4}
-use Rattle.ncp_control.specs.Spelling.{IsByte}
+use Rattle.ncp_terms.specs.Spelling.{IsByte}
 use Rattle.ncp_control.specs.Reading.{byte_at, short_at, word_at}
 
 -- at any place, since 0 is read behind the end

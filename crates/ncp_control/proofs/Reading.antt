@@ -9,12 +9,12 @@ use Rattle.std.proofs.lemmas.List.Elements.{All-nil, All-cons, All-head, All-tai
 use Rattle.std.proofs.lemmas.Nat.{mod_below}
 use Rattle.std.specs.Int.{byte_at as digit}
 use Rattle.std.proofs.lemmas.Option.{none-some, same_Some, cond_some, option_and_then_some, slice_get-get_or, slice_get_within}
-use Rattle.ncp_control.specs.Spelling.{spelling, spellings, IsByte, IsCommand, padded, error_of}
+use Rattle.ncp_terms.specs.Spelling.{spelling, spellings, IsByte, IsCommand, padded, error_of}
 use Rattle.ncp_control.specs.Texts.{Reads, NoneBegins, fault_of, items_of, commands_of, fault_among, EndsAtFault}
 use Rattle.ncp_control.specs.Reading.{sizes, size_of, byte_at, command_with, command_at, commands_within, commands_in, rest_in, fault_in, items_in}
-use Rattle.ncp_control.specs.declared.command.Command.{Command}
-use Rattle.ncp_control.specs.declared.command.Command.TheVariants.{Nop, Rts, Str, Cls, All as Allocate, Gvb, Ret, Inr, Ins, Eco, Erp, Err, Rst, Rrp}
-use Rattle.ncp_control.specs.declared.fault.CommandFault.{CommandFault}
+use Rattle.ncp_terms.specs.declared.command.Command.{Command}
+use Rattle.ncp_terms.specs.declared.command.Command.TheVariants.{Nop, Rts, Str, Cls, All as Allocate, Gvb, Ret, Inr, Ins, Eco, Erp, Err, Rst, Rrp}
+use Rattle.ncp_terms.specs.declared.fault.CommandFault.{CommandFault}
 use Rattle.ncp_control.proofs.Begins.{Begins, read_begins}
 use Rattle.ncp_control.proofs.Again.{command_again}
 

@@ -5,11 +5,11 @@ use Rattle.std.proofs.lemmas.List.{append-nil, length-append, length-take-le, le
 use Rattle.std.proofs.lemmas.List.Elements.{All-from_get_or, All-drop, All-take}
 use Rattle.std.proofs.lemmas.List.FromFn.{get_or-map-range_with_len, length-map-range_with_len}
 use Rattle.std.proofs.lemmas.Nat.{pow-add}
-use Rattle.ncp_bits.specs.Numbers.{number_of}
-use Rattle.ncp_bits.specs.Bits.{bits_of_bytes, bytes_for, byte_of, bytes_of}
-use Rattle.ncp_bits.proofs.Bytes.{byte_of-fits, byte_of-long, length-bits_of_bytes, take-bits_of_bytes}
-use Rattle.ncp_bits.proofs.Packing.{drop-bits_of_bytes, bytes_of-bits_of_bytes, bits_of_bytes-bytes_of}
-use Rattle.ncp_control.specs.Spelling.{IsByte, padded}
+use Rattle.ncp_numbers.specs.Numbers.{number_of}
+use Rattle.ncp_numbers.specs.Bytes.{bits_of_bytes, bytes_for, byte_of, bytes_of}
+use Rattle.ncp_numbers.proofs.Bytes.{byte_of-fits, byte_of-long, length-bits_of_bytes, take-bits_of_bytes}
+use Rattle.ncp_numbers.proofs.Packing.{drop-bits_of_bytes, bytes_of-bits_of_bytes, bits_of_bytes-bytes_of}
+use Rattle.ncp_terms.specs.Spelling.{IsByte, padded}
 use Rattle.ncp_control.specs.Reading.{short_at, word_at}
 
 -- ---- how many bytes there are, and that they are bytes

@@ -3,11 +3,11 @@
 use Rattle.std.specs.Prelude.{ℕ, ◌+◌, ◌==◌, nat_le, zero, suc, List, [], ◌∷◌, length, drop, slice_index, slice_range, slice_get, Option, Some, None, Result, option_and_then, if◌then◌else◌}
 use Rattle.std.specs.Option.{option_map_or}
 use Rattle.std.specs.Int.{from_be_bytes, w16, w32}
-use Rattle.ncp_control.specs.Spelling.{spelling, spellings}
+use Rattle.ncp_terms.specs.Spelling.{spelling, spellings}
 use Rattle.ncp_control.specs.Texts.{fault_of, items_of}
-use Rattle.ncp_control.specs.declared.command.Command.{Command}
-use Rattle.ncp_control.specs.declared.command.Command.TheVariants.{Nop, Rts, Str, Cls, All as Allocate, Gvb, Ret, Inr, Ins, Eco, Erp, Err, Rst, Rrp}
-use Rattle.ncp_control.specs.declared.fault.CommandFault.{CommandFault}
+use Rattle.ncp_terms.specs.declared.command.Command.{Command}
+use Rattle.ncp_terms.specs.declared.command.Command.TheVariants.{Nop, Rts, Str, Cls, All as Allocate, Gvb, Ret, Inr, Ins, Eco, Erp, Err, Rst, Rrp}
+use Rattle.ncp_terms.specs.declared.fault.CommandFault.{CommandFault}
 
 -- how many bytes a command has, by its opcode, from 0 to 13
 abbrev pub sizes : List ℕ

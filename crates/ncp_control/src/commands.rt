@@ -1,14 +1,13 @@
 //! `Commands`.
 ghost use Rattle.std.specs.Prelude.{◌≡◌, ◌*◌, ◌≤◌, ◌%◌, length};
 ghost use Rattle.std.specs.Iterator.{YieldsFirst, item_count};
-ghost use Rattle.ncp_bits.specs.Bits.{bytes_of};
+ghost use Rattle.ncp_numbers.specs.Bytes.{bytes_of};
 ghost use Rattle.ncp_control.specs.Texts.{Reads, items_of, commands_of, fault_among, EndsAtFault};
 ghost use Rattle.ncp_control.specs.Reading.{commands_in, rest_in, fault_in};
 
-use crate::command::Command;
-use crate::fault::CommandFault;
 use crate::front::read_front;
 use ncp_bits::Part;
+use ncp_terms::{Command, CommandFault};
 use std::iter::FusedIterator;
 use std::marker::Model;
 
@@ -21,10 +20,10 @@ pub struct Commands<'a> {
 
 impl<'a> Model for Commands<'a> {
     ghost use Rattle.std.specs.Prelude.{◌≡◌, ◌%◌, List, Result, length};
-    ghost use Rattle.ncp_bits.specs.Bits.{bytes_of};
+    ghost use Rattle.ncp_numbers.specs.Bytes.{bytes_of};
     ghost use Rattle.ncp_control.specs.Reading.{items_in};
-    ghost use Rattle.ncp_control.specs.declared.command.Command.{Command};
-    ghost use Rattle.ncp_control.specs.declared.fault.CommandFault.{CommandFault};
+    ghost use Rattle.ncp_terms.specs.declared.command.Command.{Command};
+    ghost use Rattle.ncp_terms.specs.declared.fault.CommandFault.{CommandFault};
 
     ghost Value = { List (Result Command CommandFault) };
 

@@ -1,11 +1,11 @@
 //! `find_fault`.
 ghost use Rattle.std.specs.Prelude.{◌≡◌, ◌%◌, length};
-ghost use Rattle.ncp_bits.specs.Bits.{bytes_of};
+ghost use Rattle.ncp_numbers.specs.Bytes.{bytes_of};
 ghost use Rattle.ncp_control.specs.Reading.{fault_in};
 
-use crate::fault::CommandFault;
 use crate::front::{byte_in, fault_at, size_within};
 use ncp_bits::Part;
+use ncp_terms::CommandFault;
 
 /// The fault of a control text of whole bytes, if it has one: the one that [`crate::Commands`] gives
 /// behind the commands. It reads the opcode of each command, and makes no command.

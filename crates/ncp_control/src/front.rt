@@ -1,14 +1,15 @@
 //! The front of a control text, read in place.
 ghost use Rattle.std.specs.Prelude.{◌≡◌, ◌+◌, ◌*◌, ◌≤◌, ◌<◌, ◌%◌, length, drop, Some, None, IfSome, MatchResult};
-ghost use Rattle.ncp_bits.specs.Bits.{bytes_of};
-ghost use Rattle.ncp_control.specs.Spelling.{spelling, padded};
+ghost use Rattle.ncp_numbers.specs.Bytes.{bytes_of};
+ghost use Rattle.ncp_terms.specs.Spelling.{spelling, padded};
 ghost use Rattle.ncp_control.specs.Texts.{fault_of};
 ghost use Rattle.ncp_control.specs.Reading.{size_of, byte_at, short_at, word_at, command_with, command_at};
 
-use crate::command::{Command, ERROR_DATA, LONGEST_COMMAND};
-use crate::fault::{CommandFault, ILLEGAL_OPCODE, SHORT_PARAMETER_SPACE};
-use crate::opcodes::*;
 use ncp_bits::{MAX_BITS, Part};
+use ncp_terms::opcodes::*;
+use ncp_terms::{
+    Command, CommandFault, ERROR_DATA, ILLEGAL_OPCODE, LONGEST_COMMAND, SHORT_PARAMETER_SPACE,
+};
 
 // How many bytes a command has, by its opcode: NOP, RTS, STR, CLS, ALL, GVB, RET, INR, INS, ECO, ERP,
 // ERR, RST, RRP.

@@ -1,17 +1,16 @@
 //! Laws about commands and control texts, each the contract of a function that does nothing. In
 //! them a variable of bytes ranges over all numbers, so what is a byte is said.
 ghost use Rattle.std.specs.Prelude.{◌≡◌, ◌≢◌, ℕ, ◌<◌, ◌≤◌, List, ◌∷◌, ◌++◌, length, All, Some, None};
-ghost use Rattle.ncp_control.specs.Spelling.{spelling, spellings, IsByte, IsCommand, error_of};
+ghost use Rattle.ncp_terms.specs.Spelling.{spelling, spellings, IsByte, IsCommand, error_of};
 ghost use Rattle.ncp_control.specs.Texts.{Reads, NoneBegins, fault_of};
 ghost use Rattle.ncp_control.specs.Reading.{commands_in, rest_in, fault_in};
-ghost use Rattle.ncp_control.specs.declared.command.Command.{Command};
-ghost use Rattle.ncp_control.specs.declared.command.Command.TheVariants.{Err};
-ghost use Rattle.ncp_control.specs.declared.fault.CommandFault.{CommandFault};
+ghost use Rattle.ncp_terms.specs.declared.command.Command.{Command};
+ghost use Rattle.ncp_terms.specs.declared.command.Command.TheVariants.{Err};
+ghost use Rattle.ncp_terms.specs.declared.fault.CommandFault.{CommandFault};
 
-use crate::command::{ERROR_DATA, LONGEST_COMMAND};
-use crate::fault::{
-    ERRONEOUS_PARAMETERS, ILLEGAL_OPCODE, NONEXISTENT_SOCKET, SHORT_PARAMETER_SPACE,
-    SOCKET_NOT_CONNECTED,
+use ncp_terms::{
+    ERRONEOUS_PARAMETERS, ERROR_DATA, ILLEGAL_OPCODE, LONGEST_COMMAND, NONEXISTENT_SOCKET,
+    SHORT_PARAMETER_SPACE, SOCKET_NOT_CONNECTED,
 };
 
 /// No spelling begins another, each is bytes, and none is empty or longer than
@@ -50,15 +49,4 @@ pub fn errors_are_commands()
 pub fn faults_are_told_apart()
     ensures illegal { (command : Command) (opcode : ℕ) (more : List ℕ) → 13 < opcode → spelling command ≢ opcode ∷ more }
     ensures early { (opcode : ℕ) (left : List ℕ) → All IsByte (opcode ∷ left) → NoneBegins (opcode ∷ left) → opcode ≤ 13 → (command : Command) × (more : List ℕ) × IsCommand command × (spelling command ≡ (opcode ∷ left) ++ more) }
-{}
-
-/// The limits of commands, and the codes of an ERR, which the rules of a host cite by these names.
-pub fn limits_are_these()
-    ensures command { LONGEST_COMMAND ≡ 12 }
-    ensures data { ERROR_DATA ≡ 10 }
-    ensures illegal { ILLEGAL_OPCODE ≡ 1 }
-    ensures short { SHORT_PARAMETER_SPACE ≡ 2 }
-    ensures erroneous { ERRONEOUS_PARAMETERS ≡ 3 }
-    ensures nonexistent { NONEXISTENT_SOCKET ≡ 4 }
-    ensures not_connected { SOCKET_NOT_CONNECTED ≡ 5 }
 {}

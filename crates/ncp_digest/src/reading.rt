@@ -2,9 +2,9 @@
 use crate::digest::Digest;
 use crate::numbers::NOTHING;
 use ncp_bits::{Bits, PackedStore};
-use ncp_control::put_command;
 use ncp_host::{End, Error, Host};
 use ncp_model::Pair;
+use ncp_terms::put_command;
 
 /// Bits, as their number and their bytes.
 pub fn mix_bits(digest: &mut Digest, bits: &Bits) {

@@ -2,10 +2,10 @@
 -- and then nothing changes.
 use Rattle.std.specs.Prelude.{ℕ, ◌≡◌, ◌⊎◌, ◌++◌, Bool, nat_lt, if◌then◌else◌, List, length, drop, slice_get, Option, None, Some, Result, Ok, Err}
 use Rattle.ncp_bits.specs.declared.bits.BitsFault.{BitsFault}
-use Rattle.ncp_bits.specs.Bits.{bytes_for, bytes_of}
+use Rattle.ncp_numbers.specs.Bytes.{bytes_for, bytes_of}
 use Rattle.ncp_leader.specs.Leader.{leader_in}
-use Rattle.ncp_control.specs.declared.command.Command.{Command}
-use Rattle.ncp_control.specs.Spelling.{spelling}
+use Rattle.ncp_terms.specs.declared.command.Command.{Command}
+use Rattle.ncp_terms.specs.Spelling.{spelling}
 use Rattle.ncp_model.specs.declared.pair.Pair.{Pair}
 use Rattle.ncp_model.specs.declared.call_fault.CallFault.{CallFault}
 use Rattle.ncp_model.specs.declared.outcomes.Error.{Error}

@@ -1,7 +1,7 @@
 //! What a user may read. The host stays as it was. Each answers `NO_HOST` where there is no host; a
 //! buffer that is too short is judged before that.
 ghost use Rattle.std.specs.Prelude.{◌≡◌, Ok};
-ghost use Rattle.ncp_control.specs.declared.command.TheConstants.{LONGEST_COMMAND};
+ghost use Rattle.ncp_terms.specs.declared.command.TheConstants.{LONGEST_COMMAND};
 ghost use Rattle.ncp_host.specs.Host.{state_of};
 ghost use Rattle.ncp_host.specs.Calls.{record_told, flags_told, echoed_told, counts_told, waiting_at, kept_for};
 ghost use Rattle.ncp_embed.specs.Told.{connection_of, phase_of, counted_of, discarded_of, noted_of};
@@ -13,8 +13,8 @@ use crate::handle::{Handle, put, take};
 use crate::placing::error_in;
 use crate::told::{Counted, Discarded, Noted, Phase, counted_of, discarded_of, noted_of, phase_of};
 use crate::writing::{write_command, write_message};
-use ncp_control::LONGEST_COMMAND;
 use ncp_model::Pair;
+use ncp_terms::LONGEST_COMMAND;
 use std::alloc::Global;
 
 /// `Host::state`.

@@ -2,10 +2,10 @@
 ghost use Rattle.std.specs.Prelude.{◌≡◌};
 ghost use Rattle.ncp_embed.specs.Told.{arrived_of, number_of_took, number_of_message_fault, phase_of, counted_of, discarded_of, noted_of};
 
-use ncp_control::ERROR_DATA;
 use ncp_host::{Counts, Error, Flags, Ignored, Received};
 use ncp_leader::MessageFault;
 use ncp_model::Took;
+use ncp_terms::ERROR_DATA;
 
 /// What became of bits that came.
 #[repr(C)]

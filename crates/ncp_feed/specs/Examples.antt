@@ -1,6 +1,6 @@
 -- A feed by which the definitions show what they mean.
 use Rattle.std.specs.Prelude.{ℕ, Bool, List, [], ◌∷◌, ◌++◌, codes}
-use Rattle.ncp_bits.specs.Bits.{bits_of_bytes}
+use Rattle.ncp_numbers.specs.Bytes.{bits_of_bytes}
 
 -- RST in a message from host 2, and an RFNM from host 2
 abbrev pub rst : List Bool

@@ -1,6 +1,6 @@
 //! Laws about feeds, each the contract of a function that does nothing.
 ghost use Rattle.std.specs.Prelude.{◌≡◌, ◌↔◌, ℕ, List, [], ◌∷◌, ◌++◌, Bool, Option, Some, None, codes};
-ghost use Rattle.ncp_bits.specs.Bits.{bits_of_bytes};
+ghost use Rattle.ncp_numbers.specs.Bytes.{bits_of_bytes};
 ghost use Rattle.ncp_files.specs.declared.file.FileFault.{FileFault as Fault};
 ghost use Rattle.ncp_files.specs.declared.file.FileFault.TheVariants.{BadHeader, Truncated};
 ghost use Rattle.ncp_files.specs.File.{Holds};

@@ -1,6 +1,6 @@
 -- Which lines a message has.
 use Rattle.std.proofs.Common.{◌≡◌, Bool, true, false, List, [], Result, refl, sym, ap, ◌∙◌}
-use Rattle.ncp_bits.specs.Bits.{bytes_of}
+use Rattle.ncp_numbers.specs.Bytes.{bytes_of}
 use Rattle.ncp_leader.specs.Leader.{leader_in}
 use Rattle.ncp_leader.specs.Message.{Message, message_in}
 use Rattle.ncp_leader.specs.declared.leader.Leader.{Leader}

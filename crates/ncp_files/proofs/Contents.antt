@@ -5,10 +5,11 @@ use Rattle.std.proofs.lemmas.Bool.{ltb-false}
 use Rattle.std.proofs.Math.ListN.{drop_of_length-le}
 use Rattle.byteorder.specs.Endian.{big_number, big_bytes}
 use Rattle.byteorder.specs.Numbers.{big_from-append, big_number-reads_back}
-use Rattle.ncp_bits.specs.Bits.{read_bytes, bytes_for, bytes_of}
+use Rattle.ncp_numbers.specs.Bytes.{bytes_for, bytes_of}
+use Rattle.ncp_bits.specs.Bits.{read_bytes}
 use Rattle.ncp_bits.specs.declared.bits.BitsFault.{BitsFault}
 use Rattle.ncp_bits.specs.declared.bits.BitsFault.TheVariants as bits
-use Rattle.ncp_bits.proofs.Bytes.{read_bytes-append}
+use Rattle.ncp_bits.proofs.Enough.{read_bytes-append}
 use Rattle.ncp_bits.proofs.Joins.{length-bytes_of, read_bytes-bytes_of}
 use Rattle.ncp_files.specs.declared.file.FileFault.{FileFault}
 use Rattle.ncp_files.specs.File.{next_record, record_of, ending, HoldsBy, Holds, record_bytes}

@@ -7,10 +7,11 @@ use Rattle.std.proofs.lemmas.List.{append_assoc, append-nil, length-append, leng
 use Rattle.std.proofs.lemmas.Bool.{le-ltb, lt-ltb, ne_eqb}
 use Rattle.byteorder.specs.Endian.{big_number}
 use Rattle.byteorder.specs.Numbers.{big_from-append}
-use Rattle.ncp_bits.specs.Bits.{read_bytes, bytes_for}
+use Rattle.ncp_numbers.specs.Bytes.{bytes_for}
+use Rattle.ncp_bits.specs.Bits.{read_bytes}
 use Rattle.ncp_bits.specs.declared.bits.BitsFault.{BitsFault}
 use Rattle.ncp_bits.specs.declared.bits.BitsFault.TheVariants as bits
-use Rattle.ncp_bits.proofs.Bytes.{read_bytes-append}
+use Rattle.ncp_bits.proofs.Enough.{read_bytes-append}
 use Rattle.ncp_files.specs.declared.file.FileFault.{FileFault}
 use Rattle.ncp_files.specs.declared.file.FileFault.TheVariants.{BadHeader, Truncated, TooLong, SpareNotZero, ReadFailed, WriteFailed, BadDirection, Mixed}
 use Rattle.ncp_files.specs.File.{version_of, one_direction, direction_of, next_record, record_of, fault_of_bits}

@@ -6,12 +6,14 @@ use Rattle.std.proofs.lemmas.List.{append_assoc, length-drop, length-take-le, ta
 use Rattle.std.proofs.lemmas.List.Elements.{All-map, All-take, All-drop}
 use Rattle.std.proofs.lemmas.Bool.{ltb-false, ne_eqb}
 use Rattle.byteorder.specs.Endian.{big_number, big_bytes}
-use Rattle.ncp_bits.specs.Numbers.{bits_of, number_of}
-use Rattle.ncp_bits.specs.Bits.{byte_bits, bits_of_bytes, bytes_for, read_bytes, bytes_of, spare_bits}
+use Rattle.ncp_numbers.specs.Numbers.{bits_of, number_of}
+use Rattle.ncp_numbers.specs.Bytes.{byte_bits, bits_of_bytes, bytes_for, bytes_of}
+use Rattle.ncp_bits.specs.Bits.{read_bytes, spare_bits}
 use Rattle.ncp_bits.specs.declared.bits.BitsFault.{BitsFault}
 use Rattle.ncp_bits.specs.declared.bits.BitsFault.TheVariants as bits
-use Rattle.ncp_bits.proofs.Numbers.{length-bits_of, number_of-bits_of}
-use Rattle.ncp_bits.proofs.Bytes.{length-bits_of_bytes, byte_of-fits, read_bytes-append}
+use Rattle.ncp_numbers.proofs.Numbers.{length-bits_of, number_of-bits_of}
+use Rattle.ncp_bits.proofs.Enough.{read_bytes-append}
+use Rattle.ncp_numbers.proofs.Bytes.{length-bits_of_bytes, byte_of-fits}
 use Rattle.ncp_bits.proofs.Joins.{length-bytes_of, read_bytes-bytes_of}
 use Rattle.ncp_files.specs.declared.file.FileFault.{FileFault}
 use Rattle.ncp_files.specs.declared.file.FileFault.TheVariants.{Truncated, TooLong, SpareNotZero}

@@ -3,7 +3,8 @@
 use Rattle.std.specs.Prelude.{◌≡◌, ◌<◌, ℕ, ◌==◌, Bool, List, [], ◌∷◌, ◌++◌, take, drop, Option, Some, None, Result, Ok, Err, length, nat_lt, codes, if◌then◌else◌}
 use Rattle.std.specs.Str.{bytes_eq}
 use Rattle.byteorder.specs.Endian.{big_number, big_bytes}
-use Rattle.ncp_bits.specs.Bits.{read_bytes, bytes_for, bytes_of}
+use Rattle.ncp_numbers.specs.Bytes.{bytes_for, bytes_of}
+use Rattle.ncp_bits.specs.Bits.{read_bytes}
 use Rattle.ncp_bits.specs.declared.bits.BitsFault.{BitsFault}
 use Rattle.ncp_bits.specs.declared.bits.BitsFault.TheVariants as bits
 use Rattle.ncp_files.specs.declared.file.Direction.{Direction}

@@ -2,7 +2,8 @@
 use Rattle.std.specs.Prelude.{ℕ, ◌==◌, ◌||◌, not, true, nat_lt, Bool, List, [], ◌∷◌, drop, length, Option, Some, None, if◌then◌else◌}
 use Rattle.std.specs.List.{list_any}
 use Rattle.byteorder.specs.Endian.{big_number}
-use Rattle.ncp_bits.specs.Bits.{bytes_for, spare_bits}
+use Rattle.ncp_numbers.specs.Bytes.{bytes_for}
+use Rattle.ncp_bits.specs.Bits.{spare_bits}
 use Rattle.ncp_bits.specs.declared.bits.TheConstants.{MAX_BITS}
 use Rattle.ncp_files.specs.declared.file.FileFault.{FileFault}
 use Rattle.ncp_files.specs.declared.file.FileFault.TheVariants.{Truncated, TooLong, SpareNotZero, BadDirection}

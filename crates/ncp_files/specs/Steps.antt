@@ -1,7 +1,7 @@
 -- What the parts of `show` and `convert` do to the bytes that are to come and to the text that was said.
 use Rattle.std.specs.Prelude.{◌≡◌, ◌+◌, ◌<◌, ◌≤◌, ℕ, Bool, true, false, List, length, drop, ◌++◌, Option, Some, None, Result, Ok, Err}
 use Rattle.byteorder.specs.Endian.{big_number}
-use Rattle.ncp_bits.specs.Bits.{bytes_for}
+use Rattle.ncp_numbers.specs.Bytes.{bytes_for}
 use Rattle.ncp_bits.specs.declared.bits.TheConstants.{MAX_BITS}
 use Rattle.ncp_files.specs.declared.file.Direction.{Direction}
 use Rattle.ncp_files.specs.declared.file.FileFault.{FileFault}

@@ -1,6 +1,6 @@
 //! The detail lines of a regular message.
 ghost use Rattle.std.specs.Prelude.{◌≡◌, ◌+◌, ◌≤◌, ◌||◌, ◌++◌, ◌/◌, ◌%◌, length, codes, is_err};
-ghost use Rattle.ncp_bits.specs.Bits.{bytes_of};
+ghost use Rattle.ncp_numbers.specs.Bytes.{bytes_of};
 ghost use Rattle.ncp_leader.specs.Message.{message_in};
 ghost use Rattle.ncp_page.specs.Lines.{field, hex_of};
 ghost use Rattle.ncp_files.specs.Lines.{command_words, item_line, control_lines, text_word, text_line, size_line, fault_line, text_lines, message_lines};
@@ -10,10 +10,11 @@ ghost use Rattle.ncp_stream.specs.Streams.{SaysTextOrBeginning};
 use crate::control::is_of_control;
 use crate::line::LONGEST_LINE;
 use ncp_bits::{Bits, MAX_BITS, Part};
-use ncp_control::{Command, CommandFault, Commands, ERROR_DATA};
+use ncp_control::Commands;
 use ncp_leader::{MessageFault, Regular, read_regular};
 use ncp_page::{PAGE_SIZE, Page, push_field};
 use ncp_stream::{Failed, Sink};
+use ncp_terms::{Command, CommandFault, ERROR_DATA};
 
 // How many bytes the words of a command have at most.
 const LONGEST_WORDS: usize = 100;

@@ -1,6 +1,6 @@
 //! A message file: its faults, and the header and the records of version 1.
 ghost use Rattle.std.specs.Prelude.{◌≡◌, ℕ, Option, ◌+◌, ◌<◌, ◌≤◌, ◌||◌, List, true, false, length, drop, slice_range, is_some, IfSome, IfOk, OnOk};
-ghost use Rattle.ncp_bits.specs.Bits.{bytes_for};
+ghost use Rattle.ncp_numbers.specs.Bytes.{bytes_for};
 ghost use Rattle.ncp_bits.specs.declared.bits.TheConstants.{MAX_BITS};
 ghost use Rattle.ncp_files.specs.File.{name_of_fault, fault_of_bits};
 ghost use Rattle.ncp_stream.specs.Pieces.{reads_beyond};

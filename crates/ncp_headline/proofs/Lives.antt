@@ -4,8 +4,8 @@
 -- about to begin.
 use Rattle.std.proofs.Common.{◌≡◌, ℕ, Bool, true, false, not, ◌&&◌, ◌||◌, nat_lt, List, [], ◌∷◌, ◌++◌, refl, sym, ap, ◌∙◌, arith}
 use Rattle.std.proofs.lemmas.List.{append_assoc}
-use Rattle.ncp_control.specs.declared.command.Command.{Command}
-use Rattle.ncp_control.specs.declared.command.Command.TheVariants.{Rst, Rrp}
+use Rattle.ncp_terms.specs.declared.command.Command.{Command}
+use Rattle.ncp_terms.specs.declared.command.Command.TheVariants.{Rst, Rrp}
 use Rattle.ncp_model.specs.Phase.{is_other}
 use Rattle.ncp_resets.specs.Resets.{Host, is_up}
 use Rattle.ncp_model.proofs.ResetLists.{rsts, rrps, others, purged, rrps-append, rrps-purged, arrives, arrives_nothing, arrives_on}

@@ -2,12 +2,12 @@
 -- peer's were both made, and one step has but one call, or commands that come, and no call.
 use Rattle.std.proofs.Common.{◌≡◌, ◌⊎◌, inl, inr, Bool, true, false, if◌then◌else◌, Option, None, Some, refl, sym, ap, ◌∙◌, subst, arith}
 use Rattle.std.specs.FinMap.{get, get-empty}
-use Rattle.ncp_control.specs.declared.command.Command.{Command}
+use Rattle.ncp_terms.specs.declared.command.Command.{Command}
 use Rattle.ncp_model.specs.declared.pair.Pair.{Pair}
 use Rattle.ncp_model.specs.Pairs.{pair_cmp}
 use Rattle.ncp_model.specs.End.{End, is_live}
 use Rattle.ncp_model.specs.Texts.{Rfnm, Incomplete}
-use Rattle.ncp_slot.specs.declared.slot.Answer.TheVariants as answers
+use Rattle.ncp_terms.specs.declared.answer.Answer.TheVariants as answers
 use Rattle.ncp_model.specs.Ends.{Ends, has_asked, no_ends, put}
 use Rattle.ncp_model.specs.Happenings.{Happening, happens}
 use Rattle.ncp_model.specs.Happenings as all

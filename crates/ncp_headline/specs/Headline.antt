@@ -4,7 +4,7 @@
 -- opens. What is underway is read off the hosts and links; Ledger has the same of one connection.
 use Rattle.std.specs.Prelude.{◌≡◌, ℕ, ◌+◌, ◌==◌, Bool, true, false, if◌then◌else◌, List, [], ◌∷◌, ◌++◌, length, Option, None, Some}
 use Rattle.std.specs.FinMap.{get}
-use Rattle.ncp_control.specs.declared.command.Command.{Command}
+use Rattle.ncp_terms.specs.declared.command.Command.{Command}
 use Rattle.ncp_model.specs.declared.pair.Pair.{Pair}
 use Rattle.ncp_model.specs.End.{End, is_open, is_live, or_new}
 use Rattle.ncp_model.specs.Ends.{hears_link, uses_link, link_of}

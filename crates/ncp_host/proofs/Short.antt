@@ -5,12 +5,12 @@ use Rattle.std.specs.FinMap.{get}
 use Rattle.std.proofs.Math.Nat.{min-le_left}
 use Rattle.std.proofs.lemmas.List.{length-take, length-append}
 use Rattle.std.proofs.lemmas.List.Elements.{All-nil, All-head, All-drop}
-use Rattle.ncp_bits.specs.Bits.{bytes_of, bytes_for}
-use Rattle.ncp_control.specs.declared.command.Command.{Command}
-use Rattle.ncp_control.specs.declared.command.Command.TheVariants.{Rst, Rrp}
-use Rattle.ncp_control.specs.declared.command.Command.TheVariants as commands
-use Rattle.ncp_control.specs.declared.fault.CommandFault.{CommandFault}
-use Rattle.ncp_control.specs.Spelling.{spelling, padded, error_of}
+use Rattle.ncp_numbers.specs.Bytes.{bytes_of, bytes_for}
+use Rattle.ncp_terms.specs.declared.command.Command.{Command}
+use Rattle.ncp_terms.specs.declared.command.Command.TheVariants.{Rst, Rrp}
+use Rattle.ncp_terms.specs.declared.command.Command.TheVariants as commands
+use Rattle.ncp_terms.specs.declared.fault.CommandFault.{CommandFault}
+use Rattle.ncp_terms.specs.Spelling.{spelling, padded, error_of}
 use Rattle.ncp_control.specs.Texts.{fault_of}
 use Rattle.ncp_control.specs.Reading.{commands_in, fault_in, rest_in}
 use Rattle.ncp_control.proofs.Text.{length-bytes_of}
@@ -19,8 +19,8 @@ use Rattle.ncp_leader.specs.declared.regular.TheConstants.{FRONT_BITS}
 use Rattle.ncp_leader.specs.declared.fault.MessageFault.{MessageFault}
 use Rattle.ncp_leader.specs.Message.{Message, message_in}
 use Rattle.ncp_slot.specs.declared.slot.Slot.TheVariants.{Empty, Ready, Travelling, Held}
-use Rattle.ncp_slot.specs.declared.slot.Answer.{Answer}
-use Rattle.ncp_slot.specs.declared.slot.Answer.TheVariants.{Rfnm, Incomplete, Dead}
+use Rattle.ncp_terms.specs.declared.answer.Answer.{Answer}
+use Rattle.ncp_terms.specs.declared.answer.Answer.TheVariants.{Rfnm, Incomplete, Dead}
 use Rattle.ncp_slot.specs.Slots.{LinkSlot, slot_at, is_quiet}
 use Rattle.ncp_model.specs.declared.pair.Pair.{Pair}
 use Rattle.ncp_model.specs.declared.call_fault.CallFault.TheVariants.{Busy, QueueFull}

@@ -2,7 +2,7 @@
 use Rattle.std.proofs.Common.{◌≡◌, ℕ, Bool, true, false, Option, None, Some, if◌then◌else◌, ◌==◌, refl, sym, ap, ◌∙◌, subst, arith}
 use Rattle.ncp_model.specs.declared.pair.Pair.{Pair}
 use Rattle.ncp_model.specs.Pairs.{sends, receives}
-use Rattle.ncp_control.specs.declared.command.Command.TheVariants.{Rts}
+use Rattle.ncp_terms.specs.declared.command.Command.TheVariants.{Rts}
 use Rattle.ncp_model.specs.declared.outcomes.Heard.TheVariants.{Nothing}
 use Rattle.ncp_model.specs.End.{End, is_over}
 use Rattle.ncp_model.specs.Act.{Becomes, end_after, wrong_parameters}

@@ -5,7 +5,7 @@ ghost use Rattle.ncp_model.specs.Phase.{up, reset_answer};
 ghost use Rattle.ncp_model.specs.Act.{answer, made_if_any};
 ghost use Rattle.ncp_model.specs.Ends.{cut_in};
 ghost use Rattle.ncp_model.specs.Sending.{next_commands};
-ghost use Rattle.ncp_control.specs.Spelling.{spellings};
+ghost use Rattle.ncp_terms.specs.Spelling.{spellings};
 ghost use Rattle.ncp_model.specs.Peers.{new_peer, falls, makes, calls_reset, settles, frees, sends, cuts};
 ghost use Rattle.ncp_conn.specs.Cutting.{next_cut};
 ghost use Rattle.ncp_host.specs.Steps.{IsWholeIfAny};
@@ -19,8 +19,8 @@ use crate::phase::Phase;
 use crate::queue::ControlText;
 use ncp_bits::{BitStore, Bits};
 use ncp_conn::Table;
-use ncp_control::Command;
 use ncp_model::{CallFault, MAX_CONTROL};
+use ncp_terms::Command;
 use std::alloc::{AllocError, Global};
 use std::marker::Model;
 

@@ -8,9 +8,8 @@ mod tried;
 
 use crate::known::{DOWN, LINK, ME, NO_COUNTS, OUTWARD, PEER, SENDER, UP, bits_of};
 use ncp_bits::{PackedStore, PlainStore};
-use ncp_control::Command;
 use ncp_host::{CallFault, Counts, Ignored, Pair, Received, Took};
-use ncp_slot::Answer;
+use ncp_terms::{Answer, Command};
 use ncp_transcript::{Call, Input, Message};
 use noted::{Step, Want};
 use std::alloc::{AllocError, Global};

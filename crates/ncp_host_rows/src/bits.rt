@@ -388,8 +388,9 @@ fn shows_bits(rt: HostRuntime) -> Result<(), Fail> {
 
 #[test]
 fn states_laws(_rt: HostRuntime) {
-    laws::numbers_are_bits();
-    laws::bytes_are_bits();
+    ncp_numbers::laws::numbers_are_bits();
+    ncp_numbers::laws::bytes_are_bits();
+    laws::bytes_are_read();
     laws::faults_are_in_order();
     laws::limits_are_these();
 }

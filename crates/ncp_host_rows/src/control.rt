@@ -1,14 +1,15 @@
 //! What no clause says: that the definitions mean what the worked examples mean, and that callers can use
 //! the contracts.
 ghost use Rattle.std.specs.Prelude.{◌≡◌, ◌*◌, ◌≤◌, ◌%◌, ◌++◌, length, OnOk, IfOk};
-ghost use Rattle.ncp_bits.specs.Bits.{bytes_of};
+ghost use Rattle.ncp_numbers.specs.Bytes.{bytes_of};
 ghost use Rattle.ncp_control.specs.Reading.{commands_in, fault_in};
 
 use ncp_bits::{Bits, Part};
-use ncp_control::{
-    Command, CommandFault, Commands, ERRONEOUS_PARAMETERS, ILLEGAL_OPCODE, LONGEST_COMMAND,
+use ncp_control::{Commands, find_fault, laws};
+use ncp_terms::{
+    Command, CommandFault, ERRONEOUS_PARAMETERS, ILLEGAL_OPCODE, LONGEST_COMMAND,
     NONEXISTENT_SOCKET, SHORT_PARAMETER_SPACE, SOCKET_NOT_CONNECTED, equality, error_for,
-    find_fault, laws, put_command,
+    put_command,
 };
 use std::alloc::AllocError;
 use std::process::Abort;
@@ -295,7 +296,7 @@ fn states_laws(_rt: HostRuntime) {
     laws::spelled_commands_are_read();
     laws::errors_are_commands();
     laws::faults_are_told_apart();
-    laws::limits_are_these();
+    ncp_terms::laws::limits_are_these();
 }
 
 #[test]

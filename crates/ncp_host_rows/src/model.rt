@@ -1,10 +1,10 @@
 //! What no clause says: that the definitions mean what the worked rows mean.
-use ncp_control::Command;
 use ncp_model::{
     CallFault, FIRST_LINK, GIVE_BACK_PARTS, Heard, LAST_LINK, MAX_AMOUNT, MAX_BY_PEER, MAX_CALLED,
     MAX_CONTROL, MAX_COUNT, MAX_ERRORS, MAX_MESSAGES, MAX_OWN, MAX_ROOM, MAX_TEXT, MAX_WAITING,
     Pair, Took, give_back,
 };
+use ncp_terms::Command;
 use std::test::Fail;
 
 #[test]

@@ -2,13 +2,13 @@
 //! that the definitions mean what the worked examples mean.
 use ncp_bits::Bits;
 use ncp_slot::laws::{
-    LinkEvent, LinkNote, a_message_is_kept, answers_are_compared, each_slot_is_woken,
-    links_are_numbered, quiet_links_are_empty, run_link, slots_are_apart, slots_are_compared,
+    LinkEvent, LinkNote, a_message_is_kept, each_slot_is_woken, links_are_numbered,
+    quiet_links_are_empty, refusals_are_compared, run_link, slots_are_apart, slots_are_compared,
     what_is_held_stays,
 };
-use ncp_slot::{
-    Answer, Busy, FIRST_DATA_LINK, LAST_LINK, Slot, Slots, Stray, UNUSED_LINK, has_slot,
-};
+use ncp_slot::{Busy, FIRST_DATA_LINK, LAST_LINK, Slot, Slots, Stray, UNUSED_LINK, has_slot};
+use ncp_terms::Answer;
+use ncp_terms::laws::answers_are_compared;
 use std::process::Abort;
 use std::test::Fail;
 
@@ -182,6 +182,7 @@ fn is_quiet_without_the_control_link(rt: HostRuntime) -> Result<(), Fail> {
 #[test]
 fn compares_and_tells(rt: HostRuntime) -> Result<(), Fail> {
     answers_are_compared();
+    refusals_are_compared();
     slots_are_compared::<u8>();
     assert!(rt; Answer::Dead == Answer::Dead && Answer::Dead != Answer::Incomplete);
     assert!(rt; Slot::Held(3u8) == Slot::Held(3) && Slot::Held(3u8) != Slot::Ready(3));

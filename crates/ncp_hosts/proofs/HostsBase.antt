@@ -2,8 +2,8 @@
 --
 -- Two hosts without their ends and texts are the reset machine: each step is some of its steps.
 use Rattle.std.proofs.Common.{◌≡◌, ℕ, Bool, true, false, if◌then◌else◌, List, [], ◌∷◌, ◌++◌, Option, None, Some, refl, sym, ap, ◌∙◌, arith}
-use Rattle.ncp_control.specs.declared.command.Command.{Command}
-use Rattle.ncp_control.specs.declared.command.Command.TheVariants.{Rst, Rrp}
+use Rattle.ncp_terms.specs.declared.command.Command.{Command}
+use Rattle.ncp_terms.specs.declared.command.Command.TheVariants.{Rst, Rrp}
 use Rattle.ncp_model.specs.Phase.{Reaction, is_resetting}
 use Rattle.std.specs.FinMap.{get}
 use Rattle.ncp_model.specs.Act.{answer, made_if_any, made_by_call}

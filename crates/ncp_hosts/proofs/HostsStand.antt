@@ -4,7 +4,7 @@
 -- one link.
 use Rattle.std.proofs.Common.{List, [], ◌∷◌}
 use Rattle.std.specs.FinMap.{get}
-use Rattle.ncp_control.specs.declared.command.Command.{Command}
+use Rattle.ncp_terms.specs.declared.command.Command.{Command}
 use Rattle.ncp_model.specs.declared.pair.Pair.{Pair}
 use Rattle.ncp_model.specs.Ends.{Ends, put}
 use Rattle.ncp_model.specs.Happenings.{Happening, Happened, happens}

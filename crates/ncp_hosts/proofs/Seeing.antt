@@ -2,8 +2,8 @@
 --
 -- Each step of a host of two is a step of what it keeps of its peer.
 use Rattle.std.proofs.Common.{◌≡◌, ℕ, ◌+◌, ◌-◌, ◌*◌, Bool, true, false, if◌then◌else◌, nat_le, List, [], ◌∷◌, take, drop, length, Option, None, Some, refl, sym, ap, ◌∙◌, arith}
-use Rattle.ncp_control.specs.declared.command.Command.{Command}
-use Rattle.ncp_control.specs.declared.command.Command.TheVariants.{Rst, Rrp}
+use Rattle.ncp_terms.specs.declared.command.Command.{Command}
+use Rattle.ncp_terms.specs.declared.command.Command.TheVariants.{Rst, Rrp}
 use Rattle.ncp_model.specs.declared.pair.Pair.{Pair}
 use Rattle.ncp_model.specs.Act.{answer, made_if_any, made_by_call}
 use Rattle.ncp_model.specs.Texts.{made_by_text, Rfnm}
@@ -22,7 +22,7 @@ use Rattle.ncp_model.specs.End.{End}
 use Rattle.ncp_model.specs.Act.{Stays}
 use Rattle.ncp_model.specs.Texts.{may_send, cut_bits, bytes_to_send}
 use Rattle.ncp_model.specs.Sending.{next_commands, fitting}
-use Rattle.ncp_control.specs.Spelling.{spelling}
+use Rattle.ncp_terms.specs.Spelling.{spelling}
 use Rattle.std.proofs.Math.Seq.{drop-nil}
 use Rattle.ncp_model.specs.declared.limits.TheConstants.{DATA_LINKS, FIRST_LINK, MAX_CONTROL}
 use Rattle.ncp_resets.specs.Resets as resets

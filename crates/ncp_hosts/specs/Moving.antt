@@ -2,10 +2,10 @@
 -- handed out, answered, or woken, and nothing else happens to it. The subnet's half accepts what is
 -- handed out, loses it or finds its destination dead, delivers it, and has done with it when it answers.
 use Rattle.std.specs.Prelude.{◌≡◌, ℕ, ◌+◌, ◌==◌, if◌then◌else◌, List, [], ◌∷◌, Bool, take, Option, None, Some}
-use Rattle.ncp_control.specs.declared.command.Command.{Command}
+use Rattle.ncp_terms.specs.declared.command.Command.{Command}
 use Rattle.ncp_slot.specs.declared.slot.Slot.{Slot}
 use Rattle.ncp_slot.specs.declared.slot.Slot.TheVariants.{Travelling}
-use Rattle.ncp_slot.specs.declared.slot.Answer.{Answer}
+use Rattle.ncp_terms.specs.declared.answer.Answer.{Answer}
 use Rattle.ncp_slot.specs.Slot as slots
 use Rattle.ncp_model.specs.Act.{answer}
 use Rattle.ncp_model.specs.Ends.{Ends, cut_in}

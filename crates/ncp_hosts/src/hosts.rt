@@ -8,7 +8,7 @@ ghost use Rattle.ncp_resets.specs.Resets.{is_up, Agrees, Silent};
 ghost use Rattle.ncp_resets.specs.Resets as resets;
 ghost use Rattle.ncp_hosts.specs.Hosts.{Node, hears, Event, run, base, past_of};
 ghost use Rattle.ncp_resets.specs.Delivery.{Ready, Travelling, Held, Free, Accepted, idle};
-ghost use Rattle.ncp_control.specs.declared.command.Command.{Command};
+ghost use Rattle.ncp_terms.specs.declared.command.Command.{Command};
 ghost use Rattle.ncp_model.specs.Echo.{no_echoes, hear_err};
 ghost use Rattle.ncp_model.specs.Rows.{outward, inward, ones, noughts, size_heard, asked_receive, opened_end, counting, sent_one, due, gone, shut};
 ghost use Rattle.ncp_hosts.specs.HostRuns.{with_text_out, got_and_taken, lost_twice, held_back, woken_again, both_reset, reset_under_text, reset_over, asks_again, closed_by_receiver, over_by_receiver, opened_again, closed_by_sender, over_by_sender, other_outward, other_inward, opens_another, reset_under_other_text, request_lost, request_again, request_held, request_woken, echo_asks, echo_comes_back, open_with_echo, fallen, both_interrupt};

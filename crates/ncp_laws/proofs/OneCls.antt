@@ -1,7 +1,7 @@
 -- The CLSs that acts make.
 use Rattle.std.proofs.Common.{◌≡◌, true, false, [], ◌∷◌, Option, None, Some, arith}
 use Rattle.std.specs.List.{list_any}
-use Rattle.ncp_control.specs.declared.command.Command.TheVariants.{Cls}
+use Rattle.ncp_terms.specs.declared.command.Command.TheVariants.{Cls}
 use Rattle.ncp_model.specs.declared.pair.Pair.{Pair}
 use Rattle.ncp_model.specs.Pairs.{sends}
 use Rattle.ncp_model.specs.End.{End}

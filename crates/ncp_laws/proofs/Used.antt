@@ -3,7 +3,7 @@ use Rattle.std.proofs.Common.{◌≡◌, ℕ, ◌+◌, ◌*◌, ◌≤◌, ◌++
 use Rattle.std.specs.Int.{div_ceil}
 use Rattle.std.proofs.Math.Nat.{min-le_left}
 use Rattle.std.proofs.lemmas.List.{take-append-drop, length-take-le}
-use Rattle.ncp_control.specs.declared.command.Command.TheVariants.{Ret}
+use Rattle.ncp_terms.specs.declared.command.Command.TheVariants.{Ret}
 use Rattle.ncp_model.specs.declared.pair.Pair.{Pair}
 use Rattle.ncp_model.specs.declared.limits.TheConstants.{GIVE_BACK_PARTS}
 use Rattle.ncp_model.specs.Amounts.{back}

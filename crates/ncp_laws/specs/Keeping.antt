@@ -1,7 +1,7 @@
 -- Which happenings move which of an end's marks and numbers, and which commands tell of it.
 use Rattle.std.specs.Prelude.{Bool, true, false, Option, None, Some}
-use Rattle.ncp_control.specs.declared.command.Command.{Command}
-use Rattle.ncp_control.specs.declared.command.Command.TheVariants.{Cls}
+use Rattle.ncp_terms.specs.declared.command.Command.{Command}
+use Rattle.ncp_terms.specs.declared.command.Command.TheVariants.{Cls}
 use Rattle.ncp_model.specs.End.{End}
 use Rattle.ncp_model.specs.Texts.{Rfnm}
 use Rattle.ncp_model.specs.Happenings.{Happening}

@@ -7,8 +7,8 @@ ghost use Rattle.ncp_model.specs.End.{End};
 ghost use Rattle.ncp_model.specs.Happenings.{happens};
 ghost use Rattle.ncp_model.specs.Happenings as all;
 
-use ncp_control::Command;
 use ncp_model::Pair;
+use ncp_terms::Command;
 
 /// An allocation that is accepted adds to both numbers what its ALL says; and an ALL that comes what it
 /// says.

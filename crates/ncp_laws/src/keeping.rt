@@ -1,7 +1,7 @@
 //! What each act leaves as it was: all of the end, but for the fields that are named.
 ghost use Rattle.std.specs.Prelude.{◌≡◌, ℕ, Bool, true, false, ◌≤◌, List, Option, None, Some};
 ghost use Rattle.ncp_model.specs.End.{End, or_new, is_open};
-ghost use Rattle.ncp_slot.specs.declared.slot.Answer.{Answer};
+ghost use Rattle.ncp_terms.specs.declared.answer.Answer.{Answer};
 ghost use Rattle.ncp_model.specs.Happenings.{Happening, happens};
 ghost use Rattle.ncp_model.specs.Happenings as all;
 ghost use Rattle.ncp_laws.specs.Keeping.{calls_back, is_ret, is_interrupt, is_sending, frees_the_sender, counts};

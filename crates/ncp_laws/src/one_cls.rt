@@ -7,8 +7,8 @@ ghost use Rattle.ncp_model.specs.Happenings.{Happening, happens};
 ghost use Rattle.ncp_model.specs.Happenings as all;
 ghost use Rattle.ncp_laws.specs.Keeping.{is_cls, is_clearing, frees_the_sender, was_left};
 
-use ncp_control::Command;
 use ncp_model::Pair;
+use ncp_terms::Command;
 
 /// A CLS is made exactly where an end that was not left is left, or ends; one that is
 /// left, and where none is due, makes none. It names the end's own socket first.

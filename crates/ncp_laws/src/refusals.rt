@@ -10,8 +10,8 @@ ghost use Rattle.ncp_model.specs.Happenings.{Happening, happens};
 ghost use Rattle.ncp_model.specs.Happenings as all;
 ghost use Rattle.ncp_laws.specs.Refusals.{first_of, reasons, refusal_of, rises, first_that, cases, is_refusal, made_by_refusal};
 
-use ncp_control::Command;
 use ncp_model::{CallFault, Pair};
+use ncp_terms::Command;
 
 /// Each call is refused for the first reason of its table that holds, and accepted where none does.
 pub fn calls_are_refused_for_the_first_reason()

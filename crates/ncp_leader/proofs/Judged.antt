@@ -3,7 +3,7 @@ use Rattle.std.proofs.Common.{◌≡◌, ◌≢◌, ◌↔◌, ℕ, ◌*◌, ◌
 use Rattle.std.proofs.lemmas.Bool.Decides.{Decides-ltb, Decides-eqb, Decides-not}
 use Rattle.std.proofs.Math.Nat.{div-add-mod, mul-mod_right}
 use Rattle.std.specs.Bool.{Decides}
-use Rattle.ncp_bits.specs.Numbers.{number_at}
+use Rattle.ncp_numbers.specs.Numbers.{number_at}
 use Rattle.ncp_bits.specs.Reasons.{IsFirst, NoneHolds}
 use Rattle.ncp_bits.proofs.Runs.{any_set}
 use Rattle.ncp_bits.proofs.Judging.{answer, answer_first, answer_none}

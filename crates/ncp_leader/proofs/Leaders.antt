@@ -2,9 +2,9 @@
 use Rattle.std.proofs.Common.{◌≡◌, ℕ, ◌+◌, ◌^◌, ◌<◌, ◌≤◌, Bool, true, false, cond, List, ◌++◌, length, drop, Result, Ok, Err, ap, ◌∙◌, arith, refl}
 use Rattle.std.proofs.lemmas.List.{append_assoc}
 use Rattle.std.proofs.lemmas.Bool.{le-ltb}
-use Rattle.ncp_bits.specs.Numbers.{number_of, bits_of}
-use Rattle.ncp_bits.proofs.Numbers.{number_of_range}
-use Rattle.ncp_bits.proofs.Fields.{field_rest, number_of-fitting}
+use Rattle.ncp_numbers.specs.Numbers.{number_of, bits_of}
+use Rattle.ncp_numbers.proofs.Numbers.{number_of_range}
+use Rattle.ncp_numbers.proofs.Fields.{field_rest, number_of-fitting}
 use Rattle.ncp_leader.specs.declared.leader.Leader.{Leader}
 use Rattle.ncp_leader.specs.Leader.{IsLeader, BeginsWith, leader_bits, leader_at, leader_in, number_at}
 

@@ -1,8 +1,8 @@
 -- A leader and its bits (BBN 1822, section 3: the 32-bit leader). Places are counted from 0, where the
 -- standard counts bits from 1.
 use Rattle.std.specs.Prelude.{◌≡◌, ◌<◌, ◌≤◌, ℕ, ◌^◌, Bool, List, ◌++◌, length, nat_lt, Result, Ok, Err, if◌then◌else◌}
-use Rattle.ncp_bits.specs.Numbers.{bits_of}
-pub use Rattle.ncp_bits.specs.Numbers.{number_at}
+use Rattle.ncp_numbers.specs.Numbers.{bits_of}
+pub use Rattle.ncp_numbers.specs.Numbers.{number_at}
 use Rattle.ncp_leader.specs.declared.leader.Leader.{Leader}
 use Rattle.ncp_leader.specs.declared.leader.Short.{Short}
 use Rattle.ncp_leader.specs.declared.leader.TheConstants.{LEADER_BITS, MAX_FLAGS, MAX_KIND}

@@ -2,7 +2,7 @@
 -- 0, where the standard counts bits from 1. The order of the faults and the longest text that is made are
 -- this profile's.
 use Rattle.std.specs.Prelude.{◌≡◌, ◌≢◌, ◌<◌, ℕ, ◌+◌, ◌*◌, ◌/◌, ◌%◌, ◌^◌, ◌==◌, Bool, false, not, List, [], ◌∷◌, ◌++◌, length, replicate, slice_range, nat_lt, Result, Ok, Err, if◌then◌else◌}
-use Rattle.ncp_bits.specs.Numbers.{bits_of}
+use Rattle.ncp_numbers.specs.Numbers.{bits_of}
 use Rattle.ncp_bits.specs.Bits.{HasOne}
 use Rattle.ncp_leader.specs.declared.leader.Leader.{Leader}
 use Rattle.ncp_leader.specs.declared.fault.MessageFault.{MessageFault}

@@ -3,7 +3,7 @@ ghost use Rattle.std.specs.Prelude.{◌≡◌, ◌↔◌, Ok, Err, ◌<◌, ◌�
 ghost use Rattle.ncp_leader.specs.Leader.{IsLeader, BeginsWith, leader_bits, leader_in};
 ghost use Rattle.ncp_leader.specs.Message.{Message, IsMessage, StandsFor, message_bits, message_in, message_at, message_with, written, IsReadFault, IsWriteFault, judged};
 ghost use Rattle.ncp_bits.specs.Reasons.{IsFirst, NoneHolds};
-ghost use Rattle.ncp_bits.specs.Numbers.{number_at};
+ghost use Rattle.ncp_numbers.specs.Numbers.{number_at};
 ghost use Rattle.ncp_leader.specs.declared.leader.Leader.{Leader};
 ghost use Rattle.ncp_leader.specs.declared.fault.MessageFault.{MessageFault};
 

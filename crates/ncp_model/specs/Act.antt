@@ -1,11 +1,11 @@
 -- What an act does to an end, and what it answers. An act knows one end alone: no table, no queue.
 use Rattle.std.specs.Prelude.{ℕ, Bool, true, false, ◌&&◌, ◌||◌, not, nat_le, ◌++◌, take, replicate, if◌then◌else◌, List, [], ◌∷◌, Option, None, Some, Result, Ok, Err}
-use Rattle.ncp_bits.specs.Bits.{bytes_of}
-use Rattle.ncp_control.specs.declared.command.Command.{Command}
-use Rattle.ncp_control.specs.declared.command.Command.TheVariants.{Cls}
-use Rattle.ncp_control.specs.declared.command.Command.TheVariants as variants
-pub use Rattle.ncp_control.specs.Spelling.{error_of}
-use Rattle.ncp_control.specs.declared.fault.TheConstants.{ERRONEOUS_PARAMETERS, NONEXISTENT_SOCKET, SOCKET_NOT_CONNECTED}
+use Rattle.ncp_numbers.specs.Bytes.{bytes_of}
+use Rattle.ncp_terms.specs.declared.command.Command.{Command}
+use Rattle.ncp_terms.specs.declared.command.Command.TheVariants.{Cls}
+use Rattle.ncp_terms.specs.declared.command.Command.TheVariants as variants
+pub use Rattle.ncp_terms.specs.Spelling.{error_of}
+use Rattle.ncp_terms.specs.declared.fault.TheConstants.{ERRONEOUS_PARAMETERS, NONEXISTENT_SOCKET, SOCKET_NOT_CONNECTED}
 use Rattle.ncp_model.specs.declared.pair.Pair.{Pair}
 use Rattle.ncp_model.specs.declared.call_fault.CallFault.{CallFault}
 use Rattle.ncp_model.specs.declared.outcomes.Heard.{Heard}

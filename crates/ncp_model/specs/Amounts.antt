@@ -2,8 +2,8 @@
 use Rattle.std.specs.Prelude.{ℕ, ◌*◌, min}
 use Rattle.std.specs.Int.{div_ceil}
 use Rattle.ncp_model.specs.declared.limits.TheConstants.{GIVE_BACK_PARTS}
-use Rattle.ncp_control.specs.declared.command.Command.{Command}
-use Rattle.ncp_control.specs.declared.command.Command.TheVariants.{All, Ret}
+use Rattle.ncp_terms.specs.declared.command.Command.{Command}
+use Rattle.ncp_terms.specs.declared.command.Command.TheVariants.{All, Ret}
 
 -- so many 128ths of a counter, rounded up, and never more than there is (NIC 8246, GVB; that the
 -- fractions count 128ths, and the rounding, are this profile's)

@@ -1,8 +1,8 @@
 -- To which end a happening comes: the acts on one end presume that it is the right one.
 use Rattle.std.specs.Prelude.{ℕ, Bool, true, false, List, take, drop, Option, None, Some}
-use Rattle.ncp_bits.specs.Numbers.{number_of}
-use Rattle.ncp_control.specs.declared.command.Command.{Command}
-use Rattle.ncp_control.specs.declared.command.Command.TheVariants as commands
+use Rattle.ncp_numbers.specs.Numbers.{number_of}
+use Rattle.ncp_terms.specs.declared.command.Command.{Command}
+use Rattle.ncp_terms.specs.declared.command.Command.TheVariants as commands
 use Rattle.ncp_model.specs.declared.pair.Pair.{Pair}
 use Rattle.ncp_model.specs.Pairs.{sends, receives}
 use Rattle.ncp_model.specs.End.{End}

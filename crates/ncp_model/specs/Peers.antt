@@ -3,10 +3,10 @@
 -- links are quiet is data here, since the links stand elsewhere.
 use Rattle.std.specs.Prelude.{ℕ, Bool, true, false, if◌then◌else◌, List, [], ◌∷◌, ◌++◌, length, drop, Result, Ok, Err}
 use Rattle.std.specs.FinMap.{get}
-use Rattle.ncp_control.specs.declared.command.Command.{Command}
-use Rattle.ncp_control.specs.declared.command.Command.TheVariants.{Eco, Erp, Rst, Rrp}
-use Rattle.ncp_control.specs.declared.command.Command.TheVariants as commands
-use Rattle.ncp_control.specs.declared.fault.CommandFault.{CommandFault}
+use Rattle.ncp_terms.specs.declared.command.Command.{Command}
+use Rattle.ncp_terms.specs.declared.command.Command.TheVariants.{Eco, Erp, Rst, Rrp}
+use Rattle.ncp_terms.specs.declared.command.Command.TheVariants as commands
+use Rattle.ncp_terms.specs.declared.fault.CommandFault.{CommandFault}
 use Rattle.ncp_model.specs.declared.pair.Pair.{Pair}
 use Rattle.ncp_model.specs.declared.call_fault.CallFault.{CallFault}
 use Rattle.ncp_model.specs.declared.call_fault.CallFault.TheVariants.{NotUp}

@@ -1,9 +1,9 @@
 -- What text does to an end: text that comes, text that goes out, and the answer to it. And a
 -- clearing.
 use Rattle.std.specs.Prelude.{ℕ, ◌-◌, ◌*◌, ◌/◌, min, ◌==◌, Bool, true, false, not, ◌&&◌, ◌||◌, nat_le, nat_lt, if◌then◌else◌, List, [], ◌∷◌, ◌++◌, length, take, drop, Option, None, Some}
-use Rattle.ncp_control.specs.declared.command.Command.{Command}
-pub use Rattle.ncp_slot.specs.declared.slot.Answer.{Answer}
-pub use Rattle.ncp_slot.specs.declared.slot.Answer.TheVariants.{Rfnm, Incomplete, Dead}
+use Rattle.ncp_terms.specs.declared.command.Command.{Command}
+pub use Rattle.ncp_terms.specs.declared.answer.Answer.{Answer}
+pub use Rattle.ncp_terms.specs.declared.answer.Answer.TheVariants.{Rfnm, Incomplete, Dead}
 use Rattle.ncp_model.specs.declared.pair.Pair.{Pair}
 use Rattle.ncp_model.specs.declared.outcomes.Took.{Took}
 use Rattle.ncp_model.specs.declared.outcomes.Took.TheVariants.{Admitted, Late, WrongSize, Over, NotOpen}

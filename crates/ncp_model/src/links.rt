@@ -5,7 +5,7 @@ ghost use Rattle.ncp_model.specs.End.{End, new_end};
 ghost use Rattle.ncp_model.specs.Act.{Act, Stays, Becomes, end_after, made_by_call, made_if_any, made_by_hearing};
 ghost use Rattle.ncp_model.specs.Ends.{Ends, count, any, has_asked, is_by_peer, hears_link, uses_link, first_by, free_link, sender_on, receiver_on, pair_of, leads_to, hear, ask_send_in, ask_receive_in, text_in, cut_in, answered_in, put, map_after, map_after_at, no_ends};
 ghost use Rattle.ncp_model.specs.Texts.{made_by_text};
-ghost use Rattle.ncp_slot.specs.declared.slot.Answer.{Answer};
+ghost use Rattle.ncp_terms.specs.declared.answer.Answer.{Answer};
 ghost use Rattle.ncp_model.specs.Happenings.{Happening, happens, happened, of_call, of_hearing, of_text, of_cut};
 ghost use Rattle.ncp_model.specs.Happenings as all;
 ghost use Rattle.ncp_model.specs.Leading.{suits, leads, link_in, comes};
@@ -15,7 +15,7 @@ use crate::call_fault::CallFault;
 use crate::limits::{FIRST_LINK, LAST_LINK, MAX_BY_PEER, MAX_OWN};
 use crate::outcomes::{Heard, Took};
 use crate::pair::Pair;
-use ncp_control::Command;
+use ncp_terms::Command;
 
 /// A receiver takes the lowest link from 2 up that no receiving end uses; while at most 64 ends
 /// have an own request there is one up to 71.

@@ -1,6 +1,6 @@
 //! Laws of one host with one peer: what its phase lets through, and how a user's call is answered.
 ghost use Rattle.std.specs.Prelude.{◌≡◌, ℕ, Bool, true, false, ◌++◌, ◌<◌, ◌≤◌, List, [], ◌∷◌, length, replicate, Ok, Err};
-ghost use Rattle.ncp_control.specs.declared.fault.CommandFault.{CommandFault};
+ghost use Rattle.ncp_terms.specs.declared.fault.CommandFault.{CommandFault};
 ghost use Rattle.ncp_model.specs.Echo.{echo_answer, eco_reply};
 ghost use Rattle.ncp_model.specs.Happenings as all;
 ghost use Rattle.ncp_model.specs.Peers.{Peer, Call, happened_at, calls, calls_up, comes_of, reply, reply_of_take, calls_echo, echo_called, accepted, reply_of_echo, hears_fault, hears_text, takes_text, frees, falls};
@@ -13,7 +13,7 @@ ghost use Rattle.ncp_model.specs.Sending.{is_full};
 use crate::call_fault::CallFault;
 use crate::limits::MAX_WAITING;
 use crate::pair::Pair;
-use ncp_control::Command;
+use ncp_terms::Command;
 
 /// While a host is not up with the peer, a call is refused for that before all that its end judges,
 /// and so is an echo; a text is dropped whatever its link and size, and the fault of a control text

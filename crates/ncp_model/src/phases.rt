@@ -1,9 +1,9 @@
 //! Laws of a host's phase: what the theorem on resets does not guard.
 ghost use Rattle.std.specs.Prelude.{◌≡◌, ℕ, Bool, true, false, ◌+◌, ◌++◌, ◌<◌, ◌≤◌, List, [], ◌∷◌, length, take, replicate, None, Some, Result, Ok, Err, Option};
 ghost use Rattle.std.specs.List.{filter, list_any};
-ghost use Rattle.ncp_control.specs.declared.command.Command.{Command};
+ghost use Rattle.ncp_terms.specs.declared.command.Command.{Command};
 ghost use Rattle.ncp_model.specs.Phase.{Phase, Reaction, new_phase, up_phase, up, is_rst, is_rrp, is_reset, is_other, purge, settles, is_resetting, reset_answer, wants_reset, resets, owes_answer, hears_rst, hears_rrp, is_stray_rrp, goes_down, makes, makes_all, is_dropped, hears};
-ghost use Rattle.ncp_control.specs.Spelling.{IsCommand, spelling, spellings};
+ghost use Rattle.ncp_terms.specs.Spelling.{IsCommand, spelling, spellings};
 ghost use Rattle.ncp_model.specs.Sending.{is_full, next_commands};
 ghost use Rattle.ncp_model.specs.declared.pair.Pair.{Pair};
 ghost use Rattle.ncp_model.specs.Happenings.{Happening, happens};

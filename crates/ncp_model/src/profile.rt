@@ -1,6 +1,6 @@
 //! The limits of this profile, each by its number; and what is against the protocol.
 ghost use Rattle.std.specs.Prelude.{◌≡◌, ℕ, List, Bool, true, false};
-ghost use Rattle.ncp_control.specs.declared.command.Command.{Command};
+ghost use Rattle.ncp_terms.specs.declared.command.Command.{Command};
 ghost use Rattle.ncp_model.specs.Act.{wrong_parameters, no_socket, not_connected};
 ghost use Rattle.ncp_model.specs.Happenings.{is_violation};
 ghost use Rattle.ncp_model.specs.Happenings as all;

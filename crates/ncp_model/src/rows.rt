@@ -7,7 +7,7 @@ ghost use Rattle.ncp_model.specs.Act.{Act, Stays, Becomes, end_after, met, text_
 ghost use Rattle.ncp_model.specs.Calls.{bits_to_take, ask_send, ask_receive, close, give, take_held, allocate, call_back, interrupt};
 ghost use Rattle.ncp_model.specs.Commands.{hear_rts, hear_str, hear_cls, hear_all, hear_gvb, hear_ret, hear_inr, hear_ins};
 ghost use Rattle.ncp_model.specs.Texts.{bytes_to_send, made_by_text, hear_text, cut, answered, cleared};
-ghost use Rattle.ncp_slot.specs.declared.slot.Answer.{Answer};
+ghost use Rattle.ncp_terms.specs.declared.answer.Answer.{Answer};
 ghost use Rattle.ncp_model.specs.Echo.{Error, Echoes, no_echoes, echo_answer, echo_asked, eco_reply, hear_erp, is_stray_erp, hear_err, purge_echo};
 ghost use Rattle.ncp_model.specs.Happenings.{happens};
 ghost use Rattle.ncp_model.specs.Happenings as all;
@@ -15,7 +15,7 @@ ghost use Rattle.ncp_model.specs.Rows.{outward, inward, ones, noughts, link_hear
 
 use crate::call_fault::CallFault;
 use crate::outcomes::{Heard, Took};
-use ncp_control::Command;
+use ncp_terms::Command;
 
 /// Asking to send: a store of 1 to 65,536 bits, and 64 ends with an own request.
 pub fn asking_to_send()

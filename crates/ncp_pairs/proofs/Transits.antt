@@ -2,7 +2,7 @@
 -- destination and the link of its place in its leader.
 use Rattle.std.proofs.Common.{◌≡◌, ◌≢◌, ◌<◌, ◌≤◌, ℕ, ◌==◌, ◌^◌, Bool, true, false, ◌&&◌, nat_le, if◌then◌else◌, List, ◌++◌, length, drop, Some, Ok, inl, inr, refl, sym, ap, ◌∙◌, subst, arith}
 use Rattle.std.proofs.lemmas.Bool.Decides.{nat_tests}
-use Rattle.ncp_bits.specs.Numbers.{bits_of}
+use Rattle.ncp_numbers.specs.Numbers.{bits_of}
 use Rattle.ncp_leader.specs.declared.leader.Leader.{Leader}
 use Rattle.ncp_leader.specs.declared.kinds.TheConstants.{REGULAR}
 use Rattle.ncp_leader.specs.declared.leader.TheConstants.{LEADER_BITS}

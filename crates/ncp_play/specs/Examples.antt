@@ -1,7 +1,7 @@
 -- Notes by which the definitions show what they mean.
 use Rattle.std.specs.Prelude.{Bool, true, false, List, [], ◌∷◌, map, Some, None}
-use Rattle.ncp_bits.specs.Bits.{bits_of_bytes}
-use Rattle.ncp_slot.specs.declared.slot.Answer.TheVariants.{Rfnm}
+use Rattle.ncp_numbers.specs.Bytes.{bits_of_bytes}
+use Rattle.ncp_terms.specs.declared.answer.Answer.TheVariants.{Rfnm}
 use Rattle.ncp_model.specs.declared.call_fault.CallFault.TheVariants.{Busy, NoEntry, OutOfMemory}
 use Rattle.ncp_model.specs.declared.outcomes.Took.TheVariants as took
 use Rattle.ncp_model.specs.declared.pair.Pair.{Pair}

@@ -2,7 +2,7 @@
 use Rattle.std.specs.Prelude.{ℕ, Bool, not, ◌||◌, List, [], ◌++◌, length, Option, Some, None, codes, if◌then◌else◌}
 use Rattle.std.specs.Int.{from_bool}
 use Rattle.std.specs.List.{flat_map}
-use Rattle.ncp_control.specs.declared.command.Command.TheVariants.{Err as Error_of}
+use Rattle.ncp_terms.specs.declared.command.Command.TheVariants.{Err as Error_of}
 use Rattle.std.specs.declared.result.Result.TheVariants.{Ok}
 use Rattle.ncp_model.specs.declared.call_fault.CallFault.{CallFault}
 use Rattle.ncp_model.specs.declared.outcomes.Error.{Error}

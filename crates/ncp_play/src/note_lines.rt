@@ -10,12 +10,12 @@ use crate::heading::{Heading, LONGEST_NAMED, push_front, push_named};
 use crate::naming::name_of_note;
 use crate::results::{LONGEST_RESULT, push_result};
 use ncp_bits::Bits;
-use ncp_control::Command;
 use ncp_files::{LONGEST_LINE, push_item, say_details};
 use ncp_host::{Error, Received};
 use ncp_leader::{Leader, Short, read_leader};
 use ncp_page::{PAGE_SIZE, Page, push_field};
 use ncp_stream::{Failed, Sink};
+use ncp_terms::Command;
 use ncp_transcript::HostNote;
 
 // How many bytes the first line of a note has at most.

@@ -1,10 +1,9 @@
 //! Each kind of note once, with its line.
 use crate::said::{expect, message};
-use ncp_control::ERROR_DATA;
 use ncp_host::{CallFault, Counts, End, Flags, Ignored, Pair, Received, Record, Took};
 use ncp_leader::MessageFault;
 use ncp_play::Speaker;
-use ncp_slot::Answer;
+use ncp_terms::{Answer, ERROR_DATA};
 use ncp_transcript::{Call, HostNote};
 use std::alloc::Global;
 use std::process::Abort;

@@ -2,13 +2,13 @@
 -- hosts after each step of the rules, with what was made and came there.
 use Rattle.std.proofs.Common.{◌≡◌, ℕ, ◌==◌, Bool, true, false, if◌then◌else◌, List, [], ◌∷◌, length, take, Option, None, Some, Result, refl, sym, ap, ◌∙◌, subst}
 use Rattle.std.proofs.lemmas.Bool.{eqb-true}
-use Rattle.ncp_control.specs.declared.command.Command.{Command}
+use Rattle.ncp_terms.specs.declared.command.Command.{Command}
 use Rattle.ncp_leader.specs.declared.regular.TheConstants.{FRONT_BITS}
 use Rattle.ncp_leader.specs.declared.fault.MessageFault.{MessageFault}
 use Rattle.ncp_leader.specs.Message.{Message, message_in}
 use Rattle.ncp_slot.specs.declared.slot.Slot.TheVariants as slots
-use Rattle.ncp_slot.specs.declared.slot.Answer.{Answer}
-use Rattle.ncp_slot.specs.declared.slot.Answer.TheVariants.{Rfnm, Incomplete, Dead}
+use Rattle.ncp_terms.specs.declared.answer.Answer.{Answer}
+use Rattle.ncp_terms.specs.declared.answer.Answer.TheVariants.{Rfnm, Incomplete, Dead}
 use Rattle.ncp_slot.specs.Slot.{answered}
 use Rattle.ncp_slot.specs.Slots.{LinkSlot, LinkSlots, slot_at, with_slot, all_woken, is_quiet}
 use Rattle.ncp_model.specs.declared.pair.Pair.{Pair}

@@ -3,16 +3,16 @@ use Rattle.std.proofs.Common.{◌≡◌, ◌<◌, ◌≤◌, ◌-◌, ◌^◌, �
 use Rattle.std.proofs.lemmas.Bool.{leb-true}
 use Rattle.std.proofs.lemmas.List.{length-append}
 use Rattle.std.proofs.lemmas.List.Elements.{All-take}
-use Rattle.ncp_bits.specs.Bits.{bytes_of, bits_of_bytes}
-use Rattle.ncp_bits.proofs.Packing.{bytes_of-bits_of_bytes}
+use Rattle.ncp_numbers.specs.Bytes.{bytes_of, bits_of_bytes}
+use Rattle.ncp_numbers.proofs.Packing.{bytes_of-bits_of_bytes}
 use Rattle.ncp_leader.specs.declared.fault.MessageFault.{MessageFault}
 use Rattle.ncp_leader.specs.Message.{Message}
-use Rattle.ncp_control.specs.declared.command.Command.{Command}
-use Rattle.ncp_control.specs.Spelling.{spelling, spellings, IsCommand}
+use Rattle.ncp_terms.specs.declared.command.Command.{Command}
+use Rattle.ncp_terms.specs.Spelling.{spelling, spellings, IsCommand}
 use Rattle.ncp_control.specs.Reading.{commands_in}
 use Rattle.ncp_control.proofs.Reading.{spellings_small, spelled_alone}
 use Rattle.ncp_slot.specs.declared.slot.Slot.TheVariants as slots
-use Rattle.ncp_slot.specs.declared.slot.Answer.{Answer}
+use Rattle.ncp_terms.specs.declared.answer.Answer.{Answer}
 use Rattle.ncp_slot.specs.Slot.{answered, woken}
 use Rattle.ncp_slot.specs.Slots.{LinkSlot, LinkSlots, slot_at, with_slot, all_woken}
 use Rattle.ncp_slot.proofs.Places.{slot_at-with_slot_same}

@@ -1,7 +1,7 @@
 -- What was made and came, note by note.
 use Rattle.std.proofs.Common.{◌≡◌, ℕ, ◌==◌, Bool, if◌then◌else◌, List, [], ◌∷◌, ◌++◌, Option, None, Some, refl, sym, ap, subst}
 use Rattle.std.proofs.lemmas.Bool.{eq-eqb}
-use Rattle.ncp_control.specs.declared.command.Command.{Command}
+use Rattle.ncp_terms.specs.declared.command.Command.{Command}
 use Rattle.ncp_slot.specs.Slots.{LinkSlot, no_slots}
 use Rattle.ncp_slot.proofs.Places.{slot_at-no_slots}
 use Rattle.ncp_two.specs.Subnet.{Subnet}

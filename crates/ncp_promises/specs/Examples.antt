@@ -1,6 +1,6 @@
 -- States for examples.
 use Rattle.std.specs.Prelude.{◌≡◌, ℕ, true, [], ◌∷◌}
-use Rattle.ncp_control.specs.declared.command.Command.{Command}
+use Rattle.ncp_terms.specs.declared.command.Command.{Command}
 use Rattle.ncp_model.specs.Phase.{up_phase}
 use Rattle.ncp_model.specs.Peers.{new_peer}
 use Rattle.ncp_hosts.specs.Watching.{Watch}

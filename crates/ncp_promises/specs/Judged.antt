@@ -1,9 +1,9 @@
 -- How what comes is judged: each command of a control message acts once, in order, and is answered by no ERR.
 use Rattle.std.specs.Prelude.{◌≡◌, ◌==◌, Bool, true, false, List, [], ◌∷◌, length, None}
 use Rattle.std.specs.List.{list_any}
-use Rattle.ncp_bits.specs.Bits.{bytes_of}
+use Rattle.ncp_numbers.specs.Bytes.{bytes_of}
 use Rattle.ncp_control.specs.Reading.{fault_in}
-use Rattle.ncp_control.specs.declared.command.Command.{Command}
+use Rattle.ncp_terms.specs.declared.command.Command.{Command}
 use Rattle.ncp_slot.specs.Slots.{is_quiet}
 use Rattle.ncp_model.specs.Phase.{up}
 use Rattle.ncp_model.specs.Peers.{reaction}

@@ -2,7 +2,7 @@
 -- all else is dropped meanwhile is this profile's rule).
 use Rattle.std.specs.Prelude.{◌≡◌, ℕ, ◌==◌, Bool, true, false, List, [], ◌∷◌}
 use Rattle.std.specs.List.{filter, list_any}
-use Rattle.ncp_control.specs.declared.command.Command.{Command}
+use Rattle.ncp_terms.specs.declared.command.Command.{Command}
 use Rattle.ncp_model.specs.Ends.{no_ends}
 use Rattle.ncp_model.specs.Phase.{is_rrp, is_other}
 use Rattle.ncp_host.specs.declared.received.Received.{Received}

@@ -3,7 +3,7 @@
 ghost use Rattle.std.specs.Prelude.{◌≡◌, ℕ, Bool, true, false, List, [], ◌∷◌, Some};
 ghost use Rattle.std.specs.List.{filter};
 ghost use Rattle.std.specs.FinMap.{get};
-ghost use Rattle.ncp_control.specs.declared.command.Command.{Command as Order};
+ghost use Rattle.ncp_terms.specs.declared.command.Command.{Command as Order};
 ghost use Rattle.ncp_slot.specs.Slot.{is_empty};
 ghost use Rattle.ncp_slot.specs.Slots.{slot_at};
 ghost use Rattle.ncp_model.specs.declared.outcomes.Heard.TheVariants as heard;
@@ -41,8 +41,8 @@ ghost use Rattle.ncp_promises.specs.Headline.{IsWithin};
 ghost use Rattle.ncp_promises.specs.Promised.{IsAllowed};
 ghost use Rattle.ncp_promises.specs.Examples.{up_state, waiting_state, seen_before, IsThis};
 
-use ncp_control::Command;
 use ncp_headline::headline::openings_and_texts_out_happen;
+use ncp_terms::Command;
 
 /// Pairs open, at the sender's host and at the receiver's; where a text is out on their link, of the host
 /// that sends on it, the definition refuses that.

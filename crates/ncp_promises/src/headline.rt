@@ -1,7 +1,7 @@
 //! The headline, of transcripts: each phrase a clause, but that no bits of a peer make a host fault, which is
 //! the contract of `Host::receive`.
 ghost use Rattle.std.specs.Prelude.{◌≡◌, ℕ, List, not, map, ◌++◌};
-ghost use Rattle.ncp_control.specs.declared.command.Command.{Command};
+ghost use Rattle.ncp_terms.specs.declared.command.Command.{Command};
 ghost use Rattle.ncp_model.specs.declared.pair.Pair.{Pair};
 ghost use Rattle.ncp_model.specs.Phase.{up};
 ghost use Rattle.ncp_slot.specs.Slots.{slot_at};

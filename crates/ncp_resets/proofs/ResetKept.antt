@@ -2,8 +2,8 @@
 --
 -- What holds of two hosts and the two lines between them after each step.
 use Rattle.std.proofs.Common.{◌≡◌, ◌+◌, ◌<◌, Bool, true, false, ◌&&◌, if◌then◌else◌, List, [], ◌∷◌, ◌++◌, refl, arith}
-use Rattle.ncp_control.specs.declared.command.Command.{Command}
-use Rattle.ncp_control.specs.declared.command.Command.TheVariants.{Rst, Rrp}
+use Rattle.ncp_terms.specs.declared.command.Command.{Command}
+use Rattle.ncp_terms.specs.declared.command.Command.TheVariants.{Rst, Rrp}
 use Rattle.ncp_model.specs.Phase.{is_other, answers, asks, is_resetting, wants_reset, owes_answer, hears_rrp, has_place, queued, Reaction}
 use Rattle.ncp_resets.specs.Resets.{Host, is_up, anew, host_resets, host_settles, host_falls, host_makes, host_makes_all, host_hears_other, host_hears, no_reaction, host_hears_all}
 use Rattle.ncp_model.proofs.ResetLists.{bit, rsts, rrps, others, purged, rsts-append, rrps-append, others-append, rsts-purged, rrps-purged, others-purged, purged_calm, arrives, arrives-append, arrives_anew, arrives_nothing, any-rsts, any-rrps, after_rst, after_rst-calm, still_purged, still_reset, still_more}

@@ -3,8 +3,8 @@
 -- The invariant of two hosts, kept by each event, and the laws over every schedule.
 use Rattle.std.proofs.Common.{◌≡◌, ℕ, ◌+◌, Bool, true, false, if◌then◌else◌, List, [], ◌∷◌, ◌++◌, take, drop, refl, sym, ap, ◌∙◌, subst, arith}
 use Rattle.std.proofs.lemmas.List.{take-append-drop}
-use Rattle.ncp_control.specs.declared.command.Command.{Command}
-use Rattle.ncp_control.specs.declared.command.Command.TheVariants.{Rst, Rrp}
+use Rattle.ncp_terms.specs.declared.command.Command.{Command}
+use Rattle.ncp_terms.specs.declared.command.Command.TheVariants.{Rst, Rrp}
 use Rattle.ncp_model.specs.Phase.{Phase, up, makes, makes_all, hears, Reaction}
 use Rattle.ncp_resets.specs.Resets.{Host, is_up, host_resets, host_settles, host_falls, host_makes, host_makes_all, host_hears_other, host_hears, on_line, underway, World, swap, Step, Resets, Makes, Falls, Settles, Sends, Hears, Loses, Dies, Is_answered, Wakes, sends, comes, steps, Side, This, That, Event, at, run_from, run, start, Agrees, NothingFollows, Silent}
 use Rattle.ncp_resets.specs.Delivery.{Slot, Empty, Ready, Travelling, Held, Subnet, Free, Accepted, Delivered, Lost, Dead, undelivered, answered, woken}

@@ -4,8 +4,8 @@
 -- rules are of the standards.
 use Rattle.std.specs.Prelude.{◌≡◌, ℕ, ◌+◌, Bool, false, ◌&&◌, if◌then◌else◌, List, [], ◌∷◌, ◌++◌, take, drop, Option, None, Some}
 use Rattle.std.specs.List.{filter}
-use Rattle.ncp_control.specs.declared.command.Command.{Command}
-use Rattle.ncp_control.specs.declared.command.Command.TheVariants.{Rst, Rrp}
+use Rattle.ncp_terms.specs.declared.command.Command.{Command}
+use Rattle.ncp_terms.specs.declared.command.Command.TheVariants.{Rst, Rrp}
 use Rattle.ncp_model.specs.Phase.{Phase, new_phase, up, is_reset, is_other, settles, is_resetting, resets, hears_rst, hears_rrp, goes_down, has_place, queued, Reaction}
 use Rattle.ncp_resets.specs.Delivery.{Slot, Empty, Ready, Travelling, Held, Subnet, Free, Accepted, Delivered, Lost, Dead, Link, idle, out, undelivered, answered, not_come, woken}
 

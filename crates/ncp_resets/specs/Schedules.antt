@@ -1,6 +1,6 @@
 -- Schedules from which the worked rows of resets begin.
 use Rattle.std.specs.Prelude.{true, false, List, [], ◌∷◌, ◌++◌}
-use Rattle.ncp_control.specs.declared.command.Command.TheVariants.{Rts, Inr}
+use Rattle.ncp_terms.specs.declared.command.Command.TheVariants.{Rts, Inr}
 use Rattle.ncp_model.specs.Phase.{Reaction}
 use Rattle.ncp_resets.specs.Resets.{Event, Side, This, That, Step, Resets, Makes, Falls, Settles, Sends, Hears, Loses, Dies, Is_answered}
 

@@ -1,7 +1,7 @@
 //! Two hosts that reset: the theorem on their commands, and what it does not guard.
 ghost use Rattle.std.specs.Prelude.{◌≡◌, Bool, true, false, ◌++◌, ◌<◌, List, [], ◌∷◌, length};
 ghost use Rattle.std.specs.List.{filter, list_any};
-ghost use Rattle.ncp_control.specs.declared.command.Command.{Command};
+ghost use Rattle.ncp_terms.specs.declared.command.Command.{Command};
 ghost use Rattle.ncp_model.specs.Phase.{Phase, Reaction, up, is_rrp, is_reset, is_other, makes, makes_all, hears, hears_rst, up_phase};
 ghost use Rattle.ncp_resets.specs.Delivery.{Empty, Ready, Travelling, Held, Free, Accepted};
 ghost use Rattle.ncp_resets.specs.Resets.{Host, Event, Step, World, This, That, Sends, Hears, Is_answered, Wakes, steps, run, is_up, anew, Silent, Agrees, NothingFollows, host_resets, host_settles, host_falls, host_makes, host_makes_all, host_hears, host_hears_all};

@@ -11,7 +11,7 @@ mod tried;
 
 use ncp_bits::{PackedStore, PlainStore};
 use ncp_conn::{End, Heard, Pair, Record};
-use ncp_control::{Command, ERROR_DATA};
+use ncp_terms::{Command, ERROR_DATA};
 use std::alloc::Global;
 use std::process::Abort;
 use std::test::Fail;

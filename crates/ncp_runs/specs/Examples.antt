@@ -1,7 +1,7 @@
 -- Notes by which the definitions show what they mean.
 use Rattle.std.specs.Prelude.{Bool, true, false, List, [], ◌∷◌, ◌++◌, replicate}
-use Rattle.ncp_control.specs.declared.command.Command.TheVariants as commands
-use Rattle.ncp_slot.specs.declared.slot.Answer.TheVariants.{Rfnm, Incomplete, Dead}
+use Rattle.ncp_terms.specs.declared.command.Command.TheVariants as commands
+use Rattle.ncp_terms.specs.declared.answer.Answer.TheVariants.{Rfnm, Incomplete, Dead}
 use Rattle.ncp_model.specs.Rows.{ones}
 use Rattle.ncp_model.specs.Happenings as all
 use Rattle.ncp_model.specs.declared.call_fault.CallFault.TheVariants.{UnknownPeer}

@@ -1,7 +1,7 @@
 //! The commands that are made for a peer, and the order in which they go out.
 ghost use Rattle.std.specs.Prelude.{◌≡◌, ℕ, Bool, true, false, not, List, [], ◌∷◌, ◌++◌, map, length, Some};
 ghost use Rattle.std.specs.List.{list_all};
-ghost use Rattle.ncp_control.specs.declared.command.Command.{Command as Order};
+ghost use Rattle.ncp_terms.specs.declared.command.Command.{Command as Order};
 ghost use Rattle.ncp_slot.specs.Slots.{data_links};
 ghost use Rattle.ncp_model.specs.Phase.{up, up_phase};
 ghost use Rattle.ncp_host.specs.PeerState.{PeerState, control_link};
@@ -14,7 +14,7 @@ ghost use Rattle.ncp_runs.specs.Links.{is_quiet_told, told_on, fresh_on};
 ghost use Rattle.ncp_runs.specs.Making.{is_up_told, made_in, struck, sent, settling_made, nothing_made, made_of, message_of, joined};
 ghost use Rattle.ncp_runs.specs.Examples.{message_on_0, message_on_2, lost, held, stray, woken, taken};
 
-use ncp_control::Command;
+use ncp_terms::Command;
 use ncp_transcript::HostNote;
 
 /// The commands that were made for a peer in any run, less those that clearings struck, are those in the

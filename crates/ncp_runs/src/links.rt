@@ -9,7 +9,7 @@ ghost use Rattle.ncp_host.specs.Output.{leader_to, links};
 ghost use Rattle.ncp_host.specs.Host.{state_of, is_one_of, new_host};
 ghost use Rattle.ncp_host.specs.Readiness.{IsNext};
 ghost use Rattle.ncp_host.specs.declared.received.Received.{Received as What};
-ghost use Rattle.ncp_slot.specs.declared.slot.Answer.{Answer as How};
+ghost use Rattle.ncp_terms.specs.declared.answer.Answer.{Answer as How};
 ghost use Rattle.ncp_transcript.specs.declared.note.HostNote.{HostNote as Note};
 ghost use Rattle.ncp_transcript.specs.After.{after_notes};
 ghost use Rattle.ncp_runs.specs.Peers.{FromBeginning, notes_of, notes_for};
@@ -17,7 +17,7 @@ ghost use Rattle.ncp_runs.specs.Links.{is_fresh, told_on, came_on, is_quiet_told
 ghost use Rattle.ncp_runs.specs.Examples.{message_on_0, message_on_2, lost, held, stray, woken, taken};
 
 use ncp_host::Received;
-use ncp_slot::Answer;
+use ncp_terms::Answer;
 use ncp_transcript::HostNote;
 
 /// What a host keeps for a link to a peer after any run is what the notes of that link say.

@@ -3,7 +3,8 @@ use Rattle.std.proofs.Common.{◌≡◌, ℕ, suc, ◌+◌, ◌-◌, ◌*◌, �
 use Rattle.std.specs.Result.{result_ok}
 use Rattle.std.proofs.lemmas.Bool.Decides.{nat_tests}
 use Rattle.std.proofs.lemmas.Grind.{common_steps}
-use Rattle.ncp_bits.specs.Bits.{bytes_for, read_bytes}
+use Rattle.ncp_numbers.specs.Bytes.{bytes_for}
+use Rattle.ncp_bits.specs.Bits.{read_bytes}
 use Rattle.ncp_script.specs.BitStrings.{hex_value, hex_bytes, with_byte, bits_in_bytes, bits_in_hex}
 
 pub hex_step : (digits : List ℕ) → 2 ≤ length digits → hex_bytes digits ≡ with_byte (hex_value (get_or digits 0 0)) (hex_value (get_or digits 1 0)) (hex_bytes (drop 2 digits))

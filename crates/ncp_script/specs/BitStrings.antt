@@ -2,7 +2,8 @@
 use Rattle.std.specs.Prelude.{ℕ, ◌+◌, ◌*◌, ◌==◌, nat_lt, Bool, List, [], ◌∷◌, length, Option, Some, None, option_map, if◌then◌else◌}
 use Rattle.std.specs.Char.{digit_value}
 use Rattle.std.specs.Result.{result_ok}
-use Rattle.ncp_bits.specs.Bits.{bytes_for, read_bytes}
+use Rattle.ncp_numbers.specs.Bytes.{bytes_for}
+use Rattle.ncp_bits.specs.Bits.{read_bytes}
 use Rattle.ncp_bits.specs.declared.bits.TheConstants.{MAX_BITS}
 use Rattle.ncp_script.specs.Words.{number_first}
 

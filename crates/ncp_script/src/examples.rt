@@ -1,6 +1,6 @@
 //! Lines of scripts and what they ask for, computed from the definitions.
 ghost use Rattle.std.specs.Prelude.{◌≡◌, codes, List, [], ◌∷◌, Option, None, Some, true, false};
-ghost use Rattle.ncp_bits.specs.Bits.{bits_of_bytes};
+ghost use Rattle.ncp_numbers.specs.Bytes.{bits_of_bytes};
 ghost use Rattle.ncp_transcript.specs.declared.call.Call.TheVariants as calls;
 ghost use Rattle.ncp_transcript.specs.declared.input.Input.TheVariants as inputs;
 ghost use Rattle.ncp_script.specs.declared.host_lines.HostLine.TheVariants as lines;
@@ -12,7 +12,7 @@ ghost use Rattle.ncp_script.specs.Scripts.{Over, Fed, Faulty, BadLine, BadHosts,
 ghost use Rattle.ncp_script.specs.HostScripts.{host_script};
 
 /// A text that is given: its number of bits, and their bytes.
-#[tactic(auto, unfolding(ncp_bits::specs::Bits::byte_bits, ncp_bits::specs::Numbers::bits_of))]
+#[tactic(auto, unfolding(ncp_numbers::specs::Bytes::byte_bits, ncp_numbers::specs::Numbers::bits_of))]
 pub fn texts_are_given_so()
     ensures some { call_of None (words_of (codes "give 9 3 4 4 A0")) ≡ Some (calls.Give 9 (record { local = 3; remote = 4 }) (true ∷ false ∷ true ∷ false ∷ [])) }
     ensures none { call_of None (words_of (codes "give 9 3 4 0")) ≡ Some (calls.Give 9 (record { local = 3; remote = 4 }) []) }
@@ -70,7 +70,7 @@ pub fn no_calls()
 {}
 
 /// Bits that come, in a script of one host.
-#[tactic(auto, unfolding(ncp_bits::specs::Bits::byte_bits, ncp_bits::specs::Numbers::bits_of))]
+#[tactic(auto, unfolding(ncp_numbers::specs::Bytes::byte_bits, ncp_numbers::specs::Numbers::bits_of))]
 pub fn bits_come_so()
     ensures some { host_line_of (words_of (codes "in 4 A0")) ≡ Some (lines.Input (inputs.In (true ∷ false ∷ true ∷ false ∷ []))) }
 {}
@@ -112,7 +112,7 @@ pub fn first_lines_of_two_are_read_so()
 {}
 
 /// What the bytes of a script of one host ask for.
-#[tactic(auto, unfolding(ncp_bits::specs::Bits::byte_bits, ncp_bits::specs::Numbers::bits_of))]
+#[tactic(auto, unfolding(ncp_numbers::specs::Bytes::byte_bits, ncp_numbers::specs::Numbers::bits_of))]
 pub fn scripts_are_read_so()
     ensures whole { host_script (codes "# one\n\nhost 9 3 4\r\nphase 3\nin 4 a0\nout") ≡ Plays (record { me = 9; peers = 3 ∷ 4 ∷ [] }) (record { events = inputs.Call (calls.Phase 3) ∷ inputs.In (true ∷ false ∷ true ∷ false ∷ []) ∷ inputs.Out ∷ []; ending = Over }) }
     ensures nothing { host_script (codes "host 9 3") ≡ Plays (record { me = 9; peers = 3 ∷ [] }) (record { events = []; ending = Over }) }
@@ -125,7 +125,7 @@ pub fn scripts_are_read_so()
 {}
 
 /// What a host is asked for in a script with each kind of line but a feed.
-#[tactic(auto, unfolding(ncp_bits::specs::Bits::byte_bits, ncp_bits::specs::Numbers::bits_of))]
+#[tactic(auto, unfolding(ncp_numbers::specs::Bytes::byte_bits, ncp_numbers::specs::Numbers::bits_of))]
 pub fn a_script_of_one_host()
     ensures { host_script (codes "host 1 2\nphase 2\nin 32 05020000\nin 80 0002000000080001000c\nphase 2\necho 2 65\necho 2 66\nout\n") ≡ Plays (record { me = 1; peers = 2 ∷ [] }) (record { events = inputs.Call (calls.Phase 2) ∷ inputs.In (bits_of_bytes (5 ∷ 2 ∷ 0 ∷ 0 ∷ [])) ∷ inputs.In (bits_of_bytes (0 ∷ 2 ∷ 0 ∷ 0 ∷ 0 ∷ 8 ∷ 0 ∷ 1 ∷ 0 ∷ 12 ∷ [])) ∷ inputs.Call (calls.Phase 2) ∷ inputs.Call (calls.Echo 2 65) ∷ inputs.Call (calls.Echo 2 66) ∷ inputs.Out ∷ []; ending = Over }) }
 {}

@@ -1,7 +1,7 @@
 -- Any number of connections from one host to another, whose commands share the two lists underway.
 -- Each is named by its pair as the sender's host has it. Either host may be cleared at any moment.
 use Rattle.std.specs.Prelude.{◌≡◌, ℕ, Bool, true, false, nat_lt, if◌then◌else◌, List, [], ◌∷◌, ◌++◌, take}
-use Rattle.ncp_control.specs.declared.command.Command.{Command}
+use Rattle.ncp_terms.specs.declared.command.Command.{Command}
 use Rattle.ncp_model.specs.declared.pair.Pair.{Pair}
 use Rattle.ncp_model.specs.declared.limits.TheConstants.{MAX_BY_PEER}
 use Rattle.ncp_model.specs.Pairs.{sends, turned, same}

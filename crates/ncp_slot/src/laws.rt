@@ -2,7 +2,7 @@
 //! different links are apart.
 ghost use Rattle.std.specs.Prelude.{◌≡◌, ◌≢◌, ℕ, ◌↔◌, true, false, Some, is_some, is_none, IsTrue, IfOk};
 ghost use Rattle.ncp_slot.specs.declared.slot.Slot.{Slot};
-ghost use Rattle.ncp_slot.specs.declared.slot.Answer.{Answer};
+ghost use Rattle.ncp_terms.specs.declared.answer.Answer.{Answer};
 ghost use Rattle.ncp_slot.specs.declared.slot.Busy.{Busy};
 ghost use Rattle.ncp_slot.specs.declared.slot.Stray.{Stray};
 ghost use Rattle.ncp_slot.specs.Slot.{put_in, handed_out, answered, woken, ready_message, kept_message, is_empty, is_ready, is_travelling, is_held};
@@ -12,9 +12,10 @@ ghost use Rattle.ncp_slot.specs.Laws.{AreNotesOf, OneAnswerBetween, SameAfterFai
 ghost use Rattle.ncp_slot.specs.declared.slots.TheConstants.{UNUSED_LINK, FIRST_DATA_LINK, LAST_LINK, DATA_LINKS, SLOTS};
 ghost use Rattle.ncp_slot.specs.Steps.{slot_after, note_at};
 
-use crate::slot::{Answer, Busy, Slot, Stray};
+use crate::slot::{Busy, Slot, Stray};
 use crate::slots::Slots;
 use ncp_bits::Bits;
+use ncp_terms::Answer;
 use std::alloc::{AllocError, Global};
 
 /// Something that is done with the slot of a link.
@@ -142,9 +143,8 @@ pub fn what_is_held_stays<M>()
     ensures unasked { (slot : Slot M) → is_held slot ≡ false → woken slot ≡ slot }
 {}
 
-/// `==` of answers and of refusals is equality.
-pub fn answers_are_compared()
-    ensures answer { (a b : Answer) → ((⟦<Answer as PartialEq>⟧.eq a b ≡ true) ↔ (a ≡ b)) }
+/// `==` of refusals is equality.
+pub fn refusals_are_compared()
     ensures busy { (a b : Busy) → ((⟦<Busy as PartialEq>⟧.eq a b ≡ true) ↔ (a ≡ b)) }
     ensures stray { (a b : Stray) → ((⟦<Stray as PartialEq>⟧.eq a b ≡ true) ↔ (a ≡ b)) }
 {}

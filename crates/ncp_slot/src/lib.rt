@@ -14,5 +14,5 @@ pub mod laws;
 mod slot;
 mod slots;
 
-pub use slot::{Answer, Busy, Slot, Stray};
+pub use slot::{Busy, Slot, Stray};
 pub use slots::{DATA_LINKS, FIRST_DATA_LINK, LAST_LINK, SLOTS, Slots, UNUSED_LINK, has_slot};

@@ -4,19 +4,9 @@ ghost use Rattle.std.specs.Option.{option_copied};
 ghost use Rattle.ncp_slot.specs.Slot.{put_in, handed_out, answered, woken, ready_message, kept_message, is_empty, is_ready, is_travelling};
 
 use ncp_bits::Bits;
+use ncp_terms::Answer;
 use std::mem;
 use thiserror::Error;
-
-/// What the subnet answers to a message that went out on a link.
-#[derive(Clone, Copy, Debug, Drop, PartialEq, Eq)]
-pub enum Answer {
-    /// Ready For Next Message: the message was delivered.
-    Rfnm,
-    /// Incomplete Transmission: the message was not delivered.
-    Incomplete,
-    /// Destination Dead: the message was not delivered, and is held until the user asks for it.
-    Dead,
-}
 
 /// The link has a message that is not taken yet.
 #[derive(Clone, Copy, Debug, Drop, PartialEq, Eq, Error)]

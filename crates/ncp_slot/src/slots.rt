@@ -5,8 +5,9 @@ ghost use Rattle.std.specs.Option.{option_copied};
 ghost use Rattle.ncp_slot.specs.Slot.{put_in, handed_out, answered, woken, ready_message, kept_message, is_empty, is_ready, is_travelling};
 ghost use Rattle.ncp_slot.specs.Slots.{HasSlot, no_slots, slot_at, with_slot, all_woken, OthersStay, IsReady, IsHeld, IsFirstReady, IsQuiet, is_quiet, link_at};
 
-use crate::slot::{Answer, Busy, Slot, Stray};
+use crate::slot::{Busy, Slot, Stray};
 use ncp_bits::Bits;
+use ncp_terms::Answer;
 use std::alloc::{AllocError, Global};
 use std::marker::Model;
 

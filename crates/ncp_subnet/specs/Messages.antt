@@ -1,6 +1,6 @@
 -- Messages that the subnet takes and gives out, as lists of bits (BBN 1822, section 3).
 use Rattle.std.specs.Prelude.{◌≡◌, ◌≤◌, ℕ, Bool, List, ◌++◌, length, take, drop, Option, Some, None}
-use Rattle.ncp_bits.specs.Numbers.{bits_of}
+use Rattle.ncp_numbers.specs.Numbers.{bits_of}
 use Rattle.ncp_leader.specs.declared.leader.TheConstants.{LEADER_BITS}
 use Rattle.ncp_leader.specs.Leader.{leader_at, leader_bits}
 use Rattle.ncp_subnet.specs.declared.transit.Transit.{Transit}

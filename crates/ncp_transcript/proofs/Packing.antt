@@ -1,9 +1,10 @@
 -- Messages as bytes.
 use Rattle.std.proofs.Common.{◌≡◌, ℕ, ◌≤◌, Bool, List, ◌++◌, length, take, drop, replicate, false, Ok, refl, sym, ap, ◌∙◌, arith}
 use Rattle.std.proofs.lemmas.List.{take_at, drop_all, append-nil}
-use Rattle.ncp_bits.specs.Bits.{bytes_for, spare_for, bytes_of, read_bytes}
+use Rattle.ncp_numbers.specs.Bytes.{bytes_for, spare_for, bytes_of}
+use Rattle.ncp_bits.specs.Bits.{read_bytes}
 use Rattle.ncp_bits.specs.declared.bits.TheConstants.{MAX_BITS}
-use Rattle.ncp_bits.proofs.Packing.{bits_of_bytes-bytes_of}
+use Rattle.ncp_numbers.proofs.Packing.{bits_of_bytes-bytes_of}
 use Rattle.ncp_bits.proofs.Joins.{read_bytes-bytes_of, length-bytes_of}
 use Rattle.ncp_transcript.specs.Packed.{bits_in, IsExact}
 

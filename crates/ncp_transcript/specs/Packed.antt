@@ -1,6 +1,6 @@
 -- A message as its note keeps it: eight bits a byte, the spare bits zero.
 use Rattle.std.specs.Prelude.{ℕ, ◌≡◌, ◌≤◌, Bool, List, length, take}
-use Rattle.ncp_bits.specs.Bits.{bits_of_bytes, bytes_of}
+use Rattle.ncp_numbers.specs.Bytes.{bits_of_bytes, bytes_of}
 use Rattle.ncp_bits.specs.declared.bits.TheConstants.{MAX_BITS}
 
 -- the first so many bits of bytes

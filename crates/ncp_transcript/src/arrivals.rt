@@ -10,7 +10,7 @@ use crate::room::Room;
 use ncp_bits::{BitStore, Bits};
 use ncp_host::Host;
 use ncp_leader::{DESTINATION_DEAD, INCOMPLETE, Leader, RFNM, read_leader};
-use ncp_slot::Answer;
+use ncp_terms::Answer;
 use std::alloc::{AllocError, Global};
 
 // Whether a type is one of an answer.

@@ -1,6 +1,6 @@
 //! `Message`.
 ghost use Rattle.std.specs.Prelude.{◌≡◌, ◌≤◌, ◌↔◌, IsTrue, [], length, IfOk, vec_capacity};
-ghost use Rattle.ncp_bits.specs.Bits.{bytes_for};
+ghost use Rattle.ncp_numbers.specs.Bytes.{bytes_for};
 
 use crate::room::Room;
 use ncp_bits::{Bits, MAX_BITS};

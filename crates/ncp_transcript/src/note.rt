@@ -5,9 +5,8 @@ ghost use Rattle.ncp_transcript.specs.Notes.{is_refusal};
 use crate::call::Call;
 use crate::error_list::ErrorList;
 use crate::message::Message;
-use ncp_control::Command;
 use ncp_host::{CallFault, Counts, Flags, Ignored, Pair, Received, Record};
-use ncp_slot::Answer;
+use ncp_terms::{Answer, Command};
 
 /// What a transcript says of one input: the input, and what came of it.
 #[derive(Debug, Drop)]

@@ -1,9 +1,9 @@
 -- A message is delivered: the model hears the same.
 use Rattle.std.proofs.Common.{◌≡◌, ◌<◌, ◌≤◌, ℕ, ◌^◌, ◌==◌, Bool, true, false, ◌||◌, List, [], ◌∷◌, length, take, Result, Ok, refl, sym, ap, ◌∙◌, arith, subst}
 use Rattle.std.proofs.lemmas.Bool.{both_ways, eqb-true, ltb-false}
-use Rattle.ncp_bits.specs.Bits.{bits_of_bytes}
-use Rattle.ncp_control.specs.declared.command.Command.{Command}
-use Rattle.ncp_control.specs.Spelling.{spellings}
+use Rattle.ncp_numbers.specs.Bytes.{bits_of_bytes}
+use Rattle.ncp_terms.specs.declared.command.Command.{Command}
+use Rattle.ncp_terms.specs.Spelling.{spellings}
 use Rattle.ncp_leader.specs.declared.regular.TheConstants.{FRONT_BITS}
 use Rattle.ncp_leader.specs.declared.fault.MessageFault.{MessageFault}
 use Rattle.ncp_leader.specs.Message.{Message, message_with}
@@ -24,10 +24,10 @@ use Rattle.ncp_two.specs.Subnet.{Accepted, Delivered, Subnet, set_at, from_host}
 use Rattle.ncp_two.specs.World.{World, after_received}
 use Rattle.ncp_two.specs.Tie.{control_bits, text_bits, AreCommands, IsTextOn, Stands, Reached, Goes_on, Tied}
 use Rattle.ncp_two.proofs.Ties.{quiet-is, stays}
-use Rattle.ncp_bits.specs.Numbers.{bits_of}
+use Rattle.ncp_numbers.specs.Numbers.{bits_of}
 use Rattle.std.proofs.lemmas.List.Elements.{All-head, All-tail}
 use Rattle.std.specs.Prelude.{All}
-use Rattle.ncp_control.specs.Spelling.{IsCommand}
+use Rattle.ncp_terms.specs.Spelling.{IsCommand}
 use Rattle.ncp_hosts.proofs.EndsGood.{Good}
 use Rattle.ncp_hosts.proofs.HostsStand.{hearing-stands}
 use Rattle.ncp_hosts.proofs.HostsStand.{Stands as ModelStands}
@@ -40,7 +40,7 @@ use Rattle.ncp_two.specs.Watch.{of_command, of_commands, of_text, of_message}
 use Rattle.ncp_two.proofs.Histories.{hears-pasts, text-pasts}
 use Rattle.ncp_two.proofs.Ties.{FollowsWith}
 use Rattle.ncp_leader.specs.Message.{message_in}
-use Rattle.ncp_bits.proofs.Packing.{bytes_of-bits_of_bytes}
+use Rattle.ncp_numbers.proofs.Packing.{bytes_of-bits_of_bytes}
 use Rattle.ncp_control.specs.Reading.{commands_in}
 use Rattle.ncp_control.proofs.Reading.{spellings_small, spelled_alone}
 use Rattle.ncp_two.proofs.Written.{read, control_text, from_host-message, control_comes, comes}

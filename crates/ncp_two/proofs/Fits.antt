@@ -3,14 +3,14 @@ use Rattle.std.proofs.Common.{◌≡◌, ◌<◌, ◌≤◌, ℕ, ◌^◌, Bool,
 use Rattle.std.proofs.lemmas.List.Elements.{All-nil, All-cons, All-map}
 use Rattle.std.proofs.lemmas.List.{length-append, length-take-le}
 use Rattle.std.specs.List.{range_with_len}
-use Rattle.ncp_bits.specs.Bits.{bytes_of, byte_of, bytes_for}
-use Rattle.ncp_bits.proofs.Bytes.{byte_of-fits}
+use Rattle.ncp_numbers.specs.Bytes.{bytes_of, byte_of, bytes_for}
+use Rattle.ncp_numbers.proofs.Bytes.{byte_of-fits}
 use Rattle.ncp_control.proofs.Text.{length-bytes_of}
 use Rattle.ncp_model.specs.Act.{text_error}
 use Rattle.ncp_model.specs.Amounts.{back}
-use Rattle.ncp_control.specs.declared.command.Command.{Command}
-use Rattle.ncp_control.specs.declared.command.Command.TheVariants as commands
-use Rattle.ncp_control.specs.Spelling.{IsCommand, error_of, IsByte}
+use Rattle.ncp_terms.specs.declared.command.Command.{Command}
+use Rattle.ncp_terms.specs.declared.command.Command.TheVariants as commands
+use Rattle.ncp_terms.specs.Spelling.{IsCommand, error_of, IsByte}
 use Rattle.ncp_control.proofs.Reading.{error_about}
 use Rattle.ncp_model.specs.declared.pair.Pair.{Pair}
 use Rattle.ncp_model.specs.End.{End}

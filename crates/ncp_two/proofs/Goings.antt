@@ -2,9 +2,9 @@
 use Rattle.std.proofs.Common.{◌≡◌, ◌<◌, ◌≤◌, ℕ, ◌+◌, ◌^◌, ◌==◌, Bool, true, false, if◌then◌else◌, List, [], ◌∷◌, length, take, drop, slice_range, not, nat_le, ◌-◌, All, Option, None, Some, refl, sym, ap, ◌∙◌, arith, subst}
 use Rattle.std.specs.List.{list_all}
 use Rattle.std.proofs.lemmas.Bool.{both_ways, eqb-true, leb-true}
-use Rattle.ncp_bits.specs.Bits.{bits_of_bytes}
-use Rattle.ncp_control.specs.declared.command.Command.{Command}
-use Rattle.ncp_control.specs.Spelling.{spellings}
+use Rattle.ncp_numbers.specs.Bytes.{bits_of_bytes}
+use Rattle.ncp_terms.specs.declared.command.Command.{Command}
+use Rattle.ncp_terms.specs.Spelling.{spellings}
 use Rattle.ncp_slot.specs.Slots.{LinkSlot}
 use Rattle.ncp_slot.specs.declared.slot.Slot.TheVariants as slots
 use Rattle.ncp_slot.proofs.Places.{slot_at-with_slot_same}
@@ -26,8 +26,8 @@ use Rattle.ncp_two.proofs.Ties.{Follows}
 use Rattle.ncp_two.proofs.Well.{sends-well, cuts-well, cut-written, EndsWell}
 use Rattle.ncp_two.proofs.Reaching.{good-here}
 use Rattle.ncp_two.proofs.Comings.{small}
-use Rattle.ncp_bits.specs.Numbers.{number_of, bits_of}
-use Rattle.ncp_bits.proofs.Fields.{number_of-fitting}
+use Rattle.ncp_numbers.specs.Numbers.{number_of, bits_of}
+use Rattle.ncp_numbers.proofs.Fields.{number_of-fitting}
 use Rattle.ncp_model.specs.Sending.{fitting, next_commands}
 use Rattle.ncp_resets.specs.Resets as resets
 use Rattle.std.proofs.lemmas.Bool.{and_parts}
@@ -35,7 +35,7 @@ use Rattle.std.proofs.lemmas.List.{length-append}
 use Rattle.std.proofs.lemmas.List.Elements.{All-take}
 use Rattle.ncp_model.specs.Act.{answer}
 use Rattle.ncp_model.specs.Ends.{cut_in, map_after_at, pair_of, sender_on}
-use Rattle.ncp_control.specs.Spelling.{spelling, IsCommand}
+use Rattle.ncp_terms.specs.Spelling.{spelling, IsCommand}
 use Rattle.ncp_two.specs.Subnet.{link_in}
 use Rattle.ncp_two.specs.Tie.{Well}
 use Rattle.ncp_two.proofs.Links.{carried, nothing, Again, again, texts_changed, set_at-apart, set_at-same, set_link-apart, set_link-same, with_slot-apart, zero_apart}

@@ -1,8 +1,8 @@
 -- Nothing that comes is refused.
 use Rattle.std.proofs.Common.{◌≡◌, ◌<◌, ◌≤◌, ◌^◌, ℕ, ◌==◌, Bool, true, false, ◌||◌, if◌then◌else◌, List, [], ◌∷◌, Option, None, Some, Result, Ok, refl, sym, ap, ◌∙◌, arith, subst}
 use Rattle.std.proofs.lemmas.Bool.{eqb-true}
-use Rattle.ncp_bits.specs.Bits.{bits_of_bytes}
-use Rattle.ncp_control.specs.Spelling.{spellings}
+use Rattle.ncp_numbers.specs.Bytes.{bits_of_bytes}
+use Rattle.ncp_terms.specs.Spelling.{spellings}
 use Rattle.ncp_leader.specs.Message.{Message, message_with, message_in}
 use Rattle.ncp_host.specs.Hearing.{is_wrong_link}
 use Rattle.ncp_host.specs.Output.{leader_to, next_of}

@@ -11,7 +11,7 @@ use Rattle.ncp_two.specs.Tie.{Nowhere, Stands, Begins, Tied}
 use Rattle.ncp_two.proofs.Ties.{tied-swapped}
 use Rattle.std.proofs.lemmas.List.Elements.{All-nil}
 use Rattle.ncp_two.proofs.Well.{none-well}
-use Rattle.ncp_control.specs.Spelling.{IsCommand}
+use Rattle.ncp_terms.specs.Spelling.{IsCommand}
 use Rattle.ncp_two.specs.Tie.{Well}
 use Rattle.ncp_two.proofs.Ties.{call-ties, lose-ties, die-ties}
 use Rattle.ncp_two.proofs.Comings.{deliver-ties}

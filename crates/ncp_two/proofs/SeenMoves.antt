@@ -1,15 +1,15 @@
 -- What the subnet does is what the rules say, seen of side A.
 use Rattle.std.proofs.Common.{◌≡◌, ◌<◌, ◌≤◌, ℕ, ◌==◌, ◌^◌, Bool, true, false, nat_le, nat_lt, if◌then◌else◌, List, length, Option, None, Some, Result, Ok, Err, refl, sym, ap, ◌∙◌, arith, subst}
 use Rattle.std.proofs.lemmas.Bool.{eqb-true, ltb-false}
-use Rattle.ncp_bits.specs.Bits.{bits_of_bytes}
-use Rattle.ncp_control.specs.Spelling.{spellings}
+use Rattle.ncp_numbers.specs.Bytes.{bits_of_bytes}
+use Rattle.ncp_terms.specs.Spelling.{spellings}
 use Rattle.ncp_leader.specs.declared.leader.Leader.{Leader}
 use Rattle.ncp_leader.specs.declared.leader.TheConstants.{LEADER_BITS}
 use Rattle.ncp_leader.specs.declared.leader.Short.{Short}
 use Rattle.ncp_leader.specs.Leader.{leader_in, leader_at}
-use Rattle.ncp_slot.specs.declared.slot.Answer.{Answer}
-use Rattle.ncp_slot.specs.declared.slot.Answer.TheVariants.{Rfnm, Incomplete}
-use Rattle.ncp_slot.specs.declared.slot.Answer.TheVariants as answer_kinds
+use Rattle.ncp_terms.specs.declared.answer.Answer.{Answer}
+use Rattle.ncp_terms.specs.declared.answer.Answer.TheVariants.{Rfnm, Incomplete}
+use Rattle.ncp_terms.specs.declared.answer.Answer.TheVariants as answer_kinds
 use Rattle.ncp_slot.specs.Slots.{LinkSlot, slot_at}
 use Rattle.ncp_slot.specs.declared.slot.Slot.TheVariants as slots
 use Rattle.ncp_resets.specs.Delivery.{Link}

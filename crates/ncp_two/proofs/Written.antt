@@ -1,22 +1,22 @@
 -- What was written, with the number of the host that it is from, is read as what was written.
 use Rattle.std.proofs.Common.{◌≡◌, ◌<◌, ◌≤◌, ℕ, ◌*◌, ◌^◌, Bool, List, [], length, Option, Result, Ok, refl, sym, ap, ◌∙◌, arith}
 use Rattle.std.proofs.lemmas.List.{append-nil}
-use Rattle.ncp_bits.specs.Numbers.{bits_of}
-use Rattle.ncp_bits.specs.Bits.{bits_of_bytes, bytes_of}
-use Rattle.ncp_bits.proofs.Packing.{bytes_of-bits_of_bytes}
-use Rattle.ncp_bits.proofs.Bytes.{length-bits_of_bytes}
+use Rattle.ncp_numbers.specs.Numbers.{bits_of}
+use Rattle.ncp_numbers.specs.Bytes.{bits_of_bytes, bytes_of}
+use Rattle.ncp_numbers.proofs.Packing.{bytes_of-bits_of_bytes}
+use Rattle.ncp_numbers.proofs.Bytes.{length-bits_of_bytes}
 use Rattle.ncp_leader.specs.declared.leader.Leader.{Leader}
 use Rattle.ncp_leader.specs.Leader.{leader_bits, IsLeader, leader_in}
 use Rattle.ncp_leader.specs.Message.{Message, IsMessage, message_in, message_with}
 use Rattle.ncp_leader.proofs.Leaders.{leader_in-bits}
 use Rattle.ncp_leader.proofs.Messages.{message_in-bits, message_leader, IsMessage-with}
-use Rattle.ncp_control.specs.declared.command.Command.{Command}
-use Rattle.ncp_control.specs.declared.fault.CommandFault.{CommandFault}
-use Rattle.ncp_control.specs.Spelling.{spellings}
+use Rattle.ncp_terms.specs.declared.command.Command.{Command}
+use Rattle.ncp_terms.specs.declared.fault.CommandFault.{CommandFault}
+use Rattle.ncp_terms.specs.Spelling.{spellings}
 use Rattle.ncp_control.specs.Reading.{commands_in, fault_in}
 use Rattle.ncp_control.proofs.Reading.{spellings_small, spelled_alone}
-use Rattle.ncp_slot.specs.declared.slot.Answer.TheVariants.{Rfnm, Incomplete}
-use Rattle.ncp_slot.specs.declared.slot.Answer.TheVariants as answer_kinds
+use Rattle.ncp_terms.specs.declared.answer.Answer.TheVariants.{Rfnm, Incomplete}
+use Rattle.ncp_terms.specs.declared.answer.Answer.TheVariants as answer_kinds
 use Rattle.ncp_host.specs.PeerState.{PeerState, answer_comes}
 use Rattle.ncp_host.specs.Hearing.{hears_all, hears_text, message_received, message_after, rfnm, incomplete, destination_dead}
 use Rattle.ncp_host.specs.Output.{leader_to, message_to}

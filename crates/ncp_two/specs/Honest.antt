@@ -1,8 +1,8 @@
 -- What the notes of a run say of the subnet and of the order on one link. They are read off the notes
 -- alone: no host, no slot and no subnet is named here.
 use Rattle.std.specs.Prelude.{◌≡◌, ◌≤◌, ℕ, ◌==◌, Bool, true, false, List, [], ◌∷◌, ◌++◌, length}
-use Rattle.ncp_slot.specs.declared.slot.Answer.{Answer}
-use Rattle.ncp_slot.specs.declared.slot.Answer.TheVariants.{Rfnm, Incomplete, Dead}
+use Rattle.ncp_terms.specs.declared.answer.Answer.{Answer}
+use Rattle.ncp_terms.specs.declared.answer.Answer.TheVariants.{Rfnm, Incomplete, Dead}
 use Rattle.ncp_resets.specs.Resets.{Side, This, That}
 use Rattle.ncp_two.specs.Subnet.{link_in, from_host}
 use Rattle.ncp_two.specs.World.{Told, Called, Out, In, Went_lost, Went_dead, Answered, Nothing, Note}

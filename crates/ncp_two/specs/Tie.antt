@@ -2,10 +2,10 @@
 -- and each message is the written form of the commands or the text that the model has in its place.
 use Rattle.std.specs.Prelude.{◌≡◌, ◌<◌, ◌≤◌, ℕ, ◌==◌, ◌%◌, ◌^◌, Bool, false, List, [], ◌∷◌, length, All, Option, None, Some}
 use Rattle.std.specs.FinMap.{get}
-use Rattle.ncp_bits.specs.Bits.{bits_of_bytes}
+use Rattle.ncp_numbers.specs.Bytes.{bits_of_bytes}
 use Rattle.ncp_leader.specs.declared.regular.TheConstants.{MAX_TEXT_BITS}
-use Rattle.ncp_control.specs.declared.command.Command.{Command}
-use Rattle.ncp_control.specs.Spelling.{spellings, IsCommand}
+use Rattle.ncp_terms.specs.declared.command.Command.{Command}
+use Rattle.ncp_terms.specs.Spelling.{spellings, IsCommand}
 use Rattle.ncp_slot.specs.declared.slot.Slot.TheVariants as slots
 use Rattle.ncp_slot.specs.Slots.{LinkSlot, slot_at}
 use Rattle.ncp_model.specs.declared.pair.Pair.{Pair}

@@ -5,9 +5,9 @@ use Rattle.std.specs.Prelude.{ℕ, Bool, List, [], ◌∷◌, Option, None, Some
 use Rattle.ncp_leader.specs.declared.leader.Leader.{Leader}
 use Rattle.ncp_leader.specs.declared.leader.Short.{Short}
 use Rattle.ncp_leader.specs.Leader.{leader_in}
-use Rattle.ncp_slot.specs.declared.slot.Answer.{Answer}
-use Rattle.ncp_slot.specs.declared.slot.Answer.TheVariants.{Rfnm, Incomplete}
-use Rattle.ncp_slot.specs.declared.slot.Answer.TheVariants as answer_kinds
+use Rattle.ncp_terms.specs.declared.answer.Answer.{Answer}
+use Rattle.ncp_terms.specs.declared.answer.Answer.TheVariants.{Rfnm, Incomplete}
+use Rattle.ncp_terms.specs.declared.answer.Answer.TheVariants as answer_kinds
 use Rattle.ncp_model.specs.declared.pair.Pair.{Pair}
 use Rattle.ncp_model.specs.declared.call_fault.CallFault.{CallFault}
 use Rattle.ncp_model.specs.Phase.{reset_answer}

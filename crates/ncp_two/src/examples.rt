@@ -2,7 +2,7 @@
 //! be admit, and what they refuse: small laws that a wrong definition makes false.
 ghost use Rattle.std.specs.Prelude.{◌≡◌, ℕ, Bool, true, false, List, [], ◌∷◌, None, Some};
 ghost use Rattle.ncp_slot.specs.declared.slot.Slot.TheVariants as slots;
-ghost use Rattle.ncp_slot.specs.declared.slot.Answer.TheVariants.{Rfnm, Dead};
+ghost use Rattle.ncp_terms.specs.declared.answer.Answer.TheVariants.{Rfnm, Dead};
 ghost use Rattle.ncp_model.specs.declared.outcomes.Took.TheVariants as took;
 ghost use Rattle.ncp_resets.specs.Resets.{This, That};
 ghost use Rattle.ncp_host.specs.declared.received.Received.{Received};

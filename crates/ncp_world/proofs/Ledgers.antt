@@ -3,11 +3,11 @@ use Rattle.std.proofs.Common.{◌≡◌, ◌<◌, ◌≤◌, ℕ, ◌==◌, ◌^
 use Rattle.std.proofs.lemmas.Bool.{and_parts, eqb-true}
 use Rattle.std.proofs.lemmas.List.{take_all}
 use Rattle.std.specs.FinMap.{get, get-empty}
-use Rattle.ncp_bits.specs.Bits.{bytes_of, bits_of_bytes}
+use Rattle.ncp_numbers.specs.Bytes.{bytes_of, bits_of_bytes}
 use Rattle.ncp_leader.specs.declared.fault.MessageFault.{MessageFault}
 use Rattle.ncp_leader.specs.Message.{Message, message_in}
-use Rattle.ncp_control.specs.declared.command.Command.{Command}
-use Rattle.ncp_control.specs.Spelling.{spellings}
+use Rattle.ncp_terms.specs.declared.command.Command.{Command}
+use Rattle.ncp_terms.specs.Spelling.{spellings}
 use Rattle.ncp_control.specs.Reading.{commands_in}
 use Rattle.ncp_slot.specs.Slot.{kept_message}
 use Rattle.ncp_slot.specs.Slots.{LinkSlot, slot_at}

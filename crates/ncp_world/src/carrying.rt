@@ -1,6 +1,6 @@
 //! What ALL and RET carry that are underway.
 ghost use Rattle.std.specs.Prelude.{◌≡◌, ◌≤◌, ◌%◌, ◌^◌, [], ◌∷◌, length, take};
-ghost use Rattle.ncp_bits.specs.Bits.{bytes_of};
+ghost use Rattle.ncp_numbers.specs.Bytes.{bytes_of};
 ghost use Rattle.ncp_leader.specs.Message.{message_in};
 ghost use Rattle.ncp_control.specs.Reading.{commands_in};
 ghost use Rattle.ncp_model.specs.declared.limits.TheConstants.{MAX_WAITING as Most};
@@ -9,10 +9,11 @@ ghost use Rattle.ncp_host.specs.Host.{state_of};
 ghost use Rattle.ncp_world.specs.Reckoning.{counted, control_commands, waiting_of};
 
 use ncp_bits::{BitStore, Bits, Part};
-use ncp_control::{Command, Commands};
+use ncp_control::Commands;
 use ncp_host::Host;
 use ncp_leader::read_regular;
 use ncp_model::MAX_WAITING;
+use ncp_terms::Command;
 
 /// The byte size of control messages (NIC 8246, control messages).
 const CONTROL_SIZE: u8 = 8;

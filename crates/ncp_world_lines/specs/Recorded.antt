@@ -4,8 +4,8 @@ use Rattle.std.specs.Prelude.{ℕ, Bool, List, [], Option, Some, None, option_to
 use Rattle.std.specs.List.{flat_map}
 use Rattle.ncp_leader.specs.declared.kinds.TheConstants.{RFNM, DESTINATION_DEAD, INCOMPLETE}
 use Rattle.ncp_subnet.specs.Messages.{answer_bits}
-use Rattle.ncp_slot.specs.declared.slot.Answer.{Answer}
-use Rattle.ncp_slot.specs.declared.slot.Answer.TheVariants as answers
+use Rattle.ncp_terms.specs.declared.answer.Answer.{Answer}
+use Rattle.ncp_terms.specs.declared.answer.Answer.TheVariants as answers
 use Rattle.ncp_files.specs.declared.file.Direction.{Direction}
 use Rattle.ncp_files.specs.declared.file.Direction.TheVariants.{ToImp, FromImp}
 use Rattle.ncp_files.specs.declared.version.Version.TheVariants.{Two}

@@ -13,8 +13,8 @@ use ncp_leader::{DESTINATION_DEAD, INCOMPLETE, Leader, MAX_KIND, RFNM, put_leade
 use ncp_page::Page;
 use ncp_pairs::ManyNote;
 use ncp_script::TwoHosts;
-use ncp_slot::Answer;
 use ncp_stream::{Failed, Sink};
+use ncp_terms::Answer;
 use ncp_transcript::HostNote;
 use ncp_two::{Note, Side};
 

@@ -12,8 +12,8 @@ use ncp_page::{LONGEST_NUMBER, PAGE_SIZE, Page, push_field};
 use ncp_play::{
     Heading, LONGEST_FRONT, LONGEST_RECEIVED, Speaker, push_front, push_received, say_note,
 };
-use ncp_slot::Answer;
 use ncp_stream::{Failed, Sink};
+use ncp_terms::Answer;
 use ncp_transcript::HostNote;
 use ncp_two::{Move, Note, Side};
 

@@ -1,11 +1,11 @@
 //! Worked runs, each over either store: all events, and what each of their notes says.
-use crate::events;
 use crate::events::{LINK, answer, beginning, call, dead, deliver, out, push};
+use crate::events;
 use crate::tried::{A, B, Tried};
 use crate::wanted::{Wanted, say};
 use ncp_bits::{BitStore, PackedStore, PlainStore};
 use ncp_host::{End, Received, Record, Took};
-use ncp_slot::Answer;
+use ncp_terms::Answer;
 use ncp_transcript::Call;
 use ncp_world::Side;
 use std::alloc::Global;

@@ -1,7 +1,7 @@
 //! What a note is to say.
 use ncp_bits::Bits;
 use ncp_host::{Received, Record};
-use ncp_slot::Answer;
+use ncp_terms::Answer;
 use ncp_transcript::{HostNote, Message};
 use ncp_world::Note;
 use std::process::Abort;

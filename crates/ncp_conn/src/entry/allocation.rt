@@ -9,8 +9,8 @@ ghost use Rattle.ncp_conn.specs.Changes.{after, marks};
 
 use crate::entry::{Entry, refused};
 use ncp_bits::BitStore;
-use ncp_control::{Command, ERRONEOUS_PARAMETERS, SOCKET_NOT_CONNECTED};
 use ncp_model::{CallFault, Heard, MAX_AMOUNT, MAX_MESSAGES, give_back};
+use ncp_terms::{Command, ERRONEOUS_PARAMETERS, SOCKET_NOT_CONNECTED};
 
 // What of a counter is given back: no more than there is.
 fn part_back(counter: u32, fraction: u8) -> u32

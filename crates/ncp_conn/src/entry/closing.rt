@@ -7,8 +7,8 @@ ghost use Rattle.ncp_conn.specs.Changes.{after, with_end, marks};
 
 use crate::entry::{Entry, refused};
 use ncp_bits::BitStore;
-use ncp_control::{Command, ERRONEOUS_PARAMETERS};
 use ncp_model::{CallFault, Heard};
+use ncp_terms::{Command, ERRONEOUS_PARAMETERS};
 
 impl<S: BitStore> Entry<S> {
     // Makes the CLS, and drops what is stored.

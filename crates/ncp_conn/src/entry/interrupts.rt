@@ -7,8 +7,8 @@ ghost use Rattle.ncp_conn.specs.Changes.{after, marks};
 
 use crate::entry::{Entry, refused};
 use ncp_bits::BitStore;
-use ncp_control::{Command, SOCKET_NOT_CONNECTED};
 use ncp_model::{CallFault, Heard};
+use ncp_terms::{Command, SOCKET_NOT_CONNECTED};
 
 impl<S: BitStore> Entry<S> {
     /// An interrupt of the other side: INS from a sender, INR from a receiver.

@@ -8,8 +8,8 @@ ghost use Rattle.ncp_conn.specs.Changes.{after, with_end, putting, with_text, ma
 
 use crate::entry::{Entry, whole_bytes};
 use ncp_bits::{BitStore, Bits, Part};
-use ncp_control::Command;
 use ncp_model::{CallFault, MAX_TEXT, Took};
+use ncp_terms::Command;
 
 impl<S: BitStore> Entry<S> {
     // Stores a text behind what is stored, or nothing where there is no room.

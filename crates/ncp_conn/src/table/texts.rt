@@ -9,8 +9,8 @@ ghost use Rattle.ncp_conn.specs.Cutting.{may_cut, next_cut};
 
 use crate::table::Table;
 use ncp_bits::{BitStore, Bits, Part};
-use ncp_control::Command;
 use ncp_model::{CallFault, Pair, Took};
+use ncp_terms::Command;
 
 impl<S: BitStore> Table<S> {
     /// Gives text to send: it joins the bits that wait, at their end.

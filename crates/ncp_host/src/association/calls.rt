@@ -6,8 +6,8 @@ ghost use Rattle.ncp_host.specs.Steps.{CalledOrNoMemory};
 
 use crate::association::Association;
 use ncp_bits::{BitStore, Bits};
-use ncp_control::Command;
 use ncp_model::{CallFault, Pair};
+use ncp_terms::Command;
 
 impl<S: BitStore> Association<S> {
     /// Asks to send, as `Table::ask_send` has it.

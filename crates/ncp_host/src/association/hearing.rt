@@ -1,6 +1,6 @@
 //! What comes of a peer: the commands of a control text in order and then its fault, and texts.
 ghost use Rattle.std.specs.Prelude.{◌≡◌, ◌∷◌, ◌%◌, length, Bool, true};
-ghost use Rattle.ncp_bits.specs.Bits.{bytes_of};
+ghost use Rattle.ncp_numbers.specs.Bytes.{bytes_of};
 ghost use Rattle.ncp_control.specs.Reading.{commands_in, fault_in};
 ghost use Rattle.ncp_control.specs.Texts.{items_of};
 ghost use Rattle.ncp_model.specs.Phase.{up, is_other};
@@ -14,9 +14,10 @@ use crate::association::Association;
 use crate::counts::{Counts, one_more};
 use crate::queue::{is_rrp, is_rst};
 use ncp_bits::{BitStore, Part};
-use ncp_control::{Command, CommandFault, Commands, ERROR_DATA, SOCKET_NOT_CONNECTED};
+use ncp_control::Commands;
 use ncp_leader::FRONT_BITS;
 use ncp_model::{Error, Heard, Took};
+use ncp_terms::{Command, CommandFault, ERROR_DATA, SOCKET_NOT_CONNECTED};
 
 /// How many bits of a text an ERR about it shows.
 const SHOWN_BITS: usize = 8;

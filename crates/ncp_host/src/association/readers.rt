@@ -8,8 +8,8 @@ use crate::echoes::Errors;
 use crate::flags::Flags;
 use ncp_bits::BitStore;
 use ncp_conn::Record;
-use ncp_control::Command;
 use ncp_model::{CallFault, Pair};
+use ncp_terms::Command;
 
 impl<S: BitStore> Association<S> {
     /// A copy of what is known of a connection. Refused: `NoEntry`.

@@ -11,8 +11,8 @@ use crate::flags::Flags;
 use crate::host::{Host, find};
 use ncp_bits::{BitStore, Bits};
 use ncp_conn::Record;
-use ncp_control::Command;
 use ncp_model::{CallFault, Pair};
+use ncp_terms::Command;
 
 impl<S: BitStore> Host<S> {
     /// A copy of what is known of a connection, with the number of the stored bits in place of the

@@ -15,8 +15,8 @@ use crate::flags::Flags;
 use crate::peer::Peer;
 use ncp_bits::{BitStore, Bits};
 use ncp_conn::{LinkSet, Record};
-use ncp_control::Command;
 use ncp_model::{CallFault, Pair};
+use ncp_terms::Command;
 
 impl<S: BitStore> Peer<S> {
     /// Resets.

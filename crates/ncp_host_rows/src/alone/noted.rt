@@ -1,8 +1,7 @@
 //! What is wanted of a note.
 use crate::known::bits_of;
-use ncp_control::Command;
 use ncp_host::{CallFault, Counts, Flags, Ignored, Received, Record};
-use ncp_slot::Answer;
+use ncp_terms::{Answer, Command};
 use ncp_transcript::{HostNote, Input};
 use std::process::Abort;
 

@@ -1,10 +1,10 @@
 //! A host with its transcript that goes through the steps of an example.
+use crate::known::{LINK, OUTWARD};
 use super::INWARD;
 use super::noted::{Step, says};
-use crate::known::{LINK, OUTWARD};
 use ncp_bits::BitStore;
-use ncp_control::Command;
 use ncp_host::{CallFault, Counts, Flags, HostFault, Ignored, Record};
+use ncp_terms::Command;
 use ncp_transcript::{Alone, HostNote, Input};
 use std::alloc::Global;
 use std::process::Abort;

@@ -1,6 +1,6 @@
 //! What an example does to a host, and what it wants of it, as values.
-use ncp_control::Command;
 use ncp_host::{CallFault, Counts, Flags, Ignored, Pair, Received, Record};
+use ncp_terms::Command;
 
 /// A call of a user that is answered by nothing more.
 #[derive(Clone, Copy, Drop)]

@@ -4,8 +4,8 @@ use super::{
     INWARD, LINK, OUTWARD, RECEIVER, ROOM, SENDER, all, cls_of, err, goes, gvb, ret, rts_of,
 };
 use ncp_conn::{CallFault, Heard, Record, Took};
-use ncp_control::Command;
 use ncp_model::{MAX_AMOUNT, MAX_MESSAGES};
+use ncp_terms::Command;
 use std::test::Fail;
 
 #[test]

@@ -1,6 +1,6 @@
 //! What an example does to a table, and what it wants of it, as values.
 use ncp_conn::{CallFault, Heard, Pair, Record, Took};
-use ncp_control::Command;
+use ncp_terms::Command;
 
 /// A call of a user.
 #[derive(Clone, Copy, Drop)]

@@ -4,8 +4,8 @@ use super::{
     INWARD, LINK, OUTWARD, RECEIVER, ROOM, SENDER, all, cls_of, goes, rts_for, rts_of, str_of,
 };
 use ncp_conn::{CallFault, Heard, Record, Took};
-use ncp_control::Command;
 use ncp_model::{MAX_MESSAGES, MAX_ROOM};
+use ncp_terms::Command;
 use std::test::Fail;
 
 // Texts of each size go out as they were given, and are taken as they came.

@@ -3,7 +3,7 @@ use super::steps::{Call, Step};
 use super::{INWARD, LINK, OUTWARD, rts_for, str_for};
 use ncp_bits::{BitStore, Bits};
 use ncp_conn::{CallFault, Heard, Pair, Table};
-use ncp_control::Command;
+use ncp_terms::Command;
 use std::alloc::{AllocError, Global};
 use std::process::Abort;
 

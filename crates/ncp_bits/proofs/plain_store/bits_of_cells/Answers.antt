@@ -2,7 +2,7 @@ use Rattle.std.proofs.Common.{◌≡◌, ◌++◌, [], ◌∷◌, List, Bool, tr
 use Rattle.std.specs.Int.{from_bool}
 use Rattle.std.proofs.lemmas.List.{take_more}
 use Rattle.std.proofs.lemmas.Result.{IfOk-at_ok}
-use Rattle.ncp_bits.specs.Numbers.{bits_of}
+use Rattle.ncp_numbers.specs.Numbers.{bits_of}
 use Rattle.ncp_bits.proofs.plain_store.bits_of_cells.Goals as goal
 
 -- a bit as a number of one bit

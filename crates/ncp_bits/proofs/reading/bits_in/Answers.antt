@@ -1,5 +1,5 @@
-use Rattle.ncp_bits.specs.Bits.{byte_bits}
-use Rattle.ncp_bits.proofs.Shifts.{shifted_part}
+use Rattle.ncp_numbers.specs.Bytes.{byte_bits}
+use Rattle.ncp_numbers.proofs.Shifts.{shifted_part}
 use Rattle.ncp_bits.proofs.reading.bits_in.Goals as goal
 
 pub returns : goal.returns

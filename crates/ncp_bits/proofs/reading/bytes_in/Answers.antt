@@ -2,8 +2,8 @@ use Rattle.std.proofs.Common.{◌<◌, ◌≤◌, ◌+◌, ◌*◌, ◌/◌, ◌
 use Rattle.std.specs.List.{All}
 use Rattle.std.proofs.lemmas.List.{length-drop, length-take-le}
 use Rattle.std.proofs.lemmas.List.Elements.{All-from_get_or, All-drop, All-take}
-use Rattle.ncp_bits.specs.Bits.{bytes_of}
-use Rattle.ncp_bits.proofs.Packing.{bytes_of-bits_of_bytes}
+use Rattle.ncp_numbers.specs.Bytes.{bytes_of}
+use Rattle.ncp_numbers.proofs.Packing.{bytes_of-bits_of_bytes}
 use Rattle.ncp_bits.proofs.Runs.{run_of_bytes}
 use Rattle.ncp_bits.proofs.reading.bytes_in.Goals as goal
 

@@ -1,10 +1,10 @@
 use Rattle.std.proofs.Common.{◌≡◌, ◌+◌, ◌*◌, ◌/◌, ◌%◌, ◌-◌, ℕ, [], Bool, eqb, not, length, drop, sym, ap, ◌∙◌, arith}
 use Rattle.std.specs.List.{list_any}
 use Rattle.std.proofs.lemmas.List.{take_all, drop_all, length-drop}
-use Rattle.ncp_bits.specs.Numbers.{number_of}
-use Rattle.ncp_bits.specs.Bits.{bits_of_bytes}
+use Rattle.ncp_numbers.specs.Numbers.{number_of}
+use Rattle.ncp_numbers.specs.Bytes.{bits_of_bytes}
 use Rattle.ncp_bits.specs.Packed.{run}
-use Rattle.ncp_bits.proofs.Bytes.{length-bits_of_bytes}
+use Rattle.ncp_numbers.proofs.Bytes.{length-bits_of_bytes}
 use Rattle.ncp_bits.proofs.Runs.{any_set, run_in_byte}
 use Rattle.ncp_bits.proofs.reading.is_spare_set.Goals as goal
 

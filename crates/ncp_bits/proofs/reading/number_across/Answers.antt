@@ -1,10 +1,10 @@
 use Rattle.std.proofs.Common.{◌≡◌, ◌<◌, ◌+◌, ◌*◌, ◌/◌, ◌%◌, ◌^◌, ℕ, List, bit_or, length, take, drop, get_or, refl, sym, ap, ◌∙◌, arith}
 use Rattle.std.proofs.lemmas.Nat.{or_shifted, shl_whole}
-use Rattle.ncp_bits.specs.Numbers.{number_of}
-use Rattle.ncp_bits.specs.Bits.{byte_bits}
+use Rattle.ncp_numbers.specs.Numbers.{number_of}
+use Rattle.ncp_numbers.specs.Bytes.{byte_bits}
 use Rattle.ncp_bits.specs.Packed.{run}
-use Rattle.ncp_bits.proofs.Numbers.{number_of-below}
-use Rattle.ncp_bits.proofs.Shifts.{number_of-append}
+use Rattle.ncp_numbers.proofs.Numbers.{number_of-below}
+use Rattle.ncp_numbers.proofs.Shifts.{number_of-append}
 use Rattle.ncp_bits.proofs.Runs.{run_split, run_in_byte, length-run}
 use Rattle.ncp_bits.proofs.reading.number_across.Goals as goal
 

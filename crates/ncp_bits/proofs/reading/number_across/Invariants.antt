@@ -1,5 +1,5 @@
 use Rattle.std.proofs.Common.{◌≡◌, ◌≤◌, ◌-◌}
-use Rattle.ncp_bits.specs.Numbers.{number_of}
+use Rattle.ncp_numbers.specs.Numbers.{number_of}
 use Rattle.ncp_bits.specs.Packed.{run}
 use Rattle.ncp_bits.proofs.reading.number_across.Given as goal
 

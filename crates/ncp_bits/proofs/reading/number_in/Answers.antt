@@ -1,5 +1,5 @@
 use Rattle.std.proofs.Common.{ap, ◌∙◌, arith}
-use Rattle.ncp_bits.specs.Numbers.{number_of}
+use Rattle.ncp_numbers.specs.Numbers.{number_of}
 use Rattle.ncp_bits.proofs.Runs.{run_of_bytes}
 use Rattle.ncp_bits.proofs.reading.number_in.Goals as goal
 

@@ -1,5 +1,5 @@
 use Rattle.std.proofs.Common.{refl}
-use Rattle.ncp_bits.specs.Numbers.{number_of}
+use Rattle.ncp_numbers.specs.Numbers.{number_of}
 use Rattle.ncp_bits.proofs.Runs.{number_of_bytes-more}
 use Rattle.ncp_bits.proofs.reading.number_of_bytes.Goals as goal
 

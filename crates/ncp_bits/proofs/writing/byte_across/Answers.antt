@@ -1,6 +1,6 @@
 use Rattle.std.proofs.Common.{arith}
-use Rattle.ncp_bits.specs.Bits.{byte_bits}
-use Rattle.ncp_bits.proofs.Shifts.{shifted_across}
+use Rattle.ncp_numbers.specs.Bytes.{byte_bits}
+use Rattle.ncp_numbers.proofs.Shifts.{shifted_across}
 use Rattle.ncp_bits.proofs.writing.byte_across.Goals as goal
 
 pub returns : goal.returns

@@ -1,9 +1,9 @@
 use Rattle.std.proofs.Common.{◌≡◌, ◌<◌, ◌+◌, ◌*◌, ◌^◌, ℕ, List, length, get_or, sym, ap, ◌∙◌, arith}
 use Rattle.std.proofs.lemmas.List.{get_or-take}
-use Rattle.ncp_bits.specs.Numbers.{number_of}
-use Rattle.ncp_bits.specs.Bits.{byte_bits}
+use Rattle.ncp_numbers.specs.Numbers.{number_of}
+use Rattle.ncp_numbers.specs.Bytes.{byte_bits}
 use Rattle.ncp_bits.specs.Packed.{run}
-use Rattle.ncp_bits.proofs.Fields.{number_of-fitting}
+use Rattle.ncp_numbers.proofs.Fields.{number_of-fitting}
 use Rattle.ncp_bits.proofs.Runs.{run_of_byte}
 use Rattle.ncp_bits.proofs.writing.fill.Goals as goal
 

@@ -1,6 +1,6 @@
 use Rattle.std.proofs.Common.{below_more, sym, ap, ◌∙◌, arith}
 use Rattle.std.proofs.lemmas.List.{get_or-set_same, get_or-set_other}
-use Rattle.ncp_bits.specs.Numbers.{number_of}
+use Rattle.ncp_numbers.specs.Numbers.{number_of}
 use Rattle.ncp_bits.proofs.Runs.{run_across}
 use Rattle.ncp_bits.proofs.writing.fill_shifted.Goals as goal
 

@@ -1,10 +1,10 @@
 use Rattle.std.proofs.Common.{◌≡◌, ◌<◌, ◌+◌, ◌*◌, ◌/◌, ◌%◌, ◌-◌, ◌^◌, ◌++◌, ℕ, below_more, length, take, drop, set, sym, ap, ◌∙◌, arith}
 use Rattle.std.proofs.lemmas.List.{drop_at, drop-drop, drop-set-lt, get_or_append_left, get_or-set_same, get_or-set_other, length-append, length-drop, length-set, length-take-le}
 use Rattle.std.proofs.lemmas.Nat.{shl_whole}
-use Rattle.ncp_bits.specs.Bits.{byte_of}
+use Rattle.ncp_numbers.specs.Bytes.{byte_of}
 use Rattle.ncp_bits.specs.Packed.{run}
-use Rattle.ncp_bits.proofs.Numbers.{number_of-below}
-use Rattle.ncp_bits.proofs.Bytes.{bytes_of-written, byte_of-fits}
+use Rattle.ncp_numbers.proofs.Numbers.{number_of-below}
+use Rattle.ncp_numbers.proofs.Bytes.{bytes_of-written, byte_of-fits}
 use Rattle.ncp_bits.proofs.Runs.{length-run, byte_of-run, last_of-run}
 use Rattle.ncp_bits.proofs.writing.write_run.Goals as goal
 

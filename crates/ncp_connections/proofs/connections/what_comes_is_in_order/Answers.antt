@@ -1,6 +1,6 @@
 use Rattle.std.proofs.Common.{List, subst}
 use Rattle.std.proofs.lemmas.Bool.{lt-ltb}
-use Rattle.ncp_control.specs.declared.command.Command.{Command}
+use Rattle.ncp_terms.specs.declared.command.Command.{Command}
 use Rattle.ncp_connections.specs.Connections.{Text, occur}
 use Rattle.ncp_connections.proofs.Whole.{Inv, ever}
 use Rattle.ncp_connections.proofs.InOrder.{sender_in_order, receiver_in_order, text_in_order}

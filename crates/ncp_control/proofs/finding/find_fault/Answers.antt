@@ -1,8 +1,8 @@
 use Rattle.std.proofs.Common.{◌≡◌, ◌*◌, ◌/◌, ◌-◌, ℕ, List, length, drop, None, refl, sym, ap, ◌∙◌, arith}
 use Rattle.std.proofs.lemmas.List.{drop-drop, drop_all, length-drop}
 use Rattle.std.proofs.lemmas.List.Elements.{All-drop}
-use Rattle.ncp_bits.specs.Bits.{bytes_of}
-use Rattle.ncp_control.specs.Spelling.{IsByte}
+use Rattle.ncp_numbers.specs.Bytes.{bytes_of}
+use Rattle.ncp_terms.specs.Spelling.{IsByte}
 use Rattle.ncp_control.specs.Reading.{size_of, command_at, fault_in}
 use Rattle.ncp_control.proofs.Text.{length_whole, bytes_are_small}
 use Rattle.ncp_control.proofs.Fields.{byte_front_at}

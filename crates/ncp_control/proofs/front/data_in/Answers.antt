@@ -1,5 +1,5 @@
 use Rattle.std.proofs.Common.{◌≡◌, ◌*◌, ◌-◌, ◌++◌, length, drop, replicate, min, ap, ◌∙◌}
-use Rattle.ncp_bits.specs.Bits.{bytes_of, bytes_for}
+use Rattle.ncp_numbers.specs.Bytes.{bytes_of, bytes_for}
 use Rattle.ncp_control.proofs.Text.{data_of}
 use Rattle.ncp_control.proofs.front.data_in.Goals as goal
 

@@ -1,6 +1,6 @@
 use Rattle.std.proofs.Common.{refl, ◌∷◌, []}
-use Rattle.ncp_bits.specs.Numbers.{bits_of}
-use Rattle.ncp_bits.specs.Bits.{byte_bits}
+use Rattle.ncp_numbers.specs.Numbers.{bits_of}
+use Rattle.ncp_numbers.specs.Bytes.{byte_bits}
 use Rattle.ncp_feed.proofs.laws.worked_feed.Goals as goal
 
 pub returns-clause-whole : goal.returns-clause-whole

@@ -1,5 +1,5 @@
 use Rattle.std.proofs.Common.{◌+◌, Ok, Err, drop, slice_range, sym, ap, ◌∙◌}
-use Rattle.ncp_bits.specs.Bits.{bytes_for}
+use Rattle.ncp_numbers.specs.Bytes.{bytes_for}
 use Rattle.ncp_files.proofs.Files.{record_told, record_behind, told_fault}
 use Rattle.ncp_files.proofs.checking.judge_record.Goals as goal
 

@@ -3,7 +3,7 @@ use Rattle.std.specs.List.{flat_map}
 use Rattle.std.proofs.Math.Bool.{or-false}
 use Rattle.std.proofs.lemmas.List.{append_assoc}
 use Rattle.ncp_files.specs.Lines.{item_line, control_lines}
-use Rattle.ncp_bits.specs.Bits.{bytes_of}
+use Rattle.ncp_numbers.specs.Bytes.{bytes_of}
 use Rattle.ncp_stream.specs.Streams.{SaysText, SaysBeginning}
 use Rattle.ncp_stream.proofs.Saying.{answers_broken}
 use Rattle.ncp_stream.proofs.Saying.{says_none, says_item, says_items, says_items_broken}

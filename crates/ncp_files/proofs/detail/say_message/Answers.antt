@@ -1,5 +1,5 @@
 use Rattle.std.proofs.Common.{◌≡◌, ◌∙◌, ap, sym, subst}
-use Rattle.ncp_bits.specs.Bits.{bytes_of}
+use Rattle.ncp_numbers.specs.Bytes.{bytes_of}
 use Rattle.ncp_files.specs.Lines.{size_line, text_lines, text_line, control_lines}
 use Rattle.ncp_stream.specs.Streams.{SaysTextOrBeginning}
 use Rattle.ncp_files.proofs.Choosing.{lines_of_control, lines_of_text}

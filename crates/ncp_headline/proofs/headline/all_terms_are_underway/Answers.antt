@@ -1,5 +1,5 @@
 use Rattle.std.proofs.Common.{List, Option, ap, ◌∙◌}
-use Rattle.ncp_control.specs.declared.command.Command.{Command}
+use Rattle.ncp_terms.specs.declared.command.Command.{Command}
 use Rattle.ncp_model.specs.End.{End, or_new, is_open}
 use Rattle.ncp_model.specs.Amounts.{back, granted_messages, returned_messages}
 use Rattle.ncp_model.specs.Ends.{lowest}

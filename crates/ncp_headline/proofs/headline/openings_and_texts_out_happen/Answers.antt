@@ -6,7 +6,7 @@ use Rattle.ncp_hosts.specs.HostRuns.{with_text_out, meets, met, meets_there, met
 use Rattle.ncp_hosts.proofs.HostsListed.{this-end, that-end, this-control}
 use Rattle.ncp_headline.proofs.headline.openings_and_texts_out_happen.Goals as goal
 use Rattle.std.proofs.Common.{Option, List, ◌∙◌}
-use Rattle.ncp_control.specs.declared.command.Command.{Command}
+use Rattle.ncp_terms.specs.declared.command.Command.{Command}
 use Rattle.std.specs.FinMap.{get}
 use Rattle.std.specs.FinMap.Entries.{find}
 use Rattle.ncp_model.specs.Pairs.{pair_cmp}

@@ -1,7 +1,7 @@
 use Rattle.std.proofs.Common.{◌≡◌, Bool, true, if◌then◌else◌, ap, ◌∙◌}
 use Rattle.std.proofs.lemmas.Bool.{or_right}
-use Rattle.ncp_control.specs.declared.command.Command.{Command}
-use Rattle.ncp_control.specs.declared.command.Command.TheVariants.{Rst, Rrp}
+use Rattle.ncp_terms.specs.declared.command.Command.{Command}
+use Rattle.ncp_terms.specs.declared.command.Command.TheVariants.{Rst, Rrp}
 use Rattle.ncp_model.specs.Act.{answer}
 use Rattle.ncp_model.specs.Ends.{hear, text_in}
 use Rattle.ncp_model.specs.Happenings.{of_hearing, of_text, is_violation}

@@ -1,5 +1,5 @@
 use Rattle.std.proofs.Common.{◌≡◌}
-use Rattle.ncp_bits.specs.Bits.{bytes_of}
+use Rattle.ncp_numbers.specs.Bytes.{bytes_of}
 use Rattle.ncp_control.specs.Texts.{fault_among}
 use Rattle.ncp_control.specs.Reading.{fault_in}
 use Rattle.ncp_host_rows.proofs.control.fault_of_text.Given as goal

@@ -1,6 +1,6 @@
 use Rattle.std.proofs.Common.{refl}
-use Rattle.ncp_bits.specs.Numbers.{number_of}
-use Rattle.ncp_bits.specs.Bits.{byte_of, bytes_of}
+use Rattle.ncp_numbers.specs.Numbers.{number_of}
+use Rattle.ncp_numbers.specs.Bytes.{byte_of, bytes_of}
 use Rattle.ncp_model.proofs.rows.refusing_text.Goals as goal
 
 pub returns-clause-text : goal.returns-clause-text

@@ -1,6 +1,6 @@
 use Rattle.std.proofs.Common.{refl}
-use Rattle.ncp_bits.specs.Bits.{byte_bits}
-use Rattle.ncp_bits.specs.Numbers.{number_of, bits_of}
+use Rattle.ncp_numbers.specs.Bytes.{byte_bits}
+use Rattle.ncp_numbers.specs.Numbers.{number_of, bits_of}
 use Rattle.ncp_pairs.proofs.examples.notes_of_three_hosts.Goals as goal
 
 pub returns-clause-second : goal.returns-clause-second

@@ -1,5 +1,5 @@
 use Rattle.std.proofs.Common.{refl}
-use Rattle.ncp_bits.specs.Numbers.{number_of}
+use Rattle.ncp_numbers.specs.Numbers.{number_of}
 use Rattle.ncp_runs.proofs.commands.a_message_is_fresh_once.Goals as goal
 
 pub returns-clause-control : goal.returns-clause-control

@@ -1,5 +1,5 @@
 use Rattle.std.proofs.Common.{refl}
-use Rattle.ncp_bits.specs.Numbers.{number_of}
+use Rattle.ncp_numbers.specs.Numbers.{number_of}
 use Rattle.ncp_runs.proofs.links.one_message_on_its_link.Goals as goal
 
 pub returns-clause-lost : goal.returns-clause-lost

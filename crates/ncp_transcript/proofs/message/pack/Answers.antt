@@ -1,5 +1,5 @@
 use Rattle.std.proofs.Common.{◌≡◌, ap, ◌∙◌, arith}
-use Rattle.ncp_bits.specs.Bits.{bytes_of, bytes_for}
+use Rattle.ncp_numbers.specs.Bytes.{bytes_of, bytes_for}
 use Rattle.ncp_transcript.specs.Packed.{bits_in}
 use Rattle.ncp_transcript.proofs.Packing.{exact, packed, written}
 use Rattle.ncp_transcript.proofs.message.pack.Goals as goal

@@ -1,6 +1,6 @@
 use Rattle.std.proofs.Common.{List, Result, length, ap, arith}
-use Rattle.ncp_control.specs.declared.command.Command.{Command}
-use Rattle.ncp_control.specs.declared.fault.CommandFault.{CommandFault}
+use Rattle.ncp_terms.specs.declared.command.Command.{Command}
+use Rattle.ncp_terms.specs.declared.fault.CommandFault.{CommandFault}
 use Rattle.ncp_control.specs.Texts.{commands_of}
 use Rattle.ncp_headline.specs.Headline.{sum_on}
 use Rattle.ncp_world.specs.Reckoning.{counted}

@@ -1,6 +1,6 @@
 use Rattle.std.proofs.Common.{refl}
-use Rattle.ncp_bits.specs.Numbers.{bits_of, number_of}
-use Rattle.ncp_bits.specs.Bits.{byte_bits, byte_of, bytes_of}
+use Rattle.ncp_numbers.specs.Numbers.{bits_of, number_of}
+use Rattle.ncp_numbers.specs.Bytes.{byte_bits, byte_of, bytes_of}
 use Rattle.ncp_subnet.specs.Messages.{answer_bits}
 use Rattle.ncp_world_lines.proofs.laws.a_reset_is_recorded_so.Goals as goal
 

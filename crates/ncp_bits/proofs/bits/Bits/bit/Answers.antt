@@ -1,6 +1,6 @@
 use Rattle.std.proofs.Common.{◌≡◌, ◌+◌, ap, sym, ◌∙◌, length, get_or, false, Some, List, Bool, ℕ, arith}
 use Rattle.std.proofs.lemmas.Option.{slice_get-get_or}
-use Rattle.ncp_bits.specs.Bits.{bits_of_bytes}
+use Rattle.ncp_numbers.specs.Bytes.{bits_of_bytes}
 use Rattle.ncp_bits.proofs.Runs.{length-packed, get_or-run}
 use Rattle.ncp_bits.proofs.bits.Bits.bit.Goals as goal
 

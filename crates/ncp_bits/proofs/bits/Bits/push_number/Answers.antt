@@ -1,9 +1,9 @@
 use Rattle.std.proofs.Common.{◌≡◌, ◌+◌, ◌-◌, ◌++◌, ℕ, List, false, length, replicate, Result, Ok, Err, IsOk, OnErr, refl, ap, ◌∙◌, arith}
 use Rattle.std.proofs.lemmas.Result.{IfOk-at_ok}
 use Rattle.std.proofs.lemmas.List.{append_assoc, length-append, length-replicate}
-use Rattle.ncp_bits.specs.Numbers.{bits_of}
+use Rattle.ncp_numbers.specs.Numbers.{bits_of}
 use Rattle.ncp_bits.specs.Packed.{run}
-use Rattle.ncp_bits.proofs.Numbers.{bits_of-spelled}
+use Rattle.ncp_numbers.proofs.Numbers.{bits_of-spelled}
 use Rattle.ncp_bits.proofs.Runs.{run-number, run-zeros, length-packed}
 use Rattle.ncp_bits.proofs.Joins.{min_is}
 use Rattle.ncp_bits.proofs.bits.Bits.push_number.Goals as goal

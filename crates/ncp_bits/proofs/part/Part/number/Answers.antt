@@ -1,6 +1,6 @@
 use Rattle.std.proofs.Common.{◌≡◌, ◌+◌, ◌<◌, ◌^◌, ap, sym, ◌∙◌, length, slice_range, List, Bool, arith}
-use Rattle.ncp_bits.specs.Numbers.{number_of}
-use Rattle.ncp_bits.proofs.Numbers.{number_of_range}
+use Rattle.ncp_numbers.specs.Numbers.{number_of}
+use Rattle.ncp_numbers.proofs.Numbers.{number_of_range}
 use Rattle.ncp_bits.proofs.Runs.{length-part, range-run}
 use Rattle.ncp_bits.proofs.part.Part.number.Goals as goal
 

@@ -1,5 +1,5 @@
 use Rattle.std.proofs.Common.{◌≡◌, ◌*◌, ◌≤◌, length, refl, arith}
-use Rattle.ncp_bits.specs.Bits.{bytes_of}
+use Rattle.ncp_numbers.specs.Bytes.{bytes_of}
 use Rattle.ncp_control.specs.Reading.{items_in}
 use Rattle.ncp_control.proofs.Text.{length_whole, bytes_are_small}
 use Rattle.ncp_control.proofs.Reading.{reads, commands_met, fault_met, last_met, items_are_few}

@@ -1,5 +1,5 @@
 use Rattle.std.proofs.Common.{◌≡◌, ◌∷◌, length, Ok, Err, refl, sym, ap, ◌∙◌, arith}
-use Rattle.ncp_bits.specs.Bits.{bytes_of}
+use Rattle.ncp_numbers.specs.Bytes.{bytes_of}
 use Rattle.ncp_control.specs.Reading.{items_in}
 use Rattle.ncp_control.proofs.Reading.{items_fault}
 use Rattle.ncp_control.proofs.Items.{none_met, command_met}

@@ -1,6 +1,6 @@
 use Rattle.std.proofs.Common.{Ok, Err, Result, refl, sym, subst, ◌∙◌}
 use Rattle.std.specs.FinMap.{get}
-use Rattle.ncp_control.specs.declared.command.Command.{Command}
+use Rattle.ncp_terms.specs.declared.command.Command.{Command}
 use Rattle.ncp_model.specs.declared.call_fault.CallFault.{CallFault}
 use Rattle.ncp_model.specs.Act.{made_by_call}
 use Rattle.ncp_model.specs.Calls.{ask_send}

@@ -1,9 +1,9 @@
 use Rattle.std.proofs.Common.{◌≡◌, ◌+◌, ◌-◌, false, List, Bool, ◌++◌, take, drop, length, ap, ◌∙◌, arith, min}
 use Rattle.std.specs.Prelude.{replicate, slice_range}
 use Rattle.std.proofs.lemmas.List.{append_assoc, append-nil}
-use Rattle.ncp_bits.specs.Bits.{bytes_of, bytes_for}
-use Rattle.ncp_bits.specs.Numbers.{bits_of}
-use Rattle.ncp_control.specs.declared.command.Command.TheVariants as commands
+use Rattle.ncp_numbers.specs.Bytes.{bytes_of, bytes_for}
+use Rattle.ncp_numbers.specs.Numbers.{bits_of}
+use Rattle.ncp_terms.specs.declared.command.Command.TheVariants as commands
 use Rattle.ncp_host.proofs.Showing.{shown}
 use Rattle.ncp_host.proofs.association.hearing.text_error.Goals as goal
 

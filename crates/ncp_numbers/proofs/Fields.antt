@@ -2,8 +2,8 @@
 use Rattle.std.proofs.Common.{◌≡◌, ℕ, ◌+◌, ◌^◌, ◌<◌, ◌≤◌, Bool, List, ◌++◌, length, take, drop, slice_range, sym, ap, ◌∙◌, arith}
 use Rattle.std.proofs.lemmas.List.{length-take-le, length-drop, drop-drop, take-append-drop}
 use Rattle.std.proofs.Math.Nat.{mod-eq_of_lt}
-use Rattle.ncp_bits.specs.Numbers.{number_of, bits_of}
-use Rattle.ncp_bits.proofs.Numbers.{bits_of-number_of, number_of-bits_of}
+use Rattle.ncp_numbers.specs.Numbers.{number_of, bits_of}
+use Rattle.ncp_numbers.proofs.Numbers.{bits_of-number_of, number_of-bits_of}
 
 -- what is left at a place begins with the bits of the number that is read there
 pub field_rest : (bits : List Bool) (at width : ℕ) → at + width ≤ length bits → drop at bits ≡ bits_of width (number_of (slice_range bits at (at + width))) ++ drop (at + width) bits

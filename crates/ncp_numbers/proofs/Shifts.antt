@@ -3,8 +3,8 @@ use Rattle.std.proofs.Common.{◌≡◌, ℕ, suc, zero, ◌+◌, ◌*◌, ◌/�
 use Rattle.std.proofs.lemmas.List.{length-append}
 use Rattle.std.proofs.lemmas.Nat.{pow-add, shl-shr, shr-shr, field_of, mod-pow-add, or_shifted, pow_pos, shr_split, shr_below, shl_below, shl_whole, mod-mul-add}
 use Rattle.std.proofs.Math.Nat.{mod-eq_of_lt}
-use Rattle.ncp_bits.specs.Numbers.{number_of, bits_of, bit_of}
-use Rattle.ncp_bits.proofs.Numbers.{length-bits_of, number_of-bits_of, bits_of-low}
+use Rattle.ncp_numbers.specs.Numbers.{number_of, bits_of, bit_of}
+use Rattle.ncp_numbers.proofs.Numbers.{length-bits_of, number_of-bits_of, bits_of-low}
 
 -- the last bits of a number
 pub drop-bits_of : (s w v : ℕ) → drop s (bits_of (s + w) v) ≡ bits_of w v

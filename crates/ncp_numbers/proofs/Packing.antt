@@ -6,11 +6,11 @@ use Rattle.std.proofs.lemmas.List.Elements.{All-nil, All-cons, All-get_or}
 use Rattle.std.proofs.lemmas.List.FromFn.{fill_by_all}
 use Rattle.std.proofs.lemmas.List.Concat.{flat_map-append}
 use Rattle.std.proofs.Math.Seq.{drop-cons}
-use Rattle.ncp_bits.specs.Numbers.{number_of, bits_of}
-use Rattle.ncp_bits.specs.Bits.{byte_bits, bits_of_bytes, bytes_for, spare_for, byte_of, bytes_of}
-use Rattle.ncp_bits.proofs.Numbers.{length-bits_of, bits_of-number_of, number_of-fits}
-use Rattle.ncp_bits.proofs.Fields.{number_of-fitting}
-use Rattle.ncp_bits.proofs.Bytes.{length-bits_of_bytes, byte_of-long}
+use Rattle.ncp_numbers.specs.Numbers.{number_of, bits_of}
+use Rattle.ncp_numbers.specs.Bytes.{byte_bits, bits_of_bytes, bytes_for, spare_for, byte_of, bytes_of}
+use Rattle.ncp_numbers.proofs.Numbers.{length-bits_of, bits_of-number_of, number_of-fits}
+use Rattle.ncp_numbers.proofs.Fields.{number_of-fitting}
+use Rattle.ncp_numbers.proofs.Bytes.{length-bits_of_bytes, byte_of-long}
 
 -- the bits behind the first bytes are those of the other bytes
 pub drop-bits_of_bytes : (bytes : List ℕ) (k : ℕ) → k ≤ length bytes → drop (8 * k) (bits_of_bytes bytes) ≡ bits_of_bytes (drop k bytes)

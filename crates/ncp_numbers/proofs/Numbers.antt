@@ -5,7 +5,7 @@ use Rattle.std.proofs.lemmas.Nat.{mod-pow-add, mod_below, and_mask, pow-add, pow
 use Rattle.std.proofs.Math.Nat.{add-mul-div_right, div-eq_of_lt}
 use Rattle.std.proofs.Math.Pow.{pow_mono}
 use Rattle.std.specs.Int.{from_bool}
-use Rattle.ncp_bits.specs.Numbers.{number_of, bits_of, bit_of}
+use Rattle.ncp_numbers.specs.Numbers.{number_of, bits_of, bit_of}
 
 pub pow-suc : (n : ℕ) → 2 ^ suc n ≡ 2 * 2 ^ n
 pow-suc n = omega arith

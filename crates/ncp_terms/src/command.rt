@@ -1,7 +1,7 @@
 //! Commands and their spelling.
 ghost use Rattle.std.specs.Prelude.{◌≡◌, ◌+◌, ◌<◌, ◌≤◌, ◌++◌, ◌∷◌, [], length, take, drop, All};
 ghost use Rattle.std.specs.Int.{to_be_bytes, w16, w32};
-ghost use Rattle.ncp_control.specs.Spelling.{spelling, IsByte, IsCommand, error_of};
+ghost use Rattle.ncp_terms.specs.Spelling.{spelling, IsByte, IsCommand, error_of};
 
 use crate::opcodes::*;
 use arrayvec::ArrayVec;

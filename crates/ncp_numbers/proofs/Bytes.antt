@@ -1,16 +1,15 @@
 -- Bytes as bits.
 use Rattle.std.proofs.Common.{◌≡◌, ℕ, suc, zero, ◌+◌, ◌*◌, ◌-◌, ◌<◌, ◌≤◌, Bool, true, false, List, [], ◌∷◌, ◌++◌, length, take, drop, get_or, refl, sym, ap, ◌∙◌, arith}
-use Rattle.std.specs.List.{list_any, range_with_len}
-use Rattle.std.proofs.Common.{ltb, Ok, ◌^◌, replicate, map}
+use Rattle.std.specs.List.{range_with_len}
+use Rattle.std.proofs.Common.{◌^◌, replicate, map}
 use Rattle.std.proofs.lemmas.List.{take_more, append_assoc, append-nil, length-append, length-take-le, take-append-le, take-append-drop, length-replicate, take-replicate, length-take, get_or-take}
 use Rattle.std.proofs.lemmas.Nat.{pow-add}
 use Rattle.std.proofs.Math.Seq.{take-append-add}
 use Rattle.std.proofs.lemmas.List.FromFn.{fill_by_all}
-use Rattle.std.proofs.lemmas.Bool.{le-ltb}
 use Rattle.std.proofs.lemmas.List.Concat.{flat_map-append}
-use Rattle.ncp_bits.specs.Numbers.{bits_of, number_of}
-use Rattle.ncp_bits.specs.Bits.{byte_bits, bits_of_bytes, bytes_for, read_bytes, byte_of, bytes_of}
-use Rattle.ncp_bits.proofs.Numbers.{length-bits_of, number_of-below}
+use Rattle.ncp_numbers.specs.Numbers.{bits_of, number_of}
+use Rattle.ncp_numbers.specs.Bytes.{byte_bits, bits_of_bytes, bytes_for, byte_of, bytes_of}
+use Rattle.ncp_numbers.proofs.Numbers.{length-bits_of, number_of-below}
 
 length-byte_bits : (byte : ℕ) → length (byte_bits byte) ≡ 8
 unfolding byte_bits
@@ -35,14 +34,6 @@ take-bits_of_bytes bytes len used h room =
     let l : length (bits_of_bytes (take used bytes)) ≡ 8 * used = length-bits_of_bytes (take used bytes) ∙ ap (λ n. 8 * n) (length-take-le used bytes h) in
     let e : bits_of_bytes bytes ≡ bits_of_bytes (take used bytes) ++ bits_of_bytes (drop used bytes) = ap bits_of_bytes (sym (take-append-drop used bytes)) ∙ flat_map-append byte_bits (take used bytes) (drop used bytes) in
     sym (ap (take len) e ∙ take-append-le len (bits_of_bytes (take used bytes)) (bits_of_bytes (drop used bytes)) (omega arith))
-
--- bytes that are long enough, with no bit set behind the wanted ones
-pub read_bytes-ok : (bytes : List ℕ) (len used : ℕ) → len ≤ 8192 → used ≡ bytes_for len → used ≤ length bytes → list_any (λ bit. bit) (drop len (bits_of_bytes (take used bytes))) ≡ false → read_bytes bytes len ≡ Ok (take len (bits_of_bytes bytes))
-read_bytes-ok bytes len used small is_used long none =
-    let a : ltb 8192 len ≡ false = le-ltb 8192 len small in
-    let b : ltb (length bytes) (bytes_for len) ≡ false = le-ltb _ _ (omega arith) in
-    let d : list_any (λ bit. bit) (drop len (bits_of_bytes (take (bytes_for len) bytes))) ≡ false = ap (λ n. list_any (λ bit. bit) (drop len (bits_of_bytes (take n bytes)))) (sym is_used) ∙ none in
-    rw (a, b, d) refl
 
 zeros : (k : ℕ) → number_of (replicate k false) ≡ 0
 unfolding number_of
@@ -85,14 +76,3 @@ bytes_of-written bits out was used is_used long each rest =
     fill_by_all (λ place. byte_of (drop (8 * place) bits)) (take used out) used 0 (length-take-le used out long) (λ k h. get_or-take used out k 0 h ∙ each k h) in
     sym (take-append-drop used out) ∙ ap (λ xs. xs ++ drop used out) front ∙ ap (λ xs. map (λ place. byte_of (drop (8 * place) bits)) (range_with_len 0 used) ++ xs) rest
     ∙ ap (λ n. map (λ place. byte_of (drop (8 * place) bits)) (range_with_len 0 n) ++ drop used was) is_used
-
--- bytes behind the last byte used are not looked at
-pub read_bytes-append : (piece rest : List ℕ) (len : ℕ) → length piece ≡ bytes_for len → read_bytes (piece ++ rest) len ≡ read_bytes piece len
-read_bytes-append piece rest len h =
-    let a : ltb (length (piece ++ rest)) (bytes_for len) ≡ false = le-ltb _ _ (simp length-append (omega arith)) in
-    let b : ltb (length piece) (bytes_for len) ≡ false = le-ltb _ _ (omega arith) in
-    let d : take (bytes_for len) (piece ++ rest) ≡ take (bytes_for len) piece = take-append-le (bytes_for len) piece rest (omega arith) in
-    let l : length (bits_of_bytes piece) ≡ 8 * length piece = length-bits_of_bytes piece in
-    let e : take len (bits_of_bytes (piece ++ rest)) ≡ take len (bits_of_bytes piece) =
-    ap (take len) (flat_map-append byte_bits piece rest) ∙ take-append-le len (bits_of_bytes piece) (bits_of_bytes rest) (omega arith) in
-    rw (a, b, d, e) refl

@@ -1,6 +1,6 @@
-use Rattle.ncp_bits.proofs.Numbers.{length-bits_of, bits_of-number_of, number_of-fits}
-use Rattle.ncp_bits.proofs.Fields.{number_of-fitting}
-use Rattle.ncp_bits.proofs.laws.numbers_are_bits.Goals as goal
+use Rattle.ncp_numbers.proofs.Numbers.{length-bits_of, bits_of-number_of, number_of-fits}
+use Rattle.ncp_numbers.proofs.Fields.{number_of-fitting}
+use Rattle.ncp_numbers.proofs.laws.numbers_are_bits.Goals as goal
 
 pub returns-clause-number : goal.returns-clause-number
 returns-clause-number c = number_of-fitting

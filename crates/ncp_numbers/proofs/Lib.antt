@@ -1,0 +1,5 @@
+pub mod Numbers
+pub mod Bytes
+pub mod Fields
+pub mod Packing
+pub mod Shifts

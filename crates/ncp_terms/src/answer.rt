@@ -1,0 +1,11 @@
+//! `Answer`.
+/// What the subnet answers to a message that went out on a link.
+#[derive(Clone, Copy, Debug, Drop, PartialEq, Eq)]
+pub enum Answer {
+    /// Ready For Next Message: the message was delivered.
+    Rfnm,
+    /// Incomplete Transmission: the message was not delivered.
+    Incomplete,
+    /// Destination Dead: the message was not delivered, and is held until the user asks for it.
+    Dead,
+}
