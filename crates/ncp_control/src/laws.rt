@@ -8,13 +8,9 @@ ghost use Rattle.ncp_terms.specs.declared.command.Command.{Command};
 ghost use Rattle.ncp_terms.specs.declared.command.Command.TheVariants.{Err};
 ghost use Rattle.ncp_terms.specs.declared.fault.CommandFault.{CommandFault};
 
-use ncp_terms::{
-    ERRONEOUS_PARAMETERS, ERROR_DATA, ILLEGAL_OPCODE, LONGEST_COMMAND, NONEXISTENT_SOCKET,
-    SHORT_PARAMETER_SPACE, SOCKET_NOT_CONNECTED,
-};
+use ncp_terms::LONGEST_COMMAND;
 
-/// No spelling begins another, each is bytes, and none is empty or longer than
-/// [`crate::LONGEST_COMMAND`].
+/// No spelling begins another, each is bytes, and none is empty or longer than [`LONGEST_COMMAND`].
 pub fn spellings_are_apart()
     ensures apart { (one other : Command) (more rest : List ℕ) → IsCommand one → IsCommand other → spelling one ++ more ≡ spelling other ++ rest → (one ≡ other) × (more ≡ rest) }
     ensures some { (command : Command) → 0 < length (spelling command) }

@@ -3,7 +3,7 @@ use crate::said::{expect, message};
 use ncp_host::{CallFault, Counts, End, Flags, Ignored, Pair, Received, Record, Took};
 use ncp_leader::MessageFault;
 use ncp_play::Speaker;
-use ncp_terms::{Answer, ERROR_DATA};
+use ncp_terms::Answer;
 use ncp_transcript::{Call, HostNote};
 use std::alloc::Global;
 use std::process::Abort;
