@@ -1,6 +1,6 @@
 //! Worked runs, each over either store: all events, and what each of their notes says.
-use crate::events::{LINK, answer, beginning, call, dead, deliver, out, push};
 use crate::events;
+use crate::events::{LINK, answer, beginning, call, dead, deliver, out, push};
 use crate::tried::{A, B, Tried};
 use crate::wanted::{Wanted, say};
 use ncp_bits::{BitStore, PackedStore, PlainStore};

@@ -1,7 +1,7 @@
 //! A host with its transcript that goes through the steps of an example.
-use crate::known::{LINK, OUTWARD};
 use super::INWARD;
 use super::noted::{Step, says};
+use crate::known::{LINK, OUTWARD};
 use ncp_bits::BitStore;
 use ncp_host::{CallFault, Counts, Flags, HostFault, Ignored, Record};
 use ncp_terms::Command;

@@ -1,7 +1,7 @@
 //! How connections end: by both CLSs, by a reset of both hosts, and by going down.
-use crate::known::{DOWN, LINK, NO_COUNTS, OUTWARD, PEER, RECEIVER, SENDER, UP};
 use super::steps::{Call, Step};
 use super::{CONTROL, INWARD, RECEIVER_CLS, RFNM, ROOM, SENDER_CLS, goes, goes_on, goes_up};
+use crate::known::{DOWN, LINK, NO_COUNTS, OUTWARD, PEER, RECEIVER, SENDER, UP};
 use ncp_host::{CallFault, Counts, Flags, Received, Record, Took};
 use ncp_terms::Command;
 use std::test::Fail;

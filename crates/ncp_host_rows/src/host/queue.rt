@@ -1,7 +1,7 @@
 //! The commands that wait, and what goes out of them.
-use crate::known::{DOWN, LINK, ME, NO_COUNTS, PEER, RECEIVER, UP};
 use super::steps::{Call, Step};
 use super::{CONTROL, INWARD, OTHER, RFNM, Tried, goes, goes_on, goes_up};
+use crate::known::{DOWN, LINK, ME, NO_COUNTS, PEER, RECEIVER, UP};
 use ncp_bits::{BitStore, PackedStore, PlainStore};
 use ncp_host::{CallFault, Counts, Received, Record};
 use ncp_terms::{Command, SOCKET_NOT_CONNECTED};
