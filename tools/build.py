@@ -17,6 +17,7 @@ import threading
 
 TOP = os.path.dirname(os.path.dirname(os.path.abspath(__file__)))
 SOURCES = ("src", "specs", "proofs")
+RT = [sys.executable, f"{TOP}/tools/once.py"]
 # What a lane may take of memory, in bytes.
 ROOM = 4_000_000_000
 
@@ -158,7 +159,7 @@ class Build:
         folder = f"{place}/crates/{name}"
         is_program = os.path.isfile(f"{folder}/src/main.rt")
         first = [] if is_urgent else ["nice", "-n", "10"]
-        words = [*first, "rt", *(["run", "--jobs", f"{jobs}", "--", "--help"] if is_program else ["lib", "--jobs", f"{jobs}"])]
+        words = [*first, *RT, *(["run", "--jobs", f"{jobs}", "--", "--help"] if is_program else ["lib", "--jobs", f"{jobs}"])]
         ran = subprocess.Popen(words, cwd=folder, stdin=subprocess.DEVNULL, stdout=subprocess.PIPE, stderr=subprocess.STDOUT, text=True, errors="replace")
         self.running[name] = ran
         log = ran.communicate()[0]
