@@ -20,6 +20,10 @@ SOURCES = ("src", "specs", "proofs")
 RT = [sys.executable, f"{TOP}/tools/once.py"]
 # What a lane may take of memory, in bytes.
 ROOM = 4_000_000_000
+# What work a crate has for each of its jobs, and what it is to read a library, both in lines of code (work_of). With less
+# work for a job a crate takes as long and more of the processors.
+WORK_OF_A_JOB = 400
+READING = 20
 
 
 def lines_of_crates():
@@ -53,17 +57,16 @@ def lines_in(folder):
 
 
 def work_of(name):
-    """About how long a crate's proof takes, in lines of code: a line of a lemma takes a tenth of that, and each crate
-    a hundred for what stands below it."""
-    return 100 + lines_in(f"{TOP}/crates/{name}/src") + lines_in(f"{TOP}/crates/{name}/proofs") / 10
+    """About how long a crate's own proof takes, in lines of code: a line of a lemma takes a tenth of that."""
+    return lines_in(f"{TOP}/crates/{name}/src") + lines_in(f"{TOP}/crates/{name}/proofs") / 10
 
 
 def chains(crates, uses):
-    """The work of each crate with the longest chain of crates that stand on it."""
+    """The work of each crate with the longest chain of crates that stand on it, and what each of these reads."""
     behind = {}
     for name in reversed(crates):
         above = [behind[it] for it in crates if name in uses[it]]
-        behind[name] = work_of(name) + max(above, default=0)
+        behind[name] = work_of(name) + READING * len(below([name], uses)) + max(above, default=0)
     return behind
 
 
@@ -103,7 +106,7 @@ class Build:
             for worker in workers:
                 worker.join()
             say("")
-        return self.failed is None
+        return len(self.built) == len(self.crates)
 
     def furnished(self, room):
         """A new room with the sources of these crates."""
@@ -133,7 +136,10 @@ class Build:
             status, log = self.build(place, name, is_urgent, jobs)
             with self.changed:
                 del self.running[name]
-                self.give(place, name) if status == 0 else self.fail(name, log)
+                try:
+                    self.give(place, name) if status == 0 else self.fail(name, log)
+                except OSError as error:
+                    self.fail(name, f"what was built of it cannot be copied: {error}")
                 self.changed.notify_all()
                 self.tell()
 
@@ -149,9 +155,11 @@ class Build:
         return self.behind[name] >= 0.9 * max(self.behind[it] for it in self.running)
 
     def jobs(self, name):
-        """How many jobs a crate may have: what is urgent one for each processor, and the others those that no crate needs."""
+        """How many jobs a crate may have, as many as its work is worth: what is urgent one for each processor, and the others
+        those that no crate needs."""
         waiting = sum(map(self.can_begin, self.left))
-        return processors() if self.is_urgent(name) else max(1, processors() // (len(self.running) + waiting))
+        spare = processors() if self.is_urgent(name) else processors() // (len(self.running) + waiting)
+        return max(1, min(spare, int(work_of(name) / WORK_OF_A_JOB)))
 
     def build(self, place, name, is_urgent, jobs):
         """Has the toolchain build a crate, a program by a run that asks nothing of it, and returns its status and what it said.

@@ -1,11 +1,15 @@
 #!/usr/bin/env python3
-"""The toolchain's rt, which takes the sum of a crate once.
+"""The toolchain's rt as a first build wants it.
 
     tools/once.py WORD..        as rt WORD..
 
 rt knows whether a crate is built by a sum over its sources and over the sums of its libraries. There is a kit that takes
 those anew on each way down to a library, and below a program there are thousands of ways: minutes in which nothing is
 proved. Here, while the sum of a crate is taken, that of each crate below it is taken once; the sum is the same.
+
+And rt keeps what it has proved of a crate for its next check, and builds a library with all its proofs. Here nothing is
+kept, and a library holds what others can cite of it. That is cheaper: no copies of the compiler read the libraries anew
+and hand their work on by files, and what stands on many libraries has less to read.
 """
 import functools
 import importlib.machinery
@@ -43,11 +47,26 @@ def each_once(stamp):
     return summed
 
 
+def for_one_build(call, is_library, keeping):
+    """The call of the compiler for a crate: without the words by which it keeps its work, and for statements of a library."""
+
+    @functools.wraps(call)
+    def called(crate, *words):
+        words = [it for it in words if it not in keeping]
+        if "build" in words and is_library(crate) and "--statements" not in words:
+            words.append("--statements")
+        return call(crate, *words)
+
+    return called
+
+
 def main():
     script = os.path.realpath(shutil.which("rt"))
     try:
         rt = loaded(script)
-        rt.rtlib.Crate.stamp = each_once(rt.rtlib.Crate.stamp)
+        crate = rt.rtlib.Crate
+        crate.stamp = each_once(crate.stamp)
+        crate.call = for_one_build(crate.call, crate.makes_rlib, rt.rtlib.KEPT)
     except (AttributeError, SyntaxError, UnicodeDecodeError):
         # a kit of another make
         os.execv(script, ["rt", *sys.argv[1:]])
