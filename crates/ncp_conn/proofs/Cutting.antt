@@ -1,9 +1,11 @@
 -- Which link may send next, and the pairs of a table in a list.
-use Rattle.std.proofs.Common.{◌≡◌, inl, inr, ℕ, zero, suc, ◌+◌, ◌-◌, ◌<◌, ◌≤◌, IfSome, Bool, true, false, cond, ◌*◌, List, [], ◌∷◌, Option, Some, None, is_some, map, refl, sym, ap, ◌∙◌, subst, arith}
+use Rattle.std.proofs.Common.{◌≡◌, inl, inr, ℕ, zero, suc, ◌+◌, ◌-◌, ◌<◌, ◌≤◌, IfSome, Bool, true, false, cond, ◌*◌, ◌/◌, min, length, List, [], ◌∷◌, Option, Some, None, is_some, map, refl, sym, ap, ◌∙◌, subst, arith}
+use Rattle.std.proofs.Math.Nat.{mul-le-mul_right, div-mul-le_self}
 use Rattle.std.specs.List.{count_by}
 use Rattle.std.specs.FinMap.{find}
 use Rattle.std.proofs.lemmas.Bool.{cases_eq}
 use Rattle.slab.specs.Slab.{entries_from}
+use Rattle.ncp_model.specs.declared.limits.TheConstants.{MAX_TEXT}
 use Rattle.ncp_model.specs.declared.pair.Pair.{Pair}
 use Rattle.ncp_model.specs.Pairs.{pair_cmp, same}
 use Rattle.ncp_model.specs.End.{End}
@@ -22,6 +24,18 @@ cut_tells p = go (may_send p.0 p.1)
     go : (b : Bool) → is_some (answer (cond b (cut_bits (bytes_to_send p.1 * p.1.size) p.1) (Stays None))) ≡ b
     go true = refl
     go false = refl
+
+whole : (n a size : ℕ) → n ≤ a / size → n * size ≤ a
+whole n a size h =
+    let less : n * size ≤ a / size * size = mul-le-mul_right size h in
+    let most : a / size * size ≤ a = div-mul-le_self a size in
+    omega (arith, less, most)
+
+-- what goes out is no more than waits, than is admitted and than a message takes
+pub cut_takes : (e : End) (n size : ℕ) → n ≡ bytes_to_send e → size ≡ e.size → (n * size ≤ length e.stored) × (n * size ≤ e.bits) × (n * size ≤ MAX_TEXT)
+cut_takes e n size is same =
+    let least : n ≡ min (length e.stored / size) (min (e.bits / size) (MAX_TEXT / size)) = is ∙ ap (λ (s : ℕ). min (length e.stored / s) (min (e.bits / s) (MAX_TEXT / s))) (sym same) in
+    (whole n (length e.stored) size (omega (arith, least)), whole n e.bits size (omega (arith, least)), whole n MAX_TEXT size (omega (arith, least)))
 
 pub first_end : (test : ℕ → Bool) (n from : ℕ) → n ≡ 0 → first_of test n from ≡ None
 unfolding first_of

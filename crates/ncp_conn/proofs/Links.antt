@@ -1,5 +1,5 @@
 -- A set of links that are bits of a number.
-use Rattle.std.proofs.Common.{◌≡◌, ◌≢◌, ◌⊎◌, inl, inr, ℕ, zero, suc, ◌+◌, ◌-◌, ◌*◌, ◌/◌, ◌%◌, ◌^◌, ◌<◌, ◌≤◌, ◌==◌, Bool, true, false, cond, if◌then◌else◌, refl, sym, ap, ◌∙◌, subst, arith}
+use Rattle.std.proofs.Common.{◌≡◌, ◌≢◌, inl, inr, ℕ, ◌+◌, ◌-◌, ◌*◌, ◌/◌, ◌%◌, ◌^◌, ◌<◌, ◌≤◌, ◌==◌, Bool, true, false, cond, if◌then◌else◌, refl, sym, ap, ◌∙◌, arith}
 use Rattle.std.specs.Int.{bit_at, bit_not, w128, trailing_zeros}
 use Rattle.std.specs.Int.RustNames.{bit_and}
 use Rattle.std.proofs.lemmas.Bool.{cases_lt, eqb-true}

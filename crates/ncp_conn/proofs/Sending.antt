@@ -1,10 +1,13 @@
 -- On which links a text may go out, after a change under one key.
-use Rattle.std.proofs.Common.{◌≡◌, ◌≢◌, ℕ, Bool, true, false, cond, List, Option, Some, None, refl, sym, ap, ◌∙◌, subst, arith}
+use Rattle.std.proofs.Common.{◌≡◌, ℕ, Bool, true, false, cond, ◌&&◌, ◌==◌, List, Option, Some, None, refl, sym, ap, ◌∙◌, arith}
+use Rattle.std.proofs.lemmas.Bool.{eqb-true}
+use Rattle.std.proofs.lemmas.Bool.Decides.{nat_tests}
 use Rattle.slab.specs.Slab.{Slab, get, Updates}
 use Rattle.ncp_model.specs.declared.pair.Pair.{Pair}
+use Rattle.ncp_model.specs.Pairs.{sends}
 use Rattle.ncp_model.specs.End.{End, is_over}
 use Rattle.ncp_model.specs.Ends.{hears_link}
-use Rattle.ncp_conn.specs.Indexes.{key_at, passes, IsIndex, LeadsTo}
+use Rattle.ncp_conn.specs.Indexes.{key_at, passes, IsIndex}
 use Rattle.ncp_conn.specs.Links.{is_in}
 use Rattle.ncp_conn.specs.Sending.{sends_text, sends_at, AreSending, Notes}
 
@@ -39,3 +42,32 @@ module _ (keys later : List (Option ℕ)) (s new : Slab (Pair × End)) (key : �
       go : (b : Bool) → hears_link on f ≡ b → is_in after on ≡ sends_at (key_at later on) new
       go true h = noted true h ∙ sym (here on h)
       go false h = noted false h ∙ are on ∙ sym (elsewhere on (unheard on h) (same on h))
+
+-- What is noted of an entry, whose link is the one that it heard, if it heard one.
+
+both : (a b : Bool) → (a && b) ≡ true → a ≡ true
+both true b h = refl
+both false b h = absurd (cc)
+
+neither : (a : Bool) → (a && false) ≡ false
+neither true = refl
+neither false = refl
+
+turned : (a b : ℕ) → (a == b) ≡ (b == a)
+turned a b = grind (arith, nat_tests)
+
+module _ (p : Pair × End) (link : ℕ) (its : link ≡ p.1.link) where
+  pub hears_its : hears_link link p ≡ true → (on : ℕ) → (on == link) ≡ hears_link on p
+  hears_its heard on =
+      turned on link ∙ ap (λ (n : ℕ). n == on) its
+      ∙ ap (λ (b : Bool). b && p.1.link == on) (sym (both (sends p.0 && p.1.heard) (p.1.link == link) heard))
+
+  hears_none : hears_link link p ≡ false → (on : ℕ) → hears_link on p ≡ false
+  hears_none none on = go (p.1.link == on) refl
+    where
+      go : (b : Bool) → (p.1.link == on) ≡ b → hears_link on p ≡ false
+      go true e = ap (λ (n : ℕ). hears_link n p) (sym (its ∙ eqb-true p.1.link on e)) ∙ none
+      go false e = ap (λ (b : Bool). (sends p.0 && p.1.heard) && b) e ∙ neither (sends p.0 && p.1.heard)
+
+  pub unnoted : (links : ℕ) → hears_link link p ≡ false → Notes p links links
+  unnoted links none on = sym (ap (λ (b : Bool). cond b (sends_text p) (is_in links on)) (hears_none none on))

@@ -1,5 +1,5 @@
 -- The values of slots in a list, by rising key, and what changes there where one slot changes.
-use Rattle.std.proofs.Common.{◌≡◌, ◌≢◌, ℕ, zero, suc, List, [], ◌∷◌, Option, Some, None, refl, ap, arith, get_or}
+use Rattle.std.proofs.Common.{◌≡◌, ◌≢◌, ℕ, zero, suc, List, [], ◌∷◌, Option, Some, None, refl, sym, ap, ◌∙◌, arith, get_or}
 use Rattle.std.specs.Prelude.{slice_get, slice_set}
 use Rattle.std.specs.List.{remove, filter_map}
 
@@ -81,3 +81,7 @@ module _ {A : Type 0} where
       let is : z ≡ y = cc in
       let rest : vals b ≡ remove (vals a) (below a key) = vals_without a b key x h g (λ k e. same (suc k) (λ d. e (omega (arith, d)))) in
       cc
+
+-- what is read twice is one
+pub one_value : {A : Type 0} (o : Option A) (x y : A) → o ≡ Some x → o ≡ Some y → x ≡ y
+one_value o x y h g = let same : Some x ≡ Some y = sym h ∙ g in cc

@@ -1,19 +1,19 @@
 -- What an act at one entry does to a table. In the first of them r is the entry at place i of es, f
 -- what it became, and new the entries afterwards; then r is under a key.
-use Rattle.std.proofs.Common.{◌≡◌, ℕ, ◌+◌, ◌<◌, ◌≤◌, ◌⊎◌, inl, inr, Bool, true, false, cond, not, ◌&&◌, ◌==◌, ◌%◌, nat_lt, List, Option, Some, None, is_some, refl, sym, ap, ◌∙◌, subst, arith}
+use Rattle.std.proofs.Common.{◌≡◌, ℕ, ◌+◌, ◌<◌, ◌≤◌, ◌⊎◌, inl, inr, Bool, true, false, cond, not, ◌&&◌, ◌==◌, ◌%◌, nat_lt, List, [], Option, Some, None, is_some, refl, sym, ap, ◌∙◌, subst, arith}
 use Rattle.std.specs.Prelude.{slice_get, slice_set, length}
 use Rattle.std.specs.List.{count_by, remove}
 use Rattle.std.specs.FinMap as map
 use Rattle.std.specs.FinMap.{find, from_entries, insert}
 use Rattle.std.proofs.lemmas.Bool.{eqb-true}
 use Rattle.std.proofs.lemmas.Bool.Decides.{nat_tests}
-use Rattle.slab.specs.Slab.{Slab, get, values, slab_len, with_value, Updates, HasRoomFor}
+use Rattle.slab.specs.Slab.{Slab, get, values, slab_len, with_value, ContainsKey, Updates, HasRoomFor}
 use Rattle.slab.proofs.DrainLemmas.{length-values}
 use Rattle.ncp_model.specs.declared.pair.Pair.{Pair}
 use Rattle.ncp_model.specs.Pairs.{pair_cmp, sends, receives, is_proper}
 use Rattle.ncp_model.specs.End.{End, is_over}
 use Rattle.ncp_model.specs.Act.{Act, Stays, Becomes, answer}
-use Rattle.ncp_model.specs.Ends.{Ends, count, any, has_asked, is_by_peer, hears_link, uses_link, first_by, sender_on, receiver_on, pair_of, cut_at, map_after, map_after_at}
+use Rattle.ncp_model.specs.Ends.{Ends, count, any, has_asked, is_by_peer, hears_link, uses_link, first_by, sender_on, receiver_on, pair_of, cut_at, map_after, map_after_at, no_ends}
 use Rattle.ncp_model.specs.Commands.{hear_cls, hear_cls_at}
 use Rattle.ncp_conn.specs.Asking.{Enters as NewAmong}
 use Rattle.ncp_conn.specs.Indexes.{key_at, passes, IsIndex, LeadsTo}
@@ -28,7 +28,7 @@ use Rattle.ncp_conn.proofs.Finding.{found, are_set, are_remove, are_insert, map_
 use Rattle.ncp_conn.proofs.Counts.{one, count_set, count_remove, count_is, count_both, first_is, first_none}
 use Rattle.ncp_conn.proofs.Cutting.{cut_tells}
 use Rattle.ncp_conn.proofs.Sending.{over_sends_not, sending_changed}
-use Rattle.ncp_conn.proofs.Indexes.{led, led_first, led_nowhere, index_kept, index_left, index_led}
+use Rattle.ncp_conn.proofs.Indexes.{led, led_first, led_nowhere, index_kept, index_left, index_led, no_entries}
 
 -- the entries after the one at a place became f: it is out where its end is over
 abbrev pub changed : List (Pair × End) → ℕ → Pair × End → List (Pair × End)
@@ -267,6 +267,22 @@ its_pair s key k r f at = let same : Some r ≡ Some (k, f.0) = sym at ∙ f.1 i
 abbrev pub acted : {S : Type 0} → Entries S → ℕ → Pair × End → Entries S
 acted e key f = record e { slab = with_value e.slab key f }
 
+-- what settles: an entry whose end is over is taken out, any other stays
+module _ {S : Type 0} (old new : Entries S) (key : ℕ) (p : Pair × End) (notes : Notes p old.sending new.sending) where
+  pub settled_out : (sending : ℕ) → is_over p.1 ≡ true → Puts (record old { sending = sending }) new key None p None → Settled old new key p
+  settled_out sending over out = record {
+    sending = notes;
+    stays = λ h. let both : true ≡ false = sym over ∙ h in absurd (cc);
+    leaves = λ _. record { updates = out.updates; capacity = out.capacity; senders = out.senders; receivers = out.receivers };
+  }
+
+  pub settled_there : is_over p.1 ≡ false → new ≡ record old { sending = new.sending } → Settled old new key p
+  settled_there there same = record {
+    sending = notes;
+    stays = λ _. same;
+    leaves = λ h. let both : true ≡ false = sym h ∙ there in absurd (cc);
+  }
+
 module _ {S : Type 0} (e new : Entries S) (key : ℕ) (r f : Pair × End) (at : get e.slab key ≡ Some r) (s : (p : Pair × End) → get (with_value e.slab key f) key ≡ Some p → Settled (acted e key f) new key p) where
   settled : Settled (acted e key f) new key f
   settled = s f (slot_set e.slab.slots key r f at)
@@ -343,6 +359,10 @@ unheard true b h n = let both : true ≡ false = sym (h refl) ∙ n in absurd (c
 
 pub key_set : {S : Type 0} (e : Entries S) (key : ℕ) (r f : Pair × End) → get e.slab key ≡ Some r → get (with_value e.slab key f) key ≡ Some f
 key_set e key r f at = slot_set e.slab.slots key r f at
+
+-- what was under a key is still there when it has changed
+pub still_there : {S : Type 0} (e : Entries S) (key : ℕ) (r f : Pair × End) → get e.slab key ≡ Some r → ContainsKey (with_value e.slab key f) key
+still_there e key r f at = rw (key_set e key r f at) refl
 
 module _ {S : Type 0} (e new : Entries S) (key : ℕ) (r f : Pair × End) (at : get e.slab key ≡ Some r) (l : (p : Pair × End) → get (with_value e.slab key f) key ≡ Some p → Led (acted e key f) new key p) (lives : is_over f.1 ≡ is_over r.1) (t : IsKept e) where
   led_now : Led (acted e key f) new key f
@@ -503,3 +523,24 @@ module _ {S : Type 0} (e new : Entries S) (key : ℕ) (f : Pair × End) (vacant 
       map_insert (values new.slab) (below new.slab.slots key) f.0 f.1 (entered_are t.table.are n) placed
       ∙ ap (λ (xs : List (Pair × End)). insert (from_entries {R = pair_cmp} xs) f.0 f.1) (sym list_before)
       ∙ ap (λ (x : Ends). insert x f.0 f.1) v
+
+-- No entries.
+
+module _ {S : Type 0} (e : Entries S) (empty : e.slab.slots ≡ []) where
+  pub kept_empty : 128 ≤ e.slab.capacity → ((on : ℕ) → key_at e.senders on ≡ None) → ((on : ℕ) → key_at e.receivers on ≡ None) → ((on : ℕ) → is_in e.sending on ≡ false) → IsKept e
+  kept_empty room senders receivers sending = record {
+    table = subst (λ (xs : List (Pair × End)). IsTable xs e.slab.capacity) (sym (ap (λ (xs : List (Option (Pair × End))). vals xs) empty)) (record {
+      are = tt;
+      own = omega arith;
+      by_peer = omega arith;
+      room = room;
+      hears = λ on. omega arith;
+      uses = λ on. omega arith;
+    });
+    senders = no_entries hears_link e.senders e.slab senders empty;
+    receivers = no_entries uses_link e.receivers e.slab receivers empty;
+    sending = λ on. sending on ∙ sym (ap (λ (o : Option ℕ). sends_at o e.slab) (senders on));
+  }
+
+  pub ends_empty : from_entries {R = pair_cmp} (values e.slab) ≡ no_ends
+  ends_empty = ap (λ (xs : List (Option (Pair × End))). from_entries {R = pair_cmp} (vals xs)) empty

@@ -22,6 +22,20 @@ overflow_add-count g c =
     let asked : one (has_asked c.in-Some.entry.now) ≡ 1 = ap one (sym c.is_asked.ensures ∙ c.if-is_asked.true) in
     omega (arith, i, all, few, here, asked)
 
+pub loop-entry-preserved-then-is_asked : goal.loop-entry-preserved-then-is_asked
+loop-entry-preserved-then-is_asked g c =
+    let i = c.loop-entry.invariant.2 in
+    let here : counted c.loop-entry.entry-iterator ≡ one (has_asked c.in-Some.entry.now) + counted c.next.new.self = ap counted c.in-Some.ensures.steps ∙ count_cons (λ (e : ℕ × (Pair × End)). has_asked e.1) (c.in-Some.field-0-0, c.in-Some.entry.now) c.next.new.self in
+    let asked : one (has_asked c.in-Some.entry.now) ≡ 1 = ap one (sym c.is_asked.ensures ∙ c.if-is_asked.true) in
+    (tt, tt, omega (arith, i, here, asked))
+
+pub loop-entry-preserved : goal.loop-entry-preserved
+loop-entry-preserved g c =
+    let i = c.loop-entry.invariant.2 in
+    let here : counted c.loop-entry.entry-iterator ≡ one (has_asked c.in-Some.entry.now) + counted c.next.new.self = ap counted c.in-Some.ensures.steps ∙ count_cons (λ (e : ℕ × (Pair × End)). has_asked e.1) (c.in-Some.field-0-0, c.in-Some.entry.now) c.next.new.self in
+    let asked : one (has_asked c.in-Some.entry.now) ≡ 0 = ap one (sym c.is_asked.ensures ∙ c.if-is_asked.false) in
+    (tt, tt, omega (arith, i, here, asked))
+
 pub returns : goal.returns
 returns g c =
     let i = c.loop-entry.invariant.2 in

@@ -1,8 +1,7 @@
-use Rattle.std.proofs.Common.{◌≡◌, ℕ, ◌<◌, ◌*◌, ◌%◌, ◌^◌, ◌==◌, if◌then◌else◌, true, sym, ap, subst, arith}
+use Rattle.std.proofs.Common.{ℕ, ◌<◌, ◌^◌, ◌==◌, true, sym, ap, subst, arith}
 use Rattle.std.specs.Int.{w128}
 use Rattle.std.proofs.lemmas.Nat.{or_lt, one_shl, pow_below}
 use Rattle.std.proofs.lemmas.Nat.Bits.{bit_at_set_same, bit_at_set_other}
-use Rattle.ncp_conn.specs.Links.{is_in}
 use Rattle.ncp_conn.proofs.Links.{changed}
 use Rattle.ncp_conn.proofs.link_set.LinkSet.insert.Goals as goal
 

@@ -1,9 +1,6 @@
-use Rattle.std.proofs.Common.{◌≡◌, ℕ, ◌<◌, ◌≤◌, ◌*◌, ◌%◌, ◌^◌, ◌==◌, if◌then◌else◌, false, ap, sym, ◌∙◌, subst, arith, inl, inr}
-use Rattle.std.specs.Int.{w128, bit_at}
-use Rattle.std.proofs.lemmas.Bool.{cases_lt}
-use Rattle.std.proofs.lemmas.Nat.{and_le_l}
-use Rattle.std.proofs.lemmas.Nat.Bits.{bit_at_clear_same, bit_at_clear_other, bit_at_above}
-use Rattle.ncp_conn.specs.Links.{is_in}
+use Rattle.std.proofs.Common.{ℕ, ◌==◌, false, ap, arith}
+use Rattle.std.specs.Int.{w128}
+use Rattle.std.proofs.lemmas.Nat.Bits.{bit_at_clear_same}
 use Rattle.ncp_conn.proofs.Links.{changed, cleared}
 use Rattle.ncp_conn.proofs.link_set.LinkSet.remove.Goals as goal
 

@@ -1,4 +1,4 @@
-use Rattle.std.proofs.Common.{◌≡◌, ◌≤◌, ℕ, true, arith, inl, sym, ap, subst, ◌∙◌, Err}
+use Rattle.std.proofs.Common.{rules, ◌≡◌, ◌≤◌, ℕ, true, arith, inl, sym, ap, subst, ◌∙◌, Err}
 use Rattle.std.proofs.lemmas.Result.{err_from_is_err_and}
 use Rattle.ncp_model.specs.Pairs.{receives}
 use Rattle.ncp_model.specs.Act.{answer, is_room}
@@ -26,3 +26,6 @@ pub ask_receive_of-requires-clause-last : goal.ask_receive_of-requires-clause-la
 ask_receive_of-requires-clause-last g c =
     let own : count has_asked c.args.self.now ≤ MAX_OWN = let h = c.in_ok-may_ask.ensures.ok.own in omega (arith, h) in
     subst (λ (on : ℕ). on ≤ LAST_LINK) (sym c.free_link-link.ensures) (free-room c.args.self.now own)
+
+pub returns-clause-done : goal.returns-clause-done
+returns-clause-done g c = search rules

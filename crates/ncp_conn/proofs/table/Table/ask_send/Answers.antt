@@ -1,4 +1,4 @@
-use Rattle.std.proofs.Common.{◌≡◌, ◌==◌, true, false, inl, sym, ap, ◌∙◌, Err}
+use Rattle.std.proofs.Common.{rules, ◌≡◌, ◌==◌, true, false, inl, sym, ap, ◌∙◌, Err}
 use Rattle.std.proofs.lemmas.Result.{err_from_is_err_and}
 use Rattle.ncp_model.specs.Pairs.{sends}
 use Rattle.ncp_model.specs.Act.{answer, is_room}
@@ -14,3 +14,6 @@ returns-in_err-may_ask-clause-done g c =
     let e = send_err c.args.pair c.args.size c.args.room c.args.full c.args.self.now ps pz pr c.in_err-may_ask.field-0.0 (sym c.in_err-may_ask.ensures.told) in
     let p = err_from_is_err_and c.from_residual.result c.from_residual.ensures.1 in
     inl (p.1 ∙ ap Err p.2 ∙ ap answer (sym e), ap (map_after c.args.self.now c.args.pair) (sym e))
+
+pub returns-clause-done : goal.returns-clause-done
+returns-clause-done g c = search rules

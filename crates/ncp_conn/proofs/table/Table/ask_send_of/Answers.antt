@@ -8,7 +8,7 @@ use Rattle.ncp_model.specs.Act.{Becomes}
 use Rattle.ncp_model.specs.Calls.{asked_to_send}
 use Rattle.ncp_model.specs.Ends.{count, has_asked}
 use Rattle.ncp_conn.specs.Asking.{Enters}
-use Rattle.ncp_conn.proofs.Tables.{its_pair, got, got_none, sum_is, ends_asked, pair_table}
+use Rattle.ncp_conn.proofs.Tables.{its_pair, got, got_none, sum_is, ends_asked, pair_table, still_there}
 use Rattle.ncp_conn.proofs.Requests.{new_sender, new_entry, entered, kept_asks_send}
 use Rattle.ncp_conn.proofs.table.Table.ask_send_of.Goals as goal
 
@@ -43,3 +43,6 @@ returns g c =
     pair_table (λ (k : Pair) (o : Option End). Becomes (asked_to_send c.args.size (g.S.BitStore.capacity c.args.store) (or_new o)) (tt {0})) c.index_mut.result.now c.args.pair c.args.self.now _ p
     (got c.self.inside.entries c.args.self.now c.self.view_is c.self.invariant c.in-Some.key c.args.pair c.index_mut.result.now c.index_mut.ensures.value p)
     (ends_asked c.self.inside.entries c.lead.new.self c.in-Some.key c.index_mut.result.now c.ask_send-2.new.self c.index_mut.ensures.value c.lead.ensures (ap (λ (p : Pair × End). is_over p.1) c.ask_send-2.ensures) c.self.invariant (Becomes (asked_to_send c.args.size (g.S.BitStore.capacity c.args.store) c.index_mut.result.now.1) (tt {0})) c.args.self.now c.self.view_is c.ask_send-2.ensures)
+
+pub lead-requires : goal.lead-requires
+lead-requires g c = still_there c.self.inside.entries c.in-Some.key c.index_mut.result.now c.ask_send-2.new.self c.index_mut.ensures.value

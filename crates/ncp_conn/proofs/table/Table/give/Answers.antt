@@ -3,7 +3,7 @@ use Rattle.std.proofs.lemmas.Result.{on_err_weaker}
 use Rattle.ncp_model.specs.declared.pair.Pair.{Pair}
 use Rattle.ncp_model.specs.End.{End}
 use Rattle.ncp_model.specs.Calls.{give}
-use Rattle.ncp_conn.proofs.Tables.{its_pair, got, got_none, kept_acted, ends_acted, ends_kept, pair_answer, pair_table, none_answer, none_table}
+use Rattle.ncp_conn.proofs.Tables.{its_pair, got, got_none, kept_acted, ends_acted, ends_kept, pair_answer, pair_table, none_answer, none_table, still_there}
 use Rattle.ncp_conn.proofs.table.Table.give.Goals as goal
 
 pub returns-in_default-clause-answer : goal.returns-in_default-clause-answer
@@ -34,3 +34,6 @@ returns-clause-err g c =
     on_err_weaker c.give-answer.result
     (λ e. ends_kept c.self.inside.entries c.settle.new.self c.in-Some.key c.index_mut.result.now c.give-answer.new.self c.index_mut.ensures.value c.settle.ensures c.args.self.now c.self.view_is c.self.invariant e)
     c.give-answer.ensures.err
+
+pub settle-requires : goal.settle-requires
+settle-requires g c = still_there c.self.inside.entries c.in-Some.key c.index_mut.result.now c.give-answer.new.self c.index_mut.ensures.value

@@ -9,7 +9,7 @@ use Rattle.ncp_model.specs.End.{End}
 use Rattle.ncp_model.specs.Act.{answer, error_of, no_socket}
 use Rattle.ncp_model.specs.Commands.{hear_cls_at}
 use Rattle.ncp_model.specs.Ends.{map_after}
-use Rattle.ncp_conn.proofs.Tables.{its_pair, got, got_none, kept_acted, ends_acted, pair_answer, pair_table, none_answer, none_table, cls_proper}
+use Rattle.ncp_conn.proofs.Tables.{its_pair, got, got_none, kept_acted, ends_acted, pair_answer, pair_table, none_answer, none_table, cls_proper, still_there}
 use Rattle.ncp_conn.proofs.table.Table.hear_cls.Goals as goal
 
 pub returns-in_default-clause-answer : goal.returns-in_default-clause-answer
@@ -50,3 +50,6 @@ returns-clause-table g c =
     (got c.self.inside.entries c.args.self.now c.self.view_is c.self.invariant c.in-Some.key c.args.pair c.index_mut.result.now c.index_mut.ensures.value p)
     (ends_acted c.self.inside.entries c.settle.new.self c.in-Some.key c.index_mut.result.now c.hear_cls-answer.new.self c.index_mut.ensures.value c.settle.ensures _ c.args.self.now c.self.view_is c.self.invariant c.hear_cls-answer.ensures.entry)
     ∙ ap (map_after c.args.self.now c.args.pair) (sym (cls_proper c.args.pair (get c.args.self.now c.args.pair) proper))
+
+pub settle-requires : goal.settle-requires
+settle-requires g c = still_there c.self.inside.entries c.in-Some.key c.index_mut.result.now c.hear_cls-answer.new.self c.index_mut.ensures.value

@@ -9,7 +9,7 @@ use Rattle.ncp_model.specs.Act.{Becomes, answer, error_of, wrong_parameters}
 use Rattle.ncp_model.specs.Commands.{heard_link}
 use Rattle.ncp_model.specs.Ends.{count, is_by_peer, hears_link, map_after, wrong_rts_in}
 use Rattle.ncp_conn.specs.Asking.{Enters}
-use Rattle.ncp_conn.proofs.Tables.{its_pair, got, got_none, sum_is, zero_from, ends_asked, pair_table}
+use Rattle.ncp_conn.proofs.Tables.{its_pair, got, got_none, sum_is, zero_from, ends_asked, pair_table, still_there}
 use Rattle.ncp_conn.proofs.Requests.{new_heard_link, new_entry, entered, kept_hears_link, right_rts, rts_wrong, rts_full, rts_new, rts_more}
 use Rattle.ncp_conn.proofs.table.Table.hear_rts.Goals as goal
 
@@ -84,3 +84,6 @@ returns-clause-table g c =
     (ends_asked c.self.inside.entries c.lead.new.self c.in-Some.key c.index_mut.result.now c.hear_link-2.new.self c.index_mut.ensures.value c.lead.ensures (ap (λ (p : Pair × End). is_over p.1) c.hear_link-2.ensures) c.self.invariant (Becomes (heard_link c.args.link c.index_mut.result.now.1) Nothing) c.args.self.now c.self.view_is c.hear_link-2.ensures)
     ∙ ap (λ (o : Option End). map_after {A = Heard} c.args.self.now c.args.pair (Becomes (heard_link c.args.link (or_new o)) Nothing)) (got c.self.inside.entries c.args.self.now c.self.view_is c.self.invariant c.in-Some.key c.args.pair c.index_mut.result.now c.index_mut.ensures.value p)
     ∙ ap (map_after c.args.self.now c.args.pair) (sym (rts_more c.args.pair c.args.link c.args.self.now right c.index_mut.result.now.1 (got c.self.inside.entries c.args.self.now c.self.view_is c.self.invariant c.in-Some.key c.args.pair c.index_mut.result.now c.index_mut.ensures.value p)))
+
+pub lead-requires : goal.lead-requires
+lead-requires g c = still_there c.self.inside.entries c.in-Some.key c.index_mut.result.now c.hear_link-2.new.self c.index_mut.ensures.value

@@ -9,7 +9,7 @@ use Rattle.ncp_model.specs.Act.{Becomes, answer, error_of, wrong_parameters}
 use Rattle.ncp_model.specs.Commands.{heard_size}
 use Rattle.ncp_model.specs.Ends.{count, is_by_peer, map_after, wrong_str_in}
 use Rattle.ncp_conn.specs.Asking.{Enters}
-use Rattle.ncp_conn.proofs.Tables.{its_pair, got, got_none, ends_asked, pair_table}
+use Rattle.ncp_conn.proofs.Tables.{its_pair, got, got_none, ends_asked, pair_table, still_there}
 use Rattle.ncp_conn.proofs.Requests.{new_heard_size, new_entry, entered, kept_hears_size, right_str, str_wrong, str_full, str_new, str_more}
 use Rattle.ncp_conn.proofs.table.Table.hear_str.Goals as goal
 
@@ -84,3 +84,6 @@ returns-clause-table g c =
     (ends_asked c.self.inside.entries c.lead.new.self c.in-Some.key c.index_mut.result.now c.hear_size-2.new.self c.index_mut.ensures.value c.lead.ensures (ap (λ (p : Pair × End). is_over p.1) c.hear_size-2.ensures) c.self.invariant (Becomes (heard_size c.args.size c.index_mut.result.now.1) Nothing) c.args.self.now c.self.view_is c.hear_size-2.ensures)
     ∙ ap (λ (o : Option End). map_after {A = Heard} c.args.self.now c.args.pair (Becomes (heard_size c.args.size (or_new o)) Nothing)) (got c.self.inside.entries c.args.self.now c.self.view_is c.self.invariant c.in-Some.key c.args.pair c.index_mut.result.now c.index_mut.ensures.value p)
     ∙ ap (map_after c.args.self.now c.args.pair) (sym (str_more c.args.pair c.args.size c.args.self.now right c.index_mut.result.now.1 (got c.self.inside.entries c.args.self.now c.self.view_is c.self.invariant c.in-Some.key c.args.pair c.index_mut.result.now c.index_mut.ensures.value p)))
+
+pub lead-requires : goal.lead-requires
+lead-requires g c = still_there c.self.inside.entries c.in-Some.key c.index_mut.result.now c.hear_size-2.new.self c.index_mut.ensures.value

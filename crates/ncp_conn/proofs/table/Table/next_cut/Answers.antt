@@ -1,4 +1,3 @@
-use Rattle.std.proofs.Common.{◌-◌, ◌+◌, sym, ◌∙◌, arith}
 use Rattle.ncp_conn.specs.Cutting.{may_cut}
 use Rattle.ncp_conn.proofs.Cutting.{first_found}
 use Rattle.ncp_conn.proofs.Tables.{sending_is}
