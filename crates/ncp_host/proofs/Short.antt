@@ -1,6 +1,6 @@
 -- A control message has room for each command that waits, whatever a host lives through: so the first of
 -- them goes out with the next one.
-use Rattle.std.proofs.Common.{◌≡◌, ◌≤◌, ℕ, ◌+◌, ◌-◌, ◌==◌, Bool, true, false, ◌&&◌, nat_lt, nat_le, if◌then◌else◌, List, [], ◌∷◌, ◌++◌, length, take, min, replicate, All, Option, None, Some, Result, Ok, Err, refl, sym, ap, ◌∙◌, subst, arith}
+use Rattle.std.proofs.Common.{◌≡◌, ◌≤◌, ℕ, ◌+◌, ◌-◌, ◌==◌, Bool, true, false, nat_lt, nat_le, if◌then◌else◌, List, [], ◌∷◌, ◌++◌, length, take, min, replicate, All, Option, None, Some, Result, Ok, Err, refl, ap, ◌∙◌, subst, arith}
 use Rattle.std.specs.FinMap.{get}
 use Rattle.std.proofs.Math.Nat.{min-le_left}
 use Rattle.std.proofs.lemmas.List.{length-take, length-append}
@@ -26,11 +26,10 @@ use Rattle.ncp_model.specs.declared.pair.Pair.{Pair}
 use Rattle.ncp_model.specs.declared.call_fault.CallFault.TheVariants.{Busy, QueueFull}
 use Rattle.ncp_model.specs.declared.outcomes.Took.{Took}
 use Rattle.ncp_model.specs.End.{End}
-use Rattle.ncp_model.specs.Act.{Act, answer, made_if_any, made_by_call, made_by_hearing, text_error}
-use Rattle.ncp_model.specs.Commands.{hear_rts, hear_str, hear_cls, hear_all, hear_gvb, hear_ret, hear_inr, hear_ins}
+use Rattle.ncp_model.specs.Act.{answer, made_if_any, made_by_call, made_by_hearing, text_error}
 use Rattle.ncp_model.specs.Texts.{made_by_text}
 use Rattle.ncp_model.specs.Texts as texts
-use Rattle.ncp_model.specs.Ends.{Ends, hear, text_in, end_of, pair_of, sender_on, receiver_on, answered_at, answered_in}
+use Rattle.ncp_model.specs.Ends.{Ends, hear, text_in, end_of, sender_on, receiver_on, answered_at, answered_in}
 use Rattle.ncp_model.specs.Echo.{echo_answer}
 use Rattle.ncp_model.specs.Happenings.{Happening, happens}
 use Rattle.ncp_model.specs.Happenings as all
@@ -39,10 +38,10 @@ use Rattle.ncp_model.specs.Phase as phases
 use Rattle.ncp_model.specs.Sending.{fitting, next_commands, is_full}
 use Rattle.ncp_model.specs.Peers.{Peer, Call, Ask_to_send, Ask_to_receive, Close, Give, Take, Allocate, Call_back, Interrupt, called, calls_up, echo_called, hears_other, takes_text, frees_up, reaction, echo_replies}
 use Rattle.ncp_model.specs.Peers as peers
-use Rattle.ncp_host.specs.PeerState.{PeerState, calls_wake, control_link, frees_on, is_answered, answer_taken, answer_comes}
+use Rattle.ncp_host.specs.PeerState.{PeerState, control_link, frees_on, is_answered, answer_taken, answer_comes}
 use Rattle.ncp_host.specs.Counting.{one_more}
 use Rattle.ncp_host.specs.Hearing.{hears, hears_all, hears_last, hears_text, control_size, control_after, text_after, is_wrong_link, message_after, regular, answer_of, after_bits}
-use Rattle.ncp_host.specs.Output.{after_by, after_made, after_output}
+use Rattle.ncp_host.specs.Output.{after_by, after_output}
 use Rattle.ncp_host.proofs.EachWaiting.{Each, EachWaits, each_of_both}
 use Rattle.ncp_host.proofs.EachWaiting as each
 

@@ -4,8 +4,9 @@ use Rattle.std.proofs.lemmas.Bool.Decides.{eqb_tells}
 use Rattle.std.specs.List.{slice_get}
 use Rattle.ncp_terms.specs.declared.command.Command.{Command}
 use Rattle.ncp_slot.specs.declared.slot.Slot.TheVariants.{Empty, Ready, Travelling, Held}
-use Rattle.ncp_slot.specs.Slot.{is_empty, is_ready}
-use Rattle.ncp_slot.specs.Slots.{LinkSlot, LinkSlots, slot_at, with_slot, is_quiet}
+use Rattle.ncp_terms.specs.declared.answer.Answer.{Answer}
+use Rattle.ncp_slot.specs.Slot.{is_empty, is_ready, answered}
+use Rattle.ncp_slot.specs.Slots.{LinkSlot, LinkSlots, OthersStay, slot_at, with_slot, is_quiet}
 use Rattle.ncp_slot.proofs.Places.{is_quiet-tells, slot_at-changed, OthersStay-changed}
 use Rattle.ncp_model.specs.Act.{answer}
 use Rattle.ncp_model.specs.Ends.{cut_in}
@@ -108,5 +109,24 @@ marked_sent kept now again before after on message marked sent inserted = record
   has_ready = λ link high ready. elim (eqb_tells link on) [
     | inl e ↦ (let there : is_ready (slot_at after link) ≡ false = ap (λ (k : ℕ). is_ready (slot_at after k)) e.1 ∙ ap is_ready (slot_at-changed after before on (Travelling message) sent) in let both : true ≡ false = sym ready ∙ there in absurd (cc))
     | inr d ↦ marked.has_ready link high (sym (ap is_ready (OthersStay-changed after before on (Travelling message) sent link d.1)) ∙ ready)
+  ];
+}
+
+emptied : (how : Answer) (slot : LinkSlot) → is_empty (answered how slot) ≡ false → is_empty slot ≡ false
+emptied how Empty e = e
+emptied how (Ready m) e = refl
+emptied how (Travelling m) e = refl
+emptied how (Held m) e = refl
+
+-- an answer comes to the message on a link, which may be to go out again now
+pub marked_again : (kept again now : ℕ) (before after : LinkSlots) (on : ℕ) (how : Answer) → AreMarked kept again before → slot_at after on ≡ answered how (slot_at before on) → OthersStay before after on → ((link : ℕ) → is_in now link ≡ (if link == on then true else is_in again link)) → AreMarked kept now after
+marked_again kept again now before after on how marked there others inserted = record {
+  has_kept = λ link low high full. elim (eqb_tells link on) [
+    | inl e ↦ marked.has_kept link low high (ap (λ (k : ℕ). is_empty (slot_at before k)) e.1 ∙ emptied how (slot_at before on) (sym (ap is_empty there) ∙ sym (ap (λ (k : ℕ). is_empty (slot_at after k)) e.1) ∙ full))
+    | inr d ↦ marked.has_kept link low high (sym (ap is_empty (others link d.1)) ∙ full)
+  ];
+  has_ready = λ link high ready. elim (eqb_tells link on) [
+    | inl e ↦ inserted link ∙ ap (λ (b : Bool). if b then true else is_in again link) e.0
+    | inr d ↦ inserted link ∙ ap (λ (b : Bool). if b then true else is_in again link) d.0 ∙ marked.has_ready link high (sym (ap is_ready (others link d.1)) ∙ ready)
   ];
 }

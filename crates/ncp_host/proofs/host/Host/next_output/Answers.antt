@@ -1,10 +1,19 @@
-use Rattle.std.proofs.Common.{◌≡◌, Bool, List, Option, sym, subst, rules}
+use Rattle.std.proofs.Common.{◌≡◌, ℕ, Bool, List, Option, sym, subst, ap, ◌∙◌}
+use Rattle.std.specs.List.{zip}
+use Rattle.ncp_host.specs.PeerState.{PeerState}
 use Rattle.ncp_host.specs.Readiness.{IsNext}
-use Rattle.ncp_host.specs.Turns.{next_output}
+use Rattle.ncp_host.specs.Turns.{message_in_turn, next_output}
 use Rattle.ncp_host.proofs.FirstReady.{lived-next}
 use Rattle.ncp_host.proofs.host.Host.next_output.Goals as goal
 
+pub returns-clause-message : goal.returns-clause-message
+returns-clause-message g c =
+    c.first_output.ensures.message
+    ∙ ap (λ (ns : List ℕ). message_in_turn (zip ns c.deref_mut.result.now)) c.as_slice.ensures.value
+    ∙ ap (λ (ss : List PeerState). message_in_turn (zip c.self.inside.numbers.items ss)) c.deref_mut.ensures.value
+    ∙ ap next_output c.self.view_is
+
 pub returns-clause-first_ready : goal.returns-clause-first_ready
 returns-clause-first_ready g c =
-    let told : ◌≡◌ {A = Option (List Bool)} c.first_output.result (next_output c.args.self.now) = search rules in
+    let told : ◌≡◌ {A = Option (List Bool)} c.first_output.result (next_output c.args.self.now) = returns-clause-message g c in
     λ l. subst (λ (o : Option (List Bool)). IsNext o c.args.self.now.peers) (sym told) (lived-next c.args.self.now l)
