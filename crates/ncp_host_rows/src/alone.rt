@@ -6,13 +6,12 @@
 mod noted;
 mod tried;
 
-use crate::known::{DOWN, LINK, ME, NO_COUNTS, OUTWARD, PEER, SENDER, UP, bits_of};
-use ncp_bits::{PackedStore, PlainStore};
-use ncp_host::{CallFault, Counts, Ignored, Pair, Received, Took};
+use crate::known::{DOWN, LINK, ME, NO_COUNTS, OUTWARD, PEER, SENDER, UP};
+use ncp_bits::{BitStore, PackedStore, PlainStore};
+use ncp_host::{CallFault, Counts, HostFault, Ignored, Pair, Received, Took};
 use ncp_terms::{Answer, Command};
-use ncp_transcript::{Call, Input, Message};
-use noted::{Step, Want};
-use std::alloc::{AllocError, Global};
+use noted::{Act, Step, Want};
+use std::alloc::Global;
 use std::process::Abort;
 use std::test::Fail;
 use tried::Tried;
@@ -23,278 +22,176 @@ const INWARD: Pair = Pair {
     remote: 5,
 };
 
-/// A message of these bytes.
-fn message_of(rt: &impl Abort, alloc: Global, bytes: &[u8]) -> Result<Message, AllocError> {
-    let bits = bits_of(rt, bytes);
-    match Message::from_bits(alloc, &bits) {
-        Err(_) => Message::from_bits(alloc, &bits),
-        made => made,
-    }
+/// What is noted of a control message of one command that comes, and of one of two.
+const HEARD_ONE: Want<'static> = Want::In(Received::Control(1));
+
+const HEARD_TWO: Want<'static> = Want::In(Received::Control(2));
+
+/// A new host with one peer goes through the first steps and then the others, over one store. Whether a step was
+/// refused memory.
+fn goes_over<S: BitStore>(
+    rt: &impl Abort,
+    alloc: Global,
+    first: &[Step<'_>],
+    steps: &[Step<'_>],
+) -> Result<bool, HostFault> {
+    let mut host = Tried::<S>::new(alloc, ME, PEER)?;
+    host.goes(rt, alloc, first);
+    host.goes(rt, alloc, steps);
+    Ok(host.was_refused())
 }
 
-/// A call, and what is noted of it.
-fn call(call: Call, want: Want<'_>) -> Step<'_> {
-    Step {
-        input: Input::Call(call),
-        want,
-    }
-}
-
-/// Bytes that come, and what is noted of them.
-fn comes<'a>(rt: &impl Abort, bytes: &[u8], want: Want<'a>) -> Step<'a> {
-    Step {
-        input: Input::In(bits_of(rt, bytes)),
-        want,
-    }
-}
-
-/// The answer to the control message that went out, which this byte stands for.
-fn answered<'a>(rt: &impl Abort, kind: u8, answer: Answer) -> Step<'a> {
-    let want = Want::Answered(0, answer, Received::Answered);
-    comes(rt, &[kind, PEER, 0, 0], want)
-}
-
-/// Output is asked for, and what is noted of it.
-fn output(want: Want<'_>) -> Step<'_> {
-    Step {
-        input: Input::Out,
-        want,
-    }
-}
-
-/// A new host with one peer goes through the first steps and then the others, over both stores.
+/// So does one over each store.
 fn goes_on(
     rt: &(impl Abort + Print),
     alloc: Global,
     first: &[Step<'_>],
     steps: &[Step<'_>],
 ) -> Result<(), Fail> {
-    let mut plain = Tried::<PlainStore>::new(alloc, ME, PEER)?;
-    plain.goes(rt, first);
-    plain.goes(rt, steps);
-    let mut packed = Tried::<PackedStore>::new(alloc, ME, PEER)?;
-    packed.goes(rt, first);
-    packed.goes(rt, steps);
-    if plain.was_refused() || packed.was_refused() {
+    let plain = goes_over::<PlainStore>(rt, alloc, first, steps)?;
+    let packed = goes_over::<PackedStore>(rt, alloc, first, steps)?;
+    if plain || packed {
         println!(rt; "refused: nothing happened but that a call's refusal is noted")?;
     }
     Ok(())
 }
 
-fn goes(rt: &(impl Abort + Print), alloc: Global, steps: &[Step<'_>]) -> Result<(), Fail> {
-    goes_on(rt, alloc, &[], steps)
-}
+const NO_STEPS: &[Step<'static>] = &[];
 
-/// So does one whose connections are open, and whose sender may send.
-fn goes_open(rt: &(impl Abort + Print), alloc: Global, steps: &[Step<'_>]) -> Result<(), Fail> {
-    let peer = PEER;
-    let opening = [
-        call(Call::Reset { peer }, Want::Done),
-        comes(
-            rt,
-            &[0, 2, 0, 0, 0, 8, 0, 2, 0, 12, 13],
-            Want::In(Received::Control(2)),
-        ),
-        call(
-            Call::AskSend {
-                peer,
-                pair: OUTWARD,
-                size: 8,
-                room: 1024,
-            },
-            Want::Done,
-        ),
-        call(
-            Call::AskReceive {
-                peer,
-                pair: INWARD,
-                room: 1024,
-            },
-            Want::Done,
-        ),
-        comes(
-            rt,
-            &[0, 2, 0, 0, 0, 8, 0, 10, 0, 1, 0, 0, 0, 2, 0, 0, 0, 3, 2],
-            Want::In(Received::Control(1)),
-        ),
-        comes(
-            rt,
-            &[0, 2, 0, 0, 0, 8, 0, 10, 0, 2, 0, 0, 0, 5, 0, 0, 0, 4, 8],
-            Want::In(Received::Control(1)),
-        ),
-        comes(
-            rt,
-            &[0, 2, 0, 0, 0, 8, 0, 8, 0, 4, 2, 0, 2, 0, 0, 0, 16],
-            Want::In(Received::Control(1)),
-        ),
-    ];
-    goes_on(rt, alloc, &opening, steps)
-}
+/// The connections of a host open, and its sender may send.
+const OPENS: &[Step<'static>] = &[
+    (Act::Reset, Want::Done),
+    (Act::Comes(&[0, 2, 0, 0, 0, 8, 0, 2, 0, 12, 13]), HEARD_TWO),
+    (Act::AskSend(OUTWARD, 8, 1024), Want::Done),
+    (Act::AskReceive(INWARD, 1024), Want::Done),
+    (
+        Act::Comes(&[0, 2, 0, 0, 0, 8, 0, 10, 0, 1, 0, 0, 0, 2, 0, 0, 0, 3, 2]),
+        HEARD_ONE,
+    ),
+    (
+        Act::Comes(&[0, 2, 0, 0, 0, 8, 0, 10, 0, 2, 0, 0, 0, 5, 0, 0, 0, 4, 8]),
+        HEARD_ONE,
+    ),
+    (
+        Act::Comes(&[0, 2, 0, 0, 0, 8, 0, 8, 0, 4, 2, 0, 2, 0, 0, 0, 16]),
+        HEARD_ONE,
+    ),
+];
 
 // An echo before the host is up, a stray answer, and a second echo before the first is answered.
 #[test]
 fn a_stray_answer_and_an_echo_are_noted(rt: HostRuntime) -> Result<(), Fail> {
-    let peer = PEER;
-    let counts = Counts {
+    const COUNTS: Counts = Counts {
         stray: 1,
         ..NO_COUNTS
     };
-    let replies = [0, 2, 0, 0, 0, 8, 0, 3, 0, 13, 9, 65];
-    goes(
-        &rt,
-        rt.alloc(),
-        &[
-            call(Call::Phase { peer }, Want::Phase(DOWN)),
-            call(
-                Call::Echo { peer, byte: 64 },
-                Want::Refused(CallFault::NotUp),
-            ),
-            comes(
-                &rt,
-                &[5, 2, 0, 0],
-                Want::Answered(0, Answer::Rfnm, Received::Stray),
-            ),
-            call(Call::Counts { peer }, Want::Counts(counts)),
-            comes(
-                &rt,
-                &[0, 2, 0, 0, 0, 8, 0, 1, 0, 12],
-                Want::In(Received::Control(1)),
-            ),
-            call(Call::Phase { peer }, Want::Phase(UP)),
-            call(Call::Echo { peer, byte: 65 }, Want::Done),
-            call(
-                Call::Echo { peer, byte: 66 },
-                Want::Refused(CallFault::Busy),
-            ),
-            output(Want::Out(&replies)),
-            output(Want::Nothing),
-        ],
-    )
+    const STEPS: &[Step<'static>] = &[
+        (Act::Phase, Want::Phase(DOWN)),
+        (Act::Echo(64), Want::Refused(CallFault::NotUp)),
+        (
+            Act::Comes(&[5, 2, 0, 0]),
+            Want::Answered(0, Answer::Rfnm, Received::Stray),
+        ),
+        (Act::Counts, Want::Counts(COUNTS)),
+        (Act::Comes(&[0, 2, 0, 0, 0, 8, 0, 1, 0, 12]), HEARD_ONE),
+        (Act::Phase, Want::Phase(UP)),
+        (Act::Echo(65), Want::Done),
+        (Act::Echo(66), Want::Refused(CallFault::Busy)),
+        (
+            Act::Output,
+            Want::Out(&[0, 2, 0, 0, 0, 8, 0, 3, 0, 13, 9, 65]),
+        ),
+        (Act::Output, Want::Nothing),
+    ];
+    goes_on(&rt, rt.alloc(), NO_STEPS, STEPS)
 }
 
 // Each call that changes something, once it can be done.
 #[test]
 fn calls_are_noted(rt: HostRuntime) -> Result<(), Fail> {
-    let peer = PEER;
-    let pair = INWARD;
-    let text = message_of(&rt, rt.alloc(), &[0x61, 0x62, 0x63])?;
-    let give = Call::Give {
-        peer,
-        pair: OUTWARD,
-        text,
-    };
-    let allocate = Call::Allocate {
-        peer,
-        pair,
-        messages: 2,
-        bits: 24,
-    };
     // RST, RRP, STR, RTS, ALL, GVB, INR and CLS, as they were made.
-    let control = [
+    const CONTROL: &[u8] = &[
         0, 2, 0, 0, 0, 8, 0, 45, 0, 12, 13, 2, 0, 0, 0, 3, 0, 0, 0, 2, 8, 1, 0, 0, 0, 4, 0, 0, 0,
         5, 2, 4, 2, 0, 2, 0, 0, 0, 24, 5, 2, 128, 0, 7, 2, 3, 0, 0, 0, 4, 0, 0, 0, 5,
     ];
-    let take = Call::Take {
-        peer,
-        pair,
-        bytes: 100,
-    };
-    let call_back = Call::CallBack {
-        peer,
-        pair,
-        fm: 128,
-        fb: 0,
-    };
-    goes_open(
-        &rt,
-        rt.alloc(),
-        &[
-            call(give, Want::Done),
-            call(allocate, Want::Done),
-            comes(
-                &rt,
-                &[0, 2, 2, 0, 0, 8, 0, 2, 0, 0x68, 0x69],
-                Want::In(Received::Text(Took::Admitted)),
-            ),
-            call(take, Want::Took(&[0x68, 0x69])),
-            call(call_back, Want::Done),
-            call(Call::Interrupt { peer, pair }, Want::Done),
-            call(Call::Close { peer, pair }, Want::Done),
-            call(Call::Wake { peer }, Want::Done),
-            output(Want::Out(&control)),
-            output(Want::Out(&[0, 2, 2, 0, 0, 8, 0, 2, 0, 0x61, 0x62])),
-            output(Want::Nothing),
-        ],
-    )
+    const STEPS: &[Step<'static>] = &[
+        (Act::Give(OUTWARD, &[0x61, 0x62, 0x63]), Want::Done),
+        (Act::Allocate(INWARD, 2, 24), Want::Done),
+        (
+            Act::Comes(&[0, 2, 2, 0, 0, 8, 0, 2, 0, 0x68, 0x69]),
+            Want::In(Received::Text(Took::Admitted)),
+        ),
+        (Act::Take(INWARD, 100), Want::Took(&[0x68, 0x69])),
+        (Act::CallBack(INWARD, 128, 0), Want::Done),
+        (Act::Interrupt(INWARD), Want::Done),
+        (Act::Close(INWARD), Want::Done),
+        (Act::Wake, Want::Done),
+        (Act::Output, Want::Out(CONTROL)),
+        (
+            Act::Output,
+            Want::Out(&[0, 2, 2, 0, 0, 8, 0, 2, 0, 0x61, 0x62]),
+        ),
+        (Act::Output, Want::Nothing),
+    ];
+    goes_on(&rt, rt.alloc(), OPENS, STEPS)
 }
 
 // A message goes out again after Incomplete Transmission, and after Destination Dead once it is asked for.
 #[test]
 fn what_goes_out_again_is_noted(rt: HostRuntime) -> Result<(), Fail> {
-    let peer = PEER;
     // RST, RRP, STR and RTS, as they were made.
-    let control = [
+    const CONTROL: &[u8] = &[
         0, 2, 0, 0, 0, 8, 0, 22, 0, 12, 13, 2, 0, 0, 0, 3, 0, 0, 0, 2, 8, 1, 0, 0, 0, 4, 0, 0, 0,
         5, 2,
     ];
-    goes_open(
-        &rt,
-        rt.alloc(),
-        &[
-            output(Want::Out(&control)),
-            answered(&rt, 9, Answer::Incomplete),
-            output(Want::Out(&control)),
-            answered(&rt, 7, Answer::Dead),
-            output(Want::Nothing),
-            call(Call::Wake { peer }, Want::Done),
-            output(Want::Out(&control)),
-            answered(&rt, 5, Answer::Rfnm),
-            output(Want::Nothing),
-        ],
-    )
+    const STEPS: &[Step<'static>] = &[
+        (Act::Output, Want::Out(CONTROL)),
+        (
+            Act::Comes(&[9, PEER, 0, 0]),
+            Want::Answered(0, Answer::Incomplete, Received::Answered),
+        ),
+        (Act::Output, Want::Out(CONTROL)),
+        (
+            Act::Comes(&[7, PEER, 0, 0]),
+            Want::Answered(0, Answer::Dead, Received::Answered),
+        ),
+        (Act::Output, Want::Nothing),
+        (Act::Wake, Want::Done),
+        (Act::Output, Want::Out(CONTROL)),
+        (
+            Act::Comes(&[5, PEER, 0, 0]),
+            Want::Answered(0, Answer::Rfnm, Received::Answered),
+        ),
+        (Act::Output, Want::Nothing),
+    ];
+    goes_on(&rt, rt.alloc(), OPENS, STEPS)
 }
 
 // What is read, of a connection and of the peer.
 #[test]
 fn what_is_read_is_noted(rt: HostRuntime) -> Result<(), Fail> {
-    let peer = PEER;
-    let ignored = Ignored {
+    const IGNORED: Ignored = Ignored {
         short: 1,
         other: 0,
         unknown: 0,
     };
-    let state = Call::State {
-        peer,
-        pair: OUTWARD,
-    };
-    goes_open(
-        &rt,
-        rt.alloc(),
-        &[
-            comes(&rt, &[5], Want::In(Received::Short)),
-            comes(
-                &rt,
-                &[
-                    0, 2, 0, 0, 0, 8, 0, 12, 0, 11, 1, 14, 0, 0, 0, 0, 0, 0, 0, 0, 0,
-                ],
-                Want::In(Received::Control(1)),
-            ),
-            call(Call::Echo { peer, byte: 65 }, Want::Done),
-            comes(
-                &rt,
-                &[0, 2, 0, 0, 0, 8, 0, 2, 0, 10, 65],
-                Want::In(Received::Control(1)),
-            ),
-            call(state, Want::State(SENDER)),
-            call(Call::Echoed { peer }, Want::Echoed(Some(65))),
-            call(Call::Errors { peer }, Want::Errors(1)),
-            call(Call::Counts { peer }, Want::Counts(NO_COUNTS)),
-            call(
-                Call::Waiting { peer, place: 0 },
-                Want::Waiting(Some(Command::Rst)),
-            ),
-            call(Call::Kept { peer, link: LINK }, Want::Kept(None)),
-            call(Call::Ignored, Want::Ignored(ignored)),
-        ],
-    )
+    const STEPS: &[Step<'static>] = &[
+        (Act::Comes(&[5]), Want::In(Received::Short)),
+        (
+            Act::Comes(&[
+                0, 2, 0, 0, 0, 8, 0, 12, 0, 11, 1, 14, 0, 0, 0, 0, 0, 0, 0, 0, 0,
+            ]),
+            HEARD_ONE,
+        ),
+        (Act::Echo(65), Want::Done),
+        (Act::Comes(&[0, 2, 0, 0, 0, 8, 0, 2, 0, 10, 65]), HEARD_ONE),
+        (Act::State(OUTWARD), Want::State(SENDER)),
+        (Act::Echoed, Want::Echoed(Some(65))),
+        (Act::Errors, Want::Errors(1)),
+        (Act::Counts, Want::Counts(NO_COUNTS)),
+        (Act::Waiting(0), Want::Waiting(Some(Command::Rst))),
+        (Act::Kept(LINK), Want::Kept(None)),
+        (Act::Ignored, Want::Ignored(IGNORED)),
+    ];
+    goes_on(&rt, rt.alloc(), OPENS, STEPS)
 }

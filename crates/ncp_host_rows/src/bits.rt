@@ -1,6 +1,14 @@
 //! What no clause says: that the calls succeed, that memory is asked for where it is needed, and
 //! that the definitions mean what the worked examples mean.
-use ncp_bits::{BitStore, Bits, BitsFault, NoRoom, PackedStore, Part, PlainStore, equality, laws};
+//!
+//! The helpers have no clauses: each sees for itself that its call may be made, so the prover need not follow bits
+//! through a test.
+ghost use Rattle.std.specs.Prelude.{◌<◌, ◌^◌};
+
+use crate::known::{is_shown, is_told};
+use ncp_bits::{
+    BitStore, Bits, BitsFault, MAX_BITS, NoRoom, PackedStore, Part, PlainStore, equality, laws,
+};
 use std::alloc::Global;
 use std::process::Abort;
 use std::test::Fail;
@@ -9,6 +17,34 @@ use std::test::Fail;
 const LONG_BYTE: [u8; 14] = [
     0x00, 0x02, 0x02, 0x00, 0x00, 0x24, 0x00, 0x01, 0x00, 0x12, 0x34, 0x56, 0x78, 0x90,
 ];
+
+// The same with a spare bit set.
+const SPARE: [u8; 14] = [
+    0x00, 0x02, 0x02, 0x00, 0x00, 0x24, 0x00, 0x01, 0x00, 0x12, 0x34, 0x56, 0x78, 0x91,
+];
+
+// Numbers in the long byte: where they stand, in how many bits, and their values.
+const NUMBERS: &[(usize, usize, u64)] = &[(40, 8, 36), (72, 36, 0x123456789)];
+
+// The first bits of bytes.
+fn bits_of(rt: &impl Abort, bytes: &[u8], len: usize) -> Bits {
+    Bits::from_bytes(bytes, len).expect(rt, "bits")
+}
+
+// The same as a part.
+fn part_of<'a>(rt: &impl Abort, bytes: &'a [u8], len: usize) -> Part<'a> {
+    Part::from_bytes(bytes, len).expect(rt, "bits")
+}
+
+// The first bits of 1,024 bytes that are all this one.
+fn bits_of_one(rt: &impl Abort, byte: u8, len: usize) -> Bits {
+    bits_of(rt, &[byte; 1024], len)
+}
+
+// The bits of the long byte.
+fn long_byte(rt: &impl Abort) -> Bits {
+    bits_of(rt, &LONG_BYTE, 108)
+}
 
 // The bits that a text of zeros and ones spells.
 fn bits_in(rt: &impl Abort, text: &str) -> Bits {
@@ -33,68 +69,143 @@ fn is_spelled(bits: &Bits, text: &str) -> bool {
     true
 }
 
+// A run of bits.
+fn run<'a>(rt: &impl Abort, bits: &'a Bits, at: usize, len: usize) -> Part<'a> {
+    assert!(rt; at <= bits.len() && len <= bits.len() - at);
+    bits.slice(at, len)
+}
+
+// A run of a part's bits.
+fn run_of<'a>(rt: &impl Abort, part: &Part<'a>, at: usize, len: usize) -> Part<'a> {
+    assert!(rt; at <= part.len() && len <= part.len() - at);
+    part.slice(at, len)
+}
+
+// Whether numbers stand in bits.
+fn has_numbers(bits: &Bits, numbers: &[(usize, usize, u64)]) -> bool {
+    for &(at, width, number) in numbers {
+        if width > 64 || at > bits.len() || width > bits.len() - at {
+            return false;
+        }
+        if bits.number(at, width) != number {
+            return false;
+        }
+    }
+    true
+}
+
+// Whether numbers stand in a part.
+fn part_has_numbers(part: &Part<'_>, numbers: &[(usize, usize, u64)]) -> bool {
+    for &(at, width, number) in numbers {
+        if width > 64 || at > part.len() || width > part.len() - at {
+            return false;
+        }
+        if part.number(at, width) != number {
+            return false;
+        }
+    }
+    true
+}
+
+// Whether a part has this bit at a place.
+fn has_bit(part: &Part<'_>, place: usize, bit: bool) -> bool {
+    place < part.len() && part.bit(place) == bit
+}
+
+// Whether there are so many bits, they are written as these bytes, and the byte behind them stays.
+fn is_written(bits: &Bits, len: usize, bytes: &[u8]) -> bool {
+    if bits.len() != len {
+        return false;
+    }
+    let mut out = [0xffu8; 1025];
+    let used = bits.to_bytes(&mut out);
+    out[..used] == bytes[..] && out[used] == 0xff
+}
+
+// The same of a part.
+fn is_part_written(part: &Part<'_>, len: usize, bytes: &[u8]) -> bool {
+    if part.len() != len {
+        return false;
+    }
+    let mut out = [0xffu8; 1025];
+    let used = part.to_bytes(&mut out);
+    out[..used] == bytes[..] && out[used] == 0xff
+}
+
+// Why the first bits of bytes are refused.
+fn fault_of(bytes: &[u8], len: usize) -> Option<BitsFault> {
+    Bits::from_bytes(bytes, len).err()
+}
+
+fn number_of(fault: BitsFault) -> u8 {
+    fault as u8
+}
+
+// Why they are refused as a part.
+fn part_fault_of(bytes: &[u8], len: usize) -> Option<BitsFault> {
+    Part::from_bytes(bytes, len).err()
+}
+
 #[test]
-fn reads_and_writes_bytes(rt: HostRuntime) -> Result<(), Fail> {
-    let bits = Bits::from_bytes(&LONG_BYTE, 108)?;
+fn reads_and_writes_bytes(rt: HostRuntime) {
+    let bits = long_byte(&rt);
     assert_eq!(rt; bits.len(), 108);
-    assert_eq!(rt; bits.number(40, 8), 36);
-    assert_eq!(rt; bits.number(72, 36), 0x123456789);
-    let mut out = [0xffu8; 15];
-    assert_eq!(rt; bits.to_bytes(&mut out), 14);
-    assert!(rt; out[..14] == LONG_BYTE[..]);
-    assert_eq!(rt; out[14], 0xff);
-    Ok(())
+    assert!(rt; has_numbers(&bits, NUMBERS));
+    assert!(rt; is_written(&bits, 108, &LONG_BYTE));
+}
+
+// Becomes the first bits of bytes, or is refused.
+fn becomes(bits: &mut Bits, bytes: &[u8], len: usize) -> Option<BitsFault> {
+    bits.copy_from_bytes(bytes, len).err()
 }
 
 #[test]
-fn takes_one_message_after_the_other(rt: HostRuntime) -> Result<(), Fail> {
+fn takes_one_message_after_the_other(rt: HostRuntime) {
+    const REFUSED: &[(usize, BitsFault)] = &[
+        (12, BitsFault::SpareNotZero),
+        (17, BitsFault::ShortBytes),
+        (8193, BitsFault::TooLong),
+    ];
     let mut bits = Bits::new();
-    bits.copy_from_bytes(&LONG_BYTE, 108)?;
-    bits.copy_from_bytes(b"\xa0\x7f", 4)?;
+    assert!(rt; becomes(&mut bits, &LONG_BYTE, 108).is_none());
+    assert!(rt; becomes(&mut bits, b"\xa0\x7f", 4).is_none());
     assert!(rt; is_spelled(&bits, "1010"));
-    assert!(rt; bits.copy_from_bytes(b"\xa0\x7f", 12) == Err(BitsFault::SpareNotZero));
-    assert!(rt; bits.copy_from_bytes(b"\xa0\x7f", 17) == Err(BitsFault::ShortBytes));
-    assert!(rt; bits.copy_from_bytes(b"\xa0\x7f", 8193) == Err(BitsFault::TooLong));
+    for &(len, fault) in REFUSED {
+        assert!(rt; becomes(&mut bits, b"\xa0\x7f", len) == Some(fault));
+    }
     assert!(rt; is_spelled(&bits, "1010"));
-    bits.copy_from_bytes(&LONG_BYTE, 108)?;
-    assert_eq!(rt; bits.number(72, 36), 0x123456789);
-    Ok(())
+    assert!(rt; becomes(&mut bits, &LONG_BYTE, 108).is_none());
+    assert!(rt; has_numbers(&bits, NUMBERS));
 }
 
 #[test]
-fn reads_bytes_where_they_stand(rt: HostRuntime) -> Result<(), Fail> {
-    let part = Part::from_bytes(&LONG_BYTE, 108)?;
+fn reads_bytes_where_they_stand(rt: HostRuntime) {
+    const REFUSED: &[(usize, BitsFault)] = &[
+        (105, BitsFault::SpareNotZero),
+        (113, BitsFault::ShortBytes),
+        (8193, BitsFault::TooLong),
+    ];
+    let part = part_of(&rt, &LONG_BYTE, 108);
     assert_eq!(rt; part.len(), 108);
-    assert_eq!(rt; part.number(40, 8), 36);
-    assert_eq!(rt; part.number(72, 36), 0x123456789);
-    assert!(rt; part == Bits::from_bytes(&LONG_BYTE, 108)?.whole());
-    assert!(rt;
-        matches!(
-            Part::from_bytes(&LONG_BYTE, 105),
-            Err(BitsFault::SpareNotZero)
-        )
-    );
-    assert!(rt;
-        matches!(
-            Part::from_bytes(&LONG_BYTE, 113),
-            Err(BitsFault::ShortBytes)
-        )
-    );
-    assert!(rt; matches!(Part::from_bytes(&LONG_BYTE, 8193), Err(BitsFault::TooLong)));
-    Ok(())
+    assert!(rt; part_has_numbers(&part, NUMBERS));
+    assert!(rt; part == long_byte(&rt).whole());
+    for &(len, fault) in REFUSED {
+        assert!(rt; part_fault_of(&LONG_BYTE, len) == Some(fault));
+    }
 }
 
 #[test]
 fn names_faults_in_order(rt: HostRuntime) {
-    let mut spare = LONG_BYTE;
-    spare[13] = 0x91;
-    assert!(rt; matches!(Bits::from_bytes(&spare, 108), Err(BitsFault::SpareNotZero)));
-    assert!(rt; matches!(Bits::from_bytes(&spare, 113), Err(BitsFault::ShortBytes)));
-    assert!(rt; matches!(Bits::from_bytes(&spare, 8193), Err(BitsFault::TooLong)));
-    assert!(rt; Bits::from_bytes(&[0u8; 1024], 8192).is_ok());
-    assert_eq!(rt; BitsFault::TooLong as u8, 1);
-    assert_eq!(rt; BitsFault::ShortBytes as u8, 2);
-    assert_eq!(rt; BitsFault::SpareNotZero as u8, 3);
+    const REFUSED: &[(usize, BitsFault, u8)] = &[
+        (8193, BitsFault::TooLong, 1),
+        (113, BitsFault::ShortBytes, 2),
+        (108, BitsFault::SpareNotZero, 3),
+    ];
+    for &(len, fault, number) in REFUSED {
+        assert!(rt; fault_of(&SPARE, len) == Some(fault));
+        assert_eq!(rt; number_of(fault), number);
+    }
+    assert_eq!(rt; bits_of_one(&rt, 0, 8192).len(), 8192);
 }
 
 #[test]
@@ -108,92 +219,119 @@ fn tells_faults(rt: HostRuntime) -> Result<(), Fail> {
         ),
     ];
     for &(fault, text) in TOLD {
-        assert_eq!(rt; format!(in rt.alloc(); "{fault}")?.as_str(), text);
+        assert!(rt; is_told(rt.alloc(), &fault, text)?);
     }
-    assert_eq!(rt;
-        format!(in rt.alloc(); "{NoRoom}")?.as_str(),
-        "no room for these bits"
-    );
+    assert!(rt; is_told(rt.alloc(), &NoRoom, "no room for these bits")?);
     Ok(())
 }
 
+// Appends a part.
+fn appends(bits: &mut Bits, part: Part<'_>) -> Option<BitsFault> {
+    bits.append(part).err()
+}
+
+// Appends a number.
+fn pushes(bits: &mut Bits, number: u64, width: usize) -> Option<BitsFault>
+    requires { number < 2 ^ width }
+{
+    bits.push_number(number, width).err()
+}
+
 #[test]
-fn appends_parts(rt: HostRuntime) -> Result<(), Fail> {
-    let row = Bits::from_bytes(&LONG_BYTE, 108)?;
+fn appends_parts(rt: HostRuntime) {
+    let row = long_byte(&rt);
     let mut bits = Bits::default();
-    assert!(rt; bits.is_empty());
-    assert!(rt; bits.whole().is_empty());
+    assert!(rt; bits.is_empty() && bits.whole().is_empty());
     assert_eq!(rt; row.len(), 108);
-    bits.append(row.slice(72, 36))?;
-    bits.push_number(0b101, 3)?;
+    assert!(rt; appends(&mut bits, run(&rt, &row, 72, 36)).is_none());
+    assert!(rt; pushes(&mut bits, 0b101, 3).is_none());
     assert_eq!(rt; bits.len(), 39);
-    assert_eq!(rt; bits.number(0, 39), 0x123456789 * 8 + 5);
-    let text = row.slice(72, 36);
+    assert!(rt; has_numbers(&bits, &[(0, 39, 0x123456789 * 8 + 5)]));
+}
+
+#[test]
+fn reads_parts(rt: HostRuntime) {
+    let row = long_byte(&rt);
+    let text = run(&rt, &row, 72, 36);
     assert_eq!(rt; text.len(), 36);
-    assert!(rt; text.bit(3) && !text.bit(4));
-    assert_eq!(rt; text.slice(4, 8).number(0, 8), 0x23);
-    assert_eq!(rt; text.slice(4, 8).to_bits().number(0, 8), 0x23);
-    let mut out = [0u8; 5];
-    assert_eq!(rt; text.to_bytes(&mut out), 5);
-    assert!(rt; out == [0x12, 0x34, 0x56, 0x78, 0x90]);
-    Ok(())
+    assert!(rt; has_bit(&text, 3, true) && has_bit(&text, 4, false));
+    let second = run_of(&rt, &text, 4, 8);
+    assert!(rt; part_has_numbers(&second, &[(0, 8, 0x23)]));
+    assert!(rt; has_numbers(&second.to_bits(), &[(0, 8, 0x23)]));
+    assert!(rt; is_part_written(&text, 36, &LONG_BYTE[9..]));
+}
+
+// Whether a part lends these bytes, or lends none.
+fn lends(part: &Part<'_>, bytes: Option<&[u8]>) -> bool {
+    part.whole_bytes() == bytes
 }
 
 #[test]
-fn lends_whole_bytes(rt: HostRuntime) -> Result<(), Fail> {
-    let row = Bits::from_bytes(&LONG_BYTE, 108)?;
-    assert!(rt; row.len() == 108);
-    assert!(rt; row.slice(40, 32).whole_bytes() == Some(&LONG_BYTE[5..9]));
-    assert!(rt; row.slice(40, 0).whole_bytes() == Some(&[]));
-    assert!(rt; row.slice(41, 32).whole_bytes() == None);
-    assert!(rt; row.slice(40, 31).whole_bytes() == None);
-    Ok(())
+fn lends_whole_bytes(rt: HostRuntime) {
+    const ROWS: &[(usize, usize, Option<&[u8]>)] = &[
+        (40, 32, Some(&[0x24, 0x00, 0x01, 0x00])),
+        (40, 0, Some(&[])),
+        (41, 32, None),
+        (40, 31, None),
+    ];
+    let row = long_byte(&rt);
+    assert_eq!(rt; row.len(), 108);
+    for &(at, len, bytes) in ROWS {
+        assert!(rt; lends(&run(&rt, &row, at, len), bytes));
+    }
 }
 
 #[test]
-fn pads_wide_numbers(rt: HostRuntime) -> Result<(), Fail> {
+fn pads_wide_numbers(rt: HostRuntime) {
     let mut bits = bits_in(&rt, "101");
-    bits.push_number(u64::MAX, 70)?;
-    bits.push_number(6, 100)?;
+    assert!(rt; pushes(&mut bits, u64::MAX, 70).is_none());
+    assert!(rt; pushes(&mut bits, 6, 100).is_none());
     assert_eq!(rt; bits.len(), 173);
-    assert_eq!(rt; bits.number(0, 9), 0b101_000_000);
-    assert_eq!(rt; bits.number(9, 64), u64::MAX);
-    assert_eq!(rt; bits.number(73, 60), 0);
-    assert_eq!(rt; bits.number(133, 40), 6);
-    assert!(rt; bits.push_number(0, 8192 - 172) == Err(BitsFault::TooLong));
+    let numbers = [
+        (0, 9, 0b101_000_000),
+        (9, 64, u64::MAX),
+        (73, 60, 0),
+        (133, 40, 6),
+    ];
+    assert!(rt; has_numbers(&bits, &numbers));
+    assert!(rt; pushes(&mut bits, 0, 8192 - 172) == Some(BitsFault::TooLong));
     assert_eq!(rt; bits.len(), 173);
-    bits.push_number(1, 8192 - 173)?;
-    assert_eq!(rt; bits.number(8128, 64), 1);
-    Ok(())
+    assert!(rt; pushes(&mut bits, 1, 8192 - 173).is_none());
+    assert!(rt; has_numbers(&bits, &[(8128, 64, 1)]));
 }
 
 #[test]
-fn refuses_what_does_not_fit(rt: HostRuntime) -> Result<(), Fail> {
-    let mut bits = Bits::from_bytes(&[0u8; 1024], 8190)?;
-    assert!(rt; bits.push_number(7, 3) == Err(BitsFault::TooLong));
-    bits.push_number(3, 2)?;
+fn refuses_what_does_not_fit(rt: HostRuntime) {
+    let mut bits = bits_of_one(&rt, 0, 8190);
+    assert!(rt; pushes(&mut bits, 7, 3) == Some(BitsFault::TooLong));
+    assert!(rt; pushes(&mut bits, 3, 2).is_none());
     let more = bits_in(&rt, "1");
-    assert!(rt; bits.append(more.whole()) == Err(BitsFault::TooLong));
+    assert!(rt; appends(&mut bits, more.whole()) == Some(BitsFault::TooLong));
     assert_eq!(rt; bits.len(), 8192);
-    Ok(())
+}
+
+// Whether the bits of a text are put into a store, or it has no room for them.
+fn puts<S: BitStore>(rt: &impl Abort, store: &mut S, text: &str) -> bool {
+    store.put(bits_in(rt, text).whole()).is_ok()
+}
+
+// Takes the first bits out of a store.
+fn takes<S: BitStore>(rt: &impl Abort, store: &mut S, count: usize) -> Bits {
+    assert!(rt; count <= store.len() && count <= MAX_BITS);
+    store.take(count)
 }
 
 // Thirteen bits of room, filled, emptied in part and filled again, across every byte's end.
 fn keeps_thirteen_bits<S: BitStore>(rt: &impl Abort, alloc: Global) -> Result<(), Fail> {
     let mut store = S::with_room(alloc, 13)?;
-    store.put(bits_in(rt, "1010101").whole())?;
-    store.put(bits_in(rt, "110011").whole())?;
+    assert!(rt; puts(rt, &mut store, "1010101") && puts(rt, &mut store, "110011"));
     assert_eq!(rt; store.room(), 0);
-    assert!(rt; store.put(bits_in(rt, "1").whole()) == Err(NoRoom));
+    assert!(rt; !puts(rt, &mut store, "1"));
     assert_eq!(rt; store.len(), 13);
-    assert!(rt; 3 <= store.len());
-    let front = store.take(3);
-    assert!(rt; is_spelled(&front, "101"));
-    store.put(bits_in(rt, "111").whole())?;
-    assert!(rt; 13 <= store.len());
-    let all = store.take(13);
-    assert!(rt; is_spelled(&all, "0101110011111"));
-    store.put(bits_in(rt, "01").whole())?;
+    assert!(rt; is_spelled(&takes(rt, &mut store, 3), "101"));
+    assert!(rt; puts(rt, &mut store, "111"));
+    assert!(rt; is_spelled(&takes(rt, &mut store, 13), "0101110011111"));
+    assert!(rt; puts(rt, &mut store, "01"));
     store.clear();
     assert_eq!(rt; store.room(), 13);
     Ok(())
@@ -209,81 +347,116 @@ fn packed_store_keeps_bits(rt: HostRuntime) -> Result<(), Fail> {
     keeps_thirteen_bits::<PackedStore>(&rt, rt.alloc())
 }
 
-// What a store holds that was given the first `kept` bits of a row, and `len` bits from `from` on.
+// What a store holds that was given two parts.
 fn put_together<S: BitStore>(
+    rt: &impl Abort,
+    alloc: Global,
+    one: Part<'_>,
+    other: Part<'_>,
+) -> Result<Bits, Fail> {
+    let mut store = S::with_room(alloc, 32)?;
+    store.put(one)?;
+    store.put(other)?;
+    let all = store.len();
+    assert!(rt; all <= 32);
+    Ok(takes(rt, &mut store, all))
+}
+
+// Whether both stores, and bits that are appended to, hold the same once they were given the first `kept` bits of a
+// row, and `len` bits from `from` on.
+fn appends_at(
     rt: &impl Abort,
     alloc: Global,
     row: &Bits,
     kept: usize,
     from: usize,
     len: usize,
-) -> Result<Bits, Fail> {
-    assert!(rt; kept <= row.len() && from <= row.len() && len <= row.len() - from);
-    let mut store = S::with_room(alloc, 32)?;
-    store.put(row.slice(0, kept))?;
-    store.put(row.slice(from, len))?;
-    let all = store.len();
-    assert!(rt; all <= 32);
-    Ok(store.take(all))
+) -> Result<bool, Fail> {
+    let one = run(rt, row, 0, kept);
+    let other = run(rt, row, from, len);
+    let mut bits = one.to_bits();
+    assert!(rt; appends(&mut bits, run(rt, row, from, len)).is_none());
+    let plain = put_together::<PlainStore>(
+        rt,
+        alloc,
+        run(rt, row, 0, kept),
+        run(rt, row, from, len),
+    )?;
+    let packed = put_together::<PackedStore>(rt, alloc, one, other)?;
+    Ok(plain == packed && plain == bits)
 }
 
 // Every place in a byte that bits are appended at, every place that they are read from, and lengths
 // on both sides of a byte's end.
 #[test]
 fn appends_at_every_bit(rt: HostRuntime) -> Result<(), Fail> {
-    let row = Bits::from_bytes(&LONG_BYTE, 108)?;
+    const LENGTHS: &[usize] = &[0, 1, 7, 8, 9, 17];
+    let row = long_byte(&rt);
     for kept in 0..9 {
         for from in 60..69 {
-            for len in [0, 1, 7, 8, 9, 17] {
-                let plain = put_together::<PlainStore>(&rt, rt.alloc(), &row, kept, from, len)?;
-                let packed = put_together::<PackedStore>(&rt, rt.alloc(), &row, kept, from, len)?;
-                assert!(rt; plain == packed);
-                assert!(rt; kept <= row.len() && from <= row.len() && len <= row.len() - from);
-                let mut bits = row.slice(0, kept).to_bits();
-                bits.append(row.slice(from, len))?;
-                assert!(rt; plain == bits);
+            for &len in LENGTHS {
+                assert!(rt; appends_at(&rt, rt.alloc(), &row, kept, from, len)?);
             }
         }
     }
     Ok(())
+}
+
+// The bits of a part, read one by one.
+fn one_by_one(rt: &impl Abort, part: &Part<'_>) -> Bits {
+    let mut bits = Bits::new();
+    for place in 0..part.len() {
+        assert!(rt; bits.push_number(u64::from(part.bit(place)), 1).is_ok());
+    }
+    bits
+}
+
+// Whether the bytes that a part is written as are those of bits.
+fn has_bytes_of(rt: &impl Abort, part: &Part<'_>, bits: &Bits) -> bool {
+    if part.len() != bits.len() {
+        return false;
+    }
+    let mut out = [0xffu8; 1024];
+    let used = part.to_bytes(&mut out);
+    used == bits.len().div_ceil(8) && bits_of(rt, &out, bits.len()) == *bits
+}
+
+// Whether a part and bits of 64 at most spell the same number.
+fn has_number_of(part: &Part<'_>, bits: &Bits) -> bool {
+    let len = part.len();
+    len <= 64 && bits.len() == len && part.number(0, len) == bits.number(0, len)
+}
+
+// Whether a part has so many bits, and is the same as they are, read one by one.
+fn is_read(rt: &impl Abort, part: &Part<'_>, len: usize) -> bool {
+    let bits = one_by_one(rt, part);
+    *part == bits.whole()
+        && part.to_bits() == bits
+        && bits.len() == len
+        && has_number_of(part, &bits)
+        && has_bytes_of(rt, part, &bits)
 }
 
 // A part's bytes are those of the bits that it is read as, one by one.
 #[test]
-fn reads_at_every_bit(rt: HostRuntime) -> Result<(), Fail> {
-    let row = Bits::from_bytes(&LONG_BYTE, 108)?;
+fn reads_at_every_bit(rt: HostRuntime) {
+    let row = long_byte(&rt);
     for from in 60..69 {
         for len in 0..40 {
-            assert!(rt; from <= row.len() && len <= row.len() - from);
-            let part = row.slice(from, len);
-            let mut one_by_one = Bits::new();
-            for place in 0..part.len() {
-                assert!(rt; place < part.len());
-                one_by_one.push_number(u64::from(part.bit(place)), 1)?;
-            }
-            assert!(rt; part == one_by_one.whole() && part.to_bits() == one_by_one);
-            assert_eq!(rt; one_by_one.len(), len);
-            assert_eq!(rt; part.number(0, len), one_by_one.number(0, len));
-            let mut out = [0xffu8; 6];
-            let used = part.to_bytes(&mut out);
-            assert_eq!(rt; used, len.div_ceil(8));
-            assert!(rt; Bits::from_bytes(&out, len)? == one_by_one);
+            assert!(rt; is_read(&rt, &run(&rt, &row, from, len), len));
         }
     }
-    Ok(())
 }
 
 // What comes out of a store with room for 23 bits that holds seven while more pass through it.
 fn pass_through<S: BitStore>(rt: &impl Abort, alloc: Global, row: &Bits) -> Result<Bits, Fail> {
-    assert!(rt; row.len() == 108);
     let mut store = S::with_room(alloc, 23)?;
-    store.put(row.slice(0, 7))?;
+    store.put(run(rt, row, 0, 7))?;
     let mut out = Bits::new();
     for from in 0..90 {
         let len = from % 17;
-        store.put(row.slice(from, len))?;
-        assert!(rt; len <= store.len());
-        out.append(store.take(len).whole())?;
+        store.put(run(rt, row, from, len))?;
+        assert!(rt; appends(&mut out, takes(rt, &mut store, len).whole()).is_none());
     }
     assert_eq!(rt; store.room(), 16);
     Ok(out)
@@ -291,7 +464,8 @@ fn pass_through<S: BitStore>(rt: &impl Abort, alloc: Global, row: &Bits) -> Resu
 
 #[test]
 fn stores_pass_the_same_bits(rt: HostRuntime) -> Result<(), Fail> {
-    let row = Bits::from_bytes(&LONG_BYTE, 108)?;
+    let row = long_byte(&rt);
+    assert_eq!(rt; row.len(), 108);
     let plain = pass_through::<PlainStore>(&rt, rt.alloc(), &row)?;
     let packed = pass_through::<PackedStore>(&rt, rt.alloc(), &row)?;
     assert!(rt; plain == packed);
@@ -303,6 +477,14 @@ const ROOMS: &[usize] = &[
     0, 1, 7, 8, 9, 63, 64, 65, 8192, 65535, 65536, 65537, 1_000_000,
 ];
 
+// Puts a row into a store so many times, or as much of it as there is room for.
+fn fills<S: BitStore>(rt: &impl Abort, store: &mut S, times: usize, row: &Bits) {
+    for _ in 0..times {
+        let count = row.len().min(store.room());
+        assert!(rt; store.put(run(rt, row, 0, count)).is_ok());
+    }
+}
+
 // That a store has room for just so many bits, and once they are out again for as many.
 fn fills_and_empties<S: BitStore>(
     rt: &impl Abort,
@@ -311,18 +493,15 @@ fn fills_and_empties<S: BitStore>(
     row: &Bits,
 ) -> Result<(), Fail> {
     let mut store = S::with_room(alloc, room)?;
+    let times = room.div_ceil(row.len().max(1));
+    let count = room.min(row.len());
     for _ in 0..2 {
         assert_eq!(rt; store.room(), room);
         assert_eq!(rt; store.len(), 0);
-        for _ in 0..room.div_ceil(row.len().max(1)) {
-            let count = row.len().min(store.room());
-            store.put(row.slice(0, count))?;
-        }
+        fills(rt, &mut store, times, row);
         assert_eq!(rt; store.len(), room);
-        assert!(rt; store.put(bits_in(rt, "1").whole()) == Err(NoRoom));
-        let count = room.min(row.len());
-        assert!(rt; count <= store.len() && count <= 8192);
-        assert!(rt; store.take(count).whole() == row.slice(0, count));
+        assert!(rt; !puts(rt, &mut store, "1"));
+        assert!(rt; takes(rt, &mut store, count).whole() == run(rt, row, 0, count));
         store.clear();
     }
     Ok(())
@@ -330,7 +509,7 @@ fn fills_and_empties<S: BitStore>(
 
 #[test]
 fn plain_stores_have_each_room(rt: HostRuntime) -> Result<(), Fail> {
-    let row = Bits::from_bytes(&[0x5au8; 1024], 8191)?;
+    let row = bits_of_one(&rt, 0x5a, 8191);
     for &room in ROOMS {
         fills_and_empties::<PlainStore>(&rt, rt.alloc(), room, &row)?;
     }
@@ -339,7 +518,7 @@ fn plain_stores_have_each_room(rt: HostRuntime) -> Result<(), Fail> {
 
 #[test]
 fn packed_stores_have_each_room(rt: HostRuntime) -> Result<(), Fail> {
-    let row = Bits::from_bytes(&[0x5au8; 1024], 8191)?;
+    let row = bits_of_one(&rt, 0x5a, 8191);
     for &room in ROOMS {
         fills_and_empties::<PackedStore>(&rt, rt.alloc(), room, &row)?;
     }
@@ -347,42 +526,44 @@ fn packed_stores_have_each_room(rt: HostRuntime) -> Result<(), Fail> {
 }
 
 #[test]
-fn compares_bits_wherever_they_lie(rt: HostRuntime) -> Result<(), Fail> {
-    let row = Bits::from_bytes(&LONG_BYTE, 108)?;
-    assert!(rt; row.len() == 108);
-    let text = row.slice(72, 36);
+fn compares_bits_wherever_they_lie(rt: HostRuntime) {
+    let row = long_byte(&rt);
+    assert_eq!(rt; row.len(), 108);
+    let text = run(&rt, &row, 72, 36);
     let mut copy = bits_in(&rt, "101");
-    copy.append(text.slice(0, 36))?;
-    assert!(rt; copy.len() == 39);
-    assert!(rt; copy.slice(3, 36) == text);
-    assert!(rt; copy.slice(3, 35) != text);
-    assert!(rt; copy.slice(2, 36) != text);
-    assert!(rt; copy.slice(3, 36).to_bits() == text.to_bits());
+    assert!(rt; appends(&mut copy, run_of(&rt, &text, 0, 36)).is_none());
+    assert_eq!(rt; copy.len(), 39);
+    let same = run(&rt, &copy, 3, 36);
+    assert!(rt; same == text && same.to_bits() == text.to_bits());
+    assert!(rt; run(&rt, &copy, 3, 35) != text);
+    assert!(rt; run(&rt, &copy, 2, 36) != text);
     assert!(rt; copy != text.to_bits());
+    assert!(rt; equality::equal_bits(&row, &row) && !equality::equal_bits(&row, &copy));
+    assert!(rt; equality::equal_parts(&text, &same));
+}
+
+#[test]
+fn compares_short_bits_and_refusals(rt: HostRuntime) {
     assert!(rt; bits_in(&rt, "0") != bits_in(&rt, "00"));
     assert!(rt; Bits::new() == Bits::default());
-    assert!(rt; equality::equal_bits(&row, &row) && !equality::equal_bits(&row, &copy));
-    assert!(rt; equality::equal_parts(&text, &copy.slice(3, 36)));
     assert!(rt; equality::equal_faults(BitsFault::TooLong, BitsFault::TooLong));
     assert!(rt; equality::equal_refusals(NoRoom, NoRoom));
-    Ok(())
 }
 
 #[test]
 fn shows_bits(rt: HostRuntime) -> Result<(), Fail> {
-    let row = Bits::from_bytes(&LONG_BYTE, 108)?;
-    assert!(rt; row.len() == 108);
-    let text = row.slice(72, 36);
-    assert_eq!(rt;
-        format!(in rt.alloc(); "{text:?}")?.as_str(),
-        "bits=36 1234567890"
-    );
-    let bits = bits_in(&rt, "101");
-    assert_eq!(rt; format!(in rt.alloc(); "{bits:?}")?.as_str(), "bits=3 a0");
-    let low = bits_in(&rt, "0000010100001");
-    assert_eq!(rt; format!(in rt.alloc(); "{low:?}")?.as_str(), "bits=13 0508");
-    let none = Bits::new();
-    assert_eq!(rt; format!(in rt.alloc(); "{none:?}")?.as_str(), "bits=0 ");
+    const SHOWN: &[(&str, &str)] = &[
+        ("101", "bits=3 a0"),
+        ("0000010100001", "bits=13 0508"),
+        ("", "bits=0 "),
+    ];
+    let row = long_byte(&rt);
+    assert_eq!(rt; row.len(), 108);
+    let text = run(&rt, &row, 72, 36);
+    assert!(rt; is_shown(rt.alloc(), &text, "bits=36 1234567890")?);
+    for &(digits, shown) in SHOWN {
+        assert!(rt; is_shown(rt.alloc(), &bits_in(&rt, digits), shown)?);
+    }
     Ok(())
 }
 

@@ -4,12 +4,12 @@ ghost use Rattle.std.specs.Prelude.{◌≡◌, ◌*◌, ◌≤◌, ◌%◌, ◌+
 ghost use Rattle.ncp_numbers.specs.Bytes.{bytes_of};
 ghost use Rattle.ncp_control.specs.Reading.{commands_in, fault_in};
 
+use crate::known::is_told;
 use ncp_bits::{Bits, Part};
 use ncp_control::{Commands, find_fault, laws};
 use ncp_terms::{
-    Command, CommandFault, ERRONEOUS_PARAMETERS, ILLEGAL_OPCODE, LONGEST_COMMAND,
-    NONEXISTENT_SOCKET, SHORT_PARAMETER_SPACE, SOCKET_NOT_CONNECTED, equality, error_for,
-    put_command,
+    Command, CommandFault, ERRONEOUS_PARAMETERS, ILLEGAL_OPCODE, NONEXISTENT_SOCKET,
+    SHORT_PARAMETER_SPACE, SOCKET_NOT_CONNECTED, equality, error_for, put_command,
 };
 use std::alloc::AllocError;
 use std::process::Abort;
@@ -22,158 +22,193 @@ const STR_ROW: [u8; 10] = [0x02, 0x00, 0x00, 0x00, 0x03, 0x00, 0x00, 0x00, 0x02,
 
 // The text that bytes are.
 fn text_of(rt: &impl Abort, bytes: &[u8]) -> Bits
-    requires { length bytes.now ≤ 1024 }
     ensures { length result ≡ 8 * length bytes.now }
 {
+    assert!(rt; bytes.len() <= 1024);
     Bits::from_bytes(bytes, 8 * bytes.len()).expect(rt, "whole bytes")
 }
 
+// Whether the next of a text's commands, or its fault, is this.
+fn gives(items: &mut Commands<'_>, item: Option<Result<Command, CommandFault>>) -> bool {
+    items.next() == item
+}
+
 // That bytes are read as these commands, and then the fault, and then no more, and that the fault is found
-// by itself.
-fn is_read(rt: &impl Abort, bytes: &[u8], commands: &[Command], fault: Option<CommandFault>)
-    requires { length bytes.now ≤ 1024 }
-{
+// by itself. It has no clause, and nor has `is_spelled`: the prover need not follow texts through a test.
+fn is_read(rt: &impl Abort, bytes: &[u8], commands: &[Command], fault: Option<CommandFault>) {
     let text = text_of(rt, bytes);
     let mut items = Commands::new(text.whole());
     for command in commands {
-        assert!(rt; items.next() == Some(Ok(*command)));
+        assert!(rt; gives(&mut items, Some(Ok(*command))));
     }
     if let Some(fault) = fault {
-        assert!(rt; items.next() == Some(Err(fault)));
+        assert!(rt; gives(&mut items, Some(Err(fault))));
     }
-    assert!(rt; items.next() == None);
-    assert!(rt; items.next() == None);
+    assert!(rt; gives(&mut items, None));
+    assert!(rt; gives(&mut items, None));
     assert!(rt; find_fault(&text.whole()) == fault);
 }
 
 // That a command is written as these bytes, and they are read as it.
-fn is_spelled(rt: &impl Abort, command: Command, bytes: &[u8])
-    requires { length bytes.now ≤ LONGEST_COMMAND }
-{
+fn is_spelled(rt: &impl Abort, command: Command, bytes: &[u8]) {
     assert!(rt; put_command(&command).as_slice() == bytes);
     is_read(rt, bytes, &[command], None);
 }
 
+// That each command is written as its bytes, and they are read as it.
+fn are_spelled(rt: &impl Abort, rows: &[(Command, &[u8])]) {
+    for &(command, bytes) in rows {
+        is_spelled(rt, command, bytes);
+    }
+}
+
 #[test]
 fn spells_requests(rt: HostRuntime) {
-    is_spelled(&rt, Command::Nop, &[0]);
-    let rts = Command::Rts {
+    const RTS: Command = Command::Rts {
         receive: 2,
         send: 3,
         link: 2,
     };
-    is_spelled(&rt, rts, &RTS_ROW);
-    let str = Command::Str {
+    const STR: Command = Command::Str {
         send: 3,
         receive: 2,
         size: 8,
     };
-    is_spelled(&rt, str, &STR_ROW);
-    let cls = Command::Cls { my: 3, your: 2 };
-    is_spelled(&rt, cls, &[3, 0, 0, 0, 3, 0, 0, 0, 2]);
-    let far = Command::Cls {
+    const FAR: Command = Command::Cls {
         my: 0x01020304,
         your: 0xfffefdfc,
     };
-    is_spelled(&rt, far, &[3, 1, 2, 3, 4, 0xff, 0xfe, 0xfd, 0xfc]);
+    const ROWS: &[(Command, &[u8])] = &[
+        (Command::Nop, &[0]),
+        (RTS, &RTS_ROW),
+        (STR, &STR_ROW),
+        (
+            Command::Cls { my: 3, your: 2 },
+            &[3, 0, 0, 0, 3, 0, 0, 0, 2],
+        ),
+        (FAR, &[3, 1, 2, 3, 4, 0xff, 0xfe, 0xfd, 0xfc]),
+    ];
+    are_spelled(&rt, ROWS);
 }
 
 #[test]
 fn spells_allocation(rt: HostRuntime) {
-    let all = Command::All {
+    const ALL: Command = Command::All {
         link: 2,
         messages: 1,
         bits: 0,
     };
-    is_spelled(&rt, all, &[4, 2, 0, 1, 0, 0, 0, 0]);
-    let more = Command::All {
+    const MORE: Command = Command::All {
         link: 71,
         messages: 0x1234,
         bits: 0x56789abc,
     };
-    is_spelled(&rt, more, &[4, 71, 0x12, 0x34, 0x56, 0x78, 0x9a, 0xbc]);
-    let gvb = Command::Gvb {
+    const GVB: Command = Command::Gvb {
         link: 2,
         fm: 64,
         fb: 1,
     };
-    is_spelled(&rt, gvb, &[5, 2, 64, 1]);
-    let ret = Command::Ret {
+    const RET: Command = Command::Ret {
         link: 2,
         messages: 3,
         bits: 8,
     };
-    is_spelled(&rt, ret, &[6, 2, 0, 3, 0, 0, 0, 8]);
+    const ROWS: &[(Command, &[u8])] = &[
+        (ALL, &[4, 2, 0, 1, 0, 0, 0, 0]),
+        (MORE, &[4, 71, 0x12, 0x34, 0x56, 0x78, 0x9a, 0xbc]),
+        (GVB, &[5, 2, 64, 1]),
+        (RET, &[6, 2, 0, 3, 0, 0, 0, 8]),
+    ];
+    are_spelled(&rt, ROWS);
 }
 
 #[test]
 fn spells_the_others(rt: HostRuntime) {
-    is_spelled(&rt, Command::Inr { link: 2 }, &[7, 2]);
-    is_spelled(&rt, Command::Ins { link: 71 }, &[8, 71]);
-    is_spelled(&rt, Command::Eco { byte: 65 }, &[9, 0x41]);
-    is_spelled(&rt, Command::Erp { byte: 65 }, &[10, 0x41]);
-    let err = Command::Err {
+    const ERR: Command = Command::Err {
         code: 5,
         bytes: [6, 9, 0, 0, 0, 0, 0, 0, 0, 0],
     };
-    is_spelled(&rt, err, &[11, 5, 6, 9, 0, 0, 0, 0, 0, 0, 0, 0]);
-    is_spelled(&rt, Command::Rst, &[12]);
-    is_spelled(&rt, Command::Rrp, &[13]);
+    const ROWS: &[(Command, &[u8])] = &[
+        (Command::Inr { link: 2 }, &[7, 2]),
+        (Command::Ins { link: 71 }, &[8, 71]),
+        (Command::Eco { byte: 65 }, &[9, 0x41]),
+        (Command::Erp { byte: 65 }, &[10, 0x41]),
+        (ERR, &[11, 5, 6, 9, 0, 0, 0, 0, 0, 0, 0, 0]),
+        (Command::Rst, &[12]),
+        (Command::Rrp, &[13]),
+    ];
+    are_spelled(&rt, ROWS);
 }
 
 #[test]
 fn names_faults(rt: HostRuntime) {
-    let illegal = CommandFault {
+    const ILLEGAL: CommandFault = CommandFault {
         code: 1,
         bytes: [0x0e, 0, 0, 0, 0, 0, 0, 0, 0, 0],
     };
-    is_read(&rt, &[0x0e, 0x00], &[], Some(illegal));
-    let early = CommandFault {
+    const EARLY: CommandFault = CommandFault {
         code: 2,
         bytes: [0x04, 0x02, 0, 0, 0, 0, 0, 0, 0, 0],
     };
-    is_read(&rt, &[0x04, 0x02, 0x00], &[], Some(early));
-    let before = [Command::Nop, Command::Eco { byte: 0x41 }];
-    is_read(&rt, &[0x00, 0x09, 0x41, 0x0e], &before, Some(illegal));
+    const BEFORE: &[Command] = &[Command::Nop, Command::Eco { byte: 0x41 }];
+    is_read(&rt, &[0x0e, 0x00], &[], Some(ILLEGAL));
+    is_read(&rt, &[0x04, 0x02, 0x00], &[], Some(EARLY));
+    is_read(&rt, &[0x00, 0x09, 0x41, 0x0e], BEFORE, Some(ILLEGAL));
 }
 
 #[test]
 fn stops_at_a_fault(rt: HostRuntime) {
     // What follows an illegal opcode is data, though it could be read: ten bytes of it.
-    let fault = CommandFault {
+    const ILLEGAL: CommandFault = CommandFault {
         code: 1,
         bytes: [0xff, 12, 13, 0, 9, 65, 0, 0, 0, 1],
     };
-    let text = [12, 0xff, 12, 13, 0, 9, 65, 0, 0, 0, 1, 2, 3];
-    is_read(&rt, &text, &[Command::Rst], Some(fault));
     // A command that lacks its last byte, at the end of a text.
-    let early = CommandFault {
+    const EARLY: CommandFault = CommandFault {
         code: 2,
         bytes: [11, 1, 2, 3, 4, 5, 6, 7, 8, 9],
     };
-    let text = [13, 11, 1, 2, 3, 4, 5, 6, 7, 8, 9, 10];
-    is_read(&rt, &text, &[Command::Rrp], Some(early));
-    let opcode_alone = CommandFault {
+    const OPCODE_ALONE: CommandFault = CommandFault {
         code: 2,
         bytes: [5, 0, 0, 0, 0, 0, 0, 0, 0, 0],
     };
-    is_read(
-        &rt,
-        &[7, 2, 5],
-        &[Command::Inr { link: 2 }],
-        Some(opcode_alone),
-    );
+    const ROWS: &[(&[u8], Command, CommandFault)] = &[
+        (
+            &[12, 0xff, 12, 13, 0, 9, 65, 0, 0, 0, 1, 2, 3],
+            Command::Rst,
+            ILLEGAL,
+        ),
+        (
+            &[13, 11, 1, 2, 3, 4, 5, 6, 7, 8, 9, 10],
+            Command::Rrp,
+            EARLY,
+        ),
+        (&[7, 2, 5], Command::Inr { link: 2 }, OPCODE_ALONE),
+    ];
+    for &(bytes, command, fault) in ROWS {
+        is_read(&rt, bytes, &[command], Some(fault));
+    }
 }
 
 #[test]
 fn reads_short_and_long_texts(rt: HostRuntime) {
     is_read(&rt, &[], &[], None);
     is_read(&rt, &[0; 991], &[Command::Nop; 991], None);
+}
+
+// How many commands and faults a text has.
+fn count_items(rt: &impl Abort, text: &Bits) -> usize {
+    assert!(rt; text.len() % 8 == 0);
+    let mut items = Commands::new(text.whole());
+    items.by_ref().count()
+}
+
+#[test]
+fn reads_the_longest_text(rt: HostRuntime) {
     let longest = text_of(&rt, &[0; 1024]);
     assert_eq!(rt; count_commands(longest.whole()), 1024);
     assert!(rt; fault_of_text(longest.whole()) == None);
-    let mut commands = Commands::new(longest.whole());
-    assert_eq!(rt; commands.by_ref().count(), 1024);
+    assert_eq!(rt; count_items(&rt, &longest), 1024);
 }
 
 // How many commands a control text has.
@@ -244,33 +279,38 @@ fn counts_commands_and_finds_faults(rt: HostRuntime) {
     assert!(rt; fault == Some(illegal));
 }
 
+// Whether a command is answered by this ERR with a code.
+fn is_answered(code: u8, command: &Command, answer: &Command) -> bool {
+    error_for(code, command) == *answer
+}
+
 #[test]
 fn makes_errors(rt: HostRuntime) {
-    let all = Command::All {
+    const ALL: Command = Command::All {
         link: 2,
         messages: 1,
         bits: 0,
     };
-    let answer = Command::Err {
+    const ANSWER: Command = Command::Err {
         code: 3,
         bytes: [4, 2, 0, 1, 0, 0, 0, 0, 0, 0],
     };
-    assert!(rt; error_for(ERRONEOUS_PARAMETERS, &all) == answer);
-    let ret = Command::Ret {
+    const RET: Command = Command::Ret {
         link: 9,
         messages: 0,
         bits: 0,
     };
-    let not_connected = Command::Err {
+    const NOT_CONNECTED: Command = Command::Err {
         code: 5,
         bytes: [6, 9, 0, 0, 0, 0, 0, 0, 0, 0],
     };
-    assert!(rt; error_for(SOCKET_NOT_CONNECTED, &ret) == not_connected);
-    let nested = Command::Err {
+    const NESTED: Command = Command::Err {
         code: SOCKET_NOT_CONNECTED,
         bytes: [11, 3, 4, 2, 0, 1, 0, 0, 0, 0],
     };
-    assert!(rt; error_for(5, &answer) == nested);
+    assert!(rt; is_answered(ERRONEOUS_PARAMETERS, &ALL, &ANSWER));
+    assert!(rt; is_answered(SOCKET_NOT_CONNECTED, &RET, &NOT_CONNECTED));
+    assert!(rt; is_answered(5, &ANSWER, &NESTED));
     assert_eq!(rt; ILLEGAL_OPCODE, 1);
     assert_eq!(rt; SHORT_PARAMETER_SPACE, 2);
     assert_eq!(rt; NONEXISTENT_SOCKET, 4);
@@ -278,14 +318,12 @@ fn makes_errors(rt: HostRuntime) {
 
 #[test]
 fn tells_faults(rt: HostRuntime) -> Result<(), Fail> {
-    let fault = CommandFault {
+    const FAULT: CommandFault = CommandFault {
         code: 2,
         bytes: [0; 10],
     };
-    assert_eq!(rt;
-        format!(in rt.alloc(); "{fault}")?.as_str(),
-        "a control text has a fault of code 2"
-    );
+    let text = "a control text has a fault of code 2";
+    assert!(rt; is_told(rt.alloc(), &FAULT, text)?);
     Ok(())
 }
 

@@ -55,6 +55,11 @@ const SENDER_CLS: [u8; 9] = [3, 0, 0, 0, 3, 0, 0, 0, 2];
 
 const RECEIVER_CLS: [u8; 9] = [3, 0, 0, 0, 2, 0, 0, 0, 3];
 
+/// The first steps of an example that has none, and of one whose host comes up first.
+const NO_STEPS: &[Step<'static>] = &[];
+
+const COMES_UP: &[Step<'static>] = &[Step::ComesUp];
+
 /// A new host with these peers goes through the first steps and then the others, over one store.
 fn goes_over<S: BitStore>(
     rt: &impl Abort,
@@ -71,8 +76,8 @@ fn goes_over<S: BitStore>(
 
 /// A new host with these peers goes through these steps, over both stores.
 fn goes(rt: &impl Abort, alloc: Global, peers: &[u8], steps: &[Step<'_>]) -> Result<(), Fail> {
-    goes_over::<PlainStore>(rt, alloc, peers, &[], steps)?;
-    goes_over::<PackedStore>(rt, alloc, peers, &[], steps)
+    goes_over::<PlainStore>(rt, alloc, peers, NO_STEPS, steps)?;
+    goes_over::<PackedStore>(rt, alloc, peers, NO_STEPS, steps)
 }
 
 /// A new host with one peer goes through the first steps and then the others, over both stores.
@@ -88,5 +93,5 @@ fn goes_on(
 
 /// A new host with one peer comes up with it, and goes through these steps.
 fn goes_up(rt: &impl Abort, alloc: Global, steps: &[Step<'_>]) -> Result<(), Fail> {
-    goes_on(rt, alloc, &[Step::ComesUp], steps)
+    goes_on(rt, alloc, COMES_UP, steps)
 }

@@ -1,6 +1,8 @@
 //! What the examples have in common: the host and its peer, a connection, and what is known of them.
 use ncp_bits::Bits;
 use ncp_host::{Counts, End, Flags, Pair, Record};
+use std::alloc::{AllocError, Global};
+use std::fmt;
 use std::process::Abort;
 
 /// The host of the examples, and its first peer.
@@ -69,4 +71,22 @@ pub(crate) const SENDER: Record = Record {
 /// A message of these bytes of bits.
 pub(crate) fn bits_of(rt: &impl Abort, bytes: &[u8]) -> Bits {
     Bits::from_bytes(bytes, bytes.len().saturating_mul(8)).expect(rt, "room")
+}
+
+/// Whether a fault is told by this text.
+pub(crate) fn is_told(
+    alloc: Global,
+    fault: &impl fmt::Display,
+    text: &str,
+) -> Result<bool, AllocError> {
+    Ok(format!(in alloc; "{fault}")?.as_str() == text)
+}
+
+/// Whether a value is shown by this text.
+pub(crate) fn is_shown(
+    alloc: Global,
+    value: &impl fmt::Debug,
+    text: &str,
+) -> Result<bool, AllocError> {
+    Ok(format!(in alloc; "{value:?}")?.as_str() == text)
 }

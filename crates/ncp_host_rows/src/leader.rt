@@ -1,9 +1,13 @@
 //! What no clause says: that the definitions mean what the worked examples mean, that the calls
 //! succeed, and the texts and numbers of the faults.
+//!
+//! The helpers have no clauses: each sees for itself that its call may be made, so the prover need not follow messages
+//! through a test.
+use crate::known::{is_shown, is_told};
 use ncp_bits::{Bits, BitsFault, Part};
 use ncp_leader::{
-    Leader, MAX_TEXT_BITS, MessageFault, Regular, Short, equality, laws, put_leader, put_regular,
-    read_leader, read_leader_in, read_regular, read_regular_in,
+    Leader, MAX_FLAGS, MAX_KIND, MAX_TEXT_BITS, MessageFault, Regular, Short, equality, laws,
+    put_leader, put_regular, read_leader, read_leader_in, read_regular, read_regular_in,
 };
 use std::process::Abort;
 use std::test::Fail;
@@ -35,6 +39,37 @@ const DATA_LEADER: Leader = Leader {
     low: 0,
 };
 
+// The first bits of bytes.
+fn bits_of(rt: &impl Abort, bytes: &[u8], len: usize) -> Bits {
+    Bits::from_bytes(bytes, len).expect(rt, "bits")
+}
+
+// The same as a part.
+fn part_of<'a>(rt: &impl Abort, bytes: &'a [u8], len: usize) -> Part<'a> {
+    Part::from_bytes(bytes, len).expect(rt, "bits")
+}
+
+// The first bits of 1,024 bytes that are all this one.
+fn bits_of_one(rt: &impl Abort, byte: u8, len: usize) -> Bits {
+    bits_of(rt, &[byte; 1024], len)
+}
+
+// A run of bits.
+fn run<'a>(rt: &impl Abort, bits: &'a Bits, at: usize, len: usize) -> Part<'a> {
+    assert!(rt; at <= bits.len() && len <= bits.len() - at);
+    bits.slice(at, len)
+}
+
+// The message that bits are read as.
+fn message_in<'a>(rt: &impl Abort, bits: &'a Bits) -> Regular<'a> {
+    read_regular(bits).expect(rt, "a message")
+}
+
+// Why bits are no message.
+fn fault_of(bits: &Bits) -> Option<MessageFault> {
+    read_regular(bits).err()
+}
+
 // Whether a part has so many bits, and these bytes.
 fn is_written(part: &Part<'_>, len: usize, bytes: &[u8]) -> bool {
     if part.len() != len {
@@ -45,12 +80,45 @@ fn is_written(part: &Part<'_>, len: usize, bytes: &[u8]) -> bool {
     out[..used] == bytes[..]
 }
 
+// Whether a leader is written as these bytes.
+fn is_leader_written(leader: &Leader, bytes: &[u8]) -> bool {
+    leader.flags <= MAX_FLAGS
+        && leader.kind <= MAX_KIND
+        && is_written(&put_leader(leader).whole(), 32, bytes)
+}
+
+// Whether a message has this byte at a place.
+fn has_byte(message: &Regular<'_>, place: u16, byte: u8) -> bool {
+    place < message.count() && is_written(&message.byte(place), 8, &[byte])
+}
+
+// Whether a message has this text.
+fn has_text(message: &Regular<'_>, text: &Bits) -> bool {
+    message.text() == text.whole()
+}
+
 // Whether a message is the RTS.
 fn is_rts(message: &Regular<'_>) -> bool {
     message.leader() == RTS_LEADER
         && message.size() == 8
         && message.count() == 10
         && is_written(&message.text(), 80, &RTS[9..])
+}
+
+// Whether a part is the RTS, and begins with its leader.
+fn is_rts_in(part: &Part<'_>) -> bool {
+    if read_leader_in(part) != Ok(RTS_LEADER) {
+        return false;
+    }
+    match read_regular_in(part) {
+        Ok(message) => is_rts(&message),
+        Err(_) => false,
+    }
+}
+
+// What a text is written as, after the leader of the long byte.
+fn put(size: u8, text: Part<'_>) -> Result<Bits, MessageFault> {
+    put_regular(&DATA_LEADER, size, text)
 }
 
 // What the RTS is read as with a byte of its prefix changed.
@@ -70,237 +138,229 @@ fn fault_of_both(one: usize, byte: u8, other: usize, another: u8) -> Option<Mess
 }
 
 #[test]
-fn reads_and_writes_the_rts(rt: HostRuntime) -> Result<(), Fail> {
-    let bits = Bits::from_bytes(&RTS, 152)?;
+fn reads_and_writes_the_rts(rt: HostRuntime) {
+    let bits = bits_of(&rt, &RTS, 152);
+    assert!(rt; is_rts_in(&bits.whole()));
     assert!(rt; read_leader(&bits) == Ok(RTS_LEADER));
-    let message = read_regular(&bits)?;
+    let message = message_in(&rt, &bits);
     assert!(rt; is_rts(&message));
-    assert!(rt; 9 < message.count());
-    assert!(rt; is_written(&message.byte(0), 8, &[0x01]));
-    assert!(rt; is_written(&message.byte(4), 8, &[0x02]));
-    assert!(rt; is_written(&message.byte(8), 8, &[0x03]));
-    let text = Bits::from_bytes(&RTS[9..], 80)?;
-    let written = put_regular(&RTS_LEADER, 8, text.whole())?;
+    assert!(rt; has_byte(&message, 0, 0x01));
+    assert!(rt; has_byte(&message, 4, 0x02));
+    assert!(rt; has_byte(&message, 8, 0x03));
+    assert!(rt; has_byte(&message, 9, 0x02));
+    let text = bits_of(&rt, &RTS[9..], 80);
+    let written = put_regular(&RTS_LEADER, 8, text.whole()).expect(&rt, "a message");
     assert!(rt; is_written(&written.whole(), 152, &RTS));
-    assert!(rt; is_written(&put_leader(&RTS_LEADER).whole(), 32, &RTS[..4]));
-    Ok(())
+    assert!(rt; is_leader_written(&RTS_LEADER, &[0x00, 0x02, 0x00, 0x00]));
 }
 
-#[test]
-fn reads_the_rts_where_it_stands(rt: HostRuntime) -> Result<(), Fail> {
-    let part = Part::from_bytes(&RTS, 152)?;
-    assert!(rt; read_leader_in(&part) == Ok(RTS_LEADER));
-    assert!(rt; is_rts(&read_regular_in(&part)?));
-    // In the middle of other bits.
+// Three bits, a part and one bit.
+fn amid(rt: &impl Abort, part: Part<'_>) -> Bits {
     let mut bits = Bits::new();
-    bits.push_number(5, 3)?;
-    bits.append(part)?;
-    bits.push_number(1, 1)?;
-    assert!(rt; read_leader_in(&bits.slice(3, 152)) == Ok(RTS_LEADER));
-    assert!(rt; is_rts(&read_regular_in(&bits.slice(3, 152))?));
-    assert!(rt; read_leader_in(&bits.slice(3, 31)) == Err(Short));
-    assert!(rt;
-        matches!(
-            read_regular_in(&bits.slice(3, 151)),
-            Err(MessageFault::TextMissing)
-        )
-    );
-    Ok(())
+    bits.push_number(5, 3).expect(rt, "room");
+    bits.append(part).expect(rt, "room");
+    bits.push_number(1, 1).expect(rt, "room");
+    bits
 }
 
 #[test]
-fn reads_and_writes_a_long_byte(rt: HostRuntime) -> Result<(), Fail> {
-    let bits = Bits::from_bytes(&LONG_BYTE, 108)?;
-    let message = read_regular(&bits)?;
+fn reads_the_rts_where_it_stands(rt: HostRuntime) {
+    let part = part_of(&rt, &RTS, 152);
+    assert!(rt; is_rts_in(&part));
+    // In the middle of other bits.
+    let bits = amid(&rt, part);
+    assert!(rt; is_rts_in(&run(&rt, &bits, 3, 152)));
+    assert!(rt; read_leader_in(&run(&rt, &bits, 3, 31)) == Err(Short));
+    let fault = read_regular_in(&run(&rt, &bits, 3, 151)).err();
+    assert!(rt; fault == Some(MessageFault::TextMissing));
+}
+
+#[test]
+fn reads_and_writes_a_long_byte(rt: HostRuntime) {
+    let bits = bits_of(&rt, &LONG_BYTE, 108);
+    let message = message_in(&rt, &bits);
     assert!(rt; message.leader() == DATA_LEADER);
-    assert_eq!(rt; message.size(), 36);
-    assert_eq!(rt; message.count(), 1);
-    assert!(rt; is_written(&message.text(), 36, &LONG_BYTE[9..]));
-    let text = Bits::from_bytes(&[0x12, 0x34, 0x56, 0x78, 0x90], 36)?;
-    let written = put_regular(&DATA_LEADER, 36, text.whole())?;
+    assert!(rt; message.size() == 36 && message.count() == 1);
+    assert!(rt; has_text(&message, &bits_of(&rt, &LONG_BYTE[9..], 36)));
+}
+
+#[test]
+fn writes_a_long_byte(rt: HostRuntime) {
+    let text = bits_of(&rt, &[0x12, 0x34, 0x56, 0x78, 0x90], 36);
+    let written = put(36, text.whole()).expect(&rt, "a message");
     assert!(rt; is_written(&written.whole(), 108, &LONG_BYTE));
+}
+
+#[test]
+fn refuses_a_spare_bit(rt: HostRuntime) {
     let mut spare = LONG_BYTE;
     spare[13] = 0x91;
     assert!(rt; matches!(Bits::from_bytes(&spare, 108), Err(BitsFault::SpareNotZero)));
-    Ok(())
 }
 
 #[test]
-fn reads_every_field_of_a_leader(rt: HostRuntime) -> Result<(), Fail> {
-    let leader = Leader {
+fn reads_every_field_of_a_leader(rt: HostRuntime) {
+    const LEADER: Leader = Leader {
         flags: 1,
         kind: 3,
         host: 2,
         link: 10,
         low: 5,
     };
-    let bits = Bits::from_bytes(&[0x13, 0x02, 0x0a, 0x05], 32)?;
-    assert!(rt; read_leader(&bits) == Ok(leader));
-    assert!(rt; is_written(&put_leader(&leader).whole(), 32, &[0x13, 0x02, 0x0a, 0x05]));
-    let full = Leader {
+    const FULL: Leader = Leader {
         flags: 15,
         kind: 15,
         host: 255,
         link: 255,
         low: 255,
     };
-    assert!(rt; is_written(&put_leader(&full).whole(), 32, &[0xff; 4]));
-    Ok(())
+    let bytes = [0x13, 0x02, 0x0a, 0x05];
+    assert!(rt; read_leader(&bits_of(&rt, &bytes, 32)) == Ok(LEADER));
+    assert!(rt; is_leader_written(&LEADER, &bytes));
+    assert!(rt; is_leader_written(&FULL, &[0xff; 4]));
 }
 
 #[test]
-fn names_one_changed_field(rt: HostRuntime) -> Result<(), Fail> {
-    assert!(rt; fault_of_changed(4, 0x01) == Some(MessageFault::M1NotZero));
-    assert!(rt; fault_of_changed(4, 0x80) == Some(MessageFault::M1NotZero));
-    assert!(rt; fault_of_changed(5, 0x00) == Some(MessageFault::SizeZero));
-    assert!(rt; fault_of_changed(8, 0x01) == Some(MessageFault::M2NotZero));
-    assert!(rt; fault_of_changed(8, 0x80) == Some(MessageFault::M2NotZero));
-    assert!(rt; fault_of_changed(7, 0x0b) == Some(MessageFault::TextMissing));
-    assert!(rt; fault_of_changed(6, 0xff) == Some(MessageFault::TextMissing));
+fn names_one_changed_field(rt: HostRuntime) {
+    const ROWS: &[(usize, u8, MessageFault)] = &[
+        (4, 0x01, MessageFault::M1NotZero),
+        (4, 0x80, MessageFault::M1NotZero),
+        (5, 0x00, MessageFault::SizeZero),
+        (8, 0x01, MessageFault::M2NotZero),
+        (8, 0x80, MessageFault::M2NotZero),
+        (7, 0x0b, MessageFault::TextMissing),
+        (6, 0xff, MessageFault::TextMissing),
+    ];
+    for &(place, byte, fault) in ROWS {
+        assert!(rt; fault_of_changed(place, byte) == Some(fault));
+    }
     assert!(rt; fault_of_changed(0, 0xff).is_none());
-    Ok(())
 }
 
 #[test]
 fn names_the_first_of_two_faults(rt: HostRuntime) {
-    assert!(rt; fault_of_both(4, 1, 5, 0) == Some(MessageFault::M1NotZero));
-    assert!(rt; fault_of_both(8, 1, 4, 1) == Some(MessageFault::M1NotZero));
-    assert!(rt; fault_of_both(7, 11, 4, 1) == Some(MessageFault::M1NotZero));
-    assert!(rt; fault_of_both(8, 1, 5, 0) == Some(MessageFault::SizeZero));
-    assert!(rt; fault_of_both(5, 0, 7, 11) == Some(MessageFault::SizeZero));
-    assert!(rt; fault_of_both(7, 11, 8, 1) == Some(MessageFault::M2NotZero));
-}
-
-#[test]
-fn looks_at_no_padding(rt: HostRuntime) -> Result<(), Fail> {
-    let mut bits = Bits::from_bytes(&RTS, 152)?;
-    bits.push_number(0b1000, 4)?;
-    assert_eq!(rt; bits.len(), 156);
-    assert!(rt; is_rts(&read_regular(&bits)?));
-    Ok(())
-}
-
-#[test]
-fn judges_a_message_cut_anywhere(rt: HostRuntime) -> Result<(), Fail> {
-    let bits = Bits::from_bytes(&RTS, 152)?;
-    for len in 0..bits.len() {
-        let cut = bits.slice(0, len).to_bits();
-        let leader = read_leader(&cut);
-        let fault = read_regular(&cut).err();
-        if len < 32 {
-            assert!(rt; leader == Err(Short), "at {len}");
-        } else {
-            assert!(rt; leader == Ok(RTS_LEADER), "at {len}");
-        }
-        if len < 72 {
-            assert!(rt; fault == Some(MessageFault::ShortPrefix), "at {len}");
-        } else {
-            assert!(rt; fault == Some(MessageFault::TextMissing), "at {len}");
-        }
+    const ROWS: &[(usize, u8, usize, u8, MessageFault)] = &[
+        (4, 1, 5, 0, MessageFault::M1NotZero),
+        (8, 1, 4, 1, MessageFault::M1NotZero),
+        (7, 11, 4, 1, MessageFault::M1NotZero),
+        (8, 1, 5, 0, MessageFault::SizeZero),
+        (5, 0, 7, 11, MessageFault::SizeZero),
+        (7, 11, 8, 1, MessageFault::M2NotZero),
+    ];
+    for &(one, byte, other, another, fault) in ROWS {
+        assert!(rt; fault_of_both(one, byte, other, another) == Some(fault));
     }
-    let mut changed = RTS;
-    changed[4] = 0x01;
-    let short = Bits::from_bytes(&changed[..9], 71)?;
-    assert!(rt; read_regular(&short).err() == Some(MessageFault::ShortPrefix));
-    Ok(())
 }
 
 #[test]
-fn reads_a_message_of_8192_bits(rt: HostRuntime) -> Result<(), Fail> {
-    let mut bytes = [0xa5u8; 1024];
-    // 1,015 bytes of 8 bits: what is left after leader and prefix.
-    bytes[..9].copy_from_slice(&[0x00, 0x02, 0x02, 0x00, 0x00, 0x08, 0x03, 0xf7, 0x00]);
-    let bits = Bits::from_bytes(&bytes, 8192)?;
-    let message = read_regular(&bits)?;
+fn looks_at_no_padding(rt: HostRuntime) {
+    let mut bits = bits_of(&rt, &RTS, 152);
+    bits.push_number(0b1000, 4).expect(&rt, "room");
+    assert!(rt; bits.len() == 156 && is_rts_in(&bits.whole()));
+    assert!(rt; is_rts(&message_in(&rt, &bits)));
+}
+
+// Whether bits are judged as the first so many of the RTS.
+fn is_judged_cut(cut: &Bits, len: usize) -> bool {
+    let leader = if len < 32 { Err(Short) } else { Ok(RTS_LEADER) };
+    let fault = if len < 72 {
+        MessageFault::ShortPrefix
+    } else {
+        MessageFault::TextMissing
+    };
+    read_leader(cut) == leader && fault_of(cut) == Some(fault)
+}
+
+#[test]
+fn judges_a_message_cut_anywhere(rt: HostRuntime) {
+    let bits = bits_of(&rt, &RTS, 152);
+    for len in 0..152 {
+        let cut = run(&rt, &bits, 0, len).to_bits();
+        assert!(rt; is_judged_cut(&cut, len), "at {len}");
+    }
+    let short = bits_of(
+        &rt,
+        &[0x00, 0x02, 0x00, 0x00, 0x01, 0x08, 0x00, 0x0a, 0x00],
+        71,
+    );
+    assert!(rt; fault_of(&short) == Some(MessageFault::ShortPrefix));
+}
+
+// A leader and a prefix with this last byte of the count, and 1,015 bytes of 8 bits: what is left after them.
+fn longest(rt: &impl Abort, low: u8) -> Bits {
+    let front = [0x00, 0x02, 0x02, 0x00, 0x00, 0x08, 0x03, low, 0x00];
+    let mut bits = bits_of(rt, &front, 72);
+    for _ in 0..1015 {
+        bits.push_number(0xa5, 8).expect(rt, "room");
+    }
+    bits
+}
+
+#[test]
+fn reads_a_message_of_8192_bits(rt: HostRuntime) {
+    let bits = longest(&rt, 0xf7);
+    assert_eq!(rt; bits.len(), 8192);
+    let message = message_in(&rt, &bits);
     assert_eq!(rt; message.count(), 1015);
-    assert!(rt; is_written(&message.text(), 8120, &bytes[9..]));
-    assert!(rt; 1014 < message.count());
-    assert!(rt; is_written(&message.byte(1014), 8, &[0xa5]));
-    bytes[7] = 0xf8;
-    let longer = Bits::from_bytes(&bytes, 8192)?;
-    assert!(rt; read_regular(&longer).err() == Some(MessageFault::TextMissing));
-    Ok(())
+    assert!(rt; has_text(&message, &bits_of_one(&rt, 0xa5, 8120)));
+    assert!(rt; has_byte(&message, 1014, 0xa5));
+    assert!(rt; fault_of(&longest(&rt, 0xf8)) == Some(MessageFault::TextMissing));
+}
+
+// How many bits a text of zeros is written in, and how many bytes it is read as.
+fn put_zeros(rt: &impl Abort, size: u8, len: usize) -> Result<(usize, u16), MessageFault> {
+    let written = put(size, bits_of_one(rt, 0, len).whole())?;
+    Ok((written.len(), read_regular(&written)?.count()))
 }
 
 #[test]
-fn writes_up_to_7928_bits_of_text(rt: HostRuntime) -> Result<(), Fail> {
-    let zeros = Bits::from_bytes(&[0u8; 992], 7929)?;
-    assert!(rt; zeros.len() == 7929);
-    let written = put_regular(&DATA_LEADER, 8, zeros.slice(0, MAX_TEXT_BITS))?;
-    assert_eq!(rt; written.len(), 8000);
-    assert_eq!(rt; read_regular(&written)?.count(), 991);
-    let by_bits = put_regular(&DATA_LEADER, 1, zeros.slice(0, MAX_TEXT_BITS))?;
-    assert_eq!(rt; read_regular(&by_bits)?.count(), 7928);
-    let too_long = put_regular(&DATA_LEADER, 1, zeros.whole()).err();
-    assert!(rt; too_long == Some(MessageFault::TextTooLong));
-    Ok(())
+fn writes_up_to_7928_bits_of_text(rt: HostRuntime) {
+    assert_eq!(rt; MAX_TEXT_BITS, 7928);
+    assert!(rt; put_zeros(&rt, 8, MAX_TEXT_BITS) == Ok((8000, 991)));
+    assert!(rt; put_zeros(&rt, 1, MAX_TEXT_BITS) == Ok((8000, 7928)));
+    assert!(rt; put_zeros(&rt, 1, 7929) == Err(MessageFault::TextTooLong));
 }
 
 #[test]
-fn writes_the_largest_bytes(rt: HostRuntime) -> Result<(), Fail> {
-    let ones = Bits::from_bytes(&[0xffu8; 1000], 8000)?;
-    assert!(rt; ones.len() == 8000);
-    let written = put_regular(&DATA_LEADER, 255, ones.slice(0, 7905))?;
+fn writes_the_largest_bytes(rt: HostRuntime) {
+    let ones = bits_of_one(&rt, 0xff, 8000);
+    let written = put(255, run(&rt, &ones, 0, 7905)).expect(&rt, "a message");
     assert_eq!(rt; written.len(), 7977);
-    let message = read_regular(&written)?;
-    assert_eq!(rt; message.size(), 255);
-    assert_eq!(rt; message.count(), 31);
+    let message = message_in(&rt, &written);
+    assert!(rt; message.size() == 255 && message.count() == 31);
     assert_eq!(rt; message.text().len(), 7905);
     assert!(rt; 30 < message.count());
-    let last = message.byte(30);
-    assert_eq!(rt; last.len(), 255);
-    assert!(rt; 64 <= last.len());
-    assert_eq!(rt; last.number(0, 64), u64::MAX);
-    Ok(())
+    assert!(rt; message.byte(30) == run(&rt, &ones, 0, 255));
 }
 
 #[test]
-fn writes_and_reads_an_empty_text(rt: HostRuntime) -> Result<(), Fail> {
+fn writes_and_reads_an_empty_text(rt: HostRuntime) {
     let empty = [0x00, 0x02, 0x02, 0x00, 0x00, 0x08, 0x00, 0x00, 0x00];
-    let none = Bits::new();
-    let written = put_regular(&DATA_LEADER, 8, none.whole())?;
+    let written = put(8, Bits::new().whole()).expect(&rt, "a message");
     assert!(rt; is_written(&written.whole(), 72, &empty));
-    let message = read_regular(&written)?;
-    assert_eq!(rt; message.size(), 8);
-    assert_eq!(rt; message.count(), 0);
+    let message = message_in(&rt, &written);
+    assert!(rt; message.size() == 8 && message.count() == 0);
     assert!(rt; message.text().is_empty());
-    Ok(())
 }
 
 #[test]
-fn refuses_to_write_in_order(rt: HostRuntime) -> Result<(), Fail> {
-    let zeros = Bits::from_bytes(&[0u8; 992], 7929)?;
-    let odd = Bits::from_bytes(&[0u8; 2], 12)?;
-    let told = [
-        (
-            put_regular(&DATA_LEADER, 0, odd.whole()).err(),
-            MessageFault::SizeZero,
-        ),
-        (
-            put_regular(&DATA_LEADER, 0, zeros.whole()).err(),
-            MessageFault::SizeZero,
-        ),
-        (
-            put_regular(&DATA_LEADER, 8, zeros.whole()).err(),
-            MessageFault::TextTooLong,
-        ),
-        (
-            put_regular(&DATA_LEADER, 3, zeros.whole()).err(),
-            MessageFault::TextTooLong,
-        ),
-        (
-            put_regular(&DATA_LEADER, 8, odd.whole()).err(),
-            MessageFault::NotWhole,
-        ),
-        (
-            put_regular(&DATA_LEADER, 255, odd.whole()).err(),
-            MessageFault::NotWhole,
-        ),
+fn refuses_to_write_in_order(rt: HostRuntime) {
+    // Bits a byte, and bits in all.
+    const ROWS: &[(u8, usize, MessageFault)] = &[
+        (0, 12, MessageFault::SizeZero),
+        (0, 7929, MessageFault::SizeZero),
+        (8, 7929, MessageFault::TextTooLong),
+        (3, 7929, MessageFault::TextTooLong),
+        (8, 12, MessageFault::NotWhole),
+        (255, 12, MessageFault::NotWhole),
     ];
-    for (fault, wanted) in told {
-        assert!(rt; fault == Some(wanted));
+    for &(size, len, fault) in ROWS {
+        assert!(rt; put_zeros(&rt, size, len) == Err(fault));
     }
-    Ok(())
+}
+
+fn number_of(fault: MessageFault) -> u8 {
+    fault as u8
 }
 
 #[test]
@@ -350,43 +410,42 @@ fn tells_faults(rt: HostRuntime) -> Result<(), Fail> {
         ),
     ];
     for &(number, fault, name, text) in TOLD {
-        assert_eq!(rt; fault as u8, number);
+        assert_eq!(rt; number_of(fault), number);
         assert_eq!(rt; fault.name(), name);
-        assert_eq!(rt; format!(in rt.alloc(); "{fault}")?.as_str(), text);
+        assert!(rt; is_told(rt.alloc(), &fault, text)?);
     }
-    assert_eq!(rt;
-        format!(in rt.alloc(); "{Short}")?.as_str(),
-        "shorter than a leader"
-    );
+    assert!(rt; is_told(rt.alloc(), &Short, "shorter than a leader")?);
     Ok(())
 }
 
 #[test]
-fn compares_messages(rt: HostRuntime) -> Result<(), Fail> {
-    let bits = Bits::from_bytes(&RTS, 152)?;
-    let mut padded = Bits::from_bytes(&RTS, 152)?;
-    padded.push_number(0b1000, 4)?;
-    assert!(rt; read_regular(&bits)? == read_regular(&padded)?);
+fn compares_messages(rt: HostRuntime) {
+    let bits = bits_of(&rt, &RTS, 152);
+    let mut padded = bits_of(&rt, &RTS, 152);
+    padded.push_number(0b1000, 4).expect(&rt, "room");
     let mut changed = RTS;
     changed[18] = 3;
-    let other = Bits::from_bytes(&changed, 152)?;
-    assert!(rt; read_regular(&bits)? != read_regular(&other)?);
-    assert!(rt; equality::equal_messages(&read_regular(&bits)?, &read_regular(&padded)?));
+    let other = bits_of(&rt, &changed, 152);
+    let message = message_in(&rt, &bits);
+    assert!(rt; message == message_in(&rt, &padded));
+    assert!(rt; message != message_in(&rt, &other));
+    assert!(rt; equality::equal_messages(&message, &message_in(&rt, &padded)));
+}
+
+#[test]
+fn compares_leaders_and_faults(rt: HostRuntime) {
     assert!(rt; equality::equal_leaders(&RTS_LEADER, &RTS_LEADER));
     assert!(rt; !equality::equal_leaders(&RTS_LEADER, &DATA_LEADER));
     assert!(rt; !equality::equal_faults(MessageFault::SizeZero, MessageFault::NotWhole));
     assert!(rt; equality::equal_refusals(Short, Short));
-    Ok(())
 }
 
 #[test]
 fn shows_messages(rt: HostRuntime) -> Result<(), Fail> {
-    let bits = Bits::from_bytes(&LONG_BYTE, 108)?;
-    let message = read_regular(&bits)?;
-    assert_eq!(rt;
-        format!(in rt.alloc(); "{message:?}")?.as_str(),
-        "Regular { leader: Leader { flags: 0, kind: 0, host: 2, link: 2, low: 0 }, size: 36, count: 1, text: bits=36 1234567890 }"
-    );
+    const SHOWN: &str =
+        "Regular { leader: Leader { flags: 0, kind: 0, host: 2, link: 2, low: 0 }, size: 36, count: 1, text: bits=36 1234567890 }";
+    let bits = bits_of(&rt, &LONG_BYTE, 108);
+    assert!(rt; is_shown(rt.alloc(), &message_in(&rt, &bits), SHOWN)?);
     Ok(())
 }
 

@@ -1,5 +1,6 @@
 //! What no clause says: that the calls succeed, that memory is asked for where it is needed, and
 //! that the definitions mean what the worked examples mean.
+use crate::known::{is_shown, is_told};
 use ncp_bits::Bits;
 use ncp_slot::laws::{
     LinkEvent, LinkNote, a_message_is_kept, each_slot_is_woken, links_are_numbered,
@@ -9,6 +10,7 @@ use ncp_slot::laws::{
 use ncp_slot::{Busy, FIRST_DATA_LINK, LAST_LINK, Slot, Slots, Stray, UNUSED_LINK, has_slot};
 use ncp_terms::Answer;
 use ncp_terms::laws::answers_are_compared;
+use std::alloc::{AllocError, Global};
 use std::process::Abort;
 use std::test::Fail;
 
@@ -37,26 +39,183 @@ fn is_message(bits: &Bits, bytes: &[u8]) -> bool {
     true
 }
 
+// Whether the message that is wanted is given, or none is wanted and none given.
+fn is_given(given: Option<&Bits>, wanted: Option<&[u8]>) -> bool {
+    match (given, wanted) {
+        (Some(bits), Some(bytes)) => is_message(bits, bytes),
+        (None, None) => true,
+        _ => false,
+    }
+}
+
+/// What is done with the slot of a link, and what is noted of it.
+#[derive(Clone, Copy, Drop)]
+enum Noted<'a> {
+    /// A message is put in, and is accepted or not.
+    Put(&'a [u8], bool),
+    /// The message that is handed out, if any is.
+    Handed(Option<&'a [u8]>),
+    /// An answer comes, and is accepted or not.
+    Answered(Answer, bool),
+    Woken,
+}
+
+fn event_of(rt: &impl Abort, noted: &Noted<'_>) -> LinkEvent {
+    match noted {
+        Noted::Put(bytes, _) => LinkEvent::Put(message(rt, bytes)),
+        Noted::Handed(_) => LinkEvent::Hand,
+        Noted::Answered(answer, _) => LinkEvent::Answer(*answer),
+        Noted::Woken => LinkEvent::Wake,
+    }
+}
+
+fn says(note: &LinkNote, noted: &Noted<'_>) -> bool {
+    match (note, noted) {
+        (LinkNote::Put(put), Noted::Put(_, wanted)) => *put == *wanted,
+        (LinkNote::Handed(bits), Noted::Handed(wanted)) => is_given(bits.as_ref(), *wanted),
+        (LinkNote::Answered(taken), Noted::Answered(_, wanted)) => *taken == *wanted,
+        (LinkNote::Woken, Noted::Woken) => true,
+        _ => false,
+    }
+}
+
+fn events_of(
+    rt: &impl Abort,
+    alloc: Global,
+    all_noted: &[Noted<'_>],
+) -> Result<Vec<LinkEvent>, AllocError> {
+    let mut events = Vec::new(alloc);
+    for noted in all_noted {
+        events.push(event_of(rt, noted))?;
+    }
+    Ok(events)
+}
+
+fn says_each(notes: &[LinkNote], all_noted: &[Noted<'_>]) -> bool {
+    if notes.len() != all_noted.len() {
+        return false;
+    }
+    for (place, noted) in all_noted.iter().enumerate() {
+        if !says(&notes[place], noted) {
+            return false;
+        }
+    }
+    true
+}
+
+/// What comes of events on a link. It has no clause, so the prover need not follow them.
+fn run(
+    rt: &impl Abort,
+    alloc: Global,
+    link: u8,
+    events: &[LinkEvent],
+) -> Result<(Slots, Vec<LinkNote>), AllocError> {
+    assert!(rt; has_slot(link));
+    run_link(alloc, link, events)
+}
+
+/// The slots after these events on a link, of which just this is noted.
+fn slots_after(
+    rt: &impl Abort,
+    alloc: Global,
+    link: u8,
+    all_noted: &[Noted<'_>],
+) -> Result<Slots, AllocError> {
+    let events = events_of(rt, alloc, all_noted)?;
+    let (slots, notes) = run(rt, alloc, link, events.as_slice())?;
+    assert!(rt; says_each(notes.as_slice(), all_noted));
+    Ok(slots)
+}
+
+/// What is done with slots, and what is wanted of them.
+#[derive(Clone, Copy, Drop)]
+enum Step<'a> {
+    /// A message is accepted on a link.
+    Puts(u8, &'a [u8]),
+    /// A message is refused.
+    IsBusy(u8, &'a [u8]),
+    /// The message that a link hands out, if it does.
+    Hands(u8, Option<&'a [u8]>),
+    /// An answer is accepted on a link.
+    Answers(u8, Answer),
+    /// An answer is refused.
+    IsStray(u8, Answer),
+    /// The user asks for what is held.
+    Wakes,
+    /// The message that a link keeps, if it does.
+    Keeps(u8, Option<&'a [u8]>),
+    /// The first link with a message to hand out, if any has one.
+    HasReady(Option<u8>),
+    IsQuiet(bool),
+    IsEmpty(u8, bool),
+}
+
+/// Goes through all steps. The functions that it calls have no clause, so the prover need not follow slots through an
+/// example.
+fn goes_on(rt: &impl Abort, slots: &mut Slots, steps: &[Step<'_>]) {
+    for (place, step) in steps.iter().enumerate() {
+        assert!(rt; does(rt, slots, step), "at step {place}");
+    }
+}
+
+/// New slots go through all steps.
+fn goes(rt: &impl Abort, alloc: Global, steps: &[Step<'_>]) -> Result<(), AllocError> {
+    let mut slots = Slots::new(alloc)?;
+    goes_on(rt, &mut slots, steps);
+    Ok(())
+}
+
+fn does(rt: &impl Abort, slots: &mut Slots, step: &Step<'_>) -> bool {
+    match step {
+        Step::Puts(link, bytes) => puts(rt, slots, *link, bytes).is_ok(),
+        Step::IsBusy(link, bytes) => puts(rt, slots, *link, bytes) == Err(Busy),
+        Step::Hands(link, wanted) => is_given(hands(rt, slots, *link).as_ref(), *wanted),
+        Step::Answers(link, answer) => answers(slots, *link, *answer).is_ok(),
+        Step::IsStray(link, answer) => answers(slots, *link, *answer) == Err(Stray),
+        Step::Wakes => {
+            slots.wake();
+            true
+        }
+        _ => tells(slots, step),
+    }
+}
+
+fn puts(rt: &impl Abort, slots: &mut Slots, link: u8, bytes: &[u8]) -> Result<(), Busy> {
+    assert!(rt; has_slot(link));
+    slots.put(link, &message(rt, bytes))
+}
+
+fn answers(slots: &mut Slots, link: u8, answer: Answer) -> Result<(), Stray> {
+    slots.answer(link, answer)
+}
+
+fn hands(rt: &impl Abort, slots: &mut Slots, link: u8) -> Option<Bits> {
+    assert!(rt; has_slot(link));
+    slots.hand(link)
+}
+
+fn tells(slots: &Slots, step: &Step<'_>) -> bool {
+    match step {
+        Step::Keeps(link, wanted) => is_given(slots.kept(*link), *wanted),
+        Step::HasReady(link) => slots.first_ready() == *link,
+        Step::IsQuiet(quiet) => slots.quiet() == *quiet,
+        Step::IsEmpty(link, empty) => has_slot(*link) && slots.is_empty(*link) == *empty,
+        _ => false,
+    }
+}
+
 #[test]
 fn hands_out_again_until_taken(rt: HostRuntime) -> Result<(), Fail> {
-    let events = [
-        LinkEvent::Put(message(&rt, &RESET)),
-        LinkEvent::Hand,
-        LinkEvent::Answer(Answer::Incomplete),
-        LinkEvent::Hand,
-        LinkEvent::Answer(Answer::Rfnm),
-        LinkEvent::Hand,
-        LinkEvent::Answer(Answer::Rfnm),
+    const NOTED: &[Noted<'static>] = &[
+        Noted::Put(&RESET, true),
+        Noted::Handed(Some(&RESET)),
+        Noted::Answered(Answer::Incomplete, true),
+        Noted::Handed(Some(&RESET)),
+        Noted::Answered(Answer::Rfnm, true),
+        Noted::Handed(None),
+        Noted::Answered(Answer::Rfnm, false),
     ];
-    let (slots, notes) = run_link(rt.alloc(), 0, &events)?;
-    assert_eq!(rt; notes.len(), 7);
-    assert!(rt; matches!(&notes[0], LinkNote::Put(true)));
-    assert!(rt; matches!(&notes[1], LinkNote::Handed(Some(bits)) if is_message(bits, &RESET)));
-    assert!(rt; matches!(&notes[2], LinkNote::Answered(true)));
-    assert!(rt; matches!(&notes[3], LinkNote::Handed(Some(bits)) if is_message(bits, &RESET)));
-    assert!(rt; matches!(&notes[4], LinkNote::Answered(true)));
-    assert!(rt; matches!(&notes[5], LinkNote::Handed(None)));
-    assert!(rt; matches!(&notes[6], LinkNote::Answered(false)));
+    let slots = slots_after(&rt, rt.alloc(), 0, NOTED)?;
     assert!(rt; slots.first_ready().is_none());
     slots_are_apart();
     quiet_links_are_empty();
@@ -65,26 +224,17 @@ fn hands_out_again_until_taken(rt: HostRuntime) -> Result<(), Fail> {
 
 #[test]
 fn holds_a_message_until_woken(rt: HostRuntime) -> Result<(), Fail> {
-    let events = [
-        LinkEvent::Put(message(&rt, &TEXT)),
-        LinkEvent::Hand,
-        LinkEvent::Answer(Answer::Dead),
-        LinkEvent::Hand,
-        LinkEvent::Answer(Answer::Rfnm),
-        LinkEvent::Wake,
-        LinkEvent::Hand,
-        LinkEvent::Answer(Answer::Rfnm),
+    const NOTED: &[Noted<'static>] = &[
+        Noted::Put(&TEXT, true),
+        Noted::Handed(Some(&TEXT)),
+        Noted::Answered(Answer::Dead, true),
+        Noted::Handed(None),
+        Noted::Answered(Answer::Rfnm, false),
+        Noted::Woken,
+        Noted::Handed(Some(&TEXT)),
+        Noted::Answered(Answer::Rfnm, true),
     ];
-    let (slots, notes) = run_link(rt.alloc(), FIRST_DATA_LINK, &events)?;
-    assert_eq!(rt; notes.len(), 8);
-    assert!(rt; matches!(&notes[0], LinkNote::Put(true)));
-    assert!(rt; matches!(&notes[1], LinkNote::Handed(Some(bits)) if is_message(bits, &TEXT)));
-    assert!(rt; matches!(&notes[2], LinkNote::Answered(true)));
-    assert!(rt; matches!(&notes[3], LinkNote::Handed(None)));
-    assert!(rt; matches!(&notes[4], LinkNote::Answered(false)));
-    assert!(rt; matches!(&notes[5], LinkNote::Woken));
-    assert!(rt; matches!(&notes[6], LinkNote::Handed(Some(bits)) if is_message(bits, &TEXT)));
-    assert!(rt; matches!(&notes[7], LinkNote::Answered(true)));
+    let slots = slots_after(&rt, rt.alloc(), FIRST_DATA_LINK, NOTED)?;
     assert!(rt; slots.quiet());
     each_slot_is_woken();
     a_message_is_kept::<Bits>();
@@ -94,76 +244,78 @@ fn holds_a_message_until_woken(rt: HostRuntime) -> Result<(), Fail> {
 
 #[test]
 fn wakes_only_what_is_held(rt: HostRuntime) -> Result<(), Fail> {
-    let events = [
-        LinkEvent::Wake,
-        LinkEvent::Put(message(&rt, &TEXT)),
-        LinkEvent::Hand,
-        LinkEvent::Wake,
-        LinkEvent::Answer(Answer::Dead),
-        LinkEvent::Put(message(&rt, &RESET)),
+    const NOTED: &[Noted<'static>] = &[
+        Noted::Woken,
+        Noted::Put(&TEXT, true),
+        Noted::Handed(Some(&TEXT)),
+        Noted::Woken,
+        Noted::Answered(Answer::Dead, true),
+        Noted::Put(&RESET, false),
     ];
-    let (mut slots, notes) = run_link(rt.alloc(), LAST_LINK, &events)?;
-    assert_eq!(rt; notes.len(), 6);
-    assert!(rt; matches!(&notes[4], LinkNote::Answered(true)));
-    assert!(rt; matches!(&notes[5], LinkNote::Put(false)));
-    assert!(rt; !slots.quiet() && slots.first_ready().is_none());
-    assert!(rt;
-        slots
-            .kept(LAST_LINK)
-            .is_some_and(|bits| is_message(bits, &TEXT))
-    );
-    slots.wake();
-    assert_eq!(rt; slots.first_ready(), Some(LAST_LINK));
+    const STEPS: &[Step<'static>] = &[
+        Step::IsQuiet(false),
+        Step::HasReady(None),
+        Step::Keeps(LAST_LINK, Some(&TEXT)),
+        Step::Wakes,
+        Step::HasReady(Some(LAST_LINK)),
+    ];
+    let mut slots = slots_after(&rt, rt.alloc(), LAST_LINK, NOTED)?;
+    goes_on(&rt, &mut slots, STEPS);
     Ok(())
 }
 
 #[test]
 fn wakes_every_link(rt: HostRuntime) -> Result<(), Fail> {
-    const LINKS: &[u8] = &[0, FIRST_DATA_LINK, LAST_LINK];
-    let mut slots = Slots::new(rt.alloc())?;
-    for &link in LINKS {
-        slots.put(link, &message(&rt, &TEXT))?;
-        assert!(rt; slots.hand(link).is_some(), "at {link}");
-        slots.answer(link, Answer::Dead)?;
-    }
-    assert!(rt; slots.first_ready().is_none());
-    slots.wake();
-    for &link in LINKS {
-        assert!(rt; slots.hand(link).is_some(), "at {link}");
-    }
+    const STEPS: &[Step<'static>] = &[
+        Step::Puts(0, &TEXT),
+        Step::Hands(0, Some(&TEXT)),
+        Step::Answers(0, Answer::Dead),
+        Step::Puts(FIRST_DATA_LINK, &TEXT),
+        Step::Hands(FIRST_DATA_LINK, Some(&TEXT)),
+        Step::Answers(FIRST_DATA_LINK, Answer::Dead),
+        Step::Puts(LAST_LINK, &TEXT),
+        Step::Hands(LAST_LINK, Some(&TEXT)),
+        Step::Answers(LAST_LINK, Answer::Dead),
+        Step::HasReady(None),
+        Step::Wakes,
+        Step::Hands(0, Some(&TEXT)),
+        Step::Hands(FIRST_DATA_LINK, Some(&TEXT)),
+        Step::Hands(LAST_LINK, Some(&TEXT)),
+    ];
+    goes(&rt, rt.alloc(), STEPS)?;
     Ok(())
 }
 
 #[test]
 fn lends_what_is_kept(rt: HostRuntime) -> Result<(), Fail> {
-    const LINKS: &[u8] = &[0, UNUSED_LINK, FIRST_DATA_LINK, LAST_LINK, 72, 255];
-    let mut slots = Slots::new(rt.alloc())?;
-    for &link in LINKS {
-        assert!(rt; slots.kept(link).is_none(), "at {link}");
-    }
-    slots.put(FIRST_DATA_LINK, &message(&rt, &TEXT))?;
-    assert!(rt;
-        slots
-            .kept(FIRST_DATA_LINK)
-            .is_some_and(|bits| is_message(bits, &TEXT))
-    );
-    assert!(rt; slots.hand(FIRST_DATA_LINK).is_some());
-    assert!(rt;
-        slots
-            .kept(FIRST_DATA_LINK)
-            .is_some_and(|bits| is_message(bits, &TEXT))
-    );
-    slots.answer(FIRST_DATA_LINK, Answer::Dead)?;
-    assert!(rt;
-        slots
-            .kept(FIRST_DATA_LINK)
-            .is_some_and(|bits| is_message(bits, &TEXT))
-    );
-    slots.wake();
-    assert!(rt; slots.hand(FIRST_DATA_LINK).is_some());
-    slots.answer(FIRST_DATA_LINK, Answer::Rfnm)?;
-    assert!(rt; slots.kept(FIRST_DATA_LINK).is_none());
+    const STEPS: &[Step<'static>] = &[
+        Step::Keeps(0, None),
+        Step::Keeps(UNUSED_LINK, None),
+        Step::Keeps(FIRST_DATA_LINK, None),
+        Step::Keeps(LAST_LINK, None),
+        Step::Keeps(72, None),
+        Step::Keeps(255, None),
+        Step::Puts(FIRST_DATA_LINK, &TEXT),
+        Step::Keeps(FIRST_DATA_LINK, Some(&TEXT)),
+        Step::Hands(FIRST_DATA_LINK, Some(&TEXT)),
+        Step::Keeps(FIRST_DATA_LINK, Some(&TEXT)),
+        Step::Answers(FIRST_DATA_LINK, Answer::Dead),
+        Step::Keeps(FIRST_DATA_LINK, Some(&TEXT)),
+        Step::Wakes,
+        Step::Hands(FIRST_DATA_LINK, Some(&TEXT)),
+        Step::Answers(FIRST_DATA_LINK, Answer::Rfnm),
+        Step::Keeps(FIRST_DATA_LINK, None),
+    ];
+    goes(&rt, rt.alloc(), STEPS)?;
     Ok(())
+}
+
+// Whether slots are quiet that have a message on this link.
+fn is_quiet_with(rt: &impl Abort, alloc: Global, link: u8) -> Result<bool, AllocError> {
+    let mut slots = Slots::new(alloc)?;
+    assert!(rt; puts(rt, &mut slots, link, &RESET).is_ok());
+    assert!(rt; tells(&slots, &Step::IsEmpty(link, false)));
+    Ok(slots.quiet())
 }
 
 #[test]
@@ -171,10 +323,7 @@ fn is_quiet_without_the_control_link(rt: HostRuntime) -> Result<(), Fail> {
     const ROWS: &[(u8, bool)] = &[(0, true), (2, false), (3, false), (71, false)];
     links_are_numbered();
     for &(link, quiet) in ROWS {
-        let mut slots = Slots::new(rt.alloc())?;
-        slots.put(link, &message(&rt, &RESET))?;
-        assert_eq!(rt; slots.quiet(), quiet, "at {link}");
-        assert!(rt; !slots.is_empty(link), "at {link}");
+        assert!(rt; is_quiet_with(&rt, rt.alloc(), link)? == quiet);
     }
     Ok(())
 }
@@ -184,47 +333,45 @@ fn compares_and_tells(rt: HostRuntime) -> Result<(), Fail> {
     answers_are_compared();
     refusals_are_compared();
     slots_are_compared::<u8>();
-    assert!(rt; Answer::Dead == Answer::Dead && Answer::Dead != Answer::Incomplete);
-    assert!(rt; Slot::Held(3u8) == Slot::Held(3) && Slot::Held(3u8) != Slot::Ready(3));
-    assert_eq!(rt;
-        format!(in rt.alloc(); "{:?}", Answer::Dead)?.as_str(),
-        "Dead"
-    );
-    assert_eq!(rt;
-        format!(in rt.alloc(); "{:?}", Slot::Held(3u8))?.as_str(),
-        "Held(3)"
-    );
+    assert!(rt; is_shown(rt.alloc(), &Answer::Dead, "Dead")?);
+    assert!(rt; is_shown(rt.alloc(), &Slot::Held(3u8), "Held(3)")?);
     Ok(())
 }
 
 #[test]
+fn tells_apart(rt: HostRuntime) {
+    assert!(rt; Answer::Dead == Answer::Dead && Answer::Dead != Answer::Incomplete);
+    assert!(rt; Slot::Held(3u8) == Slot::Held(3) && Slot::Held(3u8) != Slot::Ready(3));
+}
+
+#[test]
 fn keeps_a_message_until_answered(rt: HostRuntime) -> Result<(), Fail> {
-    let mut slots = Slots::new(rt.alloc())?;
-    assert!(rt; slots.quiet() && slots.first_ready().is_none());
-    slots.put(71, &message(&rt, &TEXT))?;
-    slots.put(2, &message(&rt, &TEXT))?;
-    slots.put(0, &message(&rt, &RESET))?;
-    assert!(rt; slots.put(2, &message(&rt, &RESET)) == Err(Busy));
-    assert_eq!(rt; slots.first_ready(), Some(0));
-    let first = slots.hand(0).ok_or("the control message")?;
-    assert!(rt; is_message(&first, &RESET));
-    assert_eq!(rt; slots.first_ready(), Some(2));
-    let second = slots.hand(2).ok_or("the text")?;
-    assert!(rt; is_message(&second, &TEXT));
-    assert!(rt; slots.hand(2).is_none());
-    assert!(rt; slots.put(2, &message(&rt, &TEXT)) == Err(Busy));
-    assert_eq!(rt; slots.first_ready(), Some(71));
-    slots.answer(2, Answer::Incomplete)?;
-    assert_eq!(rt; slots.first_ready(), Some(2));
-    let again = slots.hand(2).ok_or("the text again")?;
-    assert!(rt; is_message(&again, &TEXT));
-    slots.answer(2, Answer::Rfnm)?;
-    assert!(rt; slots.answer(2, Answer::Rfnm) == Err(Stray));
-    assert!(rt; !slots.quiet());
-    assert!(rt; slots.hand(71).is_some());
-    slots.answer(71, Answer::Rfnm)?;
-    assert!(rt; slots.quiet());
-    slots.answer(0, Answer::Rfnm)?;
+    const STEPS: &[Step<'static>] = &[
+        Step::IsQuiet(true),
+        Step::HasReady(None),
+        Step::Puts(71, &TEXT),
+        Step::Puts(2, &TEXT),
+        Step::Puts(0, &RESET),
+        Step::IsBusy(2, &RESET),
+        Step::HasReady(Some(0)),
+        Step::Hands(0, Some(&RESET)),
+        Step::HasReady(Some(2)),
+        Step::Hands(2, Some(&TEXT)),
+        Step::Hands(2, None),
+        Step::IsBusy(2, &TEXT),
+        Step::HasReady(Some(71)),
+        Step::Answers(2, Answer::Incomplete),
+        Step::HasReady(Some(2)),
+        Step::Hands(2, Some(&TEXT)),
+        Step::Answers(2, Answer::Rfnm),
+        Step::IsStray(2, Answer::Rfnm),
+        Step::IsQuiet(false),
+        Step::Hands(71, Some(&TEXT)),
+        Step::Answers(71, Answer::Rfnm),
+        Step::IsQuiet(true),
+        Step::Answers(0, Answer::Rfnm),
+    ];
+    goes(&rt, rt.alloc(), STEPS)?;
     Ok(())
 }
 
@@ -240,26 +387,19 @@ fn knows_which_links_have_slots(rt: HostRuntime) -> Result<(), Fail> {
     ];
     let mut slots = Slots::new(rt.alloc())?;
     for &(link, has) in ROWS {
-        assert_eq!(rt; has_slot(link), has, "at {link}");
-        assert!(rt; slots.answer(link, Answer::Rfnm) == Err(Stray), "at {link}");
-        assert!(rt;
-            slots.answer(link, Answer::Incomplete) == Err(Stray),
-            "at {link}"
-        );
+        assert!(rt; has_slot(link) == has);
+        assert!(rt; answers(&mut slots, link, Answer::Rfnm) == Err(Stray));
+        assert!(rt; answers(&mut slots, link, Answer::Incomplete) == Err(Stray));
     }
     Ok(())
 }
 
 #[test]
 fn tells_refusals(rt: HostRuntime) -> Result<(), Fail> {
-    assert_eq!(rt;
-        format!(in rt.alloc(); "{Busy}")?.as_str(),
-        "a message of this link is not taken yet"
-    );
-    assert_eq!(rt;
-        format!(in rt.alloc(); "{Stray}")?.as_str(),
-        "no message of this link waits for an answer"
-    );
+    let busy = "a message of this link is not taken yet";
+    assert!(rt; is_told(rt.alloc(), &Busy, busy)?);
+    let stray = "no message of this link waits for an answer";
+    assert!(rt; is_told(rt.alloc(), &Stray, stray)?);
     Ok(())
 }
 
@@ -279,26 +419,21 @@ fn has_memory_for_a_run(rt: HostRuntime) {
 // under `rt try --test --fail-alloc N -- asks_for_memory_once` with any N from 2 on.
 #[test]
 fn asks_for_memory_once(rt: HostRuntime) -> Result<(), Fail> {
-    let mut slots = Slots::new(rt.alloc())?;
-    let text = message(&rt, &TEXT);
-    assert!(rt; slots.put(FIRST_DATA_LINK, &text).is_ok());
-    assert!(rt; slots.put(FIRST_DATA_LINK, &text) == Err(Busy));
-    assert_eq!(rt; slots.first_ready(), Some(FIRST_DATA_LINK));
-    assert!(rt;
-        slots
-            .hand(FIRST_DATA_LINK)
-            .is_some_and(|bits| is_message(&bits, &TEXT))
-    );
-    assert!(rt; slots.answer(FIRST_DATA_LINK, Answer::Dead).is_ok());
-    assert!(rt; slots.answer(FIRST_DATA_LINK, Answer::Dead) == Err(Stray));
-    slots.wake();
-    assert!(rt; slots.kept(FIRST_DATA_LINK).is_some() && !slots.quiet());
-    assert!(rt;
-        slots
-            .hand(FIRST_DATA_LINK)
-            .is_some_and(|bits| is_message(&bits, &TEXT))
-    );
-    assert!(rt; slots.answer(FIRST_DATA_LINK, Answer::Rfnm).is_ok());
-    assert!(rt; slots.is_empty(FIRST_DATA_LINK) && slots.quiet());
+    const STEPS: &[Step<'static>] = &[
+        Step::Puts(FIRST_DATA_LINK, &TEXT),
+        Step::IsBusy(FIRST_DATA_LINK, &TEXT),
+        Step::HasReady(Some(FIRST_DATA_LINK)),
+        Step::Hands(FIRST_DATA_LINK, Some(&TEXT)),
+        Step::Answers(FIRST_DATA_LINK, Answer::Dead),
+        Step::IsStray(FIRST_DATA_LINK, Answer::Dead),
+        Step::Wakes,
+        Step::Keeps(FIRST_DATA_LINK, Some(&TEXT)),
+        Step::IsQuiet(false),
+        Step::Hands(FIRST_DATA_LINK, Some(&TEXT)),
+        Step::Answers(FIRST_DATA_LINK, Answer::Rfnm),
+        Step::IsEmpty(FIRST_DATA_LINK, true),
+        Step::IsQuiet(true),
+    ];
+    goes(&rt, rt.alloc(), STEPS)?;
     Ok(())
 }

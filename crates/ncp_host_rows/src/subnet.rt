@@ -1,9 +1,11 @@
 //! What no clause says: that the calls succeed, and that the definitions mean what the worked
 //! examples mean.
+use crate::known::is_told;
 use ncp_bits::Bits;
 use ncp_subnet::equality::equal_faults;
 use ncp_subnet::laws::{each_message_is_answered_once, places_are_apart};
 use ncp_subnet::{Subnet, SubnetFault};
+use std::alloc::{AllocError, Global};
 use std::process::Abort;
 use std::test::Fail;
 
@@ -18,71 +20,153 @@ const TEXT: [u8; 14] = [
     0x00, 0x02, 0x02, 0x00, 0x00, 0x24, 0x00, 0x01, 0x00, 0x12, 0x34, 0x56, 0x78, 0x90,
 ];
 
+// The same as it comes to host 2.
+const TEXT_COMES: [u8; 14] = [
+    0x00, 0x01, 0x02, 0x00, 0x00, 0x24, 0x00, 0x01, 0x00, 0x12, 0x34, 0x56, 0x78, 0x90,
+];
+
 fn bits(rt: &impl Abort, bytes: &[u8], len: usize) -> Bits {
     Bits::from_bytes(bytes, len).expect(rt, "the bits of a message")
 }
 
-// A message of whole bytes.
-fn message(rt: &impl Abort, bytes: &[u8]) -> Bits {
-    assert!(rt; bytes.len() <= 1024);
-    bits(rt, bytes, 8 * bytes.len())
+/// A sender, a destination and a link.
+type Way = (u8, u8, u8);
+
+/// Bytes, and how many bits of them are a message.
+type Message<'a> = (&'a [u8], usize);
+
+/// What is done with a subnet, and what is wanted of it.
+#[derive(Clone, Copy, Drop)]
+enum Step<'a> {
+    /// A host's message is accepted.
+    Accepts(u8, Message<'a>),
+    /// A host's message is refused.
+    Refuses(u8, Message<'a>, SubnetFault),
+    /// The message that is delivered, if any is.
+    Delivers(Way, Option<Message<'a>>),
+    /// Whether a message is lost.
+    Loses(Way, bool),
+    /// Whether a message finds its destination dead.
+    IsDead(Way, bool),
+    /// Whether the last message was delivered.
+    IsDelivered(Way, bool),
+    /// The answer that is given, if any is.
+    Answers(Way, Option<Message<'a>>),
 }
 
-// Whether these are given.
-fn is(given: Option<Bits>, wanted: &Bits) -> bool {
-    match given {
-        Some(bits) => bits == *wanted,
-        None => false,
+/// Goes through all steps. The functions that it calls have no clause, so the prover need not follow a subnet through
+/// an example.
+fn goes_on(rt: &impl Abort, subnet: &mut Subnet, steps: &[Step<'_>]) {
+    for (place, step) in steps.iter().enumerate() {
+        assert!(rt; does(rt, subnet, step), "at step {place}");
     }
 }
 
+/// A new subnet of two hosts goes through all steps.
+fn goes(
+    rt: &impl Abort,
+    alloc: Global,
+    a: u8,
+    b: u8,
+    steps: &[Step<'_>],
+) -> Result<(), AllocError> {
+    let mut subnet = Subnet::new(alloc, a, b)?;
+    goes_on(rt, &mut subnet, steps);
+    Ok(())
+}
+
+fn does(rt: &impl Abort, subnet: &mut Subnet, step: &Step<'_>) -> bool {
+    match step {
+        Step::Accepts(from, message) => accepts(rt, subnet, *from, *message).is_ok(),
+        Step::Refuses(from, message, fault) => {
+            accepts(rt, subnet, *from, *message) == Err(*fault)
+        }
+        Step::Delivers(way, wanted) => is_given(rt, delivers(subnet, *way), *wanted),
+        Step::Answers(way, wanted) => is_given(rt, answers(subnet, *way), *wanted),
+        Step::Loses(way, wanted) => loses(subnet, *way) == *wanted,
+        Step::IsDead(way, wanted) => is_dead(subnet, *way) == *wanted,
+        Step::IsDelivered(way, wanted) => is_delivered(subnet, *way) == *wanted,
+    }
+}
+
+fn accepts(
+    rt: &impl Abort,
+    subnet: &mut Subnet,
+    from: u8,
+    (bytes, len): Message<'_>,
+) -> Result<(), SubnetFault> {
+    subnet.accept(from, &bits(rt, bytes, len))
+}
+
+fn delivers(subnet: &mut Subnet, (from, to, link): Way) -> Option<Bits> {
+    subnet.deliver(from, to, link)
+}
+
+fn answers(subnet: &mut Subnet, (from, to, link): Way) -> Option<Bits> {
+    subnet.answer(from, to, link)
+}
+
+fn loses(subnet: &mut Subnet, (from, to, link): Way) -> bool {
+    subnet.lose(from, to, link)
+}
+
+fn is_dead(subnet: &mut Subnet, (from, to, link): Way) -> bool {
+    subnet.dead(from, to, link)
+}
+
+fn is_delivered(subnet: &Subnet, (from, to, link): Way) -> bool {
+    subnet.delivered(from, to, link)
+}
+
+/// Whether the message that is wanted is given, or none is wanted and none given.
+fn is_given(rt: &impl Abort, given: Option<Bits>, wanted: Option<Message<'_>>) -> bool {
+    match (given, wanted) {
+        (Some(given), Some((bytes, len))) => given == bits(rt, bytes, len),
+        (None, None) => true,
+        _ => false,
+    }
+}
+
+/// The way of most examples.
+const WAY: Way = (1, 2, 0);
+
 #[test]
 fn answers_what_came(rt: HostRuntime) -> Result<(), Fail> {
-    let mut subnet = Subnet::new(rt.alloc(), 1, 2)?;
-    assert!(rt; subnet.accept(1, &message(&rt, &RESET)).is_ok());
-    assert!(rt; subnet.answer(1, 2, 0).is_none());
-    assert!(rt; !subnet.delivered(1, 2, 0));
-    assert!(rt; is(subnet.deliver(1, 2, 0), &message(&rt, &RESET_COMES)));
-    assert!(rt; subnet.delivered(1, 2, 0));
-    assert!(rt; subnet.deliver(1, 2, 0).is_none());
-    assert!(rt; !subnet.lose(1, 2, 0) && !subnet.dead(1, 2, 0));
-    assert!(rt;
-        is(
-            subnet.answer(1, 2, 0),
-            &message(&rt, &[0x05, 0x02, 0x00, 0x00])
-        )
-    );
-    assert!(rt; subnet.answer(1, 2, 0).is_none());
-    assert!(rt; subnet.accept(1, &message(&rt, &RESET)).is_ok());
+    const STEPS: &[Step<'static>] = &[
+        Step::Accepts(1, (&RESET, 80)),
+        Step::Answers(WAY, None),
+        Step::IsDelivered(WAY, false),
+        Step::Delivers(WAY, Some((&RESET_COMES, 80))),
+        Step::IsDelivered(WAY, true),
+        Step::Delivers(WAY, None),
+        Step::Loses(WAY, false),
+        Step::IsDead(WAY, false),
+        Step::Answers(WAY, Some((&[0x05, 0x02, 0x00, 0x00], 32))),
+        Step::Answers(WAY, None),
+        Step::Accepts(1, (&RESET, 80)),
+    ];
+    goes(&rt, rt.alloc(), 1, 2, STEPS)?;
     Ok(())
 }
 
 #[test]
 fn answers_what_will_not_come(rt: HostRuntime) -> Result<(), Fail> {
-    let mut subnet = Subnet::new(rt.alloc(), 2, 1)?;
-    let text = bits(&rt, &TEXT, 108);
-    assert!(rt; subnet.accept(1, &text).is_ok());
-    assert!(rt; subnet.lose(1, 2, 2));
-    assert!(rt; subnet.deliver(1, 2, 2).is_none() && !subnet.delivered(1, 2, 2));
-    assert!(rt;
-        is(
-            subnet.answer(1, 2, 2),
-            &message(&rt, &[0x09, 0x02, 0x02, 0x00])
-        )
-    );
-    assert!(rt; subnet.accept(1, &text).is_ok());
-    assert!(rt; subnet.dead(1, 2, 2));
-    assert!(rt; subnet.deliver(1, 2, 2).is_none() && !subnet.lose(1, 2, 2));
-    assert!(rt;
-        is(
-            subnet.answer(1, 2, 2),
-            &message(&rt, &[0x07, 0x02, 0x02, 0x00])
-        )
-    );
-    assert!(rt; subnet.accept(1, &text).is_ok());
-    let mut comes = TEXT;
-    comes[1] = 1;
-    assert!(rt; is(subnet.deliver(1, 2, 2), &bits(&rt, &comes, 108)));
+    const TEXT_WAY: Way = (1, 2, 2);
+    const STEPS: &[Step<'static>] = &[
+        Step::Accepts(1, (&TEXT, 108)),
+        Step::Loses(TEXT_WAY, true),
+        Step::Delivers(TEXT_WAY, None),
+        Step::IsDelivered(TEXT_WAY, false),
+        Step::Answers(TEXT_WAY, Some((&[0x09, 0x02, 0x02, 0x00], 32))),
+        Step::Accepts(1, (&TEXT, 108)),
+        Step::IsDead(TEXT_WAY, true),
+        Step::Delivers(TEXT_WAY, None),
+        Step::Loses(TEXT_WAY, false),
+        Step::Answers(TEXT_WAY, Some((&[0x07, 0x02, 0x02, 0x00], 32))),
+        Step::Accepts(1, (&TEXT, 108)),
+        Step::Delivers(TEXT_WAY, Some((&TEXT_COMES, 108))),
+    ];
+    goes(&rt, rt.alloc(), 2, 1, STEPS)?;
     places_are_apart();
     each_message_is_answered_once::<Bits>();
     Ok(())
@@ -90,6 +174,29 @@ fn answers_what_will_not_come(rt: HostRuntime) -> Result<(), Fail> {
 
 #[test]
 fn refuses_in_order(rt: HostRuntime) -> Result<(), Fail> {
+    // Shorter than a leader; of type 5, to a host that is not there; from a host that is not there,
+    // to one that is not there, to itself; and the second on a link.
+    const STEPS: &[Step<'static>] = &[
+        Step::Refuses(1, (&[0, 2, 0, 0], 31), SubnetFault::NotRegular),
+        Step::Refuses(1, (&[5, 9, 0, 0], 32), SubnetFault::NotRegular),
+        Step::Refuses(3, (&RESET, 80), SubnetFault::NoHost),
+        Step::Refuses(1, (&[0, 3, 0, 0], 32), SubnetFault::NoHost),
+        Step::Refuses(2, (&RESET, 80), SubnetFault::NoHost),
+        Step::Accepts(1, (&RESET, 80)),
+        Step::Refuses(1, (&RESET, 80), SubnetFault::Occupied),
+        Step::Accepts(2, (&[0, 1, 0, 0], 32)),
+        Step::Accepts(1, (&[0, 2, 255, 0], 32)),
+    ];
+    goes(&rt, rt.alloc(), 1, 2, STEPS)?;
+    Ok(())
+}
+
+fn number_of(fault: SubnetFault) -> u8 {
+    fault as u8
+}
+
+#[test]
+fn tells_faults(rt: HostRuntime) -> Result<(), Fail> {
     const TOLD: &[(SubnetFault, u8, &str)] = &[
         (SubnetFault::NotRegular, 1, "no regular message"),
         (
@@ -103,81 +210,68 @@ fn refuses_in_order(rt: HostRuntime) -> Result<(), Fail> {
             "the last message on this link is not answered yet",
         ),
     ];
-    let mut subnet = Subnet::new(rt.alloc(), 1, 2)?;
-    let reset = message(&rt, &RESET);
-    // Shorter than a leader; of type 5, to a host that is not there; from a host that is not there,
-    // to one that is not there, to itself; and the second on a link.
-    assert_eq!(rt;
-        subnet.accept(1, &bits(&rt, &[0, 2, 0, 0], 31)),
-        Err(SubnetFault::NotRegular)
-    );
-    assert_eq!(rt;
-        subnet.accept(1, &message(&rt, &[5, 9, 0, 0])),
-        Err(SubnetFault::NotRegular)
-    );
-    assert_eq!(rt; subnet.accept(3, &reset), Err(SubnetFault::NoHost));
-    assert_eq!(rt;
-        subnet.accept(1, &message(&rt, &[0, 3, 0, 0])),
-        Err(SubnetFault::NoHost)
-    );
-    assert_eq!(rt; subnet.accept(2, &reset), Err(SubnetFault::NoHost));
-    assert!(rt; subnet.accept(1, &reset).is_ok());
-    assert_eq!(rt; subnet.accept(1, &reset), Err(SubnetFault::Occupied));
-    assert!(rt; subnet.accept(2, &message(&rt, &[0, 1, 0, 0])).is_ok());
-    assert!(rt; subnet.accept(1, &message(&rt, &[0, 2, 255, 0])).is_ok());
     assert!(rt; equal_faults(SubnetFault::NoHost, SubnetFault::NoHost));
     for &(fault, number, text) in TOLD {
-        assert_eq!(rt; fault as u8, number);
-        assert_eq!(rt; format!(in rt.alloc(); "{fault}")?.as_str(), text);
+        assert_eq!(rt; number_of(fault), number);
+        assert!(rt; is_told(rt.alloc(), &fault, text)?);
     }
     Ok(())
 }
 
 #[test]
 fn keeps_what_became_of_a_message(rt: HostRuntime) -> Result<(), Fail> {
-    let mut subnet = Subnet::new(rt.alloc(), 1, 2)?;
-    assert!(rt; subnet.deliver(1, 2, 0).is_none() && !subnet.dead(1, 2, 0));
-    for link in [0, 2, 3] {
-        assert!(rt; subnet.accept(1, &message(&rt, &[0, 2, link, 0])).is_ok());
-    }
-    assert!(rt; subnet.deliver(1, 2, 0).is_some() && subnet.lose(1, 2, 2) && subnet.dead(1, 2, 3));
-    for link in [0, 2, 3] {
-        assert_eq!(rt;
-            subnet.accept(1, &message(&rt, &[0, 2, link, 0])),
-            Err(SubnetFault::Occupied)
-        );
-    }
-    assert!(rt; !subnet.lose(1, 2, 2) && !subnet.dead(1, 2, 2) && !subnet.dead(1, 2, 3));
+    const STEPS: &[Step<'static>] = &[
+        Step::Delivers(WAY, None),
+        Step::IsDead(WAY, false),
+        Step::Accepts(1, (&[0, 2, 0, 0], 32)),
+        Step::Accepts(1, (&[0, 2, 2, 0], 32)),
+        Step::Accepts(1, (&[0, 2, 3, 0], 32)),
+        Step::Delivers(WAY, Some((&[0, 1, 0, 0], 32))),
+        Step::Loses((1, 2, 2), true),
+        Step::IsDead((1, 2, 3), true),
+        Step::Refuses(1, (&[0, 2, 0, 0], 32), SubnetFault::Occupied),
+        Step::Refuses(1, (&[0, 2, 2, 0], 32), SubnetFault::Occupied),
+        Step::Refuses(1, (&[0, 2, 3, 0], 32), SubnetFault::Occupied),
+        Step::Loses((1, 2, 2), false),
+        Step::IsDead((1, 2, 2), false),
+        Step::IsDead((1, 2, 3), false),
+    ];
+    goes(&rt, rt.alloc(), 1, 2, STEPS)?;
     Ok(())
 }
 
 // The answer has neither.
 #[test]
 fn delivers_flags_and_low_field(rt: HostRuntime) -> Result<(), Fail> {
-    let mut subnet = Subnet::new(rt.alloc(), 1, 2)?;
-    let sent = message(&rt, &[0x10, 0x02, 0x0a, 0x05]);
-    assert!(rt; subnet.accept(1, &sent).is_ok());
-    let comes = message(&rt, &[0x10, 0x01, 0x0a, 0x05]);
-    assert!(rt; is(subnet.deliver(1, 2, 0x0a), &comes));
-    let answer = message(&rt, &[0x05, 0x02, 0x0a, 0x00]);
-    assert!(rt; is(subnet.answer(1, 2, 0x0a), &answer));
+    const STEPS: &[Step<'static>] = &[
+        Step::Accepts(1, (&[0x10, 0x02, 0x0a, 0x05], 32)),
+        Step::Delivers((1, 2, 0x0a), Some((&[0x10, 0x01, 0x0a, 0x05], 32))),
+        Step::Answers((1, 2, 0x0a), Some((&[0x05, 0x02, 0x0a, 0x00], 32))),
+    ];
+    goes(&rt, rt.alloc(), 1, 2, STEPS)?;
     Ok(())
 }
 
 #[test]
 fn keeps_ways_apart(rt: HostRuntime) -> Result<(), Fail> {
-    let hosts = [1, 2, 3, 4, 5, 6, 7, 8];
-    let mut subnet = Subnet::among(rt.alloc(), &hosts)?;
-    for from in hosts {
-        for to in hosts {
-            let accepted = subnet.accept(from, &message(&rt, &[0, to, 0, 0])).is_ok();
+    const HOSTS: &[u8] = &[1, 2, 3, 4, 5, 6, 7, 8];
+    const STEPS: &[Step<'static>] = &[
+        Step::Loses((3, 7, 0), true),
+        Step::Loses((3, 7, 2), false),
+        Step::Delivers((7, 3, 0), Some((&[0, 7, 0, 0], 32))),
+        Step::IsDelivered((7, 3, 0), true),
+        Step::IsDelivered((3, 7, 0), false),
+        Step::Answers((3, 7, 0), Some((&[9, 7, 0, 0], 32))),
+        Step::Delivers((3, 9, 0), None),
+        Step::Answers((9, 3, 0), None),
+    ];
+    let mut subnet = Subnet::among(rt.alloc(), HOSTS)?;
+    for &from in HOSTS {
+        for &to in HOSTS {
+            let accepted = accepts(&rt, &mut subnet, from, (&[0, to, 0, 0], 32)).is_ok();
             assert_eq!(rt; accepted, from != to, "from {from} to {to}");
         }
     }
-    assert!(rt; subnet.lose(3, 7, 0) && !subnet.lose(3, 7, 2));
-    assert!(rt; is(subnet.deliver(7, 3, 0), &message(&rt, &[0, 7, 0, 0])));
-    assert!(rt; subnet.delivered(7, 3, 0) && !subnet.delivered(3, 7, 0));
-    assert!(rt; is(subnet.answer(3, 7, 0), &message(&rt, &[9, 7, 0, 0])));
-    assert!(rt; subnet.deliver(3, 9, 0).is_none() && subnet.answer(9, 3, 0).is_none());
+    goes_on(&rt, &mut subnet, STEPS);
     Ok(())
 }

@@ -1,9 +1,42 @@
-//! What is wanted of a note.
+//! What an example does to a host, and what is wanted of its notes, as values.
 use crate::known::bits_of;
-use ncp_host::{CallFault, Counts, Flags, Ignored, Received, Record};
+use ncp_host::{CallFault, Counts, Flags, Ignored, Pair, Received, Record};
 use ncp_terms::{Answer, Command};
-use ncp_transcript::{HostNote, Input};
+use ncp_transcript::{Call, HostNote, Input, Message};
+use std::alloc::Global;
 use std::process::Abort;
+
+/// What is done to a host. Calls are of its one peer.
+#[derive(Clone, Copy, Drop)]
+pub(super) enum Act<'a> {
+    Reset,
+    /// Bits a byte, and the room.
+    AskSend(Pair, u8, u32),
+    AskReceive(Pair, u32),
+    /// These bytes of 8 bits.
+    Give(Pair, &'a [u8]),
+    /// At most so many bytes.
+    Take(Pair, u32),
+    /// Messages and bits.
+    Allocate(Pair, u16, u32),
+    CallBack(Pair, u8, u8),
+    Interrupt(Pair),
+    Echo(u8),
+    Close(Pair),
+    Wake,
+    State(Pair),
+    Phase,
+    Echoed,
+    Errors,
+    Counts,
+    Waiting(u32),
+    Kept(u8),
+    Ignored,
+    /// These bytes come.
+    Comes(&'a [u8]),
+    /// Output is asked for.
+    Output,
+}
 
 /// What a note has to say beside the input, in the order of `HostNote`.
 #[derive(Clone, Copy, Drop)]
@@ -27,20 +60,94 @@ pub(super) enum Want<'a> {
     Answered(u8, Answer, Received),
 }
 
-/// An input, and what is to be noted of it.
-#[derive(Drop)]
-pub(super) struct Step<'a> {
-    pub(super) input: Input,
-    pub(super) want: Want<'a>,
+/// An act, and what is to be noted of it.
+pub(super) type Step<'a> = (Act<'a>, Want<'a>);
+
+/// A message of these bytes.
+fn message_of(rt: &impl Abort, alloc: Global, bytes: &[u8]) -> Message {
+    let bits = bits_of(rt, bytes);
+    match Message::from_bits(alloc, &bits) {
+        Err(_) => Message::from_bits(alloc, &bits).expect(rt, "memory"),
+        Ok(message) => message,
+    }
+}
+
+/// The input that an act is.
+pub(super) fn input_of(rt: &impl Abort, alloc: Global, peer: u8, act: &Act<'_>) -> Input {
+    match act {
+        Act::Comes(bytes) => Input::In(bits_of(rt, bytes)),
+        Act::Output => Input::Out,
+        Act::Give(pair, bytes) => Input::Call(Call::Give {
+            peer,
+            pair: *pair,
+            text: message_of(rt, alloc, bytes),
+        }),
+        _ => Input::Call(call_of(peer, act)),
+    }
+}
+
+fn call_of(peer: u8, act: &Act<'_>) -> Call {
+    match *act {
+        Act::Reset => Call::Reset { peer },
+        Act::AskSend(pair, size, room) => Call::AskSend {
+            peer,
+            pair,
+            size,
+            room,
+        },
+        Act::AskReceive(pair, room) => Call::AskReceive { peer, pair, room },
+        Act::Echo(byte) => Call::Echo { peer, byte },
+        Act::Wake => Call::Wake { peer },
+        _ => call_of_pair(peer, act),
+    }
+}
+
+fn call_of_pair(peer: u8, act: &Act<'_>) -> Call {
+    match *act {
+        Act::Take(pair, bytes) => Call::Take { peer, pair, bytes },
+        Act::Allocate(pair, messages, bits) => Call::Allocate {
+            peer,
+            pair,
+            messages,
+            bits,
+        },
+        Act::CallBack(pair, fm, fb) => Call::CallBack { peer, pair, fm, fb },
+        Act::Interrupt(pair) => Call::Interrupt { peer, pair },
+        Act::Close(pair) => Call::Close { peer, pair },
+        _ => reading_of(peer, act),
+    }
+}
+
+fn reading_of(peer: u8, act: &Act<'_>) -> Call {
+    match *act {
+        Act::State(pair) => Call::State { peer, pair },
+        Act::Phase => Call::Phase { peer },
+        Act::Echoed => Call::Echoed { peer },
+        Act::Errors => Call::Errors { peer },
+        Act::Counts => Call::Counts { peer },
+        Act::Waiting(place) => Call::Waiting { peer, place },
+        Act::Kept(link) => Call::Kept { peer, link },
+        _ => Call::Ignored,
+    }
 }
 
 /// Whether a note says what is wanted.
 pub(super) fn says(rt: &impl Abort, note: &HostNote, want: &Want<'_>) -> bool {
     match (note, want) {
+        (HostNote::Took { text, .. }, Want::Took(bytes)) => is_text(rt, text, bytes),
+        (HostNote::Out { message }, Want::Out(bytes)) => is_text(rt, message, bytes),
+        _ => says_what_is_done(note, want),
+    }
+}
+
+fn is_text(rt: &impl Abort, message: &Message, bytes: &[u8]) -> bool {
+    message.to_bits() == bits_of(rt, bytes)
+}
+
+fn says_what_is_done(note: &HostNote, want: &Want<'_>) -> bool {
+    match (note, want) {
         (HostNote::Refused { fault, .. }, Want::Refused(wanted)) => *fault == *wanted,
         (HostNote::Done { .. }, Want::Done) => true,
-        (HostNote::Took { text, .. }, Want::Took(bytes)) => text.to_bits() == bits_of(rt, bytes),
-        (HostNote::Out { message }, Want::Out(bytes)) => message.to_bits() == bits_of(rt, bytes),
         (HostNote::Nothing, Want::Nothing) => true,
         (HostNote::In { received, .. }, Want::In(wanted)) => *received == *wanted,
         (

@@ -1,6 +1,6 @@
 //! A host with its transcript that goes through the steps of an example.
 use super::INWARD;
-use super::noted::{Step, says};
+use super::noted::{Step, Want, input_of, says};
 use crate::known::{LINK, OUTWARD};
 use ncp_bits::BitStore;
 use ncp_host::{CallFault, Counts, Flags, HostFault, Ignored, Record};
@@ -51,18 +51,21 @@ impl<S: BitStore> Tried<S> {
     }
 
     /// Goes through all steps.
-    pub(super) fn goes(&mut self, rt: &impl Abort, steps: &[Step<'_>]) {
+    pub(super) fn goes(&mut self, rt: &impl Abort, alloc: Global, steps: &[Step<'_>]) {
         for (place, step) in steps.iter().enumerate() {
-            assert!(rt; self.does(rt, step), "at step {place}");
+            assert!(rt; self.does(rt, alloc, step), "at step {place}");
         }
     }
 
-    fn does(&mut self, rt: &impl Abort, step: &Step<'_>) -> bool {
-        if !self.is_done(&step.input) {
-            return false;
-        }
+    fn does(&mut self, rt: &impl Abort, alloc: Global, (act, want): &Step<'_>) -> bool {
+        let input = input_of(rt, alloc, self.peer, act);
+        self.is_done(&input) && self.has_noted(rt, want)
+    }
+
+    // Whether the last note says what is wanted.
+    fn has_noted(&self, rt: &impl Abort, want: &Want<'_>) -> bool {
         match self.alone.transcript().last() {
-            Some(note) => says(rt, note, &step.want),
+            Some(note) => says(rt, note, want),
             None => false,
         }
     }

@@ -1,6 +1,8 @@
 //! Any bits that come.
 use super::steps::{Call, Step};
-use super::{DEAD, INCOMPLETE, INWARD, OTHER, RFNM, ROOM, RTS, STR, Tried, goes, goes_up};
+use super::{
+    COMES_UP, DEAD, INCOMPLETE, INWARD, OTHER, RFNM, ROOM, RTS, STR, Tried, goes, goes_up,
+};
 use crate::known::{LINK, ME, NO_COUNTS, OUTWARD, PEER, RECEIVER, SENDER, UP, bits_of};
 use ncp_bits::{BitStore, PackedStore, PlainStore};
 use ncp_host::{CallFault, Counts, Flags, Ignored, Received, Record, Took};
@@ -9,36 +11,39 @@ use std::alloc::Global;
 use std::process::Abort;
 use std::test::Fail;
 
+// What becomes of the message of the RTS, cut to its first so many bits.
+fn judged(len: usize) -> Received {
+    if len < 32 {
+        Received::Short
+    } else if len < 72 {
+        Received::Fault(MessageFault::ShortPrefix)
+    } else if len < 152 {
+        Received::Fault(MessageFault::TextMissing)
+    } else {
+        Received::Control(1)
+    }
+}
+
 // A host that is up gets the message of the RTS, cut to its first so many bits.
 fn judges_a_cut_message<S: BitStore>(rt: &impl Abort, alloc: Global) -> Result<(), Fail> {
-    let mut host = Tried::<S>::new(alloc, ME, &[PEER])?;
-    host.goes(rt, &[Step::ComesUp]);
-    let whole = bits_of(
-        rt,
-        &[0, 2, 0, 0, 0, 8, 0, 10, 0, 1, 0, 0, 0, 2, 0, 0, 0, 3, 2],
-    );
-    for len in 0..153usize {
-        let want = if len < 32 {
-            Received::Short
-        } else if len < 72 {
-            Received::Fault(MessageFault::ShortPrefix)
-        } else if len < 152 {
-            Received::Fault(MessageFault::TextMissing)
-        } else {
-            Received::Control(1)
-        };
-        assert!(rt; host.receives_cut(&whole, len, want), "at {len}");
-    }
-    let ignored = Ignored {
+    const IGNORED: Ignored = Ignored {
         short: 32,
         other: 0,
         unknown: 0,
     };
-    let counts = Counts {
+    const COUNTS: Counts = Counts {
         faults: 120,
         ..NO_COUNTS
     };
-    host.goes(rt, &[Step::HasIgnored(ignored), Step::HasCounts(counts)]);
+    const JUDGED: &[Step<'static>] = &[Step::HasIgnored(IGNORED), Step::HasCounts(COUNTS)];
+    const MESSAGE: &[u8] = &[0, 2, 0, 0, 0, 8, 0, 10, 0, 1, 0, 0, 0, 2, 0, 0, 0, 3, 2];
+    let mut host = Tried::<S>::new(alloc, ME, &[PEER])?;
+    host.goes(rt, COMES_UP);
+    let whole = bits_of(rt, MESSAGE);
+    for len in 0..153usize {
+        assert!(rt; host.receives_cut(&whole, len, judged(len)), "at {len}");
+    }
+    host.goes(rt, JUDGED);
     Ok(())
 }
 

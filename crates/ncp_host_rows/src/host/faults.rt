@@ -1,10 +1,15 @@
 //! The numbers, names and texts of the reasons why there is no host.
+use crate::known::{is_shown, is_told};
 use ncp_host::HostFault;
 use std::test::Fail;
 
+fn number_of(fault: HostFault) -> u8 {
+    fault as u8
+}
+
 #[test]
 fn faults_are_told(rt: HostRuntime) -> Result<(), Fail> {
-    let rows = [
+    const ROWS: &[(HostFault, u8, &str, &str)] = &[
         (
             HostFault::BadPeers,
             1,
@@ -13,10 +18,10 @@ fn faults_are_told(rt: HostRuntime) -> Result<(), Fail> {
         ),
         (HostFault::OutOfMemory, 2, "OutOfMemory", "out of memory"),
     ];
-    for (fault, number, name, text) in rows {
-        assert_eq!(rt; fault as u8, number);
-        assert!(rt; format!(in rt.alloc(); "{fault:?}")?.as_str() == name);
-        assert!(rt; format!(in rt.alloc(); "{fault}")?.as_str() == text);
+    for &(fault, number, name, text) in ROWS {
+        assert_eq!(rt; number_of(fault), number);
+        assert!(rt; is_shown(rt.alloc(), &fault, name)?);
+        assert!(rt; is_told(rt.alloc(), &fault, text)?);
     }
     Ok(())
 }

@@ -89,26 +89,24 @@ fn peers_are_known(rt: HostRuntime) -> Result<(), Fail> {
 // An unknown peer is judged before that the host is not up, and this before all else.
 #[test]
 fn calls_are_for_peers_that_are_up(rt: HostRuntime) -> Result<(), Fail> {
-    for (peer, fault) in [(NOBODY, CallFault::UnknownPeer), (PEER, CallFault::NotUp)] {
-        goes(
-            &rt,
-            rt.alloc(),
-            &[PEER],
-            &[
-                Step::Of(peer),
-                Step::Refuses(Call::AskSend(INWARD, 0, 0), fault),
-                Step::Refuses(Call::AskReceive(OUTWARD, 0), fault),
-                Step::Refuses(Call::Give(OUTWARD, &[0x61]), fault),
-                Step::Refuses(Call::Take(INWARD, 1), fault),
-                Step::Refuses(Call::Allocate(INWARD, 1, 1), fault),
-                Step::Refuses(Call::CallBack(INWARD, 1, 1), fault),
-                Step::Refuses(Call::Interrupt(INWARD), fault),
-                Step::Refuses(Call::Echo(65), fault),
-                Step::Refuses(Call::Close(INWARD), fault),
-            ],
-        )?;
-    }
-    Ok(())
+    const CALLS: &[Call<'static>] = &[
+        Call::AskSend(INWARD, 0, 0),
+        Call::AskReceive(OUTWARD, 0),
+        Call::Give(OUTWARD, &[0x61]),
+        Call::Take(INWARD, 1),
+        Call::Allocate(INWARD, 1, 1),
+        Call::CallBack(INWARD, 1, 1),
+        Call::Interrupt(INWARD),
+        Call::Echo(65),
+        Call::Close(INWARD),
+    ];
+    const UNKNOWN: &[Step<'static>] = &[
+        Step::Of(NOBODY),
+        Step::RefusesEach(CALLS, CallFault::UnknownPeer),
+    ];
+    const NOT_UP: &[Step<'static>] = &[Step::Of(PEER), Step::RefusesEach(CALLS, CallFault::NotUp)];
+    goes(&rt, rt.alloc(), &[PEER], UNKNOWN)?;
+    goes(&rt, rt.alloc(), &[PEER], NOT_UP)
 }
 
 // Calls and readers that a host answers also while it is not up.

@@ -1,12 +1,9 @@
 //! The commands that wait, and what goes out of them.
 use super::steps::{Call, Step};
-use super::{CONTROL, INWARD, OTHER, RFNM, Tried, goes, goes_on, goes_up};
-use crate::known::{DOWN, LINK, ME, NO_COUNTS, PEER, RECEIVER, UP};
-use ncp_bits::{BitStore, PackedStore, PlainStore};
+use super::{CONTROL, INWARD, OTHER, RFNM, goes, goes_on, goes_up};
+use crate::known::{DOWN, LINK, NO_COUNTS, PEER, RECEIVER, UP};
 use ncp_host::{CallFault, Counts, Received, Record};
 use ncp_terms::{Command, SOCKET_NOT_CONNECTED};
-use std::alloc::Global;
-use std::process::Abort;
 use std::test::Fail;
 
 // The control text of 15 ALLs of one message and no bits.
@@ -94,21 +91,14 @@ fn a_flood_takes_one_peer_down(rt: HostRuntime) -> Result<(), Fail> {
 }
 
 // Of 17 ERRs the last 16 are kept, oldest first. None is answered.
-fn keeps_the_last_errors<S: BitStore>(rt: &impl Abort, alloc: Global) -> Result<(), Fail> {
-    let mut host = Tried::<S>::new(alloc, ME, &[PEER])?;
-    host.goes(rt, &[Step::ComesUp]);
-    for code in 0..17u8 {
-        let error = [11, code, 0, 0, 0, 0, 0, 0, 0, 0, 0, code];
-        assert!(rt; host.does(rt, &Step::Hears(&error, 1)));
-    }
-    assert!(rt; host.has_errors(1, 16) && host.does(rt, &Step::IsSilent));
-    Ok(())
-}
-
 #[test]
 fn the_last_16_errors_are_kept(rt: HostRuntime) -> Result<(), Fail> {
-    keeps_the_last_errors::<PlainStore>(&rt, rt.alloc())?;
-    keeps_the_last_errors::<PackedStore>(&rt, rt.alloc())
+    const STEPS: &[Step<'static>] = &[
+        Step::HearsErrors(17),
+        Step::HasErrors(1, 16),
+        Step::IsSilent,
+    ];
+    goes_up(&rt, rt.alloc(), STEPS)
 }
 
 // NOP, ECO 41 and a bad opcode: ERP 41 and then ERR 1, in the order in which they were made. A command

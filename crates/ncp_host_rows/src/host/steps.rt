@@ -49,6 +49,8 @@ pub(super) enum Step<'a> {
     AsksOften(u8),
     /// A call is refused.
     Refuses(Call<'a>, CallFault),
+    /// Each of these calls is refused.
+    RefusesEach(&'a [Call<'a>], CallFault),
     /// At most so many bytes are taken, and these come.
     Takes(Pair, u32, &'a [u8]),
     /// A message of these bytes comes.
@@ -61,6 +63,8 @@ pub(super) enum Step<'a> {
     HearsReturns(u8),
     /// 512 of them come, in five messages.
     FillsPlaces,
+    /// So many ERRs come, with the codes 0, 1 and so on, and each code as its tenth byte.
+    HearsErrors(u8),
     /// The message on a link is answered by a message of this type.
     Answered(u8, u8, Received),
     /// STRs of size 8 come from the sockets 1, 3 and so on for socket 2: so many are read.
@@ -79,6 +83,8 @@ pub(super) enum Step<'a> {
     HasEchoed(Option<u8>),
     HasCounts(Counts),
     HasIgnored(Ignored),
+    /// The errors have the codes from one to another, and each code as its tenth byte.
+    HasErrors(u8, u8),
     /// The command that waits at a place from the front.
     Waits(u32, Command),
     /// So many commands wait.

@@ -75,26 +75,11 @@ impl<S: BitStore> Tried<S> {
         if len > message.len() {
             return false;
         }
-        self.host.receive(&message.slice(0, len).to_bits()) == want
+        self.receives(&message.slice(0, len).to_bits(), want)
     }
 
-    /// Whether the errors have these codes, rising by 1, and each code as its tenth byte.
-    pub(super) fn has_errors(&self, first: u8, last: u8) -> bool {
-        let Ok(errors) = self.host.errors(self.peer) else {
-            return false;
-        };
-        let mut next = first;
-        for error in errors {
-            if error.code != next || error.bytes[9] != next {
-                return false;
-            }
-            next = next.saturating_add(1);
-        }
-        next == last.saturating_add(1)
-    }
-
-    /// Whether a step has the answer that is wanted.
-    pub(super) fn does(&mut self, rt: &impl Abort, step: &Step<'_>) -> bool {
+    // Whether a step has the answer that is wanted.
+    fn does(&mut self, rt: &impl Abort, step: &Step<'_>) -> bool {
         match step {
             Step::Of(peer) => {
                 self.peer = *peer;
@@ -106,7 +91,8 @@ impl<S: BitStore> Tried<S> {
             Step::Does(call) => self.call(rt, call).is_ok(),
             Step::Repeats(call, times) => self.repeats(rt, call, *times),
             Step::AsksOften(times) => self.asks_often(*times),
-            Step::Refuses(call, fault) => self.call(rt, call) == Err(*fault),
+            Step::Refuses(call, fault) => self.refuses(rt, call, *fault),
+            Step::RefusesEach(calls, fault) => self.refuses_each(rt, calls, *fault),
             Step::Takes(pair, bytes, want) => self.takes(rt, *pair, *bytes, want),
             _ => self.hears_or_says(rt, step),
         }
@@ -114,26 +100,20 @@ impl<S: BitStore> Tried<S> {
 
     fn hears_or_says(&mut self, rt: &impl Abort, step: &Step<'_>) -> bool {
         match step {
-            Step::Comes(bytes, want) => self.host.receive(&bits_of(rt, bytes)) == *want,
+            Step::Comes(bytes, want) => self.receives(&bits_of(rt, bytes), *want),
             Step::Text(link, text, want) => {
-                self.host.receive(&message(rt, self.peer, *link, text)) == *want
+                self.receives(&message(rt, self.peer, *link, text), *want)
             }
             Step::Hears(text, commands) => self.hears(rt, text, *commands),
             Step::HearsReturns(count) => self.hears_returns(rt, *count),
-            Step::FillsPlaces => {
-                for _message in 0..4 {
-                    if !self.hears_returns(rt, 112) {
-                        return false;
-                    }
-                }
-                self.hears_returns(rt, 64)
-            }
+            Step::FillsPlaces => self.fills_places(rt),
+            Step::HearsErrors(count) => self.hears_errors(rt, *count),
             Step::HearsRequests(count) => self.hears_requests(rt, *count),
             Step::Answered(kind, link, want) => self.answered(rt, *kind, *link, *want),
-            Step::Puts(bytes) => self.host.next_output() == Some(bits_of(rt, bytes)),
+            Step::Puts(bytes) => self.puts(&bits_of(rt, bytes)),
             Step::Sends(link, text) => self.sends(rt, *link, text),
             Step::Says(text) => self.says(rt, text),
-            Step::IsSilent => self.host.next_output().is_none(),
+            Step::IsSilent => self.is_silent(),
             _ => self.tells(rt, step),
         }
     }
@@ -145,6 +125,7 @@ impl<S: BitStore> Tried<S> {
             Step::HasEchoed(want) => self.host.echoed(self.peer) == Ok(*want),
             Step::HasCounts(want) => self.host.counts(self.peer) == Ok(*want),
             Step::HasIgnored(want) => self.host.ignored() == *want,
+            Step::HasErrors(first, last) => self.has_errors(*first, *last),
             Step::Waits(place, want) => self.host.waiting(self.peer, *place) == Some(*want),
             Step::Wait(count) => self.wait(*count),
             Step::Keeps(link, text) => self.keeps(rt, *link, text),
@@ -154,25 +135,39 @@ impl<S: BitStore> Tried<S> {
     }
 
     fn call(&mut self, rt: &impl Abort, call: &Call<'_>) -> Result<(), CallFault> {
-        match call {
+        match *call {
             Call::Reset => self.host.reset(self.peer),
-            Call::AskSend(pair, size, room) => self.host.ask_send(self.peer, *pair, *size, *room),
-            Call::AskReceive(pair, room) => self.host.ask_receive(self.peer, *pair, *room),
-            Call::Give(pair, text) => self.host.give(self.peer, *pair, &bits_of(rt, text)),
-            Call::GiveBits(pair, len) => self.host.give(self.peer, *pair, &zeros(rt, *len)),
-            Call::Take(pair, bytes) => match self.host.take(self.peer, *pair, *bytes) {
-                Ok(_) => Ok(()),
-                Err(fault) => Err(fault),
-            },
-            Call::Allocate(pair, messages, bits) => {
-                self.host.allocate(self.peer, *pair, *messages, *bits)
-            }
-            Call::CallBack(pair, fm, fb) => self.host.call_back(self.peer, *pair, *fm, *fb),
-            Call::Interrupt(pair) => self.host.interrupt(self.peer, *pair),
-            Call::Echo(byte) => self.host.echo(self.peer, *byte),
-            Call::Close(pair) => self.host.close(self.peer, *pair),
+            Call::AskSend(pair, size, room) => self.host.ask_send(self.peer, pair, size, room),
+            Call::AskReceive(pair, room) => self.host.ask_receive(self.peer, pair, room),
+            Call::Interrupt(pair) => self.host.interrupt(self.peer, pair),
+            Call::Echo(byte) => self.host.echo(self.peer, byte),
+            Call::Close(pair) => self.host.close(self.peer, pair),
             Call::Wake => self.host.wake(self.peer),
+            _ => self.call_of_text(rt, call),
+        }
+    }
+
+    fn call_of_text(&mut self, rt: &impl Abort, call: &Call<'_>) -> Result<(), CallFault> {
+        match *call {
+            Call::Give(pair, text) => self.give(pair, &bits_of(rt, text)),
+            Call::GiveBits(pair, len) => self.give(pair, &zeros(rt, len)),
+            Call::Take(pair, bytes) => self.take(pair, bytes),
+            Call::Allocate(pair, messages, bits) => {
+                self.host.allocate(self.peer, pair, messages, bits)
+            }
+            Call::CallBack(pair, fm, fb) => self.host.call_back(self.peer, pair, fm, fb),
             _ => self.read(call),
+        }
+    }
+
+    fn give(&mut self, pair: Pair, text: &Bits) -> Result<(), CallFault> {
+        self.host.give(self.peer, pair, text)
+    }
+
+    fn take(&mut self, pair: Pair, bytes: u32) -> Result<(), CallFault> {
+        match self.host.take(self.peer, pair, bytes) {
+            Ok(_) => Ok(()),
+            Err(fault) => Err(fault),
         }
     }
 
@@ -196,6 +191,19 @@ impl<S: BitStore> Tried<S> {
             _ => {}
         }
         Ok(())
+    }
+
+    fn refuses(&mut self, rt: &impl Abort, call: &Call<'_>, fault: CallFault) -> bool {
+        self.call(rt, call) == Err(fault)
+    }
+
+    fn refuses_each(&mut self, rt: &impl Abort, calls: &[Call<'_>], fault: CallFault) -> bool {
+        for call in calls {
+            if !self.refuses(rt, call, fault) {
+                return false;
+            }
+        }
+        true
     }
 
     fn repeats(&mut self, rt: &impl Abort, call: &Call<'_>, times: usize) -> bool {
@@ -227,14 +235,36 @@ impl<S: BitStore> Tried<S> {
         }
     }
 
+    fn receives(&mut self, message: &Bits, want: Received) -> bool {
+        self.host.receive(message) == want
+    }
+
     fn hears(&mut self, rt: &impl Abort, text: &[u8], commands: u32) -> bool {
         let message = message(rt, self.peer, CONTROL, text);
-        self.host.receive(&message) == Received::Control(commands)
+        self.receives(&message, Received::Control(commands))
     }
 
     fn hears_returns(&mut self, rt: &impl Abort, count: u8) -> bool {
         let message = returns(rt, self.peer, count);
-        self.host.receive(&message) == Received::Control(u32::from(count))
+        self.receives(&message, Received::Control(u32::from(count)))
+    }
+
+    fn hears_errors(&mut self, rt: &impl Abort, count: u8) -> bool {
+        for code in 0..count {
+            if !self.hears(rt, &[11, code, 0, 0, 0, 0, 0, 0, 0, 0, 0, code], 1) {
+                return false;
+            }
+        }
+        true
+    }
+
+    fn fills_places(&mut self, rt: &impl Abort) -> bool {
+        for _message in 0..4 {
+            if !self.hears_returns(rt, 112) {
+                return false;
+            }
+        }
+        self.hears_returns(rt, 64)
     }
 
     fn hears_requests(&mut self, rt: &impl Abort, count: u8) -> bool {
@@ -249,11 +279,22 @@ impl<S: BitStore> Tried<S> {
     }
 
     fn answered(&mut self, rt: &impl Abort, kind: u8, link: u8, want: Received) -> bool {
-        self.host.receive(&bits_of(rt, &[kind, self.peer, link, 0])) == want
+        self.receives(&bits_of(rt, &[kind, self.peer, link, 0]), want)
+    }
+
+    fn puts(&mut self, message: &Bits) -> bool {
+        match self.host.next_output() {
+            Some(output) => output == *message,
+            None => false,
+        }
+    }
+
+    fn is_silent(&mut self) -> bool {
+        self.host.next_output().is_none()
     }
 
     fn sends(&mut self, rt: &impl Abort, link: u8, text: &[u8]) -> bool {
-        self.host.next_output() == Some(message(rt, self.peer, link, text))
+        self.puts(&message(rt, self.peer, link, text))
     }
 
     fn says(&mut self, rt: &impl Abort, text: &[u8]) -> bool {
@@ -273,6 +314,20 @@ impl<S: BitStore> Tried<S> {
             Some(kept) => *kept == message(rt, self.peer, link, text),
             None => false,
         }
+    }
+
+    fn has_errors(&self, first: u8, last: u8) -> bool {
+        let Ok(errors) = self.host.errors(self.peer) else {
+            return false;
+        };
+        let mut next = first;
+        for error in errors {
+            if error.code != next || error.bytes[9] != next {
+                return false;
+            }
+            next = next.saturating_add(1);
+        }
+        next == last.saturating_add(1)
     }
 
     fn comes_up(&mut self, rt: &impl Abort) -> bool {
