@@ -6,46 +6,48 @@ use std::alloc::Global;
 use std::process::Abort;
 use std::test::Fail;
 
+// A fault, its number, and what is printed of it.
+type Row<'a> = (PlayFault, u8, &'a [u8]);
+
+fn expect_each(rt: &impl Abort, alloc: Global, rows: &[Row<'_>]) -> Result<(), Fail> {
+    for (fault, number, line) in rows {
+        expect_told(rt, alloc, *fault, *number, line)?;
+    }
+    Ok(())
+}
+
 #[test]
 fn faults_of_lines(rt: HostRuntime) -> Result<(), Fail> {
-    let alloc = rt.alloc();
-    expect_told(
-        &rt,
-        alloc,
-        PlayFault::BadLine(7),
-        1,
-        b"ncp: line 7: BadLine\n",
-    )?;
-    expect_told(
-        &rt,
-        alloc,
-        PlayFault::LineTooLong(4294967295),
-        2,
-        b"ncp: line 4294967295: LineTooLong\n",
-    )?;
-    expect_told(&rt, alloc, PlayFault::BadHosts, 3, b"ncp: BadHosts\n")
+    const ROWS: &[Row<'static>] = &[
+        (PlayFault::BadLine(7), 1, b"ncp: line 7: BadLine\n"),
+        (
+            PlayFault::LineTooLong(4294967295),
+            2,
+            b"ncp: line 4294967295: LineTooLong\n",
+        ),
+        (PlayFault::BadHosts, 3, b"ncp: BadHosts\n"),
+    ];
+    expect_each(&rt, rt.alloc(), ROWS)
 }
 
 #[test]
 fn other_faults(rt: HostRuntime) -> Result<(), Fail> {
-    let alloc = rt.alloc();
-    expect_told(
-        &rt,
-        alloc,
-        PlayFault::Feed(FileFault::SpareNotZero),
-        4,
-        b"ncp: SpareNotZero\n",
-    )?;
-    expect_told(
-        &rt,
-        alloc,
-        PlayFault::Feed(FileFault::ReadFailed),
-        4,
-        b"ncp: ReadFailed\n",
-    )?;
-    expect_told(&rt, alloc, PlayFault::ReadFailed, 5, b"ncp: ReadFailed\n")?;
-    expect_told(&rt, alloc, PlayFault::WriteFailed, 6, b"ncp: WriteFailed\n")?;
-    expect_told(&rt, alloc, PlayFault::OutOfMemory, 7, b"ncp: OutOfMemory\n")
+    const ROWS: &[Row<'static>] = &[
+        (
+            PlayFault::Feed(FileFault::SpareNotZero),
+            4,
+            b"ncp: SpareNotZero\n",
+        ),
+        (
+            PlayFault::Feed(FileFault::ReadFailed),
+            4,
+            b"ncp: ReadFailed\n",
+        ),
+        (PlayFault::ReadFailed, 5, b"ncp: ReadFailed\n"),
+        (PlayFault::WriteFailed, 6, b"ncp: WriteFailed\n"),
+        (PlayFault::OutOfMemory, 7, b"ncp: OutOfMemory\n"),
+    ];
+    expect_each(&rt, rt.alloc(), ROWS)
 }
 
 // Compares the text of a fault.
@@ -56,8 +58,7 @@ fn expect_text(rt: &impl Abort, alloc: Global, fault: PlayFault, text: &str) -> 
 
 #[test]
 fn faults_have_texts(rt: HostRuntime) -> Result<(), Fail> {
-    let alloc = rt.alloc();
-    for (fault, text) in [
+    const ROWS: &[(PlayFault, &str)] = &[
         (
             PlayFault::BadLine(7),
             "line 7 says nothing that can be played",
@@ -71,8 +72,9 @@ fn faults_have_texts(rt: HostRuntime) -> Result<(), Fail> {
         (PlayFault::ReadFailed, "a read failed"),
         (PlayFault::WriteFailed, "a write failed"),
         (PlayFault::OutOfMemory, "out of memory"),
-    ] {
-        expect_text(&rt, alloc, fault, text)?;
+    ];
+    for (fault, text) in ROWS {
+        expect_text(&rt, rt.alloc(), *fault, text)?;
     }
     Ok(())
 }

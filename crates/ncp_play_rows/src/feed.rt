@@ -72,8 +72,7 @@ fn expect(
     let mut source = MemorySource::new(bytes, None);
     let mut sink = MemorySink::new(alloc, ROOM, None)?;
     let answered = fed(alloc, &mut source, &mut sink)?;
-    assert!(rt; answered == answer);
-    assert!(rt; sink.bytes() == lines);
+    assert!(rt; answered == answer && sink.bytes() == lines);
     Ok(())
 }
 

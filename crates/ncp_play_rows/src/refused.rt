@@ -76,8 +76,8 @@ fn is_refused<S: BitStore>(rt: &impl Abort, alloc: Global) -> Result<bool, Fail>
     match answer {
         Ok(answered) => assert!(rt; !answered && is_noted(written)),
         Err(fault) => {
-            assert!(rt; fault == PlayFault::OutOfMemory && fault.number() == 7);
-            assert!(rt; are_first_lines(written));
+            let is_told = fault == PlayFault::OutOfMemory && fault.number() == 7;
+            assert!(rt; is_told && are_first_lines(written));
         }
     }
     Ok(true)

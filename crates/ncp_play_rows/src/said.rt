@@ -31,21 +31,27 @@ pub(crate) fn message(alloc: Global, bytes: &[u8]) -> Result<Message, Fail> {
     Ok(Message::from_bits(alloc, &bits(bytes)?)?)
 }
 
-/// Compares the lines of the note that is the n-th.
-pub(crate) fn expect(
-    rt: &impl Abort,
+/// What is written of the note that is the n-th.
+fn said(alloc: Global, heading: Heading, note: &HostNote) -> Option<MemorySink> {
+    let mut page = Page::new();
+    let mut sink = MemorySink::new(alloc, ROOM, None).ok()?;
+    say_note(&mut page, &mut sink, heading, note).ok()?;
+    page.flush(&mut sink).ok()?;
+    Some(sink)
+}
+
+/// Whether the note that is the n-th has these lines.
+pub(crate) fn is_said(
     alloc: Global,
     speaker: Speaker,
     number: u32,
     note: &HostNote,
     lines: &[u8],
-) -> Result<(), Fail> {
-    let mut page = Page::new();
-    let mut sink = MemorySink::new(alloc, ROOM, None)?;
-    say_note(&mut page, &mut sink, Heading { number, speaker }, note)?;
-    page.flush(&mut sink)?;
-    assert!(rt; sink.bytes() == lines);
-    Ok(())
+) -> bool {
+    match said(alloc, Heading { number, speaker }, note) {
+        Some(sink) => sink.bytes() == lines,
+        None => false,
+    }
 }
 
 /// Plays these inputs, and compares the lines of their notes.

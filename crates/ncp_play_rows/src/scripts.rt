@@ -41,37 +41,51 @@ fn expect(
     lines: &[u8],
 ) -> Result<(), Fail> {
     let played = play(alloc, script, None, None)?;
-    assert!(rt; played.is(answer, lines.len(), lines));
-    assert!(rt; is_played_whole::<PackedStore>(alloc, script, answer, lines)?);
-    assert!(rt; is_played_whole::<PlainStore>(alloc, script, answer, lines)?);
+    assert!(rt;
+        played.is(answer, lines.len(), lines)
+            && is_played_whole::<PackedStore>(alloc, script, answer, lines)?
+            && is_played_whole::<PlainStore>(alloc, script, answer, lines)?
+    );
+    Ok(())
+}
+
+/// A script, its answer, and its lines.
+type Row<'a> = (&'a [u8], Result<bool, PlayFault>, &'a [u8]);
+
+/// Plays each script.
+fn expect_each(rt: &impl Abort, alloc: Global, rows: &[Row<'_>]) -> Result<(), Fail> {
+    for (script, answer, lines) in rows {
+        expect(rt, alloc, script, *answer, lines)?;
+    }
     Ok(())
 }
 
 #[test]
 fn scripts_are_played(rt: HostRuntime) -> Result<(), Fail> {
-    expect(&rt, rt.alloc(), FIRST, Ok(false), FIRST_LINES)?;
-    expect(&rt, rt.alloc(), FEED, Ok(true), FEED_LINES)?;
-    expect(&rt, rt.alloc(), PEERS, Ok(true), PEERS_LINES)
+    const ROWS: &[Row<'static>] = &[
+        (FIRST, Ok(false), FIRST_LINES),
+        (FEED, Ok(true), FEED_LINES),
+        (PEERS, Ok(true), PEERS_LINES),
+    ];
+    expect_each(&rt, rt.alloc(), ROWS)
 }
 
 #[test]
 fn lines_are_read_as_they_stand(rt: HostRuntime) -> Result<(), Fail> {
-    let alloc = rt.alloc();
-    expect(&rt, alloc, b"host 1 2", Ok(true), b"")?;
-    expect(
-        &rt,
-        alloc,
-        b"# a remark\r\n\r\nhost 1 2\r\nphase 2\r\nout",
-        Ok(true),
-        b"1 phase 2 ok down\n2 out nothing\n",
-    )?;
-    expect(
-        &rt,
-        alloc,
-        b"host 1 2\nphase 3\nphase 2\n",
-        Ok(false),
-        b"1 phase 3 refused UnknownPeer\n2 phase 2 ok down\n",
-    )
+    const ROWS: &[Row<'static>] = &[
+        (b"host 1 2", Ok(true), b""),
+        (
+            b"# a remark\r\n\r\nhost 1 2\r\nphase 2\r\nout",
+            Ok(true),
+            b"1 phase 2 ok down\n2 out nothing\n",
+        ),
+        (
+            b"host 1 2\nphase 3\nphase 2\n",
+            Ok(false),
+            b"1 phase 3 refused UnknownPeer\n2 phase 2 ok down\n",
+        ),
+    ];
+    expect_each(&rt, rt.alloc(), ROWS)
 }
 
 #[test]
@@ -110,54 +124,73 @@ fn bad_lines(rt: HostRuntime) -> Result<(), Fail> {
 }
 
 // A script with a line of so many bytes, of which each is this one.
-fn with_long_line(
-    alloc: Global,
-    front: &[u8],
+#[derive(Clone, Copy, Drop)]
+struct LongLine<'a> {
+    front: &'a [u8],
     byte: u8,
     count: usize,
-    behind: &[u8],
-) -> Result<Vec<u8>, Fail> {
+    behind: &'a [u8],
+}
+
+fn with_long_line(alloc: Global, long: &LongLine<'_>) -> Result<Vec<u8>, Fail> {
     let mut script = Vec::new(alloc);
-    script.extend_from_slice(front)?;
-    for _ in 0..count {
-        script.push(byte)?;
+    script.extend_from_slice(long.front)?;
+    for _ in 0..long.count {
+        script.push(long.byte)?;
     }
-    script.extend_from_slice(behind)?;
+    script.extend_from_slice(long.behind)?;
     Ok(script)
 }
 
 #[test]
 fn long_lines(rt: HostRuntime) -> Result<(), Fail> {
-    let alloc = rt.alloc();
-    let first = with_long_line(alloc, b"", b'a', 4097, b"\n")?;
-    expect(
-        &rt,
-        alloc,
-        first.as_slice(),
-        Err(PlayFault::LineTooLong(1)),
-        b"",
-    )?;
-    let other = with_long_line(alloc, b"host 1 2\nout\n", b'a', 4097, b"")?;
-    let fault = PlayFault::LineTooLong(3);
-    expect(&rt, alloc, other.as_slice(), Err(fault), b"1 out nothing\n")?;
-    let longest = with_long_line(alloc, b"host 1 2\nout\n", b'a', 4096, b"\r\n")?;
-    let fault = PlayFault::BadLine(3);
-    expect(
-        &rt,
-        alloc,
-        longest.as_slice(),
-        Err(fault),
-        b"1 out nothing\n",
-    )?;
-    let remark = with_long_line(alloc, b"host 1 2\n", b'#', 9000, b"\nout\nin\n")?;
-    let fault = PlayFault::BadLine(4);
-    expect(
-        &rt,
-        alloc,
-        remark.as_slice(),
-        Err(fault),
-        b"1 out nothing\n",
-    )
+    const ROWS: &[(LongLine<'static>, PlayFault, &[u8])] = &[
+        (
+            LongLine {
+                front: b"",
+                byte: b'a',
+                count: 4097,
+                behind: b"\n",
+            },
+            PlayFault::LineTooLong(1),
+            b"",
+        ),
+        (
+            LongLine {
+                front: b"host 1 2\nout\n",
+                byte: b'a',
+                count: 4097,
+                behind: b"",
+            },
+            PlayFault::LineTooLong(3),
+            b"1 out nothing\n",
+        ),
+        (
+            LongLine {
+                front: b"host 1 2\nout\n",
+                byte: b'a',
+                count: 4096,
+                behind: b"\r\n",
+            },
+            PlayFault::BadLine(3),
+            b"1 out nothing\n",
+        ),
+        (
+            LongLine {
+                front: b"host 1 2\n",
+                byte: b'#',
+                count: 9000,
+                behind: b"\nout\nin\n",
+            },
+            PlayFault::BadLine(4),
+            b"1 out nothing\n",
+        ),
+    ];
+    for (long, fault, lines) in ROWS {
+        let script = with_long_line(rt.alloc(), long)?;
+        expect(&rt, rt.alloc(), &script, Err(*fault), lines)?;
+    }
+    Ok(())
 }
 
 #[test]

@@ -42,8 +42,8 @@ fn a_feed_is_read_and_told_bytewise(rt: HostRuntime) -> Result<(), Fail> {
     let mut sink = Piecemeal {
         sink: MemorySink::new(rt.alloc(), ROOM, None)?,
     };
-    assert!(rt; fed(rt.alloc(), &mut source, &mut sink)? == Ok(()));
-    assert!(rt; sink.sink.bytes() == LINES);
+    let answer = fed(rt.alloc(), &mut source, &mut sink)?;
+    assert!(rt; answer == Ok(()) && sink.sink.bytes() == LINES);
     Ok(())
 }
 
@@ -158,10 +158,8 @@ fn many_messages_come(rt: HostRuntime) -> Result<(), Fail> {
     let bytes = many(rt.alloc())?;
     let mut source = MemorySource::new(&bytes, None);
     let mut sink = MemorySink::new(rt.alloc(), ROOM, None)?;
-    assert!(rt; fed(rt.alloc(), &mut source, &mut sink)? == Ok(()));
-    assert!(rt;
-        sink.bytes()
-            .ends_with(b"4005 in stray\n4006 in stray\n4007 out nothing\n")
-    );
+    let answer = fed(rt.alloc(), &mut source, &mut sink)?;
+    let last = b"4005 in stray\n4006 in stray\n4007 out nothing\n";
+    assert!(rt; answer == Ok(()) && sink.bytes().ends_with(last));
     Ok(())
 }

@@ -6,12 +6,14 @@ use std::process::Abort;
 
 #[test]
 fn names_calls(rt: HostRuntime) {
-    assert!(rt; verb_named(b"ask-send") == Some(Verb::AskSend));
-    assert!(rt; verb_named(b"ignored") == Some(Verb::Ignored));
-    assert!(rt; verb_named(b"ask").is_none());
-    assert!(rt; verb_named(b"Reset").is_none());
-    assert!(rt; verb_named(b"").is_none());
-    assert!(rt; Verb::CallBack.word() == "call-back");
+    assert!(rt;
+        verb_named(b"ask-send") == Some(Verb::AskSend)
+            && verb_named(b"ignored") == Some(Verb::Ignored)
+            && verb_named(b"ask").is_none()
+            && verb_named(b"Reset").is_none()
+            && verb_named(b"").is_none()
+            && Verb::CallBack.word() == "call-back"
+    );
 }
 
 // The call that a line is, with memory.
@@ -19,50 +21,39 @@ fn call_in(alloc: Global, line: &[u8], given: Option<u8>) -> Option<Call> {
     call(alloc, &mut Words::new(line), given).ok()?
 }
 
-#[test]
-fn reads_calls(rt: HostRuntime) {
-    let alloc = rt.alloc();
-    assert!(rt;
-        matches!(
-            &call_in(alloc, b"reset 2", None),
-            Some(Call::Reset { peer: 2 })
-        )
-    );
-    assert!(rt;
-        matches!(
-            &call_in(alloc, b"reset", Some(2)),
-            Some(Call::Reset { peer: 2 })
-        )
-    );
-    assert!(rt; matches!(&call_in(alloc, b"ignored", None), Some(Call::Ignored)));
-    assert!(rt;
-        matches!(
-            &call_in(alloc, b"echo 2 65", None),
-            Some(Call::Echo { peer: 2, byte: 65 })
-        )
-    );
-    assert!(rt;
-        matches!(
-            &call_in(alloc, b"close 2 3 4", None),
-            Some(Call::Close { peer: 2, .. })
-        )
-    );
-    assert!(rt;
-        matches!(
-            &call_in(alloc, b"allocate 2 3 2 16", Some(1)),
-            Some(Call::Allocate {
+// The call that a line is, of those that are wanted below.
+fn told_call(alloc: Global, line: &[u8], given: Option<u8>) -> &'static str {
+    match &call_in(alloc, line, given) {
+        Some(Call::Reset { peer: 2 }) => "reset 2",
+        Some(Call::Ignored) => "ignored",
+        Some(Call::Echo { peer: 2, byte: 65 }) => "echo 2 65",
+        Some(Call::Close { peer: 2, .. }) => "close 2",
+        Some(
+            Call::Allocate {
                 messages: 2,
                 bits: 16,
                 ..
-            })
-        )
-    );
-    assert!(rt;
-        matches!(
-            &call_in(alloc, b"give 3 2 24 616263", Some(2)),
-            Some(Call::Give { peer: 2, .. })
-        )
-    );
+            },
+        ) => "allocate 2 16",
+        Some(Call::Give { peer: 2, .. }) => "give 2",
+        _ => "another or none",
+    }
+}
+
+#[test]
+fn reads_calls(rt: HostRuntime) {
+    const ROWS: &[(&[u8], Option<u8>, &str)] = &[
+        (b"reset 2", None, "reset 2"),
+        (b"reset", Some(2), "reset 2"),
+        (b"ignored", None, "ignored"),
+        (b"echo 2 65", None, "echo 2 65"),
+        (b"close 2 3 4", None, "close 2"),
+        (b"allocate 2 3 2 16", Some(1), "allocate 2 16"),
+        (b"give 3 2 24 616263", Some(2), "give 2"),
+    ];
+    for (line, given, told) in ROWS {
+        assert!(rt; told_call(rt.alloc(), line, *given) == *told);
+    }
 }
 
 #[test]
@@ -87,23 +78,33 @@ fn line_in(alloc: Global, line: &[u8]) -> Option<HostLine> {
     host_line(alloc, &mut Words::new(line)).ok()?
 }
 
+// What a line asks for, of what is wanted below.
+fn told_line(alloc: Global, line: &[u8]) -> &'static str {
+    match &line_in(alloc, line) {
+        Some(HostLine::Input(Input::Out)) => "out",
+        Some(HostLine::Feed) => "feed",
+        Some(HostLine::Input(Input::In(_))) => "in",
+        Some(HostLine::Input(Input::Call(Call::Phase { peer: 2 }))) => "phase 2",
+        _ => "another or none",
+    }
+}
+
 #[test]
 fn reads_lines_of_one_host(rt: HostRuntime) {
+    const ROWS: &[(&[u8], &str)] = &[
+        (b"out", "out"),
+        (b"feed", "feed"),
+        (b"in 32 05020000", "in"),
+        (b"phase 2", "phase 2"),
+    ];
+    for (line, told) in ROWS {
+        assert!(rt; told_line(rt.alloc(), line) == *told);
+    }
+}
+
+#[test]
+fn refuses_what_is_no_line_of_one_host(rt: HostRuntime) {
     let alloc = rt.alloc();
-    assert!(rt; matches!(&line_in(alloc, b"out"), Some(HostLine::Input(Input::Out))));
-    assert!(rt; matches!(&line_in(alloc, b"feed"), Some(HostLine::Feed)));
-    assert!(rt;
-        matches!(
-            &line_in(alloc, b"in 32 05020000"),
-            Some(HostLine::Input(Input::In(_)))
-        )
-    );
-    assert!(rt;
-        matches!(
-            &line_in(alloc, b"phase 2"),
-            Some(HostLine::Input(Input::Call(Call::Phase { peer: 2 })))
-        )
-    );
     for line in [
         b"out 2".as_slice(),
         b"feed ",
@@ -116,15 +117,30 @@ fn reads_lines_of_one_host(rt: HostRuntime) {
     }
 }
 
+// Whether a line names these hosts: the first of them is the own one.
+fn is_host(line: &[u8], me: u8, peers: &[u8]) -> bool {
+    match host_named(&mut Words::new(line)) {
+        Some(named) => named.me == me && named.peers.as_slice() == peers,
+        None => false,
+    }
+}
+
+// Whether a line names these two.
+fn are_hosts(line: &[u8], a: u8, b: u8) -> bool {
+    match hosts_first(&mut Words::new(line)) {
+        Some(named) => named.a == a && named.b == b,
+        None => false,
+    }
+}
+
 #[test]
 fn reads_the_hosts_of_first_lines(rt: HostRuntime) {
-    let one = host_named(&mut Words::new(b"host 1 2 3"));
     assert!(rt;
-        one.is_some_and(|named| named.me == 1 && named.peers.as_slice() == [2, 3].as_slice())
+        is_host(b"host 1 2 3", 1, &[2, 3])
+            && host_named(&mut Words::new(b"host 0 1 2 3 4 5 6 7 8 9")).is_none()
+            && host_named(&mut Words::new(b"hosts 1 2")).is_none()
     );
-    assert!(rt; host_named(&mut Words::new(b"host 0 1 2 3 4 5 6 7 8 9")).is_none());
-    assert!(rt; host_named(&mut Words::new(b"hosts 1 2")).is_none());
-    let two = hosts_first(&mut Words::new(b"hosts 1 2"));
-    assert!(rt; two.is_some_and(|named| named.a == 1 && named.b == 2));
-    assert!(rt; hosts_first(&mut Words::new(b"hosts 1 1")).is_none());
+    assert!(rt;
+        are_hosts(b"hosts 1 2", 1, 2) && hosts_first(&mut Words::new(b"hosts 1 1")).is_none()
+    );
 }

@@ -9,11 +9,13 @@ use std::test::Fail;
 
 #[test]
 fn reads_numbers(rt: HostRuntime) {
-    assert!(rt; Words::new(b"0").next_u32() == Some(0));
-    assert!(rt; Words::new(b"0000000007").next_u32() == Some(7));
-    assert!(rt; Words::new(b"4294967295").next_u32() == Some(4_294_967_295));
-    assert!(rt; Words::new(b"65535").next_u16() == Some(65535));
-    assert!(rt; Words::new(b"255").next_u8() == Some(255));
+    assert!(rt;
+        Words::new(b"0").next_u32() == Some(0)
+            && Words::new(b"0000000007").next_u32() == Some(7)
+            && Words::new(b"4294967295").next_u32() == Some(4_294_967_295)
+            && Words::new(b"65535").next_u16() == Some(65535)
+            && Words::new(b"255").next_u8() == Some(255)
+    );
 }
 
 #[test]
@@ -30,20 +32,17 @@ fn refuses_what_is_no_number(rt: HostRuntime) {
     for word in words {
         assert!(rt; Words::new(word).next_u32().is_none());
     }
-    assert!(rt; Words::new(b"65536").next_u16().is_none());
-    assert!(rt; Words::new(b"256").next_u8().is_none());
+    assert!(rt;
+        Words::new(b"65536").next_u16().is_none() && Words::new(b"256").next_u8().is_none()
+    );
 }
 
 #[test]
 fn reads_words(rt: HostRuntime) {
     let mut words = Words::new(b"close 3  2");
-    assert!(rt; words.next_word() == Some(b"close".as_slice()));
-    assert!(rt; words.next_u32() == Some(3));
-    assert!(rt; words.next_word() == Some(b"".as_slice()));
-    assert!(rt; !words.is_empty());
-    assert!(rt; words.next_u32() == Some(2));
-    assert!(rt; words.is_empty());
-    assert!(rt; words.next_word().is_none());
+    assert!(rt; words.next_word() == Some(b"close".as_slice()) && words.next_u32() == Some(3));
+    assert!(rt; words.next_word() == Some(b"".as_slice()) && !words.is_empty());
+    assert!(rt; words.next_u32() == Some(2) && words.is_empty() && words.next_word().is_none());
 }
 
 // Whether the words of a line are these bits, and no word is left.
@@ -57,10 +56,12 @@ fn are_bits(line: &[u8], bytes: &[u8], len: usize) -> bool {
 
 #[test]
 fn reads_bits(rt: HostRuntime) {
-    assert!(rt; are_bits(b"0", b"", 0));
-    assert!(rt; are_bits(b"24 616263", b"abc", 24));
-    assert!(rt; are_bits(b"032 05aBCd0f", b"\x05\xab\xcd\x0f", 32));
-    assert!(rt; are_bits(b"4 f0", b"\xf0", 4));
+    assert!(rt;
+        are_bits(b"0", b"", 0)
+            && are_bits(b"24 616263", b"abc", 24)
+            && are_bits(b"032 05aBCd0f", b"\x05\xab\xcd\x0f", 32)
+            && are_bits(b"4 f0", b"\xf0", 4)
+    );
 }
 
 #[test]
@@ -103,14 +104,13 @@ fn bits_are_8192_at_most(rt: HostRuntime) -> Result<(), Fail> {
 #[test]
 fn reads_arguments(rt: HostRuntime) {
     let mut words = Words::new(b"255 3 4294967295");
-    assert!(rt; words.next_peer(Some(9)) == Some(9));
-    assert!(rt; words.next_peer(None) == Some(255));
+    assert!(rt; words.next_peer(Some(9)) == Some(9) && words.next_peer(None) == Some(255));
     let wanted = Pair {
         local: 3,
         remote: 4_294_967_295,
     };
-    assert!(rt; words.next_pair() == Some(wanted));
-    assert!(rt; words.is_empty());
-    assert!(rt; Words::new(b"256").next_peer(None).is_none());
-    assert!(rt; Words::new(b"3").next_pair().is_none());
+    assert!(rt; words.next_pair() == Some(wanted) && words.is_empty());
+    assert!(rt;
+        Words::new(b"256").next_peer(None).is_none() && Words::new(b"3").next_pair().is_none()
+    );
 }
