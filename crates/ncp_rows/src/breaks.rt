@@ -89,8 +89,9 @@ fn is_checked_until_read(alloc: Global, count: u32) -> Result<bool, Fail> {
 #[test]
 fn each_failed_read_of_version_2_is_told(rt: HostRuntime) -> Result<(), Fail> {
     for count in 1..22u32 {
-        assert!(rt; is_shown_until_read(rt.alloc(), count)?, "at {count}");
-        assert!(rt; is_checked_until_read(rt.alloc(), count)?, "at {count}");
+        let is_told = is_shown_until_read(rt.alloc(), count)?
+            && is_checked_until_read(rt.alloc(), count)?;
+        assert!(rt; is_told, "at {count}");
     }
     Ok(())
 }
@@ -134,21 +135,32 @@ fn is_converted_until_read(
     Ok(told == Some(answer) && is_front(sink.bytes(), len, to))
 }
 
-#[test]
-fn each_failed_read_of_a_conversion_is_told(rt: HostRuntime) -> Result<(), Fail> {
+// Converts the file of version 2, with each read failing in turn.
+fn expect_failed_reads_back(rt: &impl Abort, alloc: Global) -> Result<(), Fail> {
     let back = (PLACED, ANSWERS);
     for count in 1..22u32 {
         let len = answers_of(before(count));
-        assert!(rt; is_converted_until_read(rt.alloc(), back, count, Err(READ_FAILED), len)?);
+        assert!(rt; is_converted_until_read(alloc, back, count, Err(READ_FAILED), len)?);
     }
-    assert!(rt; is_converted_until_read(rt.alloc(), back, 22, Ok(()), 16)?);
+    assert!(rt; is_converted_until_read(alloc, back, 22, Ok(()), 16)?);
+    Ok(())
+}
+
+// Converts the file of version 1 so.
+fn expect_failed_reads_there(rt: &impl Abort, alloc: Global) -> Result<(), Fail> {
     let there = (ANSWERS, PLACED);
     for count in 1..18u32 {
         let len = placed_of(before(count));
-        assert!(rt; is_converted_until_read(rt.alloc(), there, count, Err(READ_FAILED), len)?);
+        assert!(rt; is_converted_until_read(alloc, there, count, Err(READ_FAILED), len)?);
     }
-    assert!(rt; is_converted_until_read(rt.alloc(), there, 18, Ok(()), 20)?);
+    assert!(rt; is_converted_until_read(alloc, there, 18, Ok(()), 20)?);
     Ok(())
+}
+
+#[test]
+fn each_failed_read_of_a_conversion_is_told(rt: HostRuntime) -> Result<(), Fail> {
+    expect_failed_reads_back(&rt, rt.alloc())?;
+    expect_failed_reads_there(&rt, rt.alloc())
 }
 
 // Converts a file into a sink whose write of this number fails.
@@ -167,17 +179,16 @@ fn is_converted_until_write(
 
 #[test]
 fn each_failed_write_of_a_conversion_is_told(rt: HostRuntime) -> Result<(), Fail> {
-    let back = (PLACED, ANSWERS);
-    for count in 1..17u32 {
-        let len = before(count);
-        assert!(rt; is_converted_until_write(rt.alloc(), back, count, Err(WRITE_FAILED), len)?);
+    // The files, and how many bytes are written where no write fails.
+    for (files, len) in [((PLACED, ANSWERS), 16u32), ((ANSWERS, PLACED), 20)] {
+        for count in 1..len.saturating_add(1) {
+            let written = before(count);
+            assert!(rt;
+                is_converted_until_write(rt.alloc(), files, count, Err(WRITE_FAILED), written)?
+            );
+        }
+        let beyond = len.saturating_add(1);
+        assert!(rt; is_converted_until_write(rt.alloc(), files, beyond, Ok(()), len as usize)?);
     }
-    assert!(rt; is_converted_until_write(rt.alloc(), back, 17, Ok(()), 16)?);
-    let there = (ANSWERS, PLACED);
-    for count in 1..21u32 {
-        let len = before(count);
-        assert!(rt; is_converted_until_write(rt.alloc(), there, count, Err(WRITE_FAILED), len)?);
-    }
-    assert!(rt; is_converted_until_write(rt.alloc(), there, 21, Ok(()), 20)?);
     Ok(())
 }

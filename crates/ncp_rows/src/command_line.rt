@@ -27,75 +27,128 @@ fn expect_told(
     let Err(error) = order(alloc, words) else {
         return Err("it is an order".into());
     };
-    assert_eq!(rt; error.exit_code(), code);
     let told = format!(in alloc; "{error}")?;
-    assert!(rt; told.as_str().starts_with(text));
+    assert!(rt; error.exit_code() == code && told.as_str().starts_with(text));
     Ok(told)
+}
+
+// Words, and how the text begins that refuses them.
+type Refused<'a> = (&'a [&'a str], &'a str);
+
+// Compares what is told in place of each order.
+fn expect_refused(rt: &impl Abort, alloc: Global, rows: &[Refused<'_>]) -> Result<(), Fail> {
+    for (words, text) in rows {
+        expect_told(rt, alloc, words, 2, text)?;
+    }
+    Ok(())
+}
+
+// The name of the order that these words are.
+fn name_of(alloc: Global, words: &[&str]) -> Option<&'static str> {
+    match order(alloc, words) {
+        Ok(Order::Show) => Some("show"),
+        Ok(Order::Check) => Some("check"),
+        Ok(Order::Convert(_)) => Some("convert"),
+        Ok(Order::Host) => Some("host"),
+        Ok(Order::World) => Some("world"),
+        Ok(Order::Record) => Some("record"),
+        Err(_) => None,
+    }
 }
 
 #[test]
 fn reads_orders(rt: HostRuntime) {
-    let alloc = rt.alloc();
-    assert!(rt; matches!(order(alloc, &["ncp"]), Ok(Order::Show)));
-    assert!(rt; matches!(order(alloc, &["ncp", "show"]), Ok(Order::Show)));
-    assert!(rt; matches!(order(alloc, &["ncp", "check"]), Ok(Order::Check)));
-    assert!(rt; matches!(order(alloc, &["ncp", "host"]), Ok(Order::Host)));
-    assert!(rt; matches!(order(alloc, &["ncp", "world"]), Ok(Order::World)));
-    assert!(rt; matches!(order(alloc, &["ncp", "record"]), Ok(Order::Record)));
+    const ROWS: &[(&[&str], &str)] = &[
+        (&["ncp"], "show"),
+        (&["ncp", "show"], "show"),
+        (&["ncp", "check"], "check"),
+        (&["ncp", "host"], "host"),
+        (&["ncp", "world"], "world"),
+        (&["ncp", "record"], "record"),
+    ];
+    for (words, name) in ROWS {
+        assert!(rt; name_of(rt.alloc(), words) == Some(*name));
+    }
+}
+
+// The host of a conversion.
+fn host_of(alloc: Global, words: &[&str]) -> Option<u8> {
+    match order(alloc, words) {
+        Ok(Order::Convert(at)) => Some(at),
+        _ => None,
+    }
 }
 
 #[test]
 fn reads_the_number_of_a_host(rt: HostRuntime) {
-    let alloc = rt.alloc();
-    let at = |words: &[&str]| match order(alloc, words) {
-        Ok(Order::Convert(at)) => Some(at),
-        _ => None,
-    };
-    assert_eq!(rt; at(&["ncp", "convert", "--at", "7"]), Some(7));
-    assert_eq!(rt; at(&["ncp", "convert", "--at=7"]), Some(7));
-    assert_eq!(rt; at(&["ncp", "convert", "--at", "0"]), Some(0));
-    assert_eq!(rt; at(&["ncp", "convert", "--at", "255"]), Some(255));
-    assert_eq!(rt; at(&["ncp", "convert", "--at", "007"]), Some(7));
+    const ROWS: &[(&[&str], u8)] = &[
+        (&["ncp", "convert", "--at", "7"], 7),
+        (&["ncp", "convert", "--at=7"], 7),
+        (&["ncp", "convert", "--at", "0"], 0),
+        (&["ncp", "convert", "--at", "255"], 255),
+        (&["ncp", "convert", "--at", "007"], 7),
+    ];
+    for (words, at) in ROWS {
+        assert!(rt; host_of(rt.alloc(), words) == Some(*at));
+    }
 }
 
 #[test]
 fn refuses_other_numbers_of_a_host(rt: HostRuntime) -> Result<(), Fail> {
-    let alloc = rt.alloc();
-    let missing = "error: the following required arguments were not provided:\n  --at <H>\n";
-    expect_told(&rt, alloc, &["ncp", "convert"], 2, missing)?;
-    let bare = "error: a value is required for '--at <H>' but none was supplied";
-    expect_told(&rt, alloc, &["ncp", "convert", "--at"], 2, bare)?;
-    let great = "error: invalid value '256' for '--at <H>'";
-    expect_told(&rt, alloc, &["ncp", "convert", "--at", "256"], 2, great)?;
-    let negative = "error: unexpected argument '-1' found";
-    expect_told(&rt, alloc, &["ncp", "convert", "--at", "-1"], 2, negative)?;
-    let negative = "error: invalid value '-1' for '--at <H>'";
-    expect_told(&rt, alloc, &["ncp", "convert", "--at=-1"], 2, negative)?;
-    let word = "error: invalid value 'b' for '--at <H>'";
-    expect_told(&rt, alloc, &["ncp", "convert", "--at", "b"], 2, word)?;
-    let empty = "error: invalid value '' for '--at <H>'";
-    expect_told(&rt, alloc, &["ncp", "convert", "--at="], 2, empty)?;
-    Ok(())
+    const ROWS: &[Refused<'static>] = &[
+        (
+            &["ncp", "convert"],
+            "error: the following required arguments were not provided:\n  --at <H>\n",
+        ),
+        (
+            &["ncp", "convert", "--at"],
+            "error: a value is required for '--at <H>' but none was supplied",
+        ),
+        (
+            &["ncp", "convert", "--at", "256"],
+            "error: invalid value '256' for '--at <H>'",
+        ),
+        (
+            &["ncp", "convert", "--at", "-1"],
+            "error: unexpected argument '-1' found",
+        ),
+        (
+            &["ncp", "convert", "--at=-1"],
+            "error: invalid value '-1' for '--at <H>'",
+        ),
+        (
+            &["ncp", "convert", "--at", "b"],
+            "error: invalid value 'b' for '--at <H>'",
+        ),
+        (
+            &["ncp", "convert", "--at="],
+            "error: invalid value '' for '--at <H>'",
+        ),
+    ];
+    expect_refused(&rt, rt.alloc(), ROWS)
 }
 
 #[test]
 fn refuses_a_host_twice_and_elsewhere(rt: HostRuntime) -> Result<(), Fail> {
-    let alloc = rt.alloc();
-    let twice = "error: the argument '--at <H>' cannot be used multiple times";
-    let words = ["ncp", "convert", "--at", "7", "--at", "7"];
-    expect_told(&rt, alloc, &words, 2, twice)?;
-    let elsewhere = "error: unexpected argument '--at' found";
-    expect_told(&rt, alloc, &["ncp", "show", "--at", "7"], 2, elsewhere)?;
-    expect_told(&rt, alloc, &["ncp", "--at", "7", "convert"], 2, elsewhere)?;
-    let file = "error: unexpected argument 'capture.ncp' found";
-    expect_told(
-        &rt,
-        alloc,
-        &["ncp", "convert", "--at", "7", "capture.ncp"],
-        2,
-        file,
-    )?;
-    Ok(())
+    const ROWS: &[Refused<'static>] = &[
+        (
+            &["ncp", "convert", "--at", "7", "--at", "7"],
+            "error: the argument '--at <H>' cannot be used multiple times",
+        ),
+        (
+            &["ncp", "show", "--at", "7"],
+            "error: unexpected argument '--at' found",
+        ),
+        (
+            &["ncp", "--at", "7", "convert"],
+            "error: unexpected argument '--at' found",
+        ),
+        (
+            &["ncp", "convert", "--at", "7", "capture.ncp"],
+            "error: unexpected argument 'capture.ncp' found",
+        ),
+    ];
+    expect_refused(&rt, rt.alloc(), ROWS)
 }
 
 #[test]
@@ -106,7 +159,14 @@ fn tells_the_version_and_the_help_of_convert(rt: HostRuntime) -> Result<(), Fail
         assert!(rt; told.as_str().ends_with("\n"));
     }
     let help = expect_told(&rt, alloc, &["ncp", "convert", "--help"], 0, CONVERT_HELP)?;
-    assert_eq!(rt; help.len(), CONVERT_HELP.len());
+    assert!(rt; help.len() == CONVERT_HELP.len());
+    Ok(())
+}
+
+// Compares what is told of words that are wrong, which ends with the usage.
+fn expect_usage(rt: &impl Abort, alloc: Global, word: &str, text: &str) -> Result<(), Fail> {
+    let told = expect_told(rt, alloc, &["ncp", word], 2, text)?;
+    assert!(rt; told.as_str().ends_with(USAGE));
     Ok(())
 }
 
@@ -114,24 +174,14 @@ fn tells_the_version_and_the_help_of_convert(rt: HostRuntime) -> Result<(), Fail
 fn reads_the_command_line(rt: HostRuntime) -> Result<(), Fail> {
     let alloc = rt.alloc();
     let help = expect_told(&rt, alloc, &["ncp", "--help"], 0, HELP)?;
-    assert_eq!(rt; help.len(), HELP.len());
-    let told = expect_told(
+    assert!(rt; help.len() == HELP.len());
+    expect_usage(&rt, alloc, "play", "error: unrecognized subcommand 'play'")?;
+    expect_usage(
         &rt,
         alloc,
-        &["ncp", "play"],
-        2,
-        "error: unrecognized subcommand 'play'",
-    )?;
-    assert!(rt; told.as_str().ends_with(USAGE));
-    let told = expect_told(
-        &rt,
-        alloc,
-        &["ncp", "--loud"],
-        2,
+        "--loud",
         "error: unexpected argument '--loud' found",
-    )?;
-    assert!(rt; told.as_str().ends_with(USAGE));
-    Ok(())
+    )
 }
 
 // ---- memory

@@ -43,8 +43,8 @@ fn lines_of_front(len: usize) -> usize {
 #[test]
 fn reads_and_writes_bytewise(rt: HostRuntime) -> Result<(), Fail> {
     let mut sink = write_piecemeal(rt.alloc(), None)?;
-    assert!(rt; shown(&mut read_bytewise(None), &mut sink) == Some(Ok(())));
-    assert!(rt; sink.sink.bytes() == LINES);
+    let answer = shown(&mut read_bytewise(None), &mut sink);
+    assert!(rt; answer == Some(Ok(())) && sink.sink.bytes() == LINES);
     Ok(())
 }
 
@@ -78,8 +78,9 @@ fn is_checked_until_read(alloc: Global, count: u32) -> Result<bool, Fail> {
 #[test]
 fn each_failed_read_is_told(rt: HostRuntime) -> Result<(), Fail> {
     for count in 1..14u32 {
-        assert!(rt; is_shown_until_read(rt.alloc(), count)?, "at {count}");
-        assert!(rt; is_checked_until_read(rt.alloc(), count)?, "at {count}");
+        let is_told = is_shown_until_read(rt.alloc(), count)?
+            && is_checked_until_read(rt.alloc(), count)?;
+        assert!(rt; is_told, "at {count}");
     }
     Ok(())
 }
@@ -127,8 +128,7 @@ fn each_failed_write_is_told(rt: HostRuntime) -> Result<(), Fail> {
 fn a_sink_that_is_full_is_told(rt: HostRuntime) -> Result<(), Fail> {
     let mut sink = MemorySink::new(rt.alloc(), 10, None)?;
     let answer = shown(&mut read_bytewise(None), &mut sink);
-    assert!(rt; answer == Some(Err(FileFault::WriteFailed)));
-    assert!(rt; is_front(sink.bytes(), 10, LINES));
+    assert!(rt; answer == Some(Err(FileFault::WriteFailed)) && is_front(sink.bytes(), 10, LINES));
     Ok(())
 }
 

@@ -7,7 +7,7 @@ use std::test::Fail;
 
 #[test]
 fn tells_faults(rt: HostRuntime) -> Result<(), Fail> {
-    let rows = [
+    const ROWS: &[(FileFault, u8, &str, &str)] = &[
         (
             FileFault::BadHeader,
             1,
@@ -47,10 +47,9 @@ fn tells_faults(rt: HostRuntime) -> Result<(), Fail> {
             "a record has another direction or host than the file can have",
         ),
     ];
-    for (fault, number, name, text) in rows {
-        assert_eq!(rt; fault as u8, number);
-        assert!(rt; fault.name() == name);
-        assert!(rt; format!(in rt.alloc(); "{fault}")?.as_str() == text);
+    for (fault, number, name, text) in ROWS {
+        let told = format!(in rt.alloc(); "{fault}")?;
+        assert!(rt; *fault as u8 == *number && fault.name() == *name && told.as_str() == *text);
     }
     Ok(())
 }
@@ -64,7 +63,5 @@ fn tells_a_failure(rt: HostRuntime) -> Result<(), Fail> {
 
 #[test]
 fn gives_exit_statuses(rt: HostRuntime) {
-    assert_eq!(rt; status(Ok(true)), 0);
-    assert_eq!(rt; status(Ok(false)), 1);
-    assert_eq!(rt; status(Err(())), 2);
+    assert!(rt; status(Ok(true)) == 0 && status(Ok(false)) == 1 && status(Err(())) == 2);
 }

@@ -65,23 +65,17 @@ fn expect_one_failed_read(rt: &impl Abort, kind: ErrorKind) {
     let mut reader = FailsOnce::new(kind);
     let mut source = FromRead::new(&mut reader);
     let mut piece = [0u8; 8];
-    assert!(rt; !source.failed());
-    assert!(rt; source.read(&mut piece) == Err(Failed));
-    assert!(rt; source.failed());
-    assert!(rt; source.read(&mut piece) == Ok(1));
-    assert!(rt; source.failed());
-    assert_eq!(rt; reader.calls, 2);
+    assert!(rt; !source.failed() && source.read(&mut piece) == Err(Failed) && source.failed());
+    assert!(rt; source.read(&mut piece) == Ok(1) && source.failed());
+    assert!(rt; reader.calls == 2);
 }
 
 fn expect_one_failed_write(rt: &impl Abort, kind: ErrorKind) {
     let mut writer = FailsOnce::new(kind);
     let mut sink = ToWrite::new(&mut writer);
-    assert!(rt; !sink.failed());
-    assert!(rt; sink.write(b"ab") == Err(Failed));
-    assert!(rt; sink.failed());
-    assert!(rt; sink.write(b"ab") == Ok(1));
-    assert!(rt; sink.failed());
-    assert_eq!(rt; writer.calls, 2);
+    assert!(rt; !sink.failed() && sink.write(b"ab") == Err(Failed) && sink.failed());
+    assert!(rt; sink.write(b"ab") == Ok(1) && sink.failed());
+    assert!(rt; writer.calls == 2);
 }
 
 #[test]
@@ -122,8 +116,7 @@ fn writes_nothing_behind(kind: ErrorKind) -> bool {
 #[test]
 fn nothing_happens_behind_a_failure(rt: HostRuntime) -> Result<(), Fail> {
     for kind in KINDS {
-        assert!(rt; reads_nothing_behind(rt.alloc(), kind)?);
-        assert!(rt; writes_nothing_behind(kind));
+        assert!(rt; reads_nothing_behind(rt.alloc(), kind)? && writes_nothing_behind(kind));
     }
     Ok(())
 }
@@ -185,7 +178,7 @@ fn a_mebibyte(alloc: Global) -> Result<Vec<u8>, AllocError> {
 #[test]
 fn show_moves_whole_pieces(rt: HostRuntime) -> Result<(), Fail> {
     let file = a_mebibyte(rt.alloc())?;
-    assert_eq!(rt; file.len(), MEBIBYTE);
+    assert!(rt; file.len() == MEBIBYTE);
     let mut reader = Counted {
         bytes: file.as_slice(),
         calls: 0,
@@ -195,10 +188,9 @@ fn show_moves_whole_pieces(rt: HostRuntime) -> Result<(), Fail> {
         &mut FromRead::new(&mut reader),
         &mut ToWrite::new(&mut writer),
     );
-    assert!(rt; answer == Some(Ok(())));
-    assert!(rt; reader.calls <= READS);
-    assert!(rt; writer.bytes > MEBIBYTE);
-    assert!(rt; writer.calls.saturating_sub(2) <= writer.bytes / LEAST_PIECE);
+    assert!(rt; answer == Some(Ok(())) && reader.calls <= READS);
+    let pieces = writer.bytes / LEAST_PIECE;
+    assert!(rt; writer.bytes > MEBIBYTE && writer.calls.saturating_sub(2) <= pieces);
     Ok(())
 }
 
@@ -214,8 +206,6 @@ fn check_moves_whole_pieces(rt: HostRuntime) -> Result<(), Fail> {
         &mut FromRead::new(&mut reader),
         &mut ToWrite::new(&mut writer),
     );
-    assert!(rt; answer == Some(Ok(true)));
-    assert!(rt; reader.calls <= READS);
-    assert_eq!(rt; writer.calls, 1);
+    assert!(rt; answer == Some(Ok(true)) && reader.calls <= READS && writer.calls == 1);
     Ok(())
 }

@@ -76,69 +76,91 @@ fn ends(
     Ok(answer == status && sink.bytes() == lines && errors.bytes() == told)
 }
 
+// Words, what may be read, and what the run ends with.
+type Row<'a> = (&'a [&'a str], &'a [u8], End<'a>);
+
+// Runs the program with each row. The place of the first row of which the run ends otherwise.
+fn wrong_row(rt: &HostRuntime, rows: &[Row<'_>]) -> Result<Option<usize>, Fail> {
+    for (place, (words, input, end)) in rows.iter().enumerate() {
+        if !ends(rt, words, input, NEVER, *end)? {
+            return Ok(Some(place));
+        }
+    }
+    Ok(None)
+}
+
 #[test]
 fn files_end_with_each_status(rt: HostRuntime) -> Result<(), Fail> {
-    let shown: End = (0, b"1 type-5 host=2 link=0\n", b"");
-    let faulty: End = (0, b"1 regular host=2 link=2\n  fault M1NotZero\n", b"");
-    let sound: End = (0, b"messages=1 short=0 regular=0 faults=0 bad=0\n", b"");
-    let unsound: End = (1, b"messages=1 short=0 regular=1 faults=1 bad=0\n", b"");
-    let cut: End = (2, b"", b"ncp: Truncated\n");
-    assert!(rt; ends(&rt, &["ncp"], SOUND, NEVER, shown)?);
-    assert!(rt; ends(&rt, &["ncp", "show"], SOUND, NEVER, shown)?);
-    assert!(rt; ends(&rt, &["ncp", "show"], FAULTY, NEVER, faulty)?);
-    assert!(rt; ends(&rt, &["ncp", "show"], CUT, NEVER, cut)?);
-    assert!(rt; ends(&rt, &["ncp", "check"], SOUND, NEVER, sound)?);
-    assert!(rt; ends(&rt, &["ncp", "check"], FAULTY, NEVER, unsound)?);
-    assert!(rt; ends(&rt, &["ncp", "check"], CUT, NEVER, cut)?);
+    const SHOWN: End<'static> = (0, b"1 type-5 host=2 link=0\n", b"");
+    const FAULTY_SHOWN: End<'static> = (0, b"1 regular host=2 link=2\n  fault M1NotZero\n", b"");
+    const SOUND_CHECKED: End<'static> = (0, b"messages=1 short=0 regular=0 faults=0 bad=0\n", b"");
+    const UNSOUND: End<'static> = (1, b"messages=1 short=0 regular=1 faults=1 bad=0\n", b"");
+    const TRUNCATED: End<'static> = (2, b"", b"ncp: Truncated\n");
+    const ROWS: &[Row<'static>] = &[
+        (&["ncp"], SOUND, SHOWN),
+        (&["ncp", "show"], SOUND, SHOWN),
+        (&["ncp", "show"], FAULTY, FAULTY_SHOWN),
+        (&["ncp", "show"], CUT, TRUNCATED),
+        (&["ncp", "check"], SOUND, SOUND_CHECKED),
+        (&["ncp", "check"], FAULTY, UNSOUND),
+        (&["ncp", "check"], CUT, TRUNCATED),
+    ];
+    let wrong = wrong_row(&rt, ROWS)?;
+    assert!(rt; wrong.is_none(), "at row {wrong:?}");
     Ok(())
 }
 
 #[test]
 fn conversions_end_with_each_status(rt: HostRuntime) -> Result<(), Fail> {
-    let words = &["ncp", "convert", "--at", "7"];
-    let turned: End = (0, PLACED, b"");
-    let cut: End = (2, b"", b"ncp: Truncated\n");
-    let mixed: End = (2, b"", b"ncp: Mixed\n");
-    assert!(rt; ends(&rt, words, SOUND, NEVER, turned)?);
-    assert!(rt; ends(&rt, words, PLACED, NEVER, (0, SOUND, b""))?);
-    assert!(rt; ends(&rt, words, CUT, NEVER, cut)?);
-    assert!(rt; ends(&rt, &["ncp", "convert", "--at", "8"], PLACED, NEVER, mixed)?);
-    assert!(rt; ends(&rt, &["ncp", "convert"], SOUND, NEVER, (2, b"", b""))?);
+    const WORDS: &[&str] = &["ncp", "convert", "--at", "7"];
+    const ROWS: &[Row<'static>] = &[
+        (WORDS, SOUND, (0, PLACED, b"")),
+        (WORDS, PLACED, (0, SOUND, b"")),
+        (WORDS, CUT, (2, b"", b"ncp: Truncated\n")),
+        (
+            &["ncp", "convert", "--at", "8"],
+            PLACED,
+            (2, b"", b"ncp: Mixed\n"),
+        ),
+        (&["ncp", "convert"], SOUND, (2, b"", b"")),
+    ];
+    let wrong = wrong_row(&rt, ROWS)?;
+    assert!(rt; wrong.is_none(), "at row {wrong:?}");
     Ok(())
 }
 
 #[test]
 fn scripts_of_one_host_end_with_each_status(rt: HostRuntime) -> Result<(), Fail> {
-    let played: End = (0, b"1 out nothing\n", b"");
-    let refused: End = (1, HOST_REFUSED_LINES, b"");
-    let line: End = (2, b"1 out nothing\n", b"ncp: line 3: BadLine\n");
-    let feed: End = (2, b"1 out nothing\n", b"ncp: BadHeader\n");
-    assert!(rt; ends(&rt, &["ncp", "host"], HOST, NEVER, played)?);
-    assert!(rt; ends(&rt, &["ncp", "host"], HOST_REFUSED, NEVER, refused)?);
-    assert!(rt; ends(&rt, &["ncp", "host"], HOST_FAULT, NEVER, line)?);
-    assert!(rt; ends(&rt, &["ncp", "host"], FEED_FAULT, NEVER, feed)?);
+    const WORDS: &[&str] = &["ncp", "host"];
+    const NOTHING: &[u8] = b"1 out nothing\n";
+    const ROWS: &[Row<'static>] = &[
+        (WORDS, HOST, (0, NOTHING, b"")),
+        (WORDS, HOST_REFUSED, (1, HOST_REFUSED_LINES, b"")),
+        (WORDS, HOST_FAULT, (2, NOTHING, b"ncp: line 3: BadLine\n")),
+        (WORDS, FEED_FAULT, (2, NOTHING, b"ncp: BadHeader\n")),
+    ];
+    let wrong = wrong_row(&rt, ROWS)?;
+    assert!(rt; wrong.is_none(), "at row {wrong:?}");
     Ok(())
 }
 
 #[test]
 fn scripts_of_two_hosts_end_with_each_status(rt: HostRuntime) -> Result<(), Fail> {
-    let played: End = (0, b"1 a out nothing\n", b"");
-    let refused: End = (1, b"1 b state refused NoEntry\n", b"");
-    let hosts: End = (2, b"", b"ncp: BadHosts\n");
-    assert!(rt; ends(&rt, &["ncp", "world"], WORLD, NEVER, played)?);
-    assert!(rt; ends(&rt, &["ncp", "world"], WORLD_REFUSED, NEVER, refused)?);
-    assert!(rt; ends(&rt, &["ncp", "world"], WORLD_FAULT, NEVER, hosts)?);
-    assert!(rt; ends(&rt, &["ncp", "record"], WORLD, NEVER, (0, HEADER, b""))?);
-    assert!(rt;
-        ends(
-            &rt,
-            &["ncp", "record"],
+    const BAD_HOSTS: End<'static> = (2, b"", b"ncp: BadHosts\n");
+    const ROWS: &[Row<'static>] = &[
+        (&["ncp", "world"], WORLD, (0, b"1 a out nothing\n", b"")),
+        (
+            &["ncp", "world"],
             WORLD_REFUSED,
-            NEVER,
-            (1, HEADER, b"")
-        )?
-    );
-    assert!(rt; ends(&rt, &["ncp", "record"], WORLD_FAULT, NEVER, hosts)?);
+            (1, b"1 b state refused NoEntry\n", b""),
+        ),
+        (&["ncp", "world"], WORLD_FAULT, BAD_HOSTS),
+        (&["ncp", "record"], WORLD, (0, HEADER, b"")),
+        (&["ncp", "record"], WORLD_REFUSED, (1, HEADER, b"")),
+        (&["ncp", "record"], WORLD_FAULT, BAD_HOSTS),
+    ];
+    let wrong = wrong_row(&rt, ROWS)?;
+    assert!(rt; wrong.is_none(), "at row {wrong:?}");
     Ok(())
 }
 
@@ -180,8 +202,12 @@ fn a_closed_input_is_a_fault(rt: HostRuntime) -> Result<(), Fail> {
 
 #[test]
 fn words_that_ask_for_no_run_end_at_once(rt: HostRuntime) -> Result<(), Fail> {
-    assert!(rt; ends(&rt, &["ncp", "--version"], SOUND, NEVER, (0, b"", b""))?);
-    assert!(rt; ends(&rt, &["ncp", "--help"], SOUND, NEVER, (0, b"", b""))?);
-    assert!(rt; ends(&rt, &["ncp", "play"], SOUND, NEVER, (2, b"", b""))?);
+    const ROWS: &[Row<'static>] = &[
+        (&["ncp", "--version"], SOUND, (0, b"", b"")),
+        (&["ncp", "--help"], SOUND, (0, b"", b"")),
+        (&["ncp", "play"], SOUND, (2, b"", b"")),
+    ];
+    let wrong = wrong_row(&rt, ROWS)?;
+    assert!(rt; wrong.is_none(), "at row {wrong:?}");
     Ok(())
 }

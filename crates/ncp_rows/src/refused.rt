@@ -55,8 +55,10 @@ fn reading_an_order(rt: HostRuntime) -> Result<(), Fail> {
     match order(rt.alloc(), &words) {
         Ok(order) => assert!(rt; matches!(order, Order::Convert(7))),
         Err(error) => {
-            assert!(rt; matches!(error.kind(), ErrorKind::OutOfMemory));
-            assert!(rt; matches!(order(rt.alloc(), &words), Ok(Order::Convert(7))));
+            assert!(rt;
+                matches!(error.kind(), ErrorKind::OutOfMemory)
+                    && matches!(order(rt.alloc(), &words), Ok(Order::Convert(7)))
+            );
             println!(rt; "refused: an error of want of memory, no order")?;
         }
     }

@@ -10,8 +10,7 @@ mod texts;
 mod tried;
 
 use ncp_bits::{PackedStore, PlainStore};
-use ncp_conn::{End, Heard, Pair, Record};
-use ncp_terms::{Command, ERROR_DATA};
+use ncp_conn::{End, Pair, Record};
 use std::alloc::Global;
 use std::process::Abort;
 use std::test::Fail;
@@ -27,6 +26,12 @@ const OUTWARD: Pair = Pair {
 const INWARD: Pair = Pair {
     local: 2,
     remote: 3,
+};
+
+/// Another pair, as a receiver's host names it.
+const NEXT_INWARD: Pair = Pair {
+    local: 4,
+    remote: 5,
 };
 
 /// The first link that a connection has.
@@ -75,83 +80,8 @@ const ASKED_TO_RECEIVE: Record = Record {
     ..RECEIVER
 };
 
-/// The reply ERR with a code and these first bytes of data.
-fn err(code: u8, front: &[u8]) -> Heard {
-    let mut bytes = [0; ERROR_DATA];
-    for (to, from) in bytes.iter_mut().zip(front.iter()) {
-        *to = *from;
-    }
-    Heard::Reply(Command::Err { code, bytes })
-}
-
-/// What is made here for a pair.
-fn str_of(pair: Pair, size: u8) -> Command {
-    Command::Str {
-        send: pair.local,
-        receive: pair.remote,
-        size,
-    }
-}
-
-fn rts_of(pair: Pair, link: u8) -> Command {
-    Command::Rts {
-        receive: pair.local,
-        send: pair.remote,
-        link,
-    }
-}
-
-fn cls_of(pair: Pair) -> Command {
-    Command::Cls {
-        my: pair.local,
-        your: pair.remote,
-    }
-}
-
-/// A pair as its peer names it.
-fn turned(pair: Pair) -> Pair {
-    Pair {
-        local: pair.remote,
-        remote: pair.local,
-    }
-}
-
-/// What the peer of a pair makes.
-fn str_for(pair: Pair, size: u8) -> Command {
-    str_of(turned(pair), size)
-}
-
-fn rts_for(pair: Pair, link: u8) -> Command {
-    rts_of(turned(pair), link)
-}
-
-fn cls_for(pair: Pair) -> Command {
-    cls_of(turned(pair))
-}
-
-/// What a receiver makes on link 2, and a sender.
-fn all(messages: u16, bits: u32) -> Command {
-    Command::All {
-        link: LINK,
-        messages,
-        bits,
-    }
-}
-
-fn gvb(fm: u8, fb: u8) -> Command {
-    Command::Gvb { link: LINK, fm, fb }
-}
-
-fn ret(messages: u16, bits: u32) -> Command {
-    Command::Ret {
-        link: LINK,
-        messages,
-        bits,
-    }
-}
-
 /// A new table goes through these steps, over both stores.
-fn goes(rt: &impl Abort, alloc: Global, steps: &[Step]) -> Result<(), Fail> {
+fn goes(rt: &impl Abort, alloc: Global, steps: &[Step<'_>]) -> Result<(), Fail> {
     Tried::<PlainStore>::new(alloc)?.goes(rt, steps);
     Tried::<PackedStore>::new(alloc)?.goes(rt, steps);
     Ok(())

@@ -1,7 +1,7 @@
 //! That memory is there for requests, and what is left where it is not.
-use super::steps::{Call, Step};
+use super::steps::{Call, Say, Step, made};
 use super::tried::Tried;
-use super::{INWARD, OUTWARD, ROOM, cls_for, cls_of, goes, rts_of, str_of};
+use super::{INWARD, NEXT_INWARD, OUTWARD, ROOM, goes};
 use ncp_bits::{BitStore, PackedStore, PlainStore};
 use ncp_conn::{CallFault, Heard, Pair};
 use ncp_model::{MAX_OWN, MAX_ROOM};
@@ -9,27 +9,32 @@ use std::alloc::Global;
 use std::process::Abort;
 use std::test::Fail;
 
+// Whether a request is refused for want of memory: then no connection is made.
+fn is_refused<S: BitStore>(rt: &impl Abort, table: &mut Tried<S>, call: &Call, pair: Pair) -> bool {
+    let Err(fault) = table.call(rt, call, false) else {
+        return false;
+    };
+    assert!(rt; fault == CallFault::OutOfMemory && table.knows_none(pair));
+    true
+}
+
 // Where there is no memory, no connection is made and no link is used.
 fn asks_or_has_no_memory<S: BitStore>(rt: &impl Abort, alloc: Global) -> Result<(), Fail> {
     let Ok(mut table) = Tried::<S>::new(alloc) else {
         return Ok(());
     };
-    let mut link = 3;
-    let mut refused = 0u8;
-    if let Err(fault) = table.call(rt, &Call::AskReceive(INWARD, MAX_ROOM), false) {
-        assert!(rt; fault == CallFault::OutOfMemory && table.knows_none(INWARD));
-        link = 2;
-        refused = 1;
-    }
-    if let Err(fault) = table.call(rt, &Call::AskSend(OUTWARD, 8, MAX_ROOM), false) {
-        assert!(rt; fault == CallFault::OutOfMemory && table.knows_none(OUTWARD));
-        assert!(rt; refused == 0);
-        refused = 1;
-    }
-    let next = Pair::new(4, 5);
-    match table.call(rt, &Call::AskReceive(next, 1), false) {
-        Ok(command) => assert!(rt; command == Some(rts_of(next, link))),
-        Err(fault) => assert!(rt; fault == CallFault::OutOfMemory && refused == 0),
+    let first = is_refused(rt, &mut table, &Call::AskReceive(INWARD, MAX_ROOM), INWARD);
+    let other = is_refused(
+        rt,
+        &mut table,
+        &Call::AskSend(OUTWARD, 8, MAX_ROOM),
+        OUTWARD,
+    );
+    assert!(rt; !first || !other);
+    let link = if first { 2 } else { 3 };
+    match table.call(rt, &Call::AskReceive(NEXT_INWARD, 1), false) {
+        Ok(command) => assert!(rt; command == Some(made(Say::Rts(NEXT_INWARD, link)))),
+        Err(fault) => assert!(rt; fault == CallFault::OutOfMemory && !first && !other),
     }
     Ok(())
 }
@@ -42,14 +47,11 @@ fn a_request_is_made_or_has_no_memory(rt: HostRuntime) -> Result<(), Fail> {
 
 #[test]
 fn has_memory_for_requests(rt: HostRuntime) -> Result<(), Fail> {
-    goes(
-        &rt,
-        rt.alloc(),
-        &[
-            Step::Makes(Call::AskSend(OUTWARD, 8, MAX_ROOM), str_of(OUTWARD, 8)),
-            Step::Makes(Call::AskReceive(INWARD, MAX_ROOM), rts_of(INWARD, 2)),
-        ],
-    )
+    const STEPS: &[Step<'static>] = &[
+        Step::Makes(Call::AskSend(OUTWARD, 8, MAX_ROOM), Say::Str(OUTWARD, 8)),
+        Step::Makes(Call::AskReceive(INWARD, MAX_ROOM), Say::Rts(INWARD, 2)),
+    ];
+    goes(&rt, rt.alloc(), STEPS)
 }
 
 // All own requests that there may be, each with the room of a test, of either kind in turn.
@@ -83,21 +85,21 @@ fn has_memory_for_all_requests(rt: HostRuntime) -> Result<(), Fail> {
 // How many connections follow one another in a table: more than twice the keys and links of it.
 const IN_TURN: u32 = 1_500;
 
+// Two connections, one at either end, which are asked for and closed.
+const A_TURN: &[Step<'static>] = &[
+    Step::Makes(Call::AskSend(OUTWARD, 8, ROOM), Say::Str(OUTWARD, 8)),
+    Step::Makes(Call::AskReceive(INWARD, ROOM), Say::Rts(INWARD, 2)),
+    Step::Makes(Call::Close(OUTWARD), Say::Cls(OUTWARD)),
+    Step::Makes(Call::Close(INWARD), Say::Cls(INWARD)),
+    Step::Hears(Say::Cls(OUTWARD), Heard::Nothing),
+    Step::Hears(Say::Cls(INWARD), Heard::Nothing),
+];
+
 // One connection after another at either end, each with its store.
 fn asks_and_closes_in_turn<S: BitStore>(rt: &impl Abort, alloc: Global) -> Result<(), Fail> {
     let mut table = Tried::<S>::new(alloc)?;
     for _turn in 0..IN_TURN {
-        table.goes(
-            rt,
-            &[
-                Step::Makes(Call::AskSend(OUTWARD, 8, ROOM), str_of(OUTWARD, 8)),
-                Step::Makes(Call::AskReceive(INWARD, ROOM), rts_of(INWARD, 2)),
-                Step::Makes(Call::Close(OUTWARD), cls_of(OUTWARD)),
-                Step::Makes(Call::Close(INWARD), cls_of(INWARD)),
-                Step::Hears(cls_for(OUTWARD), Heard::Nothing),
-                Step::Hears(cls_for(INWARD), Heard::Nothing),
-            ],
-        );
+        table.goes(rt, A_TURN);
     }
     table.goes(rt, &[Step::HasPair(None)]);
     Ok(())

@@ -1,9 +1,9 @@
 //! Requests of either side.
-use super::steps::{Call, Step};
+use super::steps::{Call, Say, Step};
 use super::tried::Tried;
 use super::{
-    ASKED_TO_RECEIVE, ASKED_TO_SEND, INWARD, LINK, OUTWARD, RECEIVER, ROOM, SENDER, cls_for,
-    cls_of, err, goes, rts_for, rts_of, str_for, str_of,
+    ASKED_TO_RECEIVE, ASKED_TO_SEND, INWARD, LINK, NEXT_INWARD, OUTWARD, RECEIVER, ROOM, SENDER,
+    goes,
 };
 use ncp_bits::{BitStore, PackedStore, PlainStore};
 use ncp_conn::{CallFault, Heard, Pair, Record};
@@ -16,127 +16,130 @@ use std::test::Fail;
 // The receiver takes the lowest links; requests meet; wrong ones are refused; a CLS frees a link.
 #[test]
 fn requests_meet_and_end(rt: HostRuntime) -> Result<(), Fail> {
-    let behind = rts_for(Pair::new(9, 8), 72);
-    goes(
-        &rt,
-        rt.alloc(),
-        &[
-            Step::Makes(Call::AskReceive(INWARD, ROOM), rts_of(INWARD, 2)),
-            Step::Makes(
-                Call::AskReceive(Pair::new(4, 5), ROOM),
-                rts_of(Pair::new(4, 5), 3),
-            ),
-            Step::Hears(str_for(INWARD, 8), Heard::Nothing),
-            Step::Knows(INWARD, RECEIVER),
-            Step::Hears(str_for(INWARD, 8), err(3, &[2, 0, 0, 0, 3, 0, 0, 0, 2, 8])),
-            Step::Hears(behind, err(3, &[1, 0, 0, 0, 8, 0, 0, 0, 9, 72])),
-            Step::Hears(
-                Command::Cls { my: 7, your: 6 },
-                err(4, &[3, 0, 0, 0, 7, 0, 0, 0, 6]),
-            ),
-            Step::Hears(
-                Command::Cls { my: 7, your: 5 },
-                err(3, &[3, 0, 0, 0, 7, 0, 0, 0, 5]),
-            ),
-            Step::Hears(
-                cls_for(INWARD),
-                Heard::Reply(Command::Cls { my: 2, your: 3 }),
-            ),
-            Step::KnowsNone(INWARD),
-            Step::Makes(
-                Call::AskReceive(Pair::new(10, 11), ROOM),
-                rts_of(Pair::new(10, 11), 2),
-            ),
-        ],
-    )
+    const THIRD: Pair = Pair {
+        local: 10,
+        remote: 11,
+    };
+    const BEHIND: Say = Say::Rts(
+        Pair {
+            local: 9,
+            remote: 8,
+        },
+        72,
+    );
+    const STEPS: &[Step<'static>] = &[
+        Step::Makes(Call::AskReceive(INWARD, ROOM), Say::Rts(INWARD, 2)),
+        Step::Makes(
+            Call::AskReceive(NEXT_INWARD, ROOM),
+            Say::Rts(NEXT_INWARD, 3),
+        ),
+        Step::Hears(Say::Str(INWARD, 8), Heard::Nothing),
+        Step::Knows(INWARD, RECEIVER),
+        Step::Errs(Say::Str(INWARD, 8), 3, &[2, 0, 0, 0, 3, 0, 0, 0, 2, 8]),
+        Step::Errs(BEHIND, 3, &[1, 0, 0, 0, 8, 0, 0, 0, 9, 72]),
+        Step::Errs(
+            Say::As(Command::Cls { my: 7, your: 6 }),
+            4,
+            &[3, 0, 0, 0, 7, 0, 0, 0, 6],
+        ),
+        Step::Errs(
+            Say::As(Command::Cls { my: 7, your: 5 }),
+            3,
+            &[3, 0, 0, 0, 7, 0, 0, 0, 5],
+        ),
+        Step::Replies(Say::Cls(INWARD), Say::As(Command::Cls { my: 2, your: 3 })),
+        Step::KnowsNone(INWARD),
+        Step::Makes(Call::AskReceive(THIRD, ROOM), Say::Rts(THIRD, 2)),
+    ];
+    goes(&rt, rt.alloc(), STEPS)
 }
 
 #[test]
 fn what_is_known_is_copied(rt: HostRuntime) -> Result<(), Fail> {
-    let asked = Record {
+    const ASKED: Record = Record {
         size: 36,
         ..ASKED_TO_SEND
     };
-    let opened = Record {
+    const OPENED: Record = Record {
         size: 36,
         link: LAST_LINK,
         ..SENDER
     };
-    let heard = Record {
+    const HEARD: Record = Record {
         asked: false,
         opened: false,
         link: 0,
         size: 255,
         ..RECEIVER
     };
-    goes(
-        &rt,
-        rt.alloc(),
-        &[
-            Step::KnowsNone(OUTWARD),
-            Step::Makes(Call::AskSend(OUTWARD, 36, ROOM), str_of(OUTWARD, 36)),
-            Step::Knows(OUTWARD, asked),
-            Step::Hears(rts_for(OUTWARD, LAST_LINK), Heard::Nothing),
-            Step::Knows(OUTWARD, opened),
-            Step::Hears(str_for(INWARD, 255), Heard::Nothing),
-            Step::Knows(INWARD, heard),
-            Step::Makes(
-                Call::AskReceive(Pair::new(4, 5), ROOM),
-                rts_of(Pair::new(4, 5), LINK),
-            ),
-            Step::Knows(Pair::new(4, 5), ASKED_TO_RECEIVE),
-        ],
-    )
+    const STEPS: &[Step<'static>] = &[
+        Step::KnowsNone(OUTWARD),
+        Step::Makes(Call::AskSend(OUTWARD, 36, ROOM), Say::Str(OUTWARD, 36)),
+        Step::Knows(OUTWARD, ASKED),
+        Step::Hears(Say::Rts(OUTWARD, LAST_LINK), Heard::Nothing),
+        Step::Knows(OUTWARD, OPENED),
+        Step::Hears(Say::Str(INWARD, 255), Heard::Nothing),
+        Step::Knows(INWARD, HEARD),
+        Step::Makes(
+            Call::AskReceive(NEXT_INWARD, ROOM),
+            Say::Rts(NEXT_INWARD, LINK),
+        ),
+        Step::Knows(NEXT_INWARD, ASKED_TO_RECEIVE),
+    ];
+    goes(&rt, rt.alloc(), STEPS)
 }
 
 // Each refusal of a request to send, and which of two comes first.
 #[test]
 fn requests_to_send_are_refused(rt: HostRuntime) -> Result<(), Fail> {
-    let equal = Pair::new(2, 2);
-    let odd = Pair::new(3, 5);
-    let asked = Call::AskSend(OUTWARD, 8, 1);
-    goes(
-        &rt,
-        rt.alloc(),
-        &[
-            Step::RefusesFull(Call::AskSend(INWARD, 0, 0), CallFault::BadSex),
-            Step::RefusesFull(Call::AskSend(equal, 8, ROOM), CallFault::BadSex),
-            Step::RefusesFull(Call::AskSend(odd, 8, ROOM), CallFault::BadSex),
-            Step::RefusesFull(Call::AskSend(OUTWARD, 0, 0), CallFault::BadSize),
-            Step::RefusesFull(Call::AskSend(OUTWARD, 8, 0), CallFault::BadRoom),
-            Step::RefusesFull(Call::AskSend(OUTWARD, 8, MAX_ROOM + 1), CallFault::BadRoom),
-            Step::RefusesFull(Call::AskSend(OUTWARD, 8, MAX_ROOM), CallFault::QueueFull),
-            Step::HasPair(None),
-            Step::Makes(asked, str_of(OUTWARD, 8)),
-            Step::RefusesFull(Call::AskSend(OUTWARD, 8, 0), CallFault::BadRoom),
-            Step::RefusesFull(asked, CallFault::AlreadyAsked),
-            Step::Makes(Call::Close(OUTWARD), cls_of(OUTWARD)),
-            Step::RefusesFull(asked, CallFault::Closing),
-        ],
-    )
+    const EQUAL: Pair = Pair {
+        local: 2,
+        remote: 2,
+    };
+    const ODD: Pair = Pair {
+        local: 3,
+        remote: 5,
+    };
+    const ASKED: Call = Call::AskSend(OUTWARD, 8, 1);
+    const STEPS: &[Step<'static>] = &[
+        Step::RefusesFull(Call::AskSend(INWARD, 0, 0), CallFault::BadSex),
+        Step::RefusesFull(Call::AskSend(EQUAL, 8, ROOM), CallFault::BadSex),
+        Step::RefusesFull(Call::AskSend(ODD, 8, ROOM), CallFault::BadSex),
+        Step::RefusesFull(Call::AskSend(OUTWARD, 0, 0), CallFault::BadSize),
+        Step::RefusesFull(Call::AskSend(OUTWARD, 8, 0), CallFault::BadRoom),
+        Step::RefusesFull(Call::AskSend(OUTWARD, 8, MAX_ROOM + 1), CallFault::BadRoom),
+        Step::RefusesFull(Call::AskSend(OUTWARD, 8, MAX_ROOM), CallFault::QueueFull),
+        Step::HasPair(None),
+        Step::Makes(ASKED, Say::Str(OUTWARD, 8)),
+        Step::RefusesFull(Call::AskSend(OUTWARD, 8, 0), CallFault::BadRoom),
+        Step::RefusesFull(ASKED, CallFault::AlreadyAsked),
+        Step::Makes(Call::Close(OUTWARD), Say::Cls(OUTWARD)),
+        Step::RefusesFull(ASKED, CallFault::Closing),
+    ];
+    goes(&rt, rt.alloc(), STEPS)
 }
 
 #[test]
 fn requests_to_receive_are_refused(rt: HostRuntime) -> Result<(), Fail> {
-    let even = Pair::new(2, 4);
-    let asked = Call::AskReceive(INWARD, 1);
-    goes(
-        &rt,
-        rt.alloc(),
-        &[
-            Step::RefusesFull(Call::AskReceive(OUTWARD, 0), CallFault::BadSex),
-            Step::RefusesFull(Call::AskReceive(even, ROOM), CallFault::BadSex),
-            Step::RefusesFull(Call::AskReceive(INWARD, 0), CallFault::BadRoom),
-            Step::RefusesFull(Call::AskReceive(INWARD, MAX_ROOM + 1), CallFault::BadRoom),
-            Step::RefusesFull(Call::AskReceive(INWARD, MAX_ROOM), CallFault::QueueFull),
-            Step::HasPair(None),
-            Step::Makes(asked, rts_of(INWARD, 2)),
-            Step::RefusesFull(Call::AskReceive(INWARD, 0), CallFault::BadRoom),
-            Step::RefusesFull(asked, CallFault::AlreadyAsked),
-            Step::Makes(Call::Close(INWARD), cls_of(INWARD)),
-            Step::RefusesFull(asked, CallFault::Closing),
-        ],
-    )
+    const EVEN: Pair = Pair {
+        local: 2,
+        remote: 4,
+    };
+    const ASKED: Call = Call::AskReceive(INWARD, 1);
+    const STEPS: &[Step<'static>] = &[
+        Step::RefusesFull(Call::AskReceive(OUTWARD, 0), CallFault::BadSex),
+        Step::RefusesFull(Call::AskReceive(EVEN, ROOM), CallFault::BadSex),
+        Step::RefusesFull(Call::AskReceive(INWARD, 0), CallFault::BadRoom),
+        Step::RefusesFull(Call::AskReceive(INWARD, MAX_ROOM + 1), CallFault::BadRoom),
+        Step::RefusesFull(Call::AskReceive(INWARD, MAX_ROOM), CallFault::QueueFull),
+        Step::HasPair(None),
+        Step::Makes(ASKED, Say::Rts(INWARD, 2)),
+        Step::RefusesFull(Call::AskReceive(INWARD, 0), CallFault::BadRoom),
+        Step::RefusesFull(ASKED, CallFault::AlreadyAsked),
+        Step::Makes(Call::Close(INWARD), Say::Cls(INWARD)),
+        Step::RefusesFull(ASKED, CallFault::Closing),
+    ];
+    goes(&rt, rt.alloc(), STEPS)
 }
 
 // A receiving pair for each number.
@@ -144,39 +147,62 @@ fn numbered(number: u8) -> Pair {
     Pair::new(2 * u32::from(number), 2 * u32::from(number) + 1)
 }
 
+// Some of them.
+const PAIR_0: Pair = Pair {
+    local: 0,
+    remote: 1,
+};
+
+const PAIR_7: Pair = Pair {
+    local: 14,
+    remote: 15,
+};
+
+const PAIR_100: Pair = Pair {
+    local: 200,
+    remote: 201,
+};
+
+const PAIR_200: Pair = Pair {
+    local: 400,
+    remote: 401,
+};
+
+const PAIR_201: Pair = Pair {
+    local: 402,
+    remote: 403,
+};
+
 // The 64th own request is the last, and on it stands the 64th link.
 fn has_64_own_requests<S: BitStore>(rt: &impl Abort, alloc: Global) -> Result<(), Fail> {
+    const BEHIND_ALL: &[Step<'static>] = &[
+        // The 65th, also where the peer's request is there; but what is asked for stays asked for.
+        Step::RefusesFull(Call::AskReceive(PAIR_201, 1), CallFault::TableFull),
+        Step::RefusesFull(Call::AskSend(OUTWARD, 8, 1), CallFault::TableFull),
+        Step::Refuses(Call::AskReceive(PAIR_200, 1), CallFault::TableFull),
+        Step::Refuses(Call::AskReceive(PAIR_0, 1), CallFault::AlreadyAsked),
+        // One that ends makes room, and its link is free again.
+        Step::Replies(Say::Cls(PAIR_7), Say::Cls(PAIR_7)),
+        Step::Makes(
+            Call::AskReceive(PAIR_200, 1),
+            Say::Rts(PAIR_200, FIRST_LINK + 7),
+        ),
+        Step::Knows(
+            PAIR_200,
+            Record {
+                link: FIRST_LINK + 7,
+                ..RECEIVER
+            },
+        ),
+    ];
     let mut table = Tried::<S>::new(alloc)?;
-    let heard = Heard::Nothing;
-    table.goes(rt, &[Step::Hears(str_for(numbered(200), 8), heard)]);
+    table.goes(rt, &[Step::Hears(Say::Str(PAIR_200, 8), Heard::Nothing)]);
     for number in 0..MAX_OWN as u8 {
         let pair = numbered(number);
-        let rts = rts_of(pair, FIRST_LINK + number);
+        let rts = Say::Rts(pair, FIRST_LINK + number);
         table.goes(rt, &[Step::Makes(Call::AskReceive(pair, 1), rts)]);
     }
-    table.goes(
-        rt,
-        &[
-            // The 65th, also where the peer's request is there; but what is asked for stays asked for.
-            Step::RefusesFull(Call::AskReceive(numbered(201), 1), CallFault::TableFull),
-            Step::RefusesFull(Call::AskSend(OUTWARD, 8, 1), CallFault::TableFull),
-            Step::Refuses(Call::AskReceive(numbered(200), 1), CallFault::TableFull),
-            Step::Refuses(Call::AskReceive(numbered(0), 1), CallFault::AlreadyAsked),
-            // One that ends makes room, and its link is free again.
-            Step::Hears(cls_for(numbered(7)), Heard::Reply(cls_of(numbered(7)))),
-            Step::Makes(
-                Call::AskReceive(numbered(200), 1),
-                rts_of(numbered(200), FIRST_LINK + 7),
-            ),
-            Step::Knows(
-                numbered(200),
-                Record {
-                    link: FIRST_LINK + 7,
-                    ..RECEIVER
-                },
-            ),
-        ],
-    );
+    table.goes(rt, BEHIND_ALL);
     Ok(())
 }
 
@@ -187,27 +213,27 @@ fn own_requests_are_at_most_64(rt: HostRuntime) -> Result<(), Fail> {
 }
 
 fn has_64_requests_of_the_peer<S: BitStore>(rt: &impl Abort, alloc: Global) -> Result<(), Fail> {
+    const BEHIND_ALL: &[Step<'static>] = &[
+        Step::Hears(Say::Str(PAIR_100, 8), Heard::Full),
+        Step::Hears(Say::Rts(OUTWARD, 2), Heard::Full),
+        Step::KnowsNone(OUTWARD),
+        // A wrong one is refused first, and one that was asked for is heard.
+        Step::Errs(Say::Rts(OUTWARD, 1), 3, &[1, 0, 0, 0, 2, 0, 0, 0, 3, 1]),
+        Step::Hears(Say::Str(PAIR_200, 8), Heard::Nothing),
+        // With an own request it is no more the peer's alone.
+        Step::Makes(Call::AskReceive(PAIR_0, 1), Say::Rts(PAIR_0, 3)),
+        Step::Hears(Say::Rts(OUTWARD, 2), Heard::Nothing),
+    ];
     let mut table = Tried::<S>::new(alloc)?;
-    let own = numbered(200);
-    table.goes(rt, &[Step::Makes(Call::AskReceive(own, 1), rts_of(own, 2))]);
-    for number in 0..MAX_BY_PEER as u8 {
-        let str = str_for(numbered(number), 8);
-        table.goes(rt, &[Step::Hears(str, Heard::Nothing)]);
-    }
     table.goes(
         rt,
-        &[
-            Step::Hears(str_for(numbered(100), 8), Heard::Full),
-            Step::Hears(rts_for(OUTWARD, 2), Heard::Full),
-            Step::KnowsNone(OUTWARD),
-            // A wrong one is refused first, and one that was asked for is heard.
-            Step::Hears(rts_for(OUTWARD, 1), err(3, &[1, 0, 0, 0, 2, 0, 0, 0, 3, 1])),
-            Step::Hears(str_for(own, 8), Heard::Nothing),
-            // With an own request it is no more the peer's alone.
-            Step::Makes(Call::AskReceive(numbered(0), 1), rts_of(numbered(0), 3)),
-            Step::Hears(rts_for(OUTWARD, 2), Heard::Nothing),
-        ],
+        &[Step::Makes(Call::AskReceive(PAIR_200, 1), Say::Rts(PAIR_200, 2))],
     );
+    for number in 0..MAX_BY_PEER as u8 {
+        let str = Say::Str(numbered(number), 8);
+        table.goes(rt, &[Step::Hears(str, Heard::Nothing)]);
+    }
+    table.goes(rt, BEHIND_ALL);
     Ok(())
 }
 
@@ -219,50 +245,50 @@ fn requests_of_the_peer_are_at_most_64(rt: HostRuntime) -> Result<(), Fail> {
 
 #[test]
 fn wrong_requests_are_answered(rt: HostRuntime) -> Result<(), Fail> {
-    let other = Pair::new(5, 4);
-    let odd = Pair::new(3, 3);
-    let heard = Record {
+    const OTHER: Pair = Pair {
+        local: 5,
+        remote: 4,
+    };
+    const ODD: Pair = Pair {
+        local: 3,
+        remote: 3,
+    };
+    const HEARD: Record = Record {
         asked: false,
         opened: false,
         size: 0,
         ..SENDER
     };
-    goes(
-        &rt,
-        rt.alloc(),
-        &[
-            Step::Hears(rts_for(OUTWARD, 2), Heard::Nothing),
-            Step::Hears(rts_for(INWARD, 3), err(3, &[1, 0, 0, 0, 3, 0, 0, 0, 2, 3])),
-            Step::Hears(rts_for(odd, 3), err(3, &[1, 0, 0, 0, 3, 0, 0, 0, 3, 3])),
-            Step::Hears(rts_for(other, 1), err(3, &[1, 0, 0, 0, 4, 0, 0, 0, 5, 1])),
-            Step::Hears(rts_for(OUTWARD, 3), err(3, &[1, 0, 0, 0, 2, 0, 0, 0, 3, 3])),
-            Step::Hears(rts_for(other, 2), err(3, &[1, 0, 0, 0, 4, 0, 0, 0, 5, 2])),
-            Step::Hears(str_for(OUTWARD, 8), err(3, &[2, 0, 0, 0, 2, 0, 0, 0, 3, 8])),
-            Step::Hears(str_for(INWARD, 0), err(3, &[2, 0, 0, 0, 3, 0, 0, 0, 2, 0])),
-            Step::Knows(OUTWARD, heard),
-            Step::KnowsNone(other),
-            Step::KnowsNone(INWARD),
-        ],
-    )
+    const STEPS: &[Step<'static>] = &[
+        Step::Hears(Say::Rts(OUTWARD, 2), Heard::Nothing),
+        Step::Errs(Say::Rts(INWARD, 3), 3, &[1, 0, 0, 0, 3, 0, 0, 0, 2, 3]),
+        Step::Errs(Say::Rts(ODD, 3), 3, &[1, 0, 0, 0, 3, 0, 0, 0, 3, 3]),
+        Step::Errs(Say::Rts(OTHER, 1), 3, &[1, 0, 0, 0, 4, 0, 0, 0, 5, 1]),
+        Step::Errs(Say::Rts(OUTWARD, 3), 3, &[1, 0, 0, 0, 2, 0, 0, 0, 3, 3]),
+        Step::Errs(Say::Rts(OTHER, 2), 3, &[1, 0, 0, 0, 4, 0, 0, 0, 5, 2]),
+        Step::Errs(Say::Str(OUTWARD, 8), 3, &[2, 0, 0, 0, 2, 0, 0, 0, 3, 8]),
+        Step::Errs(Say::Str(INWARD, 0), 3, &[2, 0, 0, 0, 3, 0, 0, 0, 2, 0]),
+        Step::Knows(OUTWARD, HEARD),
+        Step::KnowsNone(OTHER),
+        Step::KnowsNone(INWARD),
+    ];
+    goes(&rt, rt.alloc(), STEPS)
 }
 
 // Other commands do nothing here.
 #[test]
 fn other_commands_pass_by(rt: HostRuntime) -> Result<(), Fail> {
-    let error = Command::Err {
+    const ERROR: Say = Say::As(Command::Err {
         code: 1,
         bytes: [0; 10],
-    };
-    goes(
-        &rt,
-        rt.alloc(),
-        &[
-            Step::Hears(Command::Nop, Heard::Nothing),
-            Step::Hears(Command::Eco { byte: 65 }, Heard::Nothing),
-            Step::Hears(Command::Erp { byte: 65 }, Heard::Nothing),
-            Step::Hears(error, Heard::Nothing),
-            Step::Hears(Command::Rst, Heard::Nothing),
-            Step::Hears(Command::Rrp, Heard::Nothing),
-        ],
-    )
+    });
+    const STEPS: &[Step<'static>] = &[
+        Step::Hears(Say::As(Command::Nop), Heard::Nothing),
+        Step::Hears(Say::As(Command::Eco { byte: 65 }), Heard::Nothing),
+        Step::Hears(Say::As(Command::Erp { byte: 65 }), Heard::Nothing),
+        Step::Hears(ERROR, Heard::Nothing),
+        Step::Hears(Say::As(Command::Rst), Heard::Nothing),
+        Step::Hears(Say::As(Command::Rrp), Heard::Nothing),
+    ];
+    goes(&rt, rt.alloc(), STEPS)
 }

@@ -1,6 +1,6 @@
 //! A table that goes through the steps of an example.
-use super::steps::{Call, Step};
-use super::{INWARD, LINK, OUTWARD, rts_for, str_for};
+use super::steps::{Call, Say, Step, err, heard, made};
+use super::{INWARD, LINK, OUTWARD};
 use ncp_bits::{BitStore, Bits};
 use ncp_conn::{CallFault, Heard, Pair, Table};
 use ncp_terms::Command;
@@ -33,7 +33,7 @@ impl<S: BitStore> Tried<S> {
     }
 
     /// Goes through all steps.
-    pub(super) fn goes(&mut self, rt: &impl Abort, steps: &[Step]) {
+    pub(super) fn goes(&mut self, rt: &impl Abort, steps: &[Step<'_>]) {
         for (place, step) in steps.iter().enumerate() {
             assert!(rt; self.does(rt, step), "at step {place}");
         }
@@ -53,6 +53,18 @@ impl<S: BitStore> Tried<S> {
             }
             Call::AskReceive(pair, room) => Ok(Some(self.table.ask_receive(*pair, *room, full)?)),
             Call::Close(pair) => self.table.close(*pair, full),
+            _ => self.call_open(rt, call, full),
+        }
+    }
+
+    /// So for the calls of an open connection.
+    fn call_open(
+        &mut self,
+        rt: &impl Abort,
+        call: &Call,
+        full: bool,
+    ) -> Result<Option<Command>, CallFault> {
+        match call {
             Call::Give(pair, len) => {
                 self.table.give(*pair, &text(rt, 0, *len))?;
                 Ok(None)
@@ -68,6 +80,7 @@ impl<S: BitStore> Tried<S> {
                 Ok(Some(self.table.call_back(*pair, *fm, *fb, full)?))
             }
             Call::Interrupt(pair) => Ok(Some(self.table.interrupt(*pair, full)?)),
+            Call::AskSend(..) | Call::AskReceive(..) | Call::Close(_) => Err(CallFault::NoEntry),
         }
     }
 
@@ -76,11 +89,11 @@ impl<S: BitStore> Tried<S> {
         self.table.record(pair).is_none()
     }
 
-    fn does(&mut self, rt: &impl Abort, step: &Step) -> bool {
+    fn does(&mut self, rt: &impl Abort, step: &Step<'_>) -> bool {
         match step {
             Step::IsSender(size, room) => self.is_sender(rt, *size, *room),
             Step::IsReceiver(size, room) => self.is_receiver(rt, *size, *room),
-            Step::Makes(call, want) => self.call(rt, call, false) == Ok(Some(*want)),
+            Step::Makes(call, want) => self.call(rt, call, false) == Ok(Some(made(*want))),
             Step::Does(call) => self.call(rt, call, false) == Ok(None),
             Step::Refuses(call, fault) => self.call(rt, call, false) == Err(*fault),
             Step::RefusesFull(call, fault) => self.call(rt, call, true) == Err(*fault),
@@ -91,15 +104,30 @@ impl<S: BitStore> Tried<S> {
                 None,
             ),
             Step::TakesLast(pair, bytes, at, len, command) => {
-                self.takes(*pair, *bytes, &text(rt, *at, *len), Some(*command))
+                self.takes(*pair, *bytes, &text(rt, *at, *len), Some(made(*command)))
             }
             _ => self.hears_or_tells(rt, step),
         }
     }
 
-    fn hears_or_tells(&mut self, rt: &impl Abort, step: &Step) -> bool {
+    fn hears_or_tells(&mut self, rt: &impl Abort, step: &Step<'_>) -> bool {
         match step {
-            Step::Hears(command, want) => self.table.hear(command) == *want,
+            Step::Hears(say, want) => self.table.hear(&heard(*say)) == *want,
+            Step::Replies(say, want) => self.table.hear(&heard(*say)) == Heard::Reply(made(*want)),
+            Step::Errs(say, code, front) => self.table.hear(&heard(*say)) == err(*code, front),
+            Step::Purges => {
+                self.table.purge();
+                true
+            }
+            Step::Knows(pair, want) => self.table.record(*pair) == Some(*want),
+            Step::KnowsNone(pair) => self.knows_none(*pair),
+            Step::HasPair(want) => self.table.pairs().next() == *want,
+            _ => self.carries(rt, step),
+        }
+    }
+
+    fn carries(&mut self, rt: &impl Abort, step: &Step<'_>) -> bool {
+        match step {
             Step::Text(link, size, len, want) => {
                 self.table.text(*link, *size, text(rt, 0, *len).whole()) == *want
             }
@@ -112,14 +140,7 @@ impl<S: BitStore> Tried<S> {
                 self.table.next_cut(*from) == *want
                     && self.table.may_cut(*from) == (*want == Some(*from))
             }
-            Step::Answered(link, want) => self.table.answered(*link) == *want,
-            Step::Purges => {
-                self.table.purge();
-                true
-            }
-            Step::Knows(pair, want) => self.table.record(*pair) == Some(*want),
-            Step::KnowsNone(pair) => self.knows_none(*pair),
-            Step::HasPair(want) => self.table.pairs().next() == *want,
+            Step::Answered(link, want) => self.is_answered(*link, *want),
             _ => false,
         }
     }
@@ -131,15 +152,23 @@ impl<S: BitStore> Tried<S> {
         }
     }
 
+    fn is_answered(&mut self, link: u8, want: Option<Say>) -> bool {
+        match (self.table.answered(link), want) {
+            (Some(command), Some(say)) => command == made(say),
+            (None, None) => true,
+            _ => false,
+        }
+    }
+
     fn is_sender(&mut self, rt: &impl Abort, size: u8, room: u32) -> bool {
         self.call(rt, &Call::AskSend(OUTWARD, size, room), false)
             .is_ok()
-            && self.table.hear(&rts_for(OUTWARD, LINK)) == Heard::Nothing
+            && self.table.hear(&heard(Say::Rts(OUTWARD, LINK))) == Heard::Nothing
     }
 
     fn is_receiver(&mut self, rt: &impl Abort, size: u8, room: u32) -> bool {
         self.call(rt, &Call::AskReceive(INWARD, room), false)
             .is_ok()
-            && self.table.hear(&str_for(INWARD, size)) == Heard::Nothing
+            && self.table.hear(&heard(Say::Str(INWARD, size))) == Heard::Nothing
     }
 }
