@@ -1,4 +1,5 @@
 //! Copies of events among many hosts.
+use crate::refused::is_same;
 use crate::wanted::bits_of;
 use ncp_host::Pair;
 use ncp_many::ManyEvent;
@@ -48,14 +49,6 @@ fn a_copy_of_a_loss_is_of_the_same_message(rt: HostRuntime) -> Result<(), Fail> 
         link: 2,
     };
     let copy = event.copied(rt.alloc())?;
-    let same = matches!(
-        &copy,
-        ManyEvent::Lose {
-            from: 3,
-            to: 1,
-            link: 2,
-        }
-    );
-    assert!(rt; same);
+    assert!(rt; is_same(rt.alloc(), &copy, &event)?);
     Ok(())
 }

@@ -21,9 +21,95 @@ pub(super) const RECEIVER: Pair = Pair {
     remote: 3,
 };
 
-pub(super) fn call(side: Side, call: Call) -> Event {
-    Event::Call { side, call }
-}
+pub(super) const RESET_A: Event = Event::Call {
+    side: Side::A,
+    call: Call::Reset { peer: B },
+};
+
+pub(super) const RESET_B: Event = Event::Call {
+    side: Side::B,
+    call: Call::Reset { peer: A },
+};
+
+pub(super) const ASK_RECEIVE: Event = Event::Call {
+    side: Side::B,
+    call: Call::AskReceive {
+        peer: A,
+        pair: RECEIVER,
+        room: 1024,
+    },
+};
+
+pub(super) const ASK_SEND: Event = Event::Call {
+    side: Side::A,
+    call: Call::AskSend {
+        peer: B,
+        pair: SENDER,
+        size: 8,
+        room: 1024,
+    },
+};
+
+/// Two messages of 16 bits are allowed.
+const ALLOCATE: Event = Event::Call {
+    side: Side::B,
+    call: Call::Allocate {
+        peer: A,
+        pair: RECEIVER,
+        messages: 2,
+        bits: 16,
+    },
+};
+
+/// Half of it is called back.
+const CALL_BACK: Event = Event::Call {
+    side: Side::B,
+    call: Call::CallBack {
+        peer: A,
+        pair: RECEIVER,
+        fm: 64,
+        fb: 64,
+    },
+};
+
+pub(super) const TAKE: Event = Event::Call {
+    side: Side::B,
+    call: Call::Take {
+        peer: A,
+        pair: RECEIVER,
+        bytes: 100,
+    },
+};
+
+const WAKE: Event = Event::Call {
+    side: Side::A,
+    call: Call::Wake { peer: B },
+};
+
+const STATE: Event = Event::Call {
+    side: Side::A,
+    call: Call::State {
+        peer: B,
+        pair: SENDER,
+    },
+};
+
+/// The connection is closed by its sender, and by its receiver.
+pub(super) const CLOSE_A: Event = Event::Call {
+    side: Side::A,
+    call: Call::Close {
+        peer: B,
+        pair: SENDER,
+    },
+};
+
+pub(super) const CLOSE_B: Event = Event::Call {
+    side: Side::B,
+    call: Call::Close {
+        peer: A,
+        pair: RECEIVER,
+    },
+};
 
 pub(super) fn out(side: Side) -> Event {
     Event::Out { side }
@@ -33,178 +119,149 @@ pub(super) fn deliver(side: Side, link: u8) -> Event {
     Event::Deliver { side, link }
 }
 
-pub(super) fn lose(side: Side, link: u8) -> Event {
-    Event::Lose { side, link }
-}
-
-pub(super) fn dead(side: Side, link: u8) -> Event {
-    Event::Dead { side, link }
-}
-
 pub(super) fn answer(side: Side, link: u8) -> Event {
     Event::Answer { side, link }
 }
 
-pub(super) fn ask_receive() -> Event {
-    call(
-        Side::B,
-        Call::AskReceive {
-            peer: A,
-            pair: RECEIVER,
-            room: 1024,
-        },
-    )
+/// An event of a list of events, of which all but the giving of a text are so written.
+#[derive(Clone, Copy, Drop)]
+pub(super) enum Act {
+    /// The hosts come up by a call of side A.
+    Reset,
+    AskReceive,
+    AskSend,
+    /// Two messages of 16 bits are allowed.
+    Allocate,
+    /// Half of it is called back.
+    CallBack,
+    Take,
+    State,
+    Wake,
+    /// A host is asked for a message.
+    Out(Side),
+    /// The message of a side on a link.
+    Deliver(Side, u8),
+    Lose(Side, u8),
+    Dead(Side, u8),
+    Answer(Side, u8),
 }
 
-pub(super) fn ask_send() -> Event {
-    call(
-        Side::A,
-        Call::AskSend {
-            peer: B,
-            pair: SENDER,
-            size: 8,
-            room: 1024,
-        },
-    )
+fn event_of(act: Act) -> Event {
+    match act {
+        Act::Out(side) => Event::Out { side },
+        Act::Deliver(side, link) => Event::Deliver { side, link },
+        Act::Lose(side, link) => Event::Lose { side, link },
+        Act::Dead(side, link) => Event::Dead { side, link },
+        Act::Answer(side, link) => Event::Answer { side, link },
+        Act::AskReceive => ASK_RECEIVE,
+        Act::Allocate => ALLOCATE,
+        Act::CallBack => CALL_BACK,
+        Act::Take => TAKE,
+        _ => of_sender(act),
+    }
 }
 
-pub(super) fn take() -> Event {
-    call(
-        Side::B,
-        Call::Take {
-            peer: A,
-            pair: RECEIVER,
-            bytes: 100,
-        },
-    )
-}
-
-/// The connection is closed by a side.
-pub(super) fn close(side: Side) -> Event {
-    let of_side = match side {
-        Side::A => Call::Close {
-            peer: B,
-            pair: SENDER,
-        },
-        Side::B => Call::Close {
-            peer: A,
-            pair: RECEIVER,
-        },
-    };
-    call(side, of_side)
-}
-
-pub(super) fn reset(side: Side) -> Event {
-    let peer = match side {
-        Side::A => B,
-        Side::B => A,
-    };
-    call(side, Call::Reset { peer })
+fn of_sender(act: Act) -> Event {
+    match act {
+        Act::AskSend => ASK_SEND,
+        Act::State => STATE,
+        Act::Wake => WAKE,
+        _ => RESET_A,
+    }
 }
 
 /// Adds events behind others.
-pub(super) fn push(events: &mut Vec<Event>, more: Vec<Event>) -> Result<(), AllocError> {
-    for event in more {
-        events.push(event)?;
+pub(super) fn push(events: &mut Vec<Event>, more: &[Act]) -> Result<(), AllocError> {
+    for act in more {
+        events.push(event_of(*act))?;
     }
     Ok(())
 }
 
 /// Both hosts come up, and ask for the connection.
-fn asking(alloc: Global) -> Result<Vec<Event>, AllocError> {
-    Ok(vec![in alloc;
-        reset(Side::A),
-        out(Side::A),
-        deliver(Side::A, 0),
-        answer(Side::A, 0),
-        out(Side::B),
-        deliver(Side::B, 0),
-        answer(Side::B, 0),
-        ask_receive(),
-        ask_send(),
-    ]?)
+const ASKING: &[Act] = &[
+    Act::Reset,
+    Act::Out(Side::A),
+    Act::Deliver(Side::A, 0),
+    Act::Answer(Side::A, 0),
+    Act::Out(Side::B),
+    Act::Deliver(Side::B, 0),
+    Act::Answer(Side::B, 0),
+    Act::AskReceive,
+    Act::AskSend,
+];
+
+/// It opens, and two messages of 16 bits are allowed.
+const OPENING: &[Act] = &[
+    Act::Out(Side::B),
+    Act::Deliver(Side::B, 0),
+    Act::Answer(Side::B, 0),
+    Act::Out(Side::A),
+    Act::Deliver(Side::A, 0),
+    Act::Answer(Side::A, 0),
+    Act::Allocate,
+    Act::Out(Side::B),
+    Act::Deliver(Side::B, 0),
+    Act::Answer(Side::B, 0),
+];
+
+/// The connection opens and has an allocation.
+pub(super) fn allocated(alloc: Global) -> Result<Vec<Event>, AllocError> {
+    let mut events = Vec::new(alloc);
+    push(&mut events, ASKING)?;
+    push(&mut events, OPENING)?;
+    Ok(events)
 }
 
-/// It opens, two messages of 16 bits are allowed, three bytes are given, and two go out.
-fn opening(alloc: Global, text: Message) -> Result<Vec<Event>, AllocError> {
-    Ok(vec![in alloc;
-        out(Side::B),
-        deliver(Side::B, 0),
-        answer(Side::B, 0),
-        out(Side::A),
-        deliver(Side::A, 0),
-        answer(Side::A, 0),
-        call(
-            Side::B,
-            Call::Allocate {
-                peer: A,
-                pair: RECEIVER,
-                messages: 2,
-                bits: 16
-            }
-        ),
-        out(Side::B),
-        deliver(Side::B, 0),
-        answer(Side::B, 0),
-        call(
-            Side::A,
-            Call::Give {
-                peer: B,
-                pair: SENDER,
-                text
-            }
-        ),
-        out(Side::A),
-    ]?)
-}
-
+/// Three bytes are given, and two go out.
 pub(super) fn beginning(rt: &impl Abort, alloc: Global) -> Result<Vec<Event>, AllocError> {
     let text = Message::from_bits(alloc, &bits_of(rt, b"abc"))?;
-    let mut events = asking(alloc)?;
-    push(&mut events, opening(alloc, text)?)?;
+    let mut events = allocated(alloc)?;
+    let call = Call::Give {
+        peer: B,
+        pair: SENDER,
+        text,
+    };
+    let side = Side::A;
+    events.push(Event::Call { side, call })?;
+    events.push(out(side))?;
     Ok(events)
 }
 
 /// What is behind the beginning: the text comes and is taken, and no more goes out.
-fn ending(alloc: Global) -> Result<Vec<Event>, AllocError> {
-    Ok(vec![in alloc;
-        deliver(Side::A, LINK),
-        answer(Side::A, LINK),
-        take(),
-        call(
-            Side::A,
-            Call::State {
-                peer: B,
-                pair: SENDER
-            }
-        ),
-        out(Side::A),
-    ]?)
-}
+const ENDING: &[Act] = &[
+    Act::Deliver(Side::A, LINK),
+    Act::Answer(Side::A, LINK),
+    Act::Take,
+    Act::State,
+    Act::Out(Side::A),
+];
+
+/// What is behind the beginning where the text is lost twice.
+const LOST_TWICE: &[Act] = &[
+    Act::Lose(Side::A, LINK),
+    Act::Answer(Side::A, LINK),
+    Act::Out(Side::A),
+    Act::Lose(Side::A, LINK),
+    Act::Answer(Side::A, LINK),
+    Act::Out(Side::A),
+    Act::Deliver(Side::A, LINK),
+    Act::Answer(Side::A, LINK),
+    Act::Deliver(Side::A, LINK),
+    Act::Take,
+    Act::Take,
+];
 
 /// All events of the first script.
 pub(super) fn one_connection(rt: &impl Abort, alloc: Global) -> Result<Vec<Event>, AllocError> {
     let mut events = beginning(rt, alloc)?;
-    push(&mut events, ending(alloc)?)?;
+    push(&mut events, ENDING)?;
     Ok(events)
 }
 
 /// All events of the script in which the text is lost twice.
 pub(super) fn lost_twice(rt: &impl Abort, alloc: Global) -> Result<Vec<Event>, AllocError> {
     let mut events = beginning(rt, alloc)?;
-    let rest = vec![in alloc;
-        lose(Side::A, LINK),
-        answer(Side::A, LINK),
-        out(Side::A),
-        lose(Side::A, LINK),
-        answer(Side::A, LINK),
-        out(Side::A),
-        deliver(Side::A, LINK),
-        answer(Side::A, LINK),
-        deliver(Side::A, LINK),
-        take(),
-        take(),
-    ]?;
-    push(&mut events, rest)?;
+    push(&mut events, LOST_TWICE)?;
     Ok(events)
 }

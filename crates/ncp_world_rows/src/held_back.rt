@@ -2,7 +2,8 @@
 //! connection is closed and asked for again.
 use crate::events;
 use crate::events::{
-    LINK, RECEIVER, SENDER, answer, ask_receive, ask_send, close, deliver, out, reset, take,
+    ASK_RECEIVE, ASK_SEND, CLOSE_A, CLOSE_B, LINK, RECEIVER, RESET_A, RESET_B, SENDER, TAKE,
+    answer, deliver, out,
 };
 use crate::tried::{A, B, Tried};
 use crate::wanted::{Wanted, says};
@@ -15,7 +16,7 @@ use std::process::Abort;
 use std::test::Fail;
 
 /// A message that is held back: after how many events it is out, whose it is, and its link.
-#[derive(Clone, Copy, Debug, Drop)]
+#[derive(Clone, Copy, Drop)]
 struct Held {
     after: usize,
     side: Side,
@@ -61,7 +62,7 @@ const TEXT: Held = Held {
 const CONTROL_MESSAGES: [Held; 5] = [RST, RRP, RTS, STR, ALL];
 
 /// What the message is held back past.
-#[derive(Clone, Copy, Debug, Drop)]
+#[derive(Clone, Copy, Drop)]
 enum Past {
     CloseBySender,
     CloseByReceiver,
@@ -94,34 +95,45 @@ fn is_on(held: Option<Held>, side: Side, link: u8) -> bool {
     }
 }
 
+/// A message goes out on a link, comes and is answered, where it is not the one that is held back.
+fn goes<S: BitStore>(
+    rt: &impl Abort,
+    tried: &mut Tried<S>,
+    held: Option<Held>,
+    side: Side,
+    link: u8,
+) {
+    tried.does(rt, &out(side));
+    if !is_on(held, side, link) {
+        tried.does(rt, &deliver(side, link));
+        tried.does(rt, &answer(side, link));
+    }
+}
+
 /// All messages go out, come and are answered, but the one that is held back.
 fn go_on<S: BitStore>(rt: &impl Abort, tried: &mut Tried<S>, held: Option<Held>) {
     for _round in 0..ROUNDS {
         for (side, link) in WAYS.iter() {
-            tried.does(rt, &out(*side));
-            if !is_on(held, *side, *link) {
-                tried.does(rt, &deliver(*side, *link));
-                tried.does(rt, &answer(*side, *link));
-            }
+            goes(rt, tried, held, *side, *link);
         }
     }
 }
 
 /// Both ask for the connection. Where it is still there, the call is refused.
 fn ask<S: BitStore>(rt: &impl Abort, tried: &mut Tried<S>) {
-    tried.does(rt, &ask_receive());
-    tried.does(rt, &ask_send());
+    tried.does(rt, &ASK_RECEIVE);
+    tried.does(rt, &ASK_SEND);
 }
 
 fn happens<S: BitStore>(rt: &impl Abort, tried: &mut Tried<S>, past: Past, held: Held) {
     match past {
-        Past::CloseBySender => tried.does(rt, &close(Side::A)),
-        Past::CloseByReceiver => tried.does(rt, &close(Side::B)),
-        Past::ResetBySender => tried.does(rt, &reset(Side::A)),
-        Past::ResetByReceiver => tried.does(rt, &reset(Side::B)),
+        Past::CloseBySender => tried.does(rt, &CLOSE_A),
+        Past::CloseByReceiver => tried.does(rt, &CLOSE_B),
+        Past::ResetBySender => tried.does(rt, &RESET_A),
+        Past::ResetByReceiver => tried.does(rt, &RESET_B),
         Past::Reopening => {
-            tried.does(rt, &close(Side::A));
-            tried.does(rt, &close(Side::B));
+            tried.does(rt, &CLOSE_A);
+            tried.does(rt, &CLOSE_B);
             go_on(rt, tried, Some(held));
             ask(rt, tried);
         }
@@ -164,11 +176,13 @@ fn is_bad(note: &Note) -> bool {
     }
 }
 
-/// Both hosts are up, neither made an ERR, and nothing came that may not.
-fn is_well<S: BitStore>(rt: &impl Abort, tried: &Tried<S>) {
-    assert!(rt; tried.is_up(Side::A, B) && tried.is_up(Side::B, A));
-    assert!(rt; tried.errors(Side::A, B) == 0 && tried.errors(Side::B, A) == 0);
-    assert!(rt; !tried.notes().iter().any(is_bad));
+/// Whether both hosts are up, neither made an ERR, and nothing came that may not.
+fn is_well<S: BitStore>(tried: &Tried<S>) -> bool {
+    tried.is_up(Side::A, B)
+        && tried.is_up(Side::B, A)
+        && tried.errors(Side::A, B) == 0
+        && tried.errors(Side::B, A) == 0
+        && !tried.notes().iter().any(is_bad)
 }
 
 /// Whether a record is of an open end on the link, with nothing counted or stored.
@@ -189,7 +203,7 @@ fn is_new(record: &Option<Record>) -> bool {
 
 /// What the user of the receiver is answered, once all has come.
 fn takes<S: BitStore>(rt: &impl Abort, tried: &mut Tried<S>, text: Option<&[u8]>) {
-    tried.does(rt, &take());
+    tried.does(rt, &TAKE);
     match (tried.notes().last(), text) {
         (Some(note), Some(bytes)) => assert!(rt; says(rt, note, &Wanted::Took(bytes))),
         (
@@ -216,9 +230,10 @@ fn ends<S: BitStore>(
 ) -> Result<(), Fail> {
     let mut tried: Tried<S> = held_back(rt, alloc, held, past)?;
     takes(rt, &mut tried, text);
-    is_well(rt, &tried);
-    assert!(rt; tried.record(Side::A, B, SENDER).is_none());
-    assert!(rt; tried.record(Side::B, A, RECEIVER).is_none());
+    assert!(rt; is_well(&tried));
+    assert!(rt;
+        tried.record(Side::A, B, SENDER).is_none() && tried.record(Side::B, A, RECEIVER).is_none()
+    );
     Ok(())
 }
 
@@ -229,9 +244,10 @@ fn opens<S: BitStore>(rt: &impl Abort, alloc: Global, held: Held) -> Result<(), 
     ask(rt, &mut tried);
     go_on(rt, &mut tried, None);
     takes(rt, &mut tried, Some(b""));
-    is_well(rt, &tried);
-    assert!(rt; is_new(&tried.record(Side::A, B, SENDER)));
-    assert!(rt; is_new(&tried.record(Side::B, A, RECEIVER)));
+    assert!(rt; is_well(&tried));
+    assert!(rt;
+        is_new(&tried.record(Side::A, B, SENDER)) && is_new(&tried.record(Side::B, A, RECEIVER))
+    );
     Ok(())
 }
 

@@ -1,9 +1,8 @@
 //! The ledger after each event of a script.
 use crate::events;
-use crate::events::{RECEIVER, SENDER, answer, call, deliver, out, push};
-use crate::tried::{A, Tried};
+use crate::events::{Act, RECEIVER, SENDER, push};
+use crate::tried::Tried;
 use ncp_bits::{BitStore, PackedStore, PlainStore};
-use ncp_transcript::Call;
 use ncp_world::{Amount, Event, Ledger, Side};
 use std::alloc::{AllocError, Global};
 use std::process::Abort;
@@ -110,33 +109,26 @@ fn of_called_back(events: usize) -> Option<Ledger> {
     }
 }
 
+/// Half is called back.
+const CALLED_BACK: &[Act] = &[
+    Act::CallBack,
+    Act::Out(Side::B),
+    Act::Deliver(Side::B, 0),
+    Act::Answer(Side::B, 0),
+    Act::Out(Side::A),
+    Act::Deliver(Side::A, 0),
+    Act::Answer(Side::A, 0),
+];
+
 /// Half is called back in place of a text that is given.
-fn called_back(rt: &impl Abort, alloc: Global) -> Result<Vec<Event>, AllocError> {
-    let mut events = events::beginning(rt, alloc)?;
-    events.truncate(19);
-    let rest = vec![in alloc;
-        call(
-            Side::B,
-            Call::CallBack {
-                peer: A,
-                pair: RECEIVER,
-                fm: 64,
-                fb: 64
-            }
-        ),
-        out(Side::B),
-        deliver(Side::B, 0),
-        answer(Side::B, 0),
-        out(Side::A),
-        deliver(Side::A, 0),
-        answer(Side::A, 0),
-    ]?;
-    push(&mut events, rest)?;
+fn called_back(alloc: Global) -> Result<Vec<Event>, AllocError> {
+    let mut events = events::allocated(alloc)?;
+    push(&mut events, CALLED_BACK)?;
     Ok(events)
 }
 
 /// A script.
-#[derive(Clone, Copy, Debug, Drop)]
+#[derive(Clone, Copy, Drop)]
 enum Script {
     OneConnection,
     LostTwice,
@@ -147,7 +139,7 @@ fn events_of(rt: &impl Abort, alloc: Global, script: Script) -> Result<Vec<Event
     match script {
         Script::OneConnection => events::one_connection(rt, alloc),
         Script::LostTwice => events::lost_twice(rt, alloc),
-        Script::CalledBack => called_back(rt, alloc),
+        Script::CalledBack => called_back(alloc),
     }
 }
 
@@ -165,8 +157,9 @@ fn is_kept<S: BitStore>(rt: &impl Abort, alloc: Global, script: Script) -> Resul
     for event in &events_of(rt, alloc, script)? {
         tried.does(rt, event);
         assert!(rt; tried.ledger(Side::A, SENDER) == wanted(script, tried.notes().len()));
-        assert!(rt; tried.ledger(Side::B, SENDER).is_none());
-        assert!(rt; tried.ledger(Side::B, RECEIVER).is_none());
+        assert!(rt;
+            tried.ledger(Side::B, SENDER).is_none() && tried.ledger(Side::B, RECEIVER).is_none()
+        );
     }
     Ok(())
 }

@@ -1,5 +1,6 @@
 //! Worked runs of two to eight hosts.
 use crate::many_tried::ManyTried;
+use crate::refused::is_same;
 use crate::wanted::bits_of;
 use ncp_bits::{BitStore, PackedStore, PlainStore};
 use ncp_host::{CallFault, Flags, Pair, Received, Took};
@@ -39,19 +40,19 @@ const DOWN: Flags = Flags {
     wait: false,
 };
 
-pub(super) fn call(host: u8, call: Call) -> ManyEvent {
+fn call(host: u8, call: Call) -> ManyEvent {
     ManyEvent::Call { host, call }
 }
 
-pub(super) fn out(host: u8) -> ManyEvent {
+fn out(host: u8) -> ManyEvent {
     ManyEvent::Out { host }
 }
 
-pub(super) fn deliver(from: u8, to: u8, link: u8) -> ManyEvent {
+fn deliver(from: u8, to: u8, link: u8) -> ManyEvent {
     ManyEvent::Deliver { from, to, link }
 }
 
-pub(super) fn answer(from: u8, to: u8, link: u8) -> ManyEvent {
+fn answer(from: u8, to: u8, link: u8) -> ManyEvent {
     ManyEvent::Answer { from, to, link }
 }
 
@@ -117,43 +118,61 @@ fn came(note: &ManyNote, sender: u8, receiver: u8, on: u8, how: Received) -> boo
     }
 }
 
-/// Host 1 resets 2 and 3, and its RST to 3 comes first.
-fn two_resets(alloc: Global) -> Result<Vec<ManyEvent>, Fail> {
-    Ok(vec![in alloc;
-        call(1, Call::Reset { peer: 2 }),
-        call(1, Call::Reset { peer: 3 }),
-        out(1),
-        out(1),
-        out(1),
-        deliver(1, 3, 0),
-        call(3, Call::Phase { peer: 1 }),
-        call(2, Call::Phase { peer: 1 }),
-    ]?)
+/// Whether a note says that a host had nothing to send.
+fn was_quiet(note: &ManyNote, of: u8) -> bool {
+    match note {
+        ManyNote::Out {
+            host,
+            note: HostNote::Nothing,
+        } => *host == of,
+        _ => false,
+    }
 }
+
+/// Host 1 resets 2 and 3, and its RST to 3 comes first.
+const TWO_RESETS: [ManyEvent; 8] = [
+    ManyEvent::Call {
+        host: 1,
+        call: Call::Reset { peer: 2 },
+    },
+    ManyEvent::Call {
+        host: 1,
+        call: Call::Reset { peer: 3 },
+    },
+    ManyEvent::Out { host: 1 },
+    ManyEvent::Out { host: 1 },
+    ManyEvent::Out { host: 1 },
+    ManyEvent::Deliver {
+        from: 1,
+        to: 3,
+        link: 0,
+    },
+    ManyEvent::Call {
+        host: 3,
+        call: Call::Phase { peer: 1 },
+    },
+    ManyEvent::Call {
+        host: 2,
+        call: Call::Phase { peer: 1 },
+    },
+];
+
+/// RST as it goes out to host 2, and to host 3.
+const RST_TO_2: &[u8] = &[0, 2, 0, 0, 0, 8, 0, 1, 0, 12];
+
+const RST_TO_3: &[u8] = &[0, 3, 0, 0, 0, 8, 0, 1, 0, 12];
 
 fn say_two_resets(rt: &impl Abort, notes: &[ManyNote]) {
     assert!(rt; notes.len() == 8);
-    assert!(rt; was_reset(&notes[0], 1, 2));
-    assert!(rt; was_reset(&notes[1], 1, 3));
-    assert!(rt; went(rt, &notes[2], 1, &[0, 2, 0, 0, 0, 8, 0, 1, 0, 12]));
-    assert!(rt; went(rt, &notes[3], 1, &[0, 3, 0, 0, 0, 8, 0, 1, 0, 12]));
-    assert!(rt;
-        matches!(
-            &notes[4],
-            ManyNote::Out {
-                host: 1,
-                note: HostNote::Nothing
-            }
-        )
-    );
+    assert!(rt; was_reset(&notes[0], 1, 2) && was_reset(&notes[1], 1, 3));
+    assert!(rt; went(rt, &notes[2], 1, RST_TO_2) && went(rt, &notes[3], 1, RST_TO_3));
+    assert!(rt; was_quiet(&notes[4], 1));
     assert!(rt; came(&notes[5], 1, 3, 0, Received::Control(1)));
-    assert!(rt; told(&notes[6], 3, 1, UP));
-    assert!(rt; told(&notes[7], 2, 1, DOWN));
+    assert!(rt; told(&notes[6], 3, 1, UP) && told(&notes[7], 2, 1, DOWN));
 }
 
 fn two_resets_over<S: BitStore>(rt: &impl Abort, alloc: Global) -> Result<(), Fail> {
-    let events = two_resets(alloc)?;
-    let tried: ManyTried<S> = ManyTried::run(alloc, &THREE, &events)?;
+    let tried: ManyTried<S> = ManyTried::run(alloc, &THREE, &TWO_RESETS)?;
     say_two_resets(rt, tried.notes());
     Ok(())
 }
@@ -185,10 +204,10 @@ fn are_bad(alloc: Global, hosts: &[u8]) -> bool {
 #[test]
 fn bad_hosts_are_refused(rt: HostRuntime) {
     assert!(rt; MAX_HOSTS == 8);
-    assert!(rt; are_bad(rt.alloc(), &[]));
-    assert!(rt; are_bad(rt.alloc(), &[1]));
-    assert!(rt; are_bad(rt.alloc(), &[1, 2, 1]));
-    assert!(rt; are_bad(rt.alloc(), &[1, 2, 3, 4, 5, 6, 7, 8, 9]));
+    assert!(rt; are_bad(rt.alloc(), &[]) && are_bad(rt.alloc(), &[1]));
+    assert!(rt;
+        are_bad(rt.alloc(), &[1, 2, 1]) && are_bad(rt.alloc(), &[1, 2, 3, 4, 5, 6, 7, 8, 9])
+    );
 }
 
 /// A host is there where its number was given.
@@ -196,107 +215,116 @@ fn bad_hosts_are_refused(rt: HostRuntime) {
 fn hosts_are_there(rt: HostRuntime) -> Result<(), Fail> {
     let tried: ManyTried<PackedStore> = ManyTried::new(rt.alloc(), &[7, 0, 255])?;
     assert!(rt; tried.notes().is_empty());
-    assert!(rt; tried.is_there(7) && tried.is_there(0) && tried.is_there(255));
-    assert!(rt; !tried.is_there(1));
+    assert!(rt;
+        tried.is_there(7) && tried.is_there(0) && tried.is_there(255) && !tried.is_there(1)
+    );
     Ok(())
 }
 
 /// Events whose host, sender or destination is not there, or that name one host twice.
-fn absent(alloc: Global) -> Result<Vec<ManyEvent>, Fail> {
-    Ok(vec![in alloc;
-        call(4, Call::Reset { peer: 1 }),
-        out(4),
-        deliver(4, 1, 0),
-        ManyEvent::Lose {
+const ABSENT: [ManyEvent; 6] = [
+    ManyEvent::Call {
+        host: 4,
+        call: Call::Reset { peer: 1 },
+    },
+    ManyEvent::Out { host: 4 },
+    ManyEvent::Deliver {
+        from: 4,
+        to: 1,
+        link: 0,
+    },
+    ManyEvent::Lose {
+        from: 1,
+        to: 4,
+        link: 0,
+    },
+    ManyEvent::Dead {
+        from: 1,
+        to: 1,
+        link: 0,
+    },
+    ManyEvent::Answer {
+        from: 4,
+        to: 5,
+        link: 0,
+    },
+];
+
+/// Whether each note says what is wanted, and there are no others.
+fn are_same(alloc: Global, notes: &[ManyNote], wanted: &[ManyNote]) -> Result<bool, Fail> {
+    for (note, other) in notes.iter().zip(wanted.iter()) {
+        if !is_same(alloc, note, other)? {
+            return Ok(false);
+        }
+    }
+    Ok(notes.len() == wanted.len())
+}
+
+/// What is noted of them: nothing, with the event.
+const ABSENT_NOTES: [ManyNote; 6] = [
+    ManyNote::Nothing {
+        event: ManyEvent::Call {
+            host: 4,
+            call: Call::Reset { peer: 1 },
+        },
+    },
+    ManyNote::Nothing {
+        event: ManyEvent::Out { host: 4 },
+    },
+    ManyNote::Nothing {
+        event: ManyEvent::Deliver {
+            from: 4,
+            to: 1,
+            link: 0,
+        },
+    },
+    ManyNote::Nothing {
+        event: ManyEvent::Lose {
             from: 1,
             to: 4,
-            link: 0
+            link: 0,
         },
-        ManyEvent::Dead {
+    },
+    ManyNote::Nothing {
+        event: ManyEvent::Dead {
             from: 1,
             to: 1,
-            link: 0
+            link: 0,
         },
-        answer(4, 5, 0),
-    ]?)
-}
+    },
+    ManyNote::Nothing {
+        event: ManyEvent::Answer {
+            from: 4,
+            to: 5,
+            link: 0,
+        },
+    },
+];
 
 /// Each is noted as nothing, with the event.
 #[test]
 fn absent_hosts_do_nothing(rt: HostRuntime) -> Result<(), Fail> {
-    let events = absent(rt.alloc())?;
-    let tried: ManyTried<PackedStore> = ManyTried::run(rt.alloc(), &THREE, &events)?;
-    let notes = tried.notes();
-    assert!(rt; notes.len() == 6);
-    assert!(rt;
-        matches!(
-            &notes[0],
-            ManyNote::Nothing {
-                event: ManyEvent::Call {
-                    host: 4,
-                    call: Call::Reset { peer: 1 }
-                }
-            }
-        )
-    );
-    assert!(rt;
-        matches!(
-            &notes[1],
-            ManyNote::Nothing {
-                event: ManyEvent::Out { host: 4 }
-            }
-        )
-    );
-    assert!(rt;
-        matches!(
-            &notes[2],
-            ManyNote::Nothing {
-                event: ManyEvent::Deliver {
-                    from: 4,
-                    to: 1,
-                    link: 0
-                }
-            }
-        )
-    );
-    assert!(rt;
-        matches!(
-            &notes[3],
-            ManyNote::Nothing {
-                event: ManyEvent::Lose {
-                    from: 1,
-                    to: 4,
-                    link: 0
-                }
-            }
-        )
-    );
-    assert!(rt;
-        matches!(
-            &notes[4],
-            ManyNote::Nothing {
-                event: ManyEvent::Dead {
-                    from: 1,
-                    to: 1,
-                    link: 0
-                }
-            }
-        )
-    );
-    assert!(rt;
-        matches!(
-            &notes[5],
-            ManyNote::Nothing {
-                event: ManyEvent::Answer {
-                    from: 4,
-                    to: 5,
-                    link: 0
-                }
-            }
-        )
-    );
+    let tried: ManyTried<PackedStore> = ManyTried::run(rt.alloc(), &THREE, &ABSENT)?;
+    assert!(rt; are_same(rt.alloc(), tried.notes(), &ABSENT_NOTES)?);
     Ok(())
 }
+
+const UNKNOWN_NOTES: [ManyNote; 2] = [
+    ManyNote::Called {
+        host: 1,
+        note: HostNote::Refused {
+            call: Call::Reset { peer: 4 },
+            fault: CallFault::UnknownPeer,
+        },
+    },
+    ManyNote::Nothing {
+        event: ManyEvent::Deliver {
+            from: 1,
+            to: 2,
+            link: 0,
+        },
+    },
+];
 
 /// A peer that is no host is judged by the call, and so is an event with no message.
 #[test]
@@ -304,32 +332,7 @@ fn unknown_peers_are_refused_by_the_call(rt: HostRuntime) -> Result<(), Fail> {
     let mut tried: ManyTried<PackedStore> = ManyTried::new(rt.alloc(), &THREE)?;
     tried.does(&rt, &call(1, Call::Reset { peer: 4 }));
     tried.does(&rt, &deliver(1, 2, 0));
-    let notes = tried.notes();
-    assert!(rt; notes.len() == 2);
-    assert!(rt;
-        matches!(
-            &notes[0],
-            ManyNote::Called {
-                host: 1,
-                note: HostNote::Refused {
-                    call: Call::Reset { peer: 4 },
-                    fault: CallFault::UnknownPeer
-                }
-            }
-        )
-    );
-    assert!(rt;
-        matches!(
-            &notes[1],
-            ManyNote::Nothing {
-                event: ManyEvent::Deliver {
-                    from: 1,
-                    to: 2,
-                    link: 0
-                }
-            }
-        )
-    );
+    assert!(rt; are_same(rt.alloc(), tried.notes(), &UNKNOWN_NOTES)?);
     Ok(())
 }
 
@@ -381,10 +384,8 @@ fn pair_goes_on<S: BitStore>(rt: &impl Abort, tried: &mut ManyTried<S>) {
 /// What they note of it.
 fn say_pair(rt: &impl Abort, notes: &[ManyNote]) {
     assert!(rt; notes.len() == 4);
-    assert!(rt; was_reset(&notes[0], 1, 2));
-    assert!(rt; went(rt, &notes[1], 1, &[0, 2, 0, 0, 0, 8, 0, 1, 0, 12]));
-    assert!(rt; came(&notes[2], 1, 2, 0, Received::Control(1)));
-    assert!(rt; told(&notes[3], 2, 1, UP));
+    assert!(rt; was_reset(&notes[0], 1, 2) && went(rt, &notes[1], 1, RST_TO_2));
+    assert!(rt; came(&notes[2], 1, 2, 0, Received::Control(1)) && told(&notes[3], 2, 1, UP));
 }
 
 /// What two of three note of each other as they come up.
@@ -440,14 +441,26 @@ fn a_reset_of_two_leaves_the_text_to_a_third(rt: HostRuntime) -> Result<(), Fail
     let mut tried = connected(&rt, rt.alloc())?;
     send_text(&rt, rt.alloc(), &mut tried)?;
     come_up(&rt, &mut tried, 2, 1);
-    assert!(rt; tried.is_up(1, 2) && tried.is_up(2, 1));
-    assert!(rt; tried.is_up(1, 3) && tried.is_up(3, 1));
+    assert!(rt; are_up(&tried, 1, 2) && are_up(&tried, 1, 3));
     let before = tried.notes().len();
     tried.does(&rt, &deliver(1, 3, LINK));
     let notes = tried.notes();
-    assert!(rt; before < notes.len());
-    assert!(rt; came(&notes[before], 1, 3, LINK, Received::Text(Took::Admitted)));
+    assert!(rt;
+        before < notes.len() && came(&notes[before], 1, 3, LINK, Received::Text(Took::Admitted))
+    );
     Ok(())
+}
+
+/// Whether two hosts are up with each other.
+fn are_up<S: BitStore>(tried: &ManyTried<S>, one: u8, other: u8) -> bool {
+    tried.is_up(one, other) && tried.is_up(other, one)
+}
+
+/// Whether two hosts are up with each other, and have a connection on which the first sends.
+fn are_connected<S: BitStore>(tried: &ManyTried<S>, one: u8, other: u8) -> bool {
+    are_up(tried, one, other)
+        && tried.is_open(one, other, SENDER)
+        && tried.is_open(other, one, RECEIVER)
 }
 
 /// All pairs of eight hosts come up, and open a connection.
@@ -468,12 +481,7 @@ fn eight_hosts_are_connected(rt: HostRuntime) -> Result<(), Fail> {
     connect_all(&rt, &mut tried);
     for one in 1..9 {
         for other in one + 1..9 {
-            assert!(rt;
-                tried.is_up(one, other) && tried.is_up(other, one),
-                "{one} with {other}"
-            );
-            assert!(rt; tried.is_open(one, other, SENDER), "{one} to {other}");
-            assert!(rt; tried.is_open(other, one, RECEIVER), "{other} from {one}");
+            assert!(rt; are_connected(&tried, one, other), "{one} with {other}");
         }
     }
     Ok(())

@@ -74,9 +74,9 @@ impl<S: BitStore> ManyTried<S> {
     /// Steps once. Where memory is refused nothing has happened, and the same event is given again.
     pub(super) fn does(&mut self, rt: &impl Abort, event: &ManyEvent) {
         let many = self.notes().len();
-        if self.many.step(event).is_err() {
-            assert!(rt; self.notes().len() == many);
-            assert!(rt; self.many.step(event).is_ok());
-        }
+        assert!(rt;
+            self.many.step(event).is_ok()
+                || (self.notes().len() == many && self.many.step(event).is_ok())
+        );
     }
 }

@@ -19,8 +19,16 @@ fn text_of<T: Debug>(alloc: Global, note: &T) -> Result<String, AllocError> {
 }
 
 /// Whether two notes say the same.
-fn is_same<T: Debug>(alloc: Global, one: &T, other: &T) -> Result<bool, AllocError> {
+pub(super) fn is_same<T: Debug>(alloc: Global, one: &T, other: &T) -> Result<bool, AllocError> {
     Ok(text_of(alloc, one)? == text_of(alloc, other)?)
+}
+
+/// Whether the last of two lists of notes say the same.
+fn end_alike<T: Debug>(alloc: Global, notes: &[T], others: &[T]) -> Result<bool, AllocError> {
+    match (notes.last(), others.last()) {
+        (Some(note), Some(again)) => is_same(alloc, note, again),
+        _ => Ok(false),
+    }
 }
 
 /// Whether a note says that a call was refused for want of memory.

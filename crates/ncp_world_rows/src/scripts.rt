@@ -1,12 +1,11 @@
 //! Worked runs, each over either store: all events, and what each of their notes says.
 use crate::events;
-use crate::events::{LINK, answer, beginning, call, dead, deliver, out, push};
+use crate::events::{Act, LINK, beginning, push};
 use crate::tried::{A, B, Tried};
 use crate::wanted::{Wanted, say};
 use ncp_bits::{BitStore, PackedStore, PlainStore};
 use ncp_host::{End, Received, Record, Took};
 use ncp_terms::Answer;
-use ncp_transcript::Call;
 use ncp_world::Side;
 use std::alloc::Global;
 use std::process::Abort;
@@ -74,94 +73,92 @@ fn begins_and_says<S: BitStore>(rt: &impl Abort, tried: &Tried<S>, wanted: &[Wan
     say(rt, &notes[21..], wanted);
 }
 
+/// The record of the sender when the text was answered.
+const LEFT: Record = Record {
+    end: End::Send,
+    asked: true,
+    heard: true,
+    opened: true,
+    leaving: false,
+    left: false,
+    cls: false,
+    link: LINK,
+    size: 8,
+    messages: 1,
+    bits: 0,
+    stored: 8,
+    busy: false,
+    recall: false,
+    interrupts: 0,
+};
+
+const ONE_CONNECTION: &[Wanted<'static>] = &[
+    Wanted::Came(TEXT_CAME, ADMITTED),
+    Wanted::Answered(Answer::Rfnm),
+    Wanted::Took(b"ab"),
+    Wanted::Record(LEFT),
+    Wanted::Quiet,
+];
+
 fn one_connection<S: BitStore>(rt: &impl Abort, alloc: Global) -> Result<(), Fail> {
     let events = events::one_connection(rt, alloc)?;
     let mut tried: Tried<S> = Tried::new(alloc)?;
     for event in &events {
         tried.does(rt, event);
     }
-    let left = Record {
-        end: End::Send,
-        asked: true,
-        heard: true,
-        opened: true,
-        leaving: false,
-        left: false,
-        cls: false,
-        link: LINK,
-        size: 8,
-        messages: 1,
-        bits: 0,
-        stored: 8,
-        busy: false,
-        recall: false,
-        interrupts: 0,
-    };
-    begins_and_says(
-        rt,
-        &tried,
-        &[
-            Wanted::Came(TEXT_CAME, ADMITTED),
-            Wanted::Answered(Answer::Rfnm),
-            Wanted::Took(b"ab"),
-            Wanted::Record(left),
-            Wanted::Quiet,
-        ],
-    );
+    begins_and_says(rt, &tried, ONE_CONNECTION);
     assert!(rt; tried.is_up(Side::A, B) && tried.is_up(Side::B, A));
     Ok(())
 }
 
+const LOST_TWICE: &[Wanted<'static>] = &[
+    Wanted::Lost,
+    Wanted::Answered(Answer::Incomplete),
+    Wanted::Out(TEXT),
+    Wanted::Lost,
+    Wanted::Answered(Answer::Incomplete),
+    Wanted::Out(TEXT),
+    Wanted::Came(TEXT_CAME, ADMITTED),
+    Wanted::Answered(Answer::Rfnm),
+    Wanted::Nothing,
+    Wanted::Took(b"ab"),
+    Wanted::Took(b""),
+];
+
 fn lost_twice<S: BitStore>(rt: &impl Abort, alloc: Global) -> Result<(), Fail> {
     let events = events::lost_twice(rt, alloc)?;
     let tried: Tried<S> = Tried::run(alloc, &events)?;
-    begins_and_says(
-        rt,
-        &tried,
-        &[
-            Wanted::Lost,
-            Wanted::Answered(Answer::Incomplete),
-            Wanted::Out(TEXT),
-            Wanted::Lost,
-            Wanted::Answered(Answer::Incomplete),
-            Wanted::Out(TEXT),
-            Wanted::Came(TEXT_CAME, ADMITTED),
-            Wanted::Answered(Answer::Rfnm),
-            Wanted::Nothing,
-            Wanted::Took(b"ab"),
-            Wanted::Took(b""),
-        ],
-    );
+    begins_and_says(rt, &tried, LOST_TWICE);
     Ok(())
 }
+
+/// What is behind the beginning where the text finds its destination dead.
+const DEAD_AND_WOKEN: &[Act] = &[
+    Act::Dead(Side::A, LINK),
+    Act::Answer(Side::A, LINK),
+    Act::Out(Side::A),
+    Act::Wake,
+    Act::Out(Side::A),
+    Act::Deliver(Side::A, LINK),
+    Act::Answer(Side::A, LINK),
+];
+
+const DEAD_AND_WOKEN_NOTES: &[Wanted<'static>] = &[
+    Wanted::FoundDead,
+    Wanted::Answered(Answer::Dead),
+    Wanted::Quiet,
+    Wanted::Done,
+    Wanted::Out(TEXT),
+    Wanted::Came(TEXT_CAME, ADMITTED),
+    Wanted::Answered(Answer::Rfnm),
+];
 
 // The text finds its destination dead, and is held until the user asks for it.
 fn dead_and_woken<S: BitStore>(rt: &impl Abort, alloc: Global) -> Result<(), Fail> {
     let mut events = beginning(rt, alloc)?;
-    let rest = vec![in alloc;
-        dead(Side::A, LINK),
-        answer(Side::A, LINK),
-        out(Side::A),
-        call(Side::A, Call::Wake { peer: B }),
-        out(Side::A),
-        deliver(Side::A, LINK),
-        answer(Side::A, LINK),
-    ]?;
-    push(&mut events, rest)?;
+    push(&mut events, DEAD_AND_WOKEN)?;
     let tried: Tried<S> = Tried::run(alloc, &events)?;
-    begins_and_says(
-        rt,
-        &tried,
-        &[
-            Wanted::FoundDead,
-            Wanted::Answered(Answer::Dead),
-            Wanted::Quiet,
-            Wanted::Done,
-            Wanted::Out(TEXT),
-            Wanted::Came(TEXT_CAME, ADMITTED),
-            Wanted::Answered(Answer::Rfnm),
-        ],
-    );
+    begins_and_says(rt, &tried, DEAD_AND_WOKEN_NOTES);
     Ok(())
 }
 

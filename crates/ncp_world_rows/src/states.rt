@@ -1,5 +1,5 @@
 //! Each thing that may happen to a message, and an output, in each state of the subnet and the slot.
-use crate::events::{out, reset};
+use crate::events::{RESET_A, out};
 use crate::tried::Tried;
 use ncp_bits::{BitStore, PackedStore, PlainStore};
 use ncp_transcript::HostNote;
@@ -25,7 +25,7 @@ fn event_of(wanted: Move) -> Event {
 /// A host wants to send a message.
 fn beginning<S: BitStore>(rt: &impl Abort, alloc: Global) -> Result<Tried<S>, Fail> {
     let mut tried = Tried::new(alloc)?;
-    tried.does(rt, &reset(Side::A));
+    tried.does(rt, &RESET_A);
     Ok(tried)
 }
 
@@ -39,27 +39,27 @@ fn after<S: BitStore>(rt: &impl Abort, alloc: Global, moves: &[Move]) -> Result<
     Ok(tried)
 }
 
+/// Whether a note of side A says that this could not happen.
+fn is_nothing(note: &Note) -> bool {
+    match note {
+        Note::Nothing { side, link, .. } => matches!(side, Side::A) && *link == 0,
+        Note::Out { side, note } => matches!(side, Side::A) && matches!(note, HostNote::Nothing),
+        _ => false,
+    }
+}
+
 /// Whether the last note says that this could not happen.
-fn is_nothing<S: BitStore>(tried: &Tried<S>) -> bool {
-    matches!(
-        tried.notes().last(),
-        Some(
-            Note::Nothing {
-                side: Side::A,
-                link: 0,
-                ..
-            } | Note::Out {
-                side: Side::A,
-                note: HostNote::Nothing,
-            }
-        )
-    )
+fn was_nothing<S: BitStore>(tried: &Tried<S>) -> bool {
+    match tried.notes().last() {
+        Some(note) => is_nothing(note),
+        None => false,
+    }
 }
 
 /// An event can happen in this state, or not.
 fn happens<S: BitStore>(rt: &impl Abort, mut tried: Tried<S>, event: &Event, can: bool) {
     tried.does(rt, event);
-    assert!(rt; is_nothing(&tried) != can);
+    assert!(rt; was_nothing(&tried) != can);
 }
 
 /// In the state after some moves each move can happen or not, and a message can go out or not.
@@ -90,19 +90,30 @@ fn before_any<S: BitStore>(rt: &impl Abort, alloc: Global) -> Result<(), Fail> {
     Ok(())
 }
 
-fn all_states<S: BitStore>(rt: &impl Abort, alloc: Global) -> Result<(), Fail> {
-    let open = [true, true, true, false];
-    let gone = [false, false, false, true];
-    let free = [false, false, false, false];
-    before_any::<S>(rt, alloc)?;
-    can::<S>(rt, alloc, &[], open, false)?;
-    can::<S>(rt, alloc, &[Move::Deliver], gone, false)?;
-    can::<S>(rt, alloc, &[Move::Lose], gone, false)?;
-    can::<S>(rt, alloc, &[Move::Dead], gone, false)?;
-    can::<S>(rt, alloc, &[Move::Deliver, Move::Answer], free, false)?;
+const OPEN: [bool; 4] = [true, true, true, false];
+
+const GONE: [bool; 4] = [false, false, false, true];
+
+const FREE: [bool; 4] = [false, false, false, false];
+
+/// What happened to a message that went out, which moves can then happen, and whether a message can go out.
+const STATES: [(&[Move], [bool; 4], bool); 7] = [
+    (&[], OPEN, false),
+    (&[Move::Deliver], GONE, false),
+    (&[Move::Lose], GONE, false),
+    (&[Move::Dead], GONE, false),
+    (&[Move::Deliver, Move::Answer], FREE, false),
     // A message that was lost goes out again; one that found its destination dead is held.
-    can::<S>(rt, alloc, &[Move::Lose, Move::Answer], free, true)?;
-    can::<S>(rt, alloc, &[Move::Dead, Move::Answer], free, false)
+    (&[Move::Lose, Move::Answer], FREE, true),
+    (&[Move::Dead, Move::Answer], FREE, false),
+];
+
+fn all_states<S: BitStore>(rt: &impl Abort, alloc: Global) -> Result<(), Fail> {
+    before_any::<S>(rt, alloc)?;
+    for (moves, possible, goes) in STATES.iter() {
+        can::<S>(rt, alloc, moves, *possible, *goes)?;
+    }
+    Ok(())
 }
 
 #[test]

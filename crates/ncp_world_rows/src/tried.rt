@@ -69,9 +69,9 @@ impl<S: BitStore> Tried<S> {
     /// Steps once. Where memory is refused nothing has happened, and the same event is given again.
     pub(super) fn does(&mut self, rt: &impl Abort, event: &Event) {
         let many = self.notes().len();
-        if self.world.step(event).is_err() {
-            assert!(rt; self.notes().len() == many);
-            assert!(rt; self.world.step(event).is_ok());
-        }
+        assert!(rt;
+            self.world.step(event).is_ok()
+                || (self.notes().len() == many && self.world.step(event).is_ok())
+        );
     }
 }

@@ -1,87 +1,107 @@
 //! Three hosts with their subnet.
-use super::{is_same, wants_memory};
-use crate::many::{RECEIVER, SENDER, THREE, answer, call, deliver, out};
+use super::{end_alike, is_same, wants_memory};
+use crate::many::{RECEIVER, SENDER, THREE};
 use crate::reading::{Reading, reading_of};
 use crate::wanted::bits_of;
-use ncp_bits::{BitStore, PackedStore, PlainStore};
+use ncp_bits::{BitStore, Bits, PackedStore, PlainStore};
 use ncp_many::{Many, ManyEvent, ManyFault, ManyNote};
 use ncp_transcript::{Call, Message};
 use std::alloc::{AllocError, Global};
 use std::process::Abort;
 use std::test::Fail;
 
-/// Hosts 1 and 3 come up with each other, and ask for a connection.
-fn asking(alloc: Global) -> Result<Vec<ManyEvent>, AllocError> {
-    Ok(vec![in alloc;
-        call(1, Call::Reset { peer: 3 }),
-        out(1),
-        deliver(1, 3, 0),
-        answer(1, 3, 0),
-        out(3),
-        deliver(3, 1, 0),
-        answer(3, 1, 0),
-        call(
-            3,
-            Call::AskReceive {
-                peer: 1,
-                pair: RECEIVER,
-                room: 1024
-            }
-        ),
-        call(
-            1,
-            Call::AskSend {
-                peer: 3,
-                pair: SENDER,
-                size: 8,
-                room: 1024
-            }
-        ),
-    ]?)
-}
+const OUT_1: ManyEvent = ManyEvent::Out { host: 1 };
 
-/// It opens, and host 1 gives a text. So does a host that is not there.
-fn giving(alloc: Global, text: Message, same: Message) -> Result<Vec<ManyEvent>, AllocError> {
-    Ok(vec![in alloc;
-        out(3),
-        deliver(3, 1, 0),
-        answer(3, 1, 0),
-        out(1),
-        deliver(1, 3, 0),
-        answer(1, 3, 0),
-        call(
-            1,
-            Call::Give {
-                peer: 3,
-                pair: SENDER,
-                text
-            }
-        ),
-        call(
-            4,
-            Call::Give {
-                peer: 3,
-                pair: SENDER,
-                text: same
-            }
-        ),
-        ManyEvent::Lose {
-            from: 1,
-            to: 2,
-            link: 0
+const DELIVER_1: ManyEvent = ManyEvent::Deliver {
+    from: 1,
+    to: 3,
+    link: 0,
+};
+
+const ANSWER_1: ManyEvent = ManyEvent::Answer {
+    from: 1,
+    to: 3,
+    link: 0,
+};
+
+const OUT_3: ManyEvent = ManyEvent::Out { host: 3 };
+
+const DELIVER_3: ManyEvent = ManyEvent::Deliver {
+    from: 3,
+    to: 1,
+    link: 0,
+};
+
+const ANSWER_3: ManyEvent = ManyEvent::Answer {
+    from: 3,
+    to: 1,
+    link: 0,
+};
+
+/// Hosts 1 and 3 come up with each other, ask for a connection, and it opens.
+const OPENING: [ManyEvent; 15] = [
+    ManyEvent::Call {
+        host: 1,
+        call: Call::Reset { peer: 3 },
+    },
+    OUT_1,
+    DELIVER_1,
+    ANSWER_1,
+    OUT_3,
+    DELIVER_3,
+    ANSWER_3,
+    ManyEvent::Call {
+        host: 3,
+        call: Call::AskReceive {
+            peer: 1,
+            pair: RECEIVER,
+            room: 1024,
         },
-        out(2),
-    ]?)
+    },
+    ManyEvent::Call {
+        host: 1,
+        call: Call::AskSend {
+            peer: 3,
+            pair: SENDER,
+            size: 8,
+            room: 1024,
+        },
+    },
+    OUT_3,
+    DELIVER_3,
+    ANSWER_3,
+    OUT_1,
+    DELIVER_1,
+    ANSWER_1,
+];
+
+/// A host gives a text to host 3.
+fn give(alloc: Global, host: u8, text: &Bits) -> Result<ManyEvent, AllocError> {
+    Ok(ManyEvent::Call {
+        host,
+        call: Call::Give {
+            peer: 3,
+            pair: SENDER,
+            text: Message::from_bits(alloc, text)?,
+        },
+    })
 }
 
+/// Host 1 gives a text. So does a host that is not there.
 fn events_once(rt: &impl Abort, alloc: Global) -> Result<Vec<ManyEvent>, AllocError> {
-    let bits = bits_of(rt, b"ab");
-    let text = Message::from_bits(alloc, &bits)?;
-    let same = Message::from_bits(alloc, &bits)?;
-    let mut events = asking(alloc)?;
-    for event in giving(alloc, text, same)? {
+    let text = bits_of(rt, b"ab");
+    let mut events = Vec::new(alloc);
+    for event in OPENING {
         events.push(event)?;
     }
+    events.push(give(alloc, 1, &text)?)?;
+    events.push(give(alloc, 4, &text)?)?;
+    events.push(ManyEvent::Lose {
+        from: 1,
+        to: 2,
+        link: 0,
+    })?;
+    events.push(ManyEvent::Out { host: 2 })?;
     Ok(events)
 }
 
@@ -143,48 +163,45 @@ fn does<S: BitStore>(rt: &impl Abort, many: &mut Many<S>, event: &ManyEvent) -> 
         Ok(()) if wants_at_last(many) => count.saturating_add(1),
         Ok(()) => return false,
     };
-    assert!(rt; many.transcript().len() == noted);
-    assert!(rt; readings(many) == before);
-    assert!(rt; many.step(event).is_ok());
-    assert!(rt; !wants_at_last(many));
+    assert!(rt; many.transcript().len() == noted && readings(many) == before);
+    assert!(rt; many.step(event).is_ok() && !wants_at_last(many));
     true
 }
 
 /// Does all events twice, which note the same. Whether memory was refused.
+fn go_alike<S: BitStore>(
+    rt: &impl Abort,
+    alloc: Global,
+    one: &mut Many<S>,
+    other: &mut Many<S>,
+    events: &[ManyEvent],
+) -> Result<bool, AllocError> {
+    let mut refused = false;
+    for event in events {
+        let first = does(rt, one, event);
+        let second = does(rt, other, event);
+        refused = refused || first || second;
+        assert!(rt; end_alike(alloc, one.transcript(), other.transcript())?);
+    }
+    assert!(rt; readings(one) == readings(other));
+    Ok(refused)
+}
+
 fn steps<S: BitStore>(rt: &impl Abort, alloc: Global) -> Result<bool, Fail> {
     let events = events(rt, alloc)?;
     let (mut one, _refused) = made::<S>(alloc)?;
     let (mut other, _refused) = made::<S>(alloc)?;
-    let mut refused = false;
-    for event in &events {
-        let first = does(rt, &mut one, event);
-        let second = does(rt, &mut other, event);
-        refused = refused || first || second;
-        let (Some(note), Some(again)) = (one.transcript().last(), other.transcript().last()) else {
-            return Err("no note".into());
-        };
-        assert!(rt; is_same(alloc, note, again)?);
-    }
-    assert!(rt; readings(&one) == readings(&other));
-    Ok(refused)
+    Ok(go_alike(rt, alloc, &mut one, &mut other, &events)?)
 }
 
-/// Runs all events twice. Whether one of the runs was refused, or notes a call that was: up to there both note the
-/// same.
-fn runs<S: BitStore>(rt: &impl Abort, alloc: Global) -> Result<bool, Fail> {
-    let events = events(rt, alloc)?;
-    let (one, other) = match (
-        Many::<S>::run(alloc, &THREE, &events),
-        Many::<S>::run(alloc, &THREE, &events),
-    ) {
-        (Ok(one), Ok(other)) => (one, other),
-        (Err(fault), Ok(_)) | (Ok(_), Err(fault)) => {
-            assert!(rt; fault == ManyFault::OutOfMemory);
-            return Ok(true);
-        }
-        (Err(_), Err(_)) => return Err("refused twice".into()),
-    };
-    for (note, again) in one.transcript().iter().zip(other.transcript().iter()) {
+/// Compares the notes of two runs. Whether one of them notes a call that was refused: up to there both note the same.
+fn notes_refusal(
+    rt: &impl Abort,
+    alloc: Global,
+    notes: &[ManyNote],
+    others: &[ManyNote],
+) -> Result<bool, Fail> {
+    for (note, again) in notes.iter().zip(others.iter()) {
         if is_wanting(note) || is_wanting(again) {
             return Ok(true);
         }
@@ -193,11 +210,32 @@ fn runs<S: BitStore>(rt: &impl Abort, alloc: Global) -> Result<bool, Fail> {
     Ok(false)
 }
 
+/// Runs all events twice. Whether one of the runs was refused, or notes a call that was.
+fn runs<S: BitStore>(rt: &impl Abort, alloc: Global) -> Result<bool, Fail> {
+    let events = events(rt, alloc)?;
+    let one = Many::<S>::run(alloc, &THREE, &events);
+    let other = Many::<S>::run(alloc, &THREE, &events);
+    match (&one, &other) {
+        (Ok(one), Ok(other)) => notes_refusal(rt, alloc, one.transcript(), other.transcript()),
+        (Err(_), Err(_)) => Err("refused twice".into()),
+        (Err(fault), Ok(_)) | (Ok(_), Err(fault)) => {
+            assert!(rt; *fault == ManyFault::OutOfMemory);
+            Ok(true)
+        }
+    }
+}
+
+/// Whether memory for three hosts was refused once.
+fn is_refused<S: BitStore>(alloc: Global) -> Result<bool, ManyFault> {
+    let (_many, refused) = made::<S>(alloc)?;
+    Ok(refused)
+}
+
 #[test]
 fn many_new(rt: HostRuntime) -> Result<(), Fail> {
-    let (_plain, one) = made::<PlainStore>(rt.alloc())?;
-    let (_packed, other) = made::<PackedStore>(rt.alloc())?;
-    if one || other {
+    let plain = is_refused::<PlainStore>(rt.alloc())?;
+    let packed = is_refused::<PackedStore>(rt.alloc())?;
+    if plain || packed {
         println!(rt; "refused: OutOfMemory, no hosts")?;
     }
     Ok(())

@@ -1,5 +1,5 @@
 //! Two hosts with their subnet.
-use super::{is_same, wants_memory};
+use super::{end_alike, is_same, wants_memory};
 use crate::events::one_connection;
 use crate::reading::{Reading, reading_of};
 use crate::tried::{A, B};
@@ -57,45 +57,45 @@ fn does<S: BitStore>(rt: &impl Abort, world: &mut World<S>, event: &Event) -> bo
         Ok(()) if wants_at_last(world) => many.saturating_add(1),
         Ok(()) => return false,
     };
-    assert!(rt; world.transcript().len() == noted);
-    assert!(rt; readings(world) == before);
-    assert!(rt; world.step(event).is_ok());
-    assert!(rt; !wants_at_last(world));
+    assert!(rt; world.transcript().len() == noted && readings(world) == before);
+    assert!(rt; world.step(event).is_ok() && !wants_at_last(world));
     true
 }
 
 /// Does all events in two worlds, which note the same. Whether memory was refused.
-fn steps<S: BitStore>(rt: &impl Abort, alloc: Global) -> Result<bool, Fail> {
-    let events = events(rt, alloc)?;
-    let (mut one, _refused) = made::<S>(alloc)?;
-    let (mut other, _refused) = made::<S>(alloc)?;
+fn go_alike<S: BitStore>(
+    rt: &impl Abort,
+    alloc: Global,
+    one: &mut World<S>,
+    other: &mut World<S>,
+    events: &[Event],
+) -> Result<bool, AllocError> {
     let mut refused = false;
-    for event in &events {
-        let first = does(rt, &mut one, event);
-        let second = does(rt, &mut other, event);
+    for event in events {
+        let first = does(rt, one, event);
+        let second = does(rt, other, event);
         refused = refused || first || second;
-        let (Some(note), Some(again)) = (one.transcript().last(), other.transcript().last()) else {
-            return Err("no note".into());
-        };
-        assert!(rt; is_same(alloc, note, again)?);
+        assert!(rt; end_alike(alloc, one.transcript(), other.transcript())?);
     }
-    assert!(rt; readings(&one) == readings(&other));
+    assert!(rt; readings(one) == readings(other));
     Ok(refused)
 }
 
-/// Runs all events twice. Whether one of the runs was refused, or notes a call that was: up to there both note the
-/// same.
-fn runs<S: BitStore>(rt: &impl Abort, alloc: Global) -> Result<bool, Fail> {
+fn steps<S: BitStore>(rt: &impl Abort, alloc: Global) -> Result<bool, AllocError> {
     let events = events(rt, alloc)?;
-    let (one, other) = match (
-        run::<S>(alloc, A, B, &events),
-        run::<S>(alloc, A, B, &events),
-    ) {
-        (Ok(one), Ok(other)) => (one, other),
-        (Err(_), Ok(_)) | (Ok(_), Err(_)) => return Ok(true),
-        (Err(_), Err(_)) => return Err("refused twice".into()),
-    };
-    for (note, again) in one.transcript().iter().zip(other.transcript().iter()) {
+    let (mut one, _refused) = made::<S>(alloc)?;
+    let (mut other, _refused) = made::<S>(alloc)?;
+    go_alike(rt, alloc, &mut one, &mut other, &events)
+}
+
+/// Compares the notes of two runs. Whether one of them notes a call that was refused: up to there both note the same.
+fn notes_refusal(
+    rt: &impl Abort,
+    alloc: Global,
+    notes: &[Note],
+    others: &[Note],
+) -> Result<bool, Fail> {
+    for (note, again) in notes.iter().zip(others.iter()) {
         if is_wanting(note) || is_wanting(again) {
             return Ok(true);
         }
@@ -104,11 +104,29 @@ fn runs<S: BitStore>(rt: &impl Abort, alloc: Global) -> Result<bool, Fail> {
     Ok(false)
 }
 
+/// Runs all events twice. Whether one of the runs was refused, or notes a call that was.
+fn runs<S: BitStore>(rt: &impl Abort, alloc: Global) -> Result<bool, Fail> {
+    let events = events(rt, alloc)?;
+    let one = run::<S>(alloc, A, B, &events);
+    let other = run::<S>(alloc, A, B, &events);
+    match (&one, &other) {
+        (Ok(one), Ok(other)) => notes_refusal(rt, alloc, one.transcript(), other.transcript()),
+        (Err(_), Err(_)) => Err("refused twice".into()),
+        _ => Ok(true),
+    }
+}
+
+/// Whether memory for a world was refused once.
+fn is_refused<S: BitStore>(alloc: Global) -> Result<bool, AllocError> {
+    let (_world, refused) = made::<S>(alloc)?;
+    Ok(refused)
+}
+
 #[test]
 fn world_new(rt: HostRuntime) -> Result<(), Fail> {
-    let (_plain, one) = made::<PlainStore>(rt.alloc())?;
-    let (_packed, other) = made::<PackedStore>(rt.alloc())?;
-    if one || other {
+    let plain = is_refused::<PlainStore>(rt.alloc())?;
+    let packed = is_refused::<PackedStore>(rt.alloc())?;
+    if plain || packed {
         println!(rt; "refused: AllocError, no world")?;
     }
     Ok(())
