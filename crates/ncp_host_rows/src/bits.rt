@@ -2,7 +2,7 @@
 //! that the definitions mean what the worked examples mean.
 //!
 //! The helpers have no clauses: each sees for itself that its call may be made, so the prover need not follow bits
-//! through a test.
+//! through a test. `pushes` alone has one, which the tests meet by constants.
 ghost use Rattle.std.specs.Prelude.{◌<◌, ◌^◌};
 
 use crate::known::{is_shown, is_told};
