@@ -13,6 +13,8 @@ mod ledgers;
 #[cfg(test)]
 mod many;
 #[cfg(test)]
+mod many_faults;
+#[cfg(test)]
 mod many_tried;
 #[cfg(test)]
 mod reading;
