@@ -2,11 +2,11 @@
  *
  * Link `libncp.a`, which `include/library` makes. docs/EMBEDDING.md says how a host is driven.
  *
- * Every function but ncp_free answers a number: 0 where it was done, else why not. What is refused
- * changes nothing, neither the host nor a buffer. Refusals are judged in the order in which they are
- * listed, and first of all: NCP_NO_HOST (`host` is null, or has no host), NCP_NO_POINTER (another
- * pointer is null, also one to no bytes), then what is said of buffers and bits. No function keeps a
- * pointer that it was given: what the host keeps it has copied.
+ * Every function but ncp_free and ncp_is_made answers a number: 0 where it was done, else why not.
+ * What is refused changes nothing, neither the host nor a buffer. Refusals are judged in the order
+ * in which they are listed, and first of all: NCP_NO_HOST (`host` is null, or has no host),
+ * NCP_NO_POINTER (another pointer is null, also one to no bytes), then what is said of buffers and
+ * bits. No function keeps a pointer that it was given: what the host keeps it has copied.
  *
  * Sizes of messages and texts are in bits, lengths of buffers in bytes. A bit string stands in bytes
  * from the most significant bit of the first byte; its spare bits in the last byte are zero.
@@ -157,7 +157,8 @@ struct ncp_connection {
 };
 
 /* The functions of the library. No pointer of theirs may be null: call those below, which see to it.
- * A `host` whose `at` is null has no host, and is answered NCP_NO_HOST by these too. */
+ * A `host` whose `at` is null has no host, and is answered NCP_NO_HOST by these too, behind what they
+ * say of bits and buffers. */
 uint32_t ncp_embed_new(struct ncp_host *handle, uint8_t me, const uint8_t *peers, size_t peers_len);
 void ncp_embed_free(struct ncp_host *handle);
 uint32_t ncp_embed_receive(struct ncp_host *handle, const uint8_t *bytes, size_t bytes_len, size_t bits, struct ncp_arrived *arrived);
