@@ -146,8 +146,8 @@ impl Bits {
         bit_in(self.bytes.as_slice(), place)
     }
 
-    /// The number that `width` bits from `at` on spell, the first the most significant. It reads
-    /// each byte that they touch once, nine at most.
+    /// The number that `width` bits from `at` on spell, 64 at most, the first the most significant. It
+    /// reads each byte that they touch once, nine at most.
     pub fn number(&self, at: usize, width: usize) -> u64
         requires width { width ≤ 64 }
         requires inside { at + width ≤ length self.now }

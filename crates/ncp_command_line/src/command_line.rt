@@ -124,7 +124,8 @@ fn with_players<'a>(alloc: Global) -> Result<Command<'a>, AllocError>
     ensures { IfOk result (λ command. app_of command ≡ of_players) }
 {
     let host = "Plays a script of one host, read from standard input";
-    let world = "Plays a script of two hosts and the subnet between them, read from standard input";
+    let world =
+        "Plays a script of two to eight hosts and the subnet between them, read from standard input";
     let program = and_plain(with_files(alloc)?, alloc, HOST, host)?;
     and_plain(program, alloc, WORLD, world)
 }
@@ -134,7 +135,7 @@ fn command_line<'a>(alloc: Global) -> Result<Command<'a>, AllocError>
     ensures { IfOk result (λ command. app_of command ≡ program) }
 {
     let record =
-        "Plays a script of two hosts, read from standard input, and writes its messages as a message file";
+        "Plays a script of two to eight hosts, read from standard input, and writes its messages as a message file";
     and_plain(with_players(alloc)?, alloc, RECORD, record)
 }
 

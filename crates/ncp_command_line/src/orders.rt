@@ -11,8 +11,8 @@ pub enum Order {
     Convert(u8),
     /// Play a script of one host.
     Host,
-    /// Play a script of two hosts and the subnet between them.
+    /// Play a script of two to eight hosts and the subnet between them.
     World,
-    /// Play a script of two hosts, and write its messages as a message file.
+    /// Play a script of two to eight hosts, and write its messages as a message file.
     Record,
 }

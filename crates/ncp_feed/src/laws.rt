@@ -15,7 +15,7 @@ pub fn feeds_have_one_reading()
 {}
 
 /// Only a file from an IMP is fed: behind its header stand the records of a message file. A file to an
-/// IMP has a bad header, and so has one of fewer than four bytes.
+/// IMP has a bad header, and so has one that ends inside of it.
 pub fn feeds_are_files_from_an_imp()
     ensures from_imp { (bytes : List ℕ) (messages : List (List Bool)) (fault : Option Fault)
         → FeedHolds (codes "NCPI" ++ bytes) messages fault ↔ Holds bytes messages fault }

@@ -115,8 +115,8 @@ pub fn texts_lead_to_ends()
     ensures freed { ask_receive_in (record { local = 10; remote = 11 }) 64 false (from_sorted ((record { local = 4; remote = 5 }, record asked_receive { link = 3 }) ∷ [])) ≡ Becomes asked_receive (Ok (Command.Rts 10 11 2)) }
 {}
 
-/// Where one end alone is on a link, the look-up by that link finds it; where none is, it finds
-/// none.
+/// Where one end alone is on a link, the look-up by that link finds it; where none is, the test
+/// whether one is there says no.
 pub fn look_ups_find_the_one_end()
     ensures sender { (m : Ends) (q : Pair) (e : End) (on : ℕ) → get m q ≡ Some e → hears_link on (q, e) ≡ true → ((p : Pair) (x : End) → get m p ≡ Some x → hears_link on (p, x) ≡ true → p ≡ q) → sender_on on m ≡ Some (q, e) }
     ensures receiver { (m : Ends) (q : Pair) (e : End) (on : ℕ) → get m q ≡ Some e → uses_link on (q, e) ≡ true → ((p : Pair) (x : End) → get m p ≡ Some x → uses_link on (p, x) ≡ true → p ≡ q) → receiver_on on m ≡ Some (q, e) }

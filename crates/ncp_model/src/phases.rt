@@ -66,7 +66,7 @@ pub fn flags_tell_the_phase()
 {}
 
 /// A command that is made waits at the end of the others. A host goes down where it would be the
-/// 513th, and where there is no place for the peer's request, and nowhere else.
+/// 513th, and where there is no place for the peer's request.
 pub fn goes_down_at_the_513th()
     ensures place { (c : Command) (p : Phase) → is_other c ≡ true → up p ≡ true → length p.waiting < MAX_WAITING → makes c p ≡ record p { waiting = p.waiting ++ c ∷ [] } }
     ensures none { (c : Command) (p : Phase) → is_other c ≡ true → up p ≡ true → MAX_WAITING ≤ length p.waiting → makes c p ≡ goes_down p }

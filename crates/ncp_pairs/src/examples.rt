@@ -29,6 +29,7 @@ pub fn things_have_numbers()
 pub fn hosts_are_two_to_eight()
     ensures three { are_hosts three_hosts ≡ true }
     ensures one { are_hosts (1 ∷ []) ≡ false }
+    ensures eight { are_hosts (1 ∷ 2 ∷ 3 ∷ 4 ∷ 5 ∷ 6 ∷ 7 ∷ 8 ∷ []) ≡ true }
     ensures nine { are_hosts (1 ∷ 2 ∷ 3 ∷ 4 ∷ 5 ∷ 6 ∷ 7 ∷ 8 ∷ 9 ∷ []) ≡ false }
     ensures twice { are_hosts (1 ∷ 2 ∷ 1 ∷ []) ≡ false }
     ensures others { others 2 three_hosts ≡ 1 ∷ 3 ∷ [] }

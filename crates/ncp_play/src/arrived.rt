@@ -8,7 +8,7 @@ use ncp_page::{LONGEST_NUMBER, PAGE_SIZE, Page, push_field};
 /// How many bytes the words have at most that say what became of bits.
 pub const LONGEST_RECEIVED: usize = 8 + LONGEST_NUMBER;
 
-/// Appends what became of bits that came, in words.
+/// Appends what became of bits that came, in words. There has to be room for [`LONGEST_RECEIVED`].
 pub fn push_received(page: &mut Page, received: Received)
     requires { length page.old + LONGEST_RECEIVED ≤ PAGE_SIZE }
     ensures bytes { page.new ≡ page.old ++ received_words received }

@@ -91,6 +91,7 @@ fn push_peer(page: &mut Page, speaker: Speaker, peer: Option<u8>)
 }
 
 /// Appends what a line begins with: its number, and the side or the host, where a script has several.
+/// There has to be room for [`LONGEST_FRONT`].
 pub fn push_front(page: &mut Page, heading: Heading)
     requires { length page.old + LONGEST_FRONT ≤ PAGE_SIZE }
     ensures bytes { page.new ≡ page.old ++ front heading }

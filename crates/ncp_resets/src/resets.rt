@@ -86,7 +86,7 @@ pub fn hosts_that_are_not_up_are_silent()
 {}
 
 /// An RST that was made is acted on before anything that follows it; and until it came nothing
-/// but an RRP follows it, after every schedule.
+/// but RST and RRP follows it, after every schedule.
 pub fn resets_come_before_what_follows()
     ensures acts { (cs : List Command) (r : Reaction) (rs : List Reaction) (h : Host) → host_hears_all (Command.Rst ∷ cs) (r ∷ rs) h ≡ host_hears_all cs rs (anew (hears_rst r.quiet h.phase)) }
     ensures there { (events : List Event) → NothingFollows (run events).this (run events).going }

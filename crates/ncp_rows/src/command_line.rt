@@ -7,7 +7,7 @@ use std::test::Fail;
 
 // What `--help` writes.
 const HELP: &str =
-    "Reads the messages of an ARPANET host, and plays hosts\n\nUsage: ncp [COMMAND]\n\nCommands:\n  show     Shows each message of a message file, read from standard input\n  check    Counts the messages of a message file, and says whether all are sound\n  convert  Turns a message file of one version into the other, from standard input\n  host     Plays a script of one host, read from standard input\n  world    Plays a script of two hosts and the subnet between them, read from standard input\n  record   Plays a script of two hosts, read from standard input, and writes its messages as a message file\n  help     Print this message or the help of the given subcommand(s)\n\nOptions:\n  -h, --help     Print help\n  -V, --version  Print version\n";
+    "Reads the messages of an ARPANET host, and plays hosts\n\nUsage: ncp [COMMAND]\n\nCommands:\n  show     Shows each message of a message file, read from standard input\n  check    Counts the messages of a message file, and says whether all are sound\n  convert  Turns a message file of one version into the other, from standard input\n  host     Plays a script of one host, read from standard input\n  world    Plays a script of two to eight hosts and the subnet between them, read from standard input\n  record   Plays a script of two to eight hosts, read from standard input, and writes its messages as a message file\n  help     Print this message or the help of the given subcommand(s)\n\nOptions:\n  -h, --help     Print help\n  -V, --version  Print version\n";
 
 // What `convert --help` writes.
 const CONVERT_HELP: &str =

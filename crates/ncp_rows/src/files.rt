@@ -150,6 +150,13 @@ fn shows_and_checks_other_sizes(rt: HostRuntime) -> Result<(), Fail> {
             ONE_BAD,
             Ok(false),
         ),
+        // A request.
+        (
+            b"NCPH\x00\x98\x00\x02\x00\x00\x00\x08\x00\x0a\x00\x01\x00\x00\x00\x02\x00\x00\x00\x03\x02",
+            b"1 regular host=2 link=0\n  size=8 count=10\n  RTS receive=2 send=3 link=2\n",
+            ONE_SOUND,
+            Ok(true),
+        ),
         // A command that ends early.
         (
             b"NCPH\x00\x60\x00\x02\x00\x00\x00\x08\x00\x03\x00\x04\x02\x00",
@@ -203,6 +210,7 @@ fn tells_bad_headers(rt: HostRuntime) -> Result<(), Fail> {
 fn keeps_what_stands_before_a_fault(rt: HostRuntime) -> Result<(), Fail> {
     const ROWS: &[Row<'static>] = &[
         (b"NCPI\x00", b"", b"", Err(FileFault::Truncated)),
+        (b"NCPI\x00\x20\x05\x02", b"", b"", Err(FileFault::Truncated)),
         (
             b"NCPI\x00\x00\x00\x20\x05\x02",
             b"1 short\n",
@@ -219,6 +227,13 @@ fn keeps_what_stands_before_a_fault(rt: HostRuntime) -> Result<(), Fail> {
         (
             b"NCPI\x00\x00\x00\x04\x08",
             b"1 short\n",
+            b"",
+            Err(FileFault::SpareNotZero),
+        ),
+        // One byte of 36 bits, with a spare bit set.
+        (
+            b"NCPH\x00\x6c\x00\x02\x02\x00\x00\x24\x00\x01\x00\x12\x34\x56\x78\x91",
+            b"",
             b"",
             Err(FileFault::SpareNotZero),
         ),

@@ -38,8 +38,8 @@ pub fn flags_are_what_was_made_and_came()
 {}
 
 /// Where the data links to a peer are quiet no RRP is owed and no RST is wanted: since the last RST that came
-/// an RRP was made, and since the last reset that was accepted an RST. So each of the two is made at the first
-/// step after which they are quiet.
+/// an RRP was made, and since the last reset that was accepted an RST. So each of the two is made no later than
+/// at the first step after which they are quiet.
 pub fn what_is_owed_waits_for_quiet()
     ensures { (me : ℕ) (ns : List ℕ) (all : List Note) (n : ℕ) → FromBeginning me ns all → is_one_of n ns ≡ true → list_all (λ on. is_quiet_told (told_on on (notes_of n all))) data_links ≡ true → ((made_of (notes_of n all)).gave_answer ≡ true) × ((made_of (notes_of n all)).did_reset ≡ true) }
 {}

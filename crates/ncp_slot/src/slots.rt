@@ -127,8 +127,8 @@ impl Slots {
         self.slots[place_of(link)].hand()
     }
 
-    /// Keeps a copy of a message that goes out on a link at once: [`Slots::put`] and then
-    /// [`Slots::hand`], without a second copy. It is kept until it is taken.
+    /// Keeps a copy of a message that goes out at once on a link whose slot is empty: [`Slots::put`] and
+    /// then [`Slots::hand`], without a second copy. It is kept until it is taken.
     pub fn send(&mut self, link: u8, bits: &Bits)
         requires link { HasSlot link }
         requires empty { slot_at self.old link ≡ Slot.Empty }

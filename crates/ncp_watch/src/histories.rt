@@ -27,16 +27,16 @@ pub fn ends_stay_sound()
     ensures step { (pair : Pair) (what : Happening) (before : Option End) → SoundAt pair before → SoundAt pair (happens pair what before).after }
 {}
 
-/// No number of an end goes beyond its limit, whatever happened to it: what is stored and what is
+/// No number of an end goes beyond its limit, whatever happened to it that suits it: what is stored and what is
 /// outstanding fit the store, counters stop at their limits, a link that was heard is one from 2 to
 /// 71, and a byte has bits.
 pub fn ends_keep_their_limits()
     ensures { (pair : Pair) (whats : List Happening) → Suit pair whats → InLimitsAt pair (end_from pair whats None) }
 {}
 
-/// The books of a receiving end, whatever happened to it: what is outstanding is what was granted
-/// less what was returned and used, for messages and for bits, and what was got was taken or is
-/// held, each since the opening.
+/// The books of a receiving end that opened, whatever happened to it that suits it: what is outstanding
+/// is what was granted less what was returned and used, for messages and for bits, and until it is left
+/// what was got was taken or is held, each since the opening.
 pub fn receivers_keep_their_books()
     ensures { (pair : Pair) (whats : List Happening) → receives pair ≡ true → Suit pair whats → BooksAt (watch pair whats).end (watch pair whats).past }
 {}
