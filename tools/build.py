@@ -20,10 +20,11 @@ SOURCES = ("src", "specs", "proofs")
 RT = [sys.executable, f"{TOP}/tools/once.py"]
 # What a lane may take of memory, in bytes.
 ROOM = 4_000_000_000
-# What work a crate has for each of its jobs, and what it is to read a library, both in lines of code (work_of). With less
-# work for a job a crate takes as long and more of the processors.
-WORK_OF_A_JOB = 400
-READING = 20
+# What it is to begin a crate, to read a library, and the work that a crate has for each of its jobs, all in lines of code
+# (work_of). With less work for a job a crate takes as long and more of the processors.
+BEGINNING = 150
+READING = 12
+WORK_OF_A_JOB = 300
 
 
 def lines_of_crates():
@@ -56,17 +57,18 @@ def lines_in(folder):
     return count
 
 
-def work_of(name):
-    """About how long a crate's own proof takes, in lines of code: a line of a lemma takes a tenth of that."""
-    return lines_in(f"{TOP}/crates/{name}/src") + lines_in(f"{TOP}/crates/{name}/proofs") / 10
+def work_of(name, uses):
+    """About how long a crate takes, in lines of code: its own, and what it costs to begin and to read what it stands on.
+    Lemmas cost little beside these."""
+    return BEGINNING + READING * len(below([name], uses)) + lines_in(f"{TOP}/crates/{name}/src")
 
 
 def chains(crates, uses):
-    """The work of each crate with the longest chain of crates that stand on it, and what each of these reads."""
+    """The work of each crate with the longest chain of crates that stand on it."""
     behind = {}
     for name in reversed(crates):
         above = [behind[it] for it in crates if name in uses[it]]
-        behind[name] = work_of(name) + READING * len(below([name], uses)) + max(above, default=0)
+        behind[name] = work_of(name, uses) + max(above, default=0)
     return behind
 
 
@@ -159,7 +161,7 @@ class Build:
         those that no crate needs."""
         waiting = sum(map(self.can_begin, self.left))
         spare = processors() if self.is_urgent(name) else processors() // (len(self.running) + waiting)
-        return max(1, min(spare, int(work_of(name) / WORK_OF_A_JOB)))
+        return max(1, min(spare, int(work_of(name, self.uses) / WORK_OF_A_JOB)))
 
     def build(self, place, name, is_urgent, jobs):
         """Has the toolchain build a crate, a program by a run that asks nothing of it, and returns its status and what it said.
