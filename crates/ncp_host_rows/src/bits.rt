@@ -9,7 +9,7 @@ use crate::known::{is_shown, is_told};
 use ncp_bits::{
     BitStore, Bits, BitsFault, MAX_BITS, NoRoom, PackedStore, Part, PlainStore, equality, laws,
 };
-use std::alloc::Global;
+use std::alloc::{AllocError, Global};
 use std::process::Abort;
 use std::test::Fail;
 
@@ -141,6 +141,11 @@ fn number_of(fault: BitsFault) -> u8 {
     fault as u8
 }
 
+// Whether a part is the same as the bits of the long byte.
+fn is_long_byte(rt: &impl Abort, part: &Part<'_>) -> bool {
+    *part == long_byte(rt).whole()
+}
+
 // Why they are refused as a part.
 fn part_fault_of(bytes: &[u8], len: usize) -> Option<BitsFault> {
     Part::from_bytes(bytes, len).err()
@@ -149,9 +154,9 @@ fn part_fault_of(bytes: &[u8], len: usize) -> Option<BitsFault> {
 #[test]
 fn reads_and_writes_bytes(rt: HostRuntime) {
     let bits = long_byte(&rt);
-    assert_eq!(rt; bits.len(), 108);
-    assert!(rt; has_numbers(&bits, NUMBERS));
-    assert!(rt; is_written(&bits, 108, &LONG_BYTE));
+    assert!(rt;
+        bits.len() == 108 && has_numbers(&bits, NUMBERS) && is_written(&bits, 108, &LONG_BYTE)
+    );
 }
 
 // Becomes the first bits of bytes, or is refused.
@@ -167,15 +172,19 @@ fn takes_one_message_after_the_other(rt: HostRuntime) {
         (8193, BitsFault::TooLong),
     ];
     let mut bits = Bits::new();
-    assert!(rt; becomes(&mut bits, &LONG_BYTE, 108).is_none());
-    assert!(rt; becomes(&mut bits, b"\xa0\x7f", 4).is_none());
-    assert!(rt; is_spelled(&bits, "1010"));
+    assert!(rt;
+        becomes(&mut bits, &LONG_BYTE, 108).is_none()
+            && becomes(&mut bits, b"\xa0\x7f", 4).is_none()
+            && is_spelled(&bits, "1010")
+    );
     for &(len, fault) in REFUSED {
         assert!(rt; becomes(&mut bits, b"\xa0\x7f", len) == Some(fault));
     }
-    assert!(rt; is_spelled(&bits, "1010"));
-    assert!(rt; becomes(&mut bits, &LONG_BYTE, 108).is_none());
-    assert!(rt; has_numbers(&bits, NUMBERS));
+    assert!(rt;
+        is_spelled(&bits, "1010")
+            && becomes(&mut bits, &LONG_BYTE, 108).is_none()
+            && has_numbers(&bits, NUMBERS)
+    );
 }
 
 #[test]
@@ -186,42 +195,38 @@ fn reads_bytes_where_they_stand(rt: HostRuntime) {
         (8193, BitsFault::TooLong),
     ];
     let part = part_of(&rt, &LONG_BYTE, 108);
-    assert_eq!(rt; part.len(), 108);
-    assert!(rt; part_has_numbers(&part, NUMBERS));
-    assert!(rt; part == long_byte(&rt).whole());
+    assert!(rt; part.len() == 108 && part_has_numbers(&part, NUMBERS) && is_long_byte(&rt, &part));
     for &(len, fault) in REFUSED {
         assert!(rt; part_fault_of(&LONG_BYTE, len) == Some(fault));
     }
 }
 
 #[test]
-fn names_faults_in_order(rt: HostRuntime) {
-    const REFUSED: &[(usize, BitsFault, u8)] = &[
-        (8193, BitsFault::TooLong, 1),
-        (113, BitsFault::ShortBytes, 2),
-        (108, BitsFault::SpareNotZero, 3),
-    ];
-    for &(len, fault, number) in REFUSED {
-        assert!(rt; fault_of(&SPARE, len) == Some(fault));
-        assert_eq!(rt; number_of(fault), number);
-    }
-    assert_eq!(rt; bits_of_one(&rt, 0, 8192).len(), 8192);
-}
-
-#[test]
-fn tells_faults(rt: HostRuntime) -> Result<(), Fail> {
-    const TOLD: &[(BitsFault, &str)] = &[
-        (BitsFault::TooLong, "more than 8192 bits"),
-        (BitsFault::ShortBytes, "fewer bytes than the bits take"),
+fn names_and_tells_faults_in_order(rt: HostRuntime) -> Result<(), Fail> {
+    const REFUSED: &[(usize, BitsFault, u8, &str)] = &[
+        (8193, BitsFault::TooLong, 1, "more than 8192 bits"),
         (
+            113,
+            BitsFault::ShortBytes,
+            2,
+            "fewer bytes than the bits take",
+        ),
+        (
+            108,
             BitsFault::SpareNotZero,
+            3,
             "a spare bit of the last byte is set",
         ),
     ];
-    for &(fault, text) in TOLD {
-        assert!(rt; is_told(rt.alloc(), &fault, text)?);
+    for &(len, fault, number, text) in REFUSED {
+        assert!(rt;
+            fault_of(&SPARE, len) == Some(fault)
+                && number_of(fault) == number
+                && is_told(rt.alloc(), &fault, text)?
+        );
     }
     assert!(rt; is_told(rt.alloc(), &NoRoom, "no room for these bits")?);
+    assert!(rt; bits_of_one(&rt, 0, 8192).len() == 8192);
     Ok(())
 }
 
@@ -241,24 +246,29 @@ fn pushes(bits: &mut Bits, number: u64, width: usize) -> Option<BitsFault>
 fn appends_parts(rt: HostRuntime) {
     let row = long_byte(&rt);
     let mut bits = Bits::default();
-    assert!(rt; bits.is_empty() && bits.whole().is_empty());
-    assert_eq!(rt; row.len(), 108);
-    assert!(rt; appends(&mut bits, run(&rt, &row, 72, 36)).is_none());
-    assert!(rt; pushes(&mut bits, 0b101, 3).is_none());
-    assert_eq!(rt; bits.len(), 39);
-    assert!(rt; has_numbers(&bits, &[(0, 39, 0x123456789 * 8 + 5)]));
+    assert!(rt; bits.is_empty() && bits.whole().is_empty() && row.len() == 108);
+    assert!(rt;
+        appends(&mut bits, run(&rt, &row, 72, 36)).is_none()
+            && pushes(&mut bits, 0b101, 3).is_none()
+            && bits.len() == 39
+            && has_numbers(&bits, &[(0, 39, 0x123456789 * 8 + 5)])
+    );
 }
 
 #[test]
 fn reads_parts(rt: HostRuntime) {
+    const SECOND: &[(usize, usize, u64)] = &[(0, 8, 0x23)];
     let row = long_byte(&rt);
     let text = run(&rt, &row, 72, 36);
-    assert_eq!(rt; text.len(), 36);
-    assert!(rt; has_bit(&text, 3, true) && has_bit(&text, 4, false));
+    assert!(rt;
+        text.len() == 36
+            && has_bit(&text, 3, true)
+            && has_bit(&text, 4, false)
+            && is_part_written(&text, 36, &LONG_BYTE[9..])
+    );
     let second = run_of(&rt, &text, 4, 8);
-    assert!(rt; part_has_numbers(&second, &[(0, 8, 0x23)]));
-    assert!(rt; has_numbers(&second.to_bits(), &[(0, 8, 0x23)]));
-    assert!(rt; is_part_written(&text, 36, &LONG_BYTE[9..]));
+    let copy = second.to_bits();
+    assert!(rt; part_has_numbers(&second, SECOND) && has_numbers(&copy, SECOND));
 }
 
 // Whether a part lends these bytes, or lends none.
@@ -275,7 +285,7 @@ fn lends_whole_bytes(rt: HostRuntime) {
         (40, 31, None),
     ];
     let row = long_byte(&rt);
-    assert_eq!(rt; row.len(), 108);
+    assert!(rt; row.len() == 108);
     for &(at, len, bytes) in ROWS {
         assert!(rt; lends(&run(&rt, &row, at, len), bytes));
     }
@@ -283,31 +293,38 @@ fn lends_whole_bytes(rt: HostRuntime) {
 
 #[test]
 fn pads_wide_numbers(rt: HostRuntime) {
-    let mut bits = bits_in(&rt, "101");
-    assert!(rt; pushes(&mut bits, u64::MAX, 70).is_none());
-    assert!(rt; pushes(&mut bits, 6, 100).is_none());
-    assert_eq!(rt; bits.len(), 173);
-    let numbers = [
+    const PADDED: &[(usize, usize, u64)] = &[
         (0, 9, 0b101_000_000),
         (9, 64, u64::MAX),
         (73, 60, 0),
         (133, 40, 6),
     ];
-    assert!(rt; has_numbers(&bits, &numbers));
-    assert!(rt; pushes(&mut bits, 0, 8192 - 172) == Some(BitsFault::TooLong));
-    assert_eq!(rt; bits.len(), 173);
-    assert!(rt; pushes(&mut bits, 1, 8192 - 173).is_none());
-    assert!(rt; has_numbers(&bits, &[(8128, 64, 1)]));
+    const LAST: &[(usize, usize, u64)] = &[(8128, 64, 1)];
+    let mut bits = bits_in(&rt, "101");
+    assert!(rt;
+        pushes(&mut bits, u64::MAX, 70).is_none()
+            && pushes(&mut bits, 6, 100).is_none()
+            && bits.len() == 173
+            && has_numbers(&bits, PADDED)
+    );
+    assert!(rt;
+        pushes(&mut bits, 0, 8192 - 172) == Some(BitsFault::TooLong)
+            && bits.len() == 173
+            && pushes(&mut bits, 1, 8192 - 173).is_none()
+            && has_numbers(&bits, LAST)
+    );
 }
 
 #[test]
 fn refuses_what_does_not_fit(rt: HostRuntime) {
-    let mut bits = bits_of_one(&rt, 0, 8190);
-    assert!(rt; pushes(&mut bits, 7, 3) == Some(BitsFault::TooLong));
-    assert!(rt; pushes(&mut bits, 3, 2).is_none());
     let more = bits_in(&rt, "1");
-    assert!(rt; appends(&mut bits, more.whole()) == Some(BitsFault::TooLong));
-    assert_eq!(rt; bits.len(), 8192);
+    let mut bits = bits_of_one(&rt, 0, 8190);
+    assert!(rt;
+        pushes(&mut bits, 7, 3) == Some(BitsFault::TooLong)
+            && pushes(&mut bits, 3, 2).is_none()
+            && appends(&mut bits, more.whole()) == Some(BitsFault::TooLong)
+            && bits.len() == 8192
+    );
 }
 
 // Whether the bits of a text are put into a store, or it has no room for them.
@@ -321,19 +338,29 @@ fn takes<S: BitStore>(rt: &impl Abort, store: &mut S, count: usize) -> Bits {
     store.take(count)
 }
 
+// Whether the next bits out of a store are spelled by a text.
+fn gives<S: BitStore>(rt: &impl Abort, store: &mut S, text: &str) -> bool {
+    is_spelled(&takes(rt, store, text.len()), text)
+}
+
 // Thirteen bits of room, filled, emptied in part and filled again, across every byte's end.
 fn keeps_thirteen_bits<S: BitStore>(rt: &impl Abort, alloc: Global) -> Result<(), Fail> {
     let mut store = S::with_room(alloc, 13)?;
-    assert!(rt; puts(rt, &mut store, "1010101") && puts(rt, &mut store, "110011"));
-    assert_eq!(rt; store.room(), 0);
-    assert!(rt; !puts(rt, &mut store, "1"));
-    assert_eq!(rt; store.len(), 13);
-    assert!(rt; is_spelled(&takes(rt, &mut store, 3), "101"));
-    assert!(rt; puts(rt, &mut store, "111"));
-    assert!(rt; is_spelled(&takes(rt, &mut store, 13), "0101110011111"));
-    assert!(rt; puts(rt, &mut store, "01"));
+    assert!(rt;
+        puts(rt, &mut store, "1010101")
+            && puts(rt, &mut store, "110011")
+            && store.room() == 0
+            && !puts(rt, &mut store, "1")
+            && store.len() == 13
+    );
+    assert!(rt;
+        gives(rt, &mut store, "101")
+            && puts(rt, &mut store, "111")
+            && gives(rt, &mut store, "0101110011111")
+            && puts(rt, &mut store, "01")
+    );
     store.clear();
-    assert_eq!(rt; store.room(), 13);
+    assert!(rt; store.room() == 13);
     Ok(())
 }
 
@@ -347,23 +374,33 @@ fn packed_store_keeps_bits(rt: HostRuntime) -> Result<(), Fail> {
     keeps_thirteen_bits::<PackedStore>(&rt, rt.alloc())
 }
 
-// What a store holds that was given two parts.
+// What a store holds that was given the first `kept` bits of a row, and `len` bits from `from` on.
 fn put_together<S: BitStore>(
     rt: &impl Abort,
     alloc: Global,
-    one: Part<'_>,
-    other: Part<'_>,
-) -> Result<Bits, Fail> {
+    row: &Bits,
+    kept: usize,
+    from: usize,
+    len: usize,
+) -> Result<Bits, AllocError> {
     let mut store = S::with_room(alloc, 32)?;
-    store.put(one)?;
-    store.put(other)?;
+    assert!(rt;
+        store.put(run(rt, row, 0, kept)).is_ok()
+            && store.put(run(rt, row, from, len)).is_ok()
+            && store.len() <= 32
+    );
     let all = store.len();
-    assert!(rt; all <= 32);
     Ok(takes(rt, &mut store, all))
 }
 
-// Whether both stores, and bits that are appended to, hold the same once they were given the first `kept` bits of a
-// row, and `len` bits from `from` on.
+// A part, and another one that is appended to it.
+fn appended(rt: &impl Abort, one: Part<'_>, other: Part<'_>) -> Bits {
+    let mut bits = one.to_bits();
+    assert!(rt; appends(&mut bits, other).is_none());
+    bits
+}
+
+// Whether both stores, and bits that are appended to, hold the same once they were given these.
 fn appends_at(
     rt: &impl Abort,
     alloc: Global,
@@ -371,18 +408,10 @@ fn appends_at(
     kept: usize,
     from: usize,
     len: usize,
-) -> Result<bool, Fail> {
-    let one = run(rt, row, 0, kept);
-    let other = run(rt, row, from, len);
-    let mut bits = one.to_bits();
-    assert!(rt; appends(&mut bits, run(rt, row, from, len)).is_none());
-    let plain = put_together::<PlainStore>(
-        rt,
-        alloc,
-        run(rt, row, 0, kept),
-        run(rt, row, from, len),
-    )?;
-    let packed = put_together::<PackedStore>(rt, alloc, one, other)?;
+) -> Result<bool, AllocError> {
+    let plain = put_together::<PlainStore>(rt, alloc, row, kept, from, len)?;
+    let packed = put_together::<PackedStore>(rt, alloc, row, kept, from, len)?;
+    let bits = appended(rt, run(rt, row, 0, kept), run(rt, row, from, len));
     Ok(plain == packed && plain == bits)
 }
 
@@ -448,27 +477,42 @@ fn reads_at_every_bit(rt: HostRuntime) {
     }
 }
 
-// What comes out of a store with room for 23 bits that holds seven while more pass through it.
-fn pass_through<S: BitStore>(rt: &impl Abort, alloc: Global, row: &Bits) -> Result<Bits, Fail> {
-    let mut store = S::with_room(alloc, 23)?;
-    store.put(run(rt, row, 0, 7))?;
-    let mut out = Bits::new();
-    for from in 0..90 {
-        let len = from % 17;
-        store.put(run(rt, row, from, len))?;
-        assert!(rt; appends(&mut out, takes(rt, &mut store, len).whole()).is_none());
+// Whether a part goes into a store, and as many bits come out that are appended.
+fn passes<S: BitStore>(rt: &impl Abort, store: &mut S, part: Part<'_>, out: &mut Bits) -> bool {
+    let len = part.len();
+    if store.put(part).is_err() {
+        return false;
     }
-    assert_eq!(rt; store.room(), 16);
+    appends(out, takes(rt, store, len).whole()).is_none()
+}
+
+// What comes out of a store with room for 23 bits that holds seven while more pass through it.
+fn pass_through<S: BitStore>(
+    rt: &impl Abort,
+    alloc: Global,
+    row: &Bits,
+) -> Result<Bits, AllocError> {
+    let mut store = S::with_room(alloc, 23)?;
+    let mut out = Bits::new();
+    assert!(rt; store.put(run(rt, row, 0, 7)).is_ok());
+    for from in 0..90 {
+        assert!(rt; passes(rt, &mut store, run(rt, row, from, from % 17), &mut out));
+    }
+    assert!(rt; store.room() == 16);
     Ok(out)
+}
+
+// Whether the same bits come out of both stores.
+fn pass_the_same(rt: &impl Abort, alloc: Global, row: &Bits) -> Result<bool, AllocError> {
+    let plain = pass_through::<PlainStore>(rt, alloc, row)?;
+    let packed = pass_through::<PackedStore>(rt, alloc, row)?;
+    Ok(plain == packed)
 }
 
 #[test]
 fn stores_pass_the_same_bits(rt: HostRuntime) -> Result<(), Fail> {
     let row = long_byte(&rt);
-    assert_eq!(rt; row.len(), 108);
-    let plain = pass_through::<PlainStore>(&rt, rt.alloc(), &row)?;
-    let packed = pass_through::<PackedStore>(&rt, rt.alloc(), &row)?;
-    assert!(rt; plain == packed);
+    assert!(rt; row.len() == 108 && pass_the_same(&rt, rt.alloc(), &row)?);
     Ok(())
 }
 
@@ -485,69 +529,108 @@ fn fills<S: BitStore>(rt: &impl Abort, store: &mut S, times: usize, row: &Bits) 
     }
 }
 
+// Whether an empty store has room for just so many bits, which it is given.
+fn is_filled<S: BitStore>(rt: &impl Abort, store: &mut S, room: usize, row: &Bits) -> bool {
+    if store.room() != room || store.len() != 0 {
+        return false;
+    }
+    fills(rt, store, room.div_ceil(row.len().max(1)), row);
+    store.len() == room && !puts(rt, store, "1")
+}
+
+// Whether what was put into a store comes out again.
+fn is_emptied<S: BitStore>(rt: &impl Abort, store: &mut S, room: usize, row: &Bits) -> bool {
+    let count = room.min(row.len());
+    let same = takes(rt, store, count).whole() == run(rt, row, 0, count);
+    store.clear();
+    same
+}
+
 // That a store has room for just so many bits, and once they are out again for as many.
 fn fills_and_empties<S: BitStore>(
     rt: &impl Abort,
     alloc: Global,
     room: usize,
     row: &Bits,
-) -> Result<(), Fail> {
+) -> Result<(), AllocError> {
     let mut store = S::with_room(alloc, room)?;
-    let times = room.div_ceil(row.len().max(1));
-    let count = room.min(row.len());
     for _ in 0..2 {
-        assert_eq!(rt; store.room(), room);
-        assert_eq!(rt; store.len(), 0);
-        fills(rt, &mut store, times, row);
-        assert_eq!(rt; store.len(), room);
-        assert!(rt; !puts(rt, &mut store, "1"));
-        assert!(rt; takes(rt, &mut store, count).whole() == run(rt, row, 0, count));
-        store.clear();
+        assert!(rt; is_filled(rt, &mut store, room, row) && is_emptied(rt, &mut store, room, row));
+    }
+    Ok(())
+}
+
+// That stores have each room.
+fn have_each_room<S: BitStore>(rt: &impl Abort, alloc: Global) -> Result<(), Fail> {
+    let row = bits_of_one(rt, 0x5a, 8191);
+    for &room in ROOMS {
+        fills_and_empties::<S>(rt, alloc, room, &row)?;
     }
     Ok(())
 }
 
 #[test]
 fn plain_stores_have_each_room(rt: HostRuntime) -> Result<(), Fail> {
-    let row = bits_of_one(&rt, 0x5a, 8191);
-    for &room in ROOMS {
-        fills_and_empties::<PlainStore>(&rt, rt.alloc(), room, &row)?;
-    }
-    Ok(())
+    have_each_room::<PlainStore>(&rt, rt.alloc())
 }
 
 #[test]
 fn packed_stores_have_each_room(rt: HostRuntime) -> Result<(), Fail> {
-    let row = bits_of_one(&rt, 0x5a, 8191);
-    for &room in ROOMS {
-        fills_and_empties::<PackedStore>(&rt, rt.alloc(), room, &row)?;
-    }
-    Ok(())
+    have_each_room::<PackedStore>(&rt, rt.alloc())
+}
+
+// Whether the text of a row is compared as a part with that of a copy, of which it stands behind three bits.
+fn are_parts_compared(rt: &impl Abort, row: &Bits, copy: &Bits) -> bool {
+    let text = run(rt, row, 72, 36);
+    let same = run(rt, copy, 3, 36);
+    same == text
+        && equality::equal_parts(&text, &same)
+        && run(rt, copy, 3, 35) != text
+        && run(rt, copy, 2, 36) != text
+}
+
+// Whether it is so as bits.
+fn are_bits_compared(rt: &impl Abort, row: &Bits, copy: &Bits) -> bool {
+    let text = run(rt, row, 72, 36).to_bits();
+    let same = run(rt, copy, 3, 36).to_bits();
+    same == text
+        && *copy != text
+        && equality::equal_bits(row, row)
+        && !equality::equal_bits(row, copy)
 }
 
 #[test]
 fn compares_bits_wherever_they_lie(rt: HostRuntime) {
     let row = long_byte(&rt);
-    assert_eq!(rt; row.len(), 108);
     let text = run(&rt, &row, 72, 36);
     let mut copy = bits_in(&rt, "101");
-    assert!(rt; appends(&mut copy, run_of(&rt, &text, 0, 36)).is_none());
-    assert_eq!(rt; copy.len(), 39);
-    let same = run(&rt, &copy, 3, 36);
-    assert!(rt; same == text && same.to_bits() == text.to_bits());
-    assert!(rt; run(&rt, &copy, 3, 35) != text);
-    assert!(rt; run(&rt, &copy, 2, 36) != text);
-    assert!(rt; copy != text.to_bits());
-    assert!(rt; equality::equal_bits(&row, &row) && !equality::equal_bits(&row, &copy));
-    assert!(rt; equality::equal_parts(&text, &same));
+    assert!(rt;
+        row.len() == 108
+            && appends(&mut copy, run_of(&rt, &text, 0, 36)).is_none()
+            && copy.len() == 39
+            && are_parts_compared(&rt, &row, &copy)
+            && are_bits_compared(&rt, &row, &copy)
+    );
 }
 
 #[test]
 fn compares_short_bits_and_refusals(rt: HostRuntime) {
     assert!(rt; bits_in(&rt, "0") != bits_in(&rt, "00"));
     assert!(rt; Bits::new() == Bits::default());
-    assert!(rt; equality::equal_faults(BitsFault::TooLong, BitsFault::TooLong));
-    assert!(rt; equality::equal_refusals(NoRoom, NoRoom));
+    assert!(rt;
+        equality::equal_faults(BitsFault::TooLong, BitsFault::TooLong)
+            && equality::equal_refusals(NoRoom, NoRoom)
+    );
+}
+
+// Whether the bits that a text spells are shown so.
+fn are_shown(
+    rt: &impl Abort,
+    alloc: Global,
+    digits: &str,
+    shown: &str,
+) -> Result<bool, AllocError> {
+    is_shown(alloc, &bits_in(rt, digits), shown)
 }
 
 #[test]
@@ -557,13 +640,12 @@ fn shows_bits(rt: HostRuntime) -> Result<(), Fail> {
         ("0000010100001", "bits=13 0508"),
         ("", "bits=0 "),
     ];
-    let row = long_byte(&rt);
-    assert_eq!(rt; row.len(), 108);
-    let text = run(&rt, &row, 72, 36);
-    assert!(rt; is_shown(rt.alloc(), &text, "bits=36 1234567890")?);
     for &(digits, shown) in SHOWN {
-        assert!(rt; is_shown(rt.alloc(), &bits_in(&rt, digits), shown)?);
+        assert!(rt; are_shown(&rt, rt.alloc(), digits, shown)?);
     }
+    let row = long_byte(&rt);
+    let text = run(&rt, &row, 72, 36);
+    assert!(rt; row.len() == 108 && is_shown(rt.alloc(), &text, "bits=36 1234567890")?);
     Ok(())
 }
 

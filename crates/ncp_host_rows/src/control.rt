@@ -33,20 +33,33 @@ fn gives(items: &mut Commands<'_>, item: Option<Result<Command, CommandFault>>) 
     items.next() == item
 }
 
+// Whether the next of a text's commands are these.
+fn gives_each(items: &mut Commands<'_>, commands: &[Command]) -> bool {
+    for command in commands {
+        if !gives(items, Some(Ok(*command))) {
+            return false;
+        }
+    }
+    true
+}
+
+// Whether a text's fault comes next, where there is one.
+fn gives_fault(items: &mut Commands<'_>, fault: Option<CommandFault>) -> bool {
+    match fault {
+        Some(fault) => gives(items, Some(Err(fault))),
+        None => true,
+    }
+}
+
 // That bytes are read as these commands, and then the fault, and then no more, and that the fault is found
 // by itself. It has no clause, and nor has `is_spelled`: the prover need not follow texts through a test.
 fn is_read(rt: &impl Abort, bytes: &[u8], commands: &[Command], fault: Option<CommandFault>) {
     let text = text_of(rt, bytes);
     let mut items = Commands::new(text.whole());
-    for command in commands {
-        assert!(rt; gives(&mut items, Some(Ok(*command))));
-    }
-    if let Some(fault) = fault {
-        assert!(rt; gives(&mut items, Some(Err(fault))));
-    }
-    assert!(rt; gives(&mut items, None));
-    assert!(rt; gives(&mut items, None));
-    assert!(rt; find_fault(&text.whole()) == fault);
+    assert!(rt; gives_each(&mut items, commands) && gives_fault(&mut items, fault));
+    assert!(rt;
+        gives(&mut items, None) && gives(&mut items, None) && find_fault(&text.whole()) == fault
+    );
 }
 
 // That a command is written as these bytes, and they are read as it.
@@ -141,7 +154,7 @@ fn spells_the_others(rt: HostRuntime) {
 }
 
 #[test]
-fn names_faults(rt: HostRuntime) {
+fn names_faults_and_stops_at_them(rt: HostRuntime) {
     const ILLEGAL: CommandFault = CommandFault {
         code: 1,
         bytes: [0x0e, 0, 0, 0, 0, 0, 0, 0, 0, 0],
@@ -151,20 +164,13 @@ fn names_faults(rt: HostRuntime) {
         bytes: [0x04, 0x02, 0, 0, 0, 0, 0, 0, 0, 0],
     };
     const BEFORE: &[Command] = &[Command::Nop, Command::Eco { byte: 0x41 }];
-    is_read(&rt, &[0x0e, 0x00], &[], Some(ILLEGAL));
-    is_read(&rt, &[0x04, 0x02, 0x00], &[], Some(EARLY));
-    is_read(&rt, &[0x00, 0x09, 0x41, 0x0e], BEFORE, Some(ILLEGAL));
-}
-
-#[test]
-fn stops_at_a_fault(rt: HostRuntime) {
     // What follows an illegal opcode is data, though it could be read: ten bytes of it.
-    const ILLEGAL: CommandFault = CommandFault {
+    const ILLEGAL_WITH_DATA: CommandFault = CommandFault {
         code: 1,
         bytes: [0xff, 12, 13, 0, 9, 65, 0, 0, 0, 1],
     };
     // A command that lacks its last byte, at the end of a text.
-    const EARLY: CommandFault = CommandFault {
+    const LAST_BYTE_MISSING: CommandFault = CommandFault {
         code: 2,
         bytes: [11, 1, 2, 3, 4, 5, 6, 7, 8, 9],
     };
@@ -172,21 +178,24 @@ fn stops_at_a_fault(rt: HostRuntime) {
         code: 2,
         bytes: [5, 0, 0, 0, 0, 0, 0, 0, 0, 0],
     };
-    const ROWS: &[(&[u8], Command, CommandFault)] = &[
+    const ROWS: &[(&[u8], &[Command], CommandFault)] = &[
+        (&[0x0e, 0x00], &[], ILLEGAL),
+        (&[0x04, 0x02, 0x00], &[], EARLY),
+        (&[0x00, 0x09, 0x41, 0x0e], BEFORE, ILLEGAL),
         (
             &[12, 0xff, 12, 13, 0, 9, 65, 0, 0, 0, 1, 2, 3],
-            Command::Rst,
-            ILLEGAL,
+            &[Command::Rst],
+            ILLEGAL_WITH_DATA,
         ),
         (
             &[13, 11, 1, 2, 3, 4, 5, 6, 7, 8, 9, 10],
-            Command::Rrp,
-            EARLY,
+            &[Command::Rrp],
+            LAST_BYTE_MISSING,
         ),
-        (&[7, 2, 5], Command::Inr { link: 2 }, OPCODE_ALONE),
+        (&[7, 2, 5], &[Command::Inr { link: 2 }], OPCODE_ALONE),
     ];
-    for &(bytes, command, fault) in ROWS {
-        is_read(&rt, bytes, &[command], Some(fault));
+    for &(bytes, commands, fault) in ROWS {
+        is_read(&rt, bytes, commands, Some(fault));
     }
 }
 
@@ -206,9 +215,11 @@ fn count_items(rt: &impl Abort, text: &Bits) -> usize {
 #[test]
 fn reads_the_longest_text(rt: HostRuntime) {
     let longest = text_of(&rt, &[0; 1024]);
-    assert_eq!(rt; count_commands(longest.whole()), 1024);
-    assert!(rt; fault_of_text(longest.whole()) == None);
-    assert_eq!(rt; count_items(&rt, &longest), 1024);
+    assert!(rt;
+        count_commands(longest.whole()) == 1024
+            && fault_of_text(longest.whole()) == None
+            && count_items(&rt, &longest) == 1024
+    );
 }
 
 // How many commands a control text has.
@@ -249,8 +260,10 @@ fn appends_commands(rt: HostRuntime) -> Result<(), Fail> {
     let text = text_of(&rt, &[0x00, 0x09, 0x41, 0x0e]);
     let mut commands = Vec::new(rt.alloc());
     let fault = push_commands(&mut commands, text.whole())?;
-    assert!(rt; fault.is_some());
-    assert!(rt; commands.as_slice() == [Command::Nop, Command::Eco { byte: 0x41 }].as_slice());
+    assert!(rt;
+        fault.is_some()
+            && commands.as_slice() == [Command::Nop, Command::Eco { byte: 0x41 }].as_slice()
+    );
     Ok(())
 }
 
@@ -269,14 +282,12 @@ fn fault_of_text(text: Part<'_>) -> Option<CommandFault>
 
 #[test]
 fn counts_commands_and_finds_faults(rt: HostRuntime) {
-    let text = text_of(&rt, &[0x00, 0x09, 0x41, 0x0e]);
-    assert_eq!(rt; count_commands(text.whole()), 2);
-    let fault = fault_of_text(text.whole());
-    let illegal = CommandFault {
+    const ILLEGAL: CommandFault = CommandFault {
         code: 1,
         bytes: [0x0e, 0, 0, 0, 0, 0, 0, 0, 0, 0],
     };
-    assert!(rt; fault == Some(illegal));
+    let text = text_of(&rt, &[0x00, 0x09, 0x41, 0x0e]);
+    assert!(rt; count_commands(text.whole()) == 2 && fault_of_text(text.whole()) == Some(ILLEGAL));
 }
 
 // Whether a command is answered by this ERR with a code.
@@ -308,12 +319,12 @@ fn makes_errors(rt: HostRuntime) {
         code: SOCKET_NOT_CONNECTED,
         bytes: [11, 3, 4, 2, 0, 1, 0, 0, 0, 0],
     };
-    assert!(rt; is_answered(ERRONEOUS_PARAMETERS, &ALL, &ANSWER));
-    assert!(rt; is_answered(SOCKET_NOT_CONNECTED, &RET, &NOT_CONNECTED));
-    assert!(rt; is_answered(5, &ANSWER, &NESTED));
-    assert_eq!(rt; ILLEGAL_OPCODE, 1);
-    assert_eq!(rt; SHORT_PARAMETER_SPACE, 2);
-    assert_eq!(rt; NONEXISTENT_SOCKET, 4);
+    assert!(rt;
+        is_answered(ERRONEOUS_PARAMETERS, &ALL, &ANSWER)
+            && is_answered(SOCKET_NOT_CONNECTED, &RET, &NOT_CONNECTED)
+            && is_answered(5, &ANSWER, &NESTED)
+    );
+    assert!(rt; ILLEGAL_OPCODE == 1 && SHORT_PARAMETER_SPACE == 2 && NONEXISTENT_SOCKET == 4);
 }
 
 #[test]
@@ -339,18 +350,20 @@ fn states_laws(_rt: HostRuntime) {
 
 #[test]
 fn compares_commands_and_faults(rt: HostRuntime) {
-    let ins = Command::Ins { link: 2 };
-    assert!(rt; equality::equal_commands(&ins, &ins));
-    assert!(rt; !equality::equal_commands(&ins, &Command::Inr { link: 2 }));
-    assert!(rt; !equality::equal_commands(&ins, &Command::Ins { link: 3 }));
-    let early = CommandFault {
+    const INS: Command = Command::Ins { link: 2 };
+    const EARLY: CommandFault = CommandFault {
         code: SHORT_PARAMETER_SPACE,
         bytes: [0; 10],
     };
-    let illegal = CommandFault {
+    const ILLEGAL: CommandFault = CommandFault {
         code: ILLEGAL_OPCODE,
         bytes: [0; 10],
     };
-    assert!(rt; equality::equal_faults(&early, &early));
-    assert!(rt; !equality::equal_faults(&early, &illegal));
+    assert!(rt;
+        equality::equal_commands(&INS, &INS)
+            && !equality::equal_commands(&INS, &Command::Inr { link: 2 })
+            && !equality::equal_commands(&INS, &Command::Ins { link: 3 })
+            && equality::equal_faults(&EARLY, &EARLY)
+            && !equality::equal_faults(&EARLY, &ILLEGAL)
+    );
 }

@@ -137,21 +137,30 @@ fn fault_of_both(one: usize, byte: u8, other: usize, another: u8) -> Option<Mess
     read_regular(&bits).err()
 }
 
+// What the text of the RTS is written as.
+fn rts_written(rt: &impl Abort) -> Bits {
+    let text = bits_of(rt, &RTS[9..], 80);
+    put_regular(&RTS_LEADER, 8, text.whole()).expect(rt, "a message")
+}
+
 #[test]
 fn reads_and_writes_the_rts(rt: HostRuntime) {
     let bits = bits_of(&rt, &RTS, 152);
-    assert!(rt; is_rts_in(&bits.whole()));
-    assert!(rt; read_leader(&bits) == Ok(RTS_LEADER));
     let message = message_in(&rt, &bits);
-    assert!(rt; is_rts(&message));
-    assert!(rt; has_byte(&message, 0, 0x01));
-    assert!(rt; has_byte(&message, 4, 0x02));
-    assert!(rt; has_byte(&message, 8, 0x03));
-    assert!(rt; has_byte(&message, 9, 0x02));
-    let text = bits_of(&rt, &RTS[9..], 80);
-    let written = put_regular(&RTS_LEADER, 8, text.whole()).expect(&rt, "a message");
-    assert!(rt; is_written(&written.whole(), 152, &RTS));
-    assert!(rt; is_leader_written(&RTS_LEADER, &[0x00, 0x02, 0x00, 0x00]));
+    assert!(rt;
+        is_rts_in(&bits.whole()) && read_leader(&bits) == Ok(RTS_LEADER) && is_rts(&message)
+    );
+    assert!(rt;
+        has_byte(&message, 0, 0x01)
+            && has_byte(&message, 4, 0x02)
+            && has_byte(&message, 8, 0x03)
+            && has_byte(&message, 9, 0x02)
+    );
+    let written = rts_written(&rt);
+    assert!(rt;
+        is_written(&written.whole(), 152, &RTS)
+            && is_leader_written(&RTS_LEADER, &[0x00, 0x02, 0x00, 0x00])
+    );
 }
 
 // Three bits, a part and one bit.
@@ -169,19 +178,25 @@ fn reads_the_rts_where_it_stands(rt: HostRuntime) {
     assert!(rt; is_rts_in(&part));
     // In the middle of other bits.
     let bits = amid(&rt, part);
-    assert!(rt; is_rts_in(&run(&rt, &bits, 3, 152)));
-    assert!(rt; read_leader_in(&run(&rt, &bits, 3, 31)) == Err(Short));
     let fault = read_regular_in(&run(&rt, &bits, 3, 151)).err();
-    assert!(rt; fault == Some(MessageFault::TextMissing));
+    assert!(rt;
+        is_rts_in(&run(&rt, &bits, 3, 152))
+            && read_leader_in(&run(&rt, &bits, 3, 31)) == Err(Short)
+            && fault == Some(MessageFault::TextMissing)
+    );
 }
 
 #[test]
 fn reads_and_writes_a_long_byte(rt: HostRuntime) {
     let bits = bits_of(&rt, &LONG_BYTE, 108);
+    let text = bits_of(&rt, &LONG_BYTE[9..], 36);
     let message = message_in(&rt, &bits);
-    assert!(rt; message.leader() == DATA_LEADER);
-    assert!(rt; message.size() == 36 && message.count() == 1);
-    assert!(rt; has_text(&message, &bits_of(&rt, &LONG_BYTE[9..], 36)));
+    assert!(rt;
+        message.leader() == DATA_LEADER
+            && message.size() == 36
+            && message.count() == 1
+            && has_text(&message, &text)
+    );
 }
 
 #[test]
@@ -216,8 +231,7 @@ fn reads_every_field_of_a_leader(rt: HostRuntime) {
     };
     let bytes = [0x13, 0x02, 0x0a, 0x05];
     assert!(rt; read_leader(&bits_of(&rt, &bytes, 32)) == Ok(LEADER));
-    assert!(rt; is_leader_written(&LEADER, &bytes));
-    assert!(rt; is_leader_written(&FULL, &[0xff; 4]));
+    assert!(rt; is_leader_written(&LEADER, &bytes) && is_leader_written(&FULL, &[0xff; 4]));
 }
 
 #[test]
@@ -252,31 +266,36 @@ fn names_the_first_of_two_faults(rt: HostRuntime) {
     }
 }
 
-#[test]
-fn looks_at_no_padding(rt: HostRuntime) {
-    let mut bits = bits_of(&rt, &RTS, 152);
-    bits.push_number(0b1000, 4).expect(&rt, "room");
-    assert!(rt; bits.len() == 156 && is_rts_in(&bits.whole()));
-    assert!(rt; is_rts(&message_in(&rt, &bits)));
+// The RTS, and four bits of padding.
+fn padded(rt: &impl Abort) -> Bits {
+    let mut bits = bits_of(rt, &RTS, 152);
+    bits.push_number(0b1000, 4).expect(rt, "room");
+    bits
 }
 
-// Whether bits are judged as the first so many of the RTS.
-fn is_judged_cut(cut: &Bits, len: usize) -> bool {
+#[test]
+fn looks_at_no_padding(rt: HostRuntime) {
+    let bits = padded(&rt);
+    assert!(rt; bits.len() == 156 && is_rts_in(&bits.whole()) && is_rts(&message_in(&rt, &bits)));
+}
+
+// Whether the first so many bits of the RTS are judged as such.
+fn is_judged_cut(rt: &impl Abort, bits: &Bits, len: usize) -> bool {
+    let cut = run(rt, bits, 0, len).to_bits();
     let leader = if len < 32 { Err(Short) } else { Ok(RTS_LEADER) };
     let fault = if len < 72 {
         MessageFault::ShortPrefix
     } else {
         MessageFault::TextMissing
     };
-    read_leader(cut) == leader && fault_of(cut) == Some(fault)
+    read_leader(&cut) == leader && fault_of(&cut) == Some(fault)
 }
 
 #[test]
 fn judges_a_message_cut_anywhere(rt: HostRuntime) {
     let bits = bits_of(&rt, &RTS, 152);
     for len in 0..152 {
-        let cut = run(&rt, &bits, 0, len).to_bits();
-        assert!(rt; is_judged_cut(&cut, len), "at {len}");
+        assert!(rt; is_judged_cut(&rt, &bits, len), "at {len}");
     }
     let short = bits_of(
         &rt,
@@ -299,11 +318,14 @@ fn longest(rt: &impl Abort, low: u8) -> Bits {
 #[test]
 fn reads_a_message_of_8192_bits(rt: HostRuntime) {
     let bits = longest(&rt, 0xf7);
-    assert_eq!(rt; bits.len(), 8192);
+    let text = bits_of_one(&rt, 0xa5, 8120);
     let message = message_in(&rt, &bits);
-    assert_eq!(rt; message.count(), 1015);
-    assert!(rt; has_text(&message, &bits_of_one(&rt, 0xa5, 8120)));
-    assert!(rt; has_byte(&message, 1014, 0xa5));
+    assert!(rt;
+        bits.len() == 8192
+            && message.count() == 1015
+            && has_text(&message, &text)
+            && has_byte(&message, 1014, 0xa5)
+    );
     assert!(rt; fault_of(&longest(&rt, 0xf8)) == Some(MessageFault::TextMissing));
 }
 
@@ -314,49 +336,52 @@ fn put_zeros(rt: &impl Abort, size: u8, len: usize) -> Result<(usize, u16), Mess
 }
 
 #[test]
-fn writes_up_to_7928_bits_of_text(rt: HostRuntime) {
-    assert_eq!(rt; MAX_TEXT_BITS, 7928);
-    assert!(rt; put_zeros(&rt, 8, MAX_TEXT_BITS) == Ok((8000, 991)));
-    assert!(rt; put_zeros(&rt, 1, MAX_TEXT_BITS) == Ok((8000, 7928)));
-    assert!(rt; put_zeros(&rt, 1, 7929) == Err(MessageFault::TextTooLong));
+fn writes_up_to_7928_bits_of_text_or_refuses_in_order(rt: HostRuntime) {
+    // Bits a byte, bits in all, and how many bits are written and how many bytes read, or why not.
+    const ROWS: &[(u8, usize, Result<(usize, u16), MessageFault>)] = &[
+        (8, MAX_TEXT_BITS, Ok((8000, 991))),
+        (1, MAX_TEXT_BITS, Ok((8000, 7928))),
+        (1, 7929, Err(MessageFault::TextTooLong)),
+        (0, 12, Err(MessageFault::SizeZero)),
+        (0, 7929, Err(MessageFault::SizeZero)),
+        (8, 7929, Err(MessageFault::TextTooLong)),
+        (3, 7929, Err(MessageFault::TextTooLong)),
+        (8, 12, Err(MessageFault::NotWhole)),
+        (255, 12, Err(MessageFault::NotWhole)),
+    ];
+    assert!(rt; MAX_TEXT_BITS == 7928);
+    for &(size, len, outcome) in ROWS {
+        assert!(rt; put_zeros(&rt, size, len) == outcome);
+    }
+}
+
+// Whether a message has 31 bytes of 255 bits, of which the last is made of the first of these bits.
+fn has_largest_bytes(rt: &impl Abort, message: &Regular<'_>, bits: &Bits) -> bool {
+    message.size() == 255
+        && message.count() == 31
+        && message.text().len() == 7905
+        && 30 < message.count()
+        && message.byte(30) == run(rt, bits, 0, 255)
 }
 
 #[test]
 fn writes_the_largest_bytes(rt: HostRuntime) {
     let ones = bits_of_one(&rt, 0xff, 8000);
     let written = put(255, run(&rt, &ones, 0, 7905)).expect(&rt, "a message");
-    assert_eq!(rt; written.len(), 7977);
-    let message = message_in(&rt, &written);
-    assert!(rt; message.size() == 255 && message.count() == 31);
-    assert_eq!(rt; message.text().len(), 7905);
-    assert!(rt; 30 < message.count());
-    assert!(rt; message.byte(30) == run(&rt, &ones, 0, 255));
+    assert!(rt; written.len() == 7977 && has_largest_bytes(&rt, &message_in(&rt, &written), &ones));
 }
 
 #[test]
 fn writes_and_reads_an_empty_text(rt: HostRuntime) {
-    let empty = [0x00, 0x02, 0x02, 0x00, 0x00, 0x08, 0x00, 0x00, 0x00];
+    const EMPTY: [u8; 9] = [0x00, 0x02, 0x02, 0x00, 0x00, 0x08, 0x00, 0x00, 0x00];
     let written = put(8, Bits::new().whole()).expect(&rt, "a message");
-    assert!(rt; is_written(&written.whole(), 72, &empty));
     let message = message_in(&rt, &written);
-    assert!(rt; message.size() == 8 && message.count() == 0);
-    assert!(rt; message.text().is_empty());
-}
-
-#[test]
-fn refuses_to_write_in_order(rt: HostRuntime) {
-    // Bits a byte, and bits in all.
-    const ROWS: &[(u8, usize, MessageFault)] = &[
-        (0, 12, MessageFault::SizeZero),
-        (0, 7929, MessageFault::SizeZero),
-        (8, 7929, MessageFault::TextTooLong),
-        (3, 7929, MessageFault::TextTooLong),
-        (8, 12, MessageFault::NotWhole),
-        (255, 12, MessageFault::NotWhole),
-    ];
-    for &(size, len, fault) in ROWS {
-        assert!(rt; put_zeros(&rt, size, len) == Err(fault));
-    }
+    assert!(rt;
+        is_written(&written.whole(), 72, &EMPTY)
+            && message.size() == 8
+            && message.count() == 0
+            && message.text().is_empty()
+    );
 }
 
 fn number_of(fault: MessageFault) -> u8 {
@@ -410,34 +435,43 @@ fn tells_faults(rt: HostRuntime) -> Result<(), Fail> {
         ),
     ];
     for &(number, fault, name, text) in TOLD {
-        assert_eq!(rt; number_of(fault), number);
-        assert_eq!(rt; fault.name(), name);
-        assert!(rt; is_told(rt.alloc(), &fault, text)?);
+        assert!(rt;
+            number_of(fault) == number && fault.name() == name && is_told(rt.alloc(), &fault, text)?
+        );
     }
     assert!(rt; is_told(rt.alloc(), &Short, "shorter than a leader")?);
     Ok(())
 }
 
+// The RTS with another link.
+fn changed(rt: &impl Abort) -> Bits {
+    let mut bytes = RTS;
+    bytes[18] = 3;
+    bits_of(rt, &bytes, 152)
+}
+
 #[test]
 fn compares_messages(rt: HostRuntime) {
     let bits = bits_of(&rt, &RTS, 152);
-    let mut padded = bits_of(&rt, &RTS, 152);
-    padded.push_number(0b1000, 4).expect(&rt, "room");
-    let mut changed = RTS;
-    changed[18] = 3;
-    let other = bits_of(&rt, &changed, 152);
+    let padded = padded(&rt);
+    let changed = changed(&rt);
     let message = message_in(&rt, &bits);
-    assert!(rt; message == message_in(&rt, &padded));
-    assert!(rt; message != message_in(&rt, &other));
-    assert!(rt; equality::equal_messages(&message, &message_in(&rt, &padded)));
+    let same = message_in(&rt, &padded);
+    assert!(rt;
+        message == same
+            && message != message_in(&rt, &changed)
+            && equality::equal_messages(&message, &same)
+    );
 }
 
 #[test]
 fn compares_leaders_and_faults(rt: HostRuntime) {
-    assert!(rt; equality::equal_leaders(&RTS_LEADER, &RTS_LEADER));
-    assert!(rt; !equality::equal_leaders(&RTS_LEADER, &DATA_LEADER));
-    assert!(rt; !equality::equal_faults(MessageFault::SizeZero, MessageFault::NotWhole));
-    assert!(rt; equality::equal_refusals(Short, Short));
+    assert!(rt;
+        equality::equal_leaders(&RTS_LEADER, &RTS_LEADER)
+            && !equality::equal_leaders(&RTS_LEADER, &DATA_LEADER)
+            && !equality::equal_faults(MessageFault::SizeZero, MessageFault::NotWhole)
+            && equality::equal_refusals(Short, Short)
+    );
 }
 
 #[test]

@@ -21,9 +21,8 @@ fn gives_back_in_128ths_rounded_up(rt: HostRuntime) {
         (2, 200, 2),
     ];
     for &(counter, fraction, back) in ROWS {
-        assert_eq!(rt;
-            give_back(counter, fraction),
-            back,
+        assert!(rt;
+            give_back(counter, fraction) == back,
             "{counter} at {fraction}"
         );
     }
@@ -91,9 +90,9 @@ fn numbers_and_names_refusals(rt: HostRuntime) -> Result<(), Fail> {
         (CallFault::OutOfMemory, 17, "OutOfMemory", "out of memory"),
     ];
     for &(fault, number, name, text) in ROWS {
-        assert_eq!(rt; fault.number(), number);
-        assert_eq!(rt; fault.name(), name);
-        assert!(rt; is_told(rt.alloc(), &fault, text)?);
+        assert!(rt;
+            fault.number() == number && fault.name() == name && is_told(rt.alloc(), &fault, text)?
+        );
     }
     Ok(())
 }
@@ -143,7 +142,7 @@ fn has_the_limits_of_the_profile(rt: HostRuntime) {
         (GIVE_BACK_PARTS as u64, 128),
     ];
     for &(limit, number) in ROWS {
-        assert_eq!(rt; limit, number);
+        assert!(rt; limit == number);
     }
 }
 
@@ -156,7 +155,7 @@ fn names_what_a_command_gave(rt: HostRuntime) {
         (Heard::Full, "full"),
     ];
     for &(heard, name) in ROWS {
-        assert_eq!(rt; heard.name(), name);
+        assert!(rt; heard.name() == name);
     }
 }
 
@@ -170,6 +169,6 @@ fn names_what_became_of_a_text(rt: HostRuntime) {
         (Took::NotOpen, "not-open"),
     ];
     for &(took, name) in ROWS {
-        assert_eq!(rt; took.name(), name);
+        assert!(rt; took.name() == name);
     }
 }

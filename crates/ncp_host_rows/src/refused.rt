@@ -52,8 +52,7 @@ fn asks_to_send<S: BitStore>(rt: &impl Abort, alloc: Global) -> Result<bool, Fai
     let Err(fault) = host.ask_send(PEER, OUTWARD, 8, ROOM) else {
         return Ok(false);
     };
-    assert!(rt; fault == CallFault::OutOfMemory);
-    assert!(rt; is_as_before(&mut host, OUTWARD));
+    assert!(rt; fault == CallFault::OutOfMemory && is_as_before(&mut host, OUTWARD));
     Ok(true)
 }
 
@@ -63,8 +62,7 @@ fn asks_to_receive<S: BitStore>(rt: &impl Abort, alloc: Global) -> Result<bool, 
     let Err(fault) = host.ask_receive(PEER, INWARD, ROOM) else {
         return Ok(false);
     };
-    assert!(rt; fault == CallFault::OutOfMemory);
-    assert!(rt; is_as_before(&mut host, INWARD));
+    assert!(rt; fault == CallFault::OutOfMemory && is_as_before(&mut host, INWARD));
     Ok(true)
 }
 
@@ -120,9 +118,11 @@ fn running_a_link(rt: HostRuntime) -> Result<(), Fail> {
         Ok(run) => run,
         Err(_) => run_link(rt.alloc(), LINK, &events)?,
     };
-    assert!(rt; slots.first_ready().is_none());
-    assert!(rt; notes.len() == 3);
-    assert!(rt; matches!(&notes[2], LinkNote::Answered(true)));
+    assert!(rt;
+        slots.first_ready().is_none()
+            && notes.len() == 3
+            && matches!(&notes[2], LinkNote::Answered(true))
+    );
     if is_refused {
         println!(rt; "refused: AllocError, no notes")?;
     }

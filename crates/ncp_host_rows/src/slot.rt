@@ -333,15 +333,21 @@ fn compares_and_tells(rt: HostRuntime) -> Result<(), Fail> {
     answers_are_compared();
     refusals_are_compared();
     slots_are_compared::<u8>();
-    assert!(rt; is_shown(rt.alloc(), &Answer::Dead, "Dead")?);
-    assert!(rt; is_shown(rt.alloc(), &Slot::Held(3u8), "Held(3)")?);
+    assert!(rt;
+        is_shown(rt.alloc(), &Answer::Dead, "Dead")?
+            && is_shown(rt.alloc(), &Slot::Held(3u8), "Held(3)")?
+    );
     Ok(())
 }
 
 #[test]
 fn tells_apart(rt: HostRuntime) {
-    assert!(rt; Answer::Dead == Answer::Dead && Answer::Dead != Answer::Incomplete);
-    assert!(rt; Slot::Held(3u8) == Slot::Held(3) && Slot::Held(3u8) != Slot::Ready(3));
+    assert!(rt;
+        Answer::Dead == Answer::Dead
+            && Answer::Dead != Answer::Incomplete
+            && Slot::Held(3u8) == Slot::Held(3)
+            && Slot::Held(3u8) != Slot::Ready(3)
+    );
 }
 
 #[test]
@@ -387,19 +393,20 @@ fn knows_which_links_have_slots(rt: HostRuntime) -> Result<(), Fail> {
     ];
     let mut slots = Slots::new(rt.alloc())?;
     for &(link, has) in ROWS {
-        assert!(rt; has_slot(link) == has);
-        assert!(rt; answers(&mut slots, link, Answer::Rfnm) == Err(Stray));
-        assert!(rt; answers(&mut slots, link, Answer::Incomplete) == Err(Stray));
+        assert!(rt;
+            has_slot(link) == has
+                && answers(&mut slots, link, Answer::Rfnm) == Err(Stray)
+                && answers(&mut slots, link, Answer::Incomplete) == Err(Stray)
+        );
     }
     Ok(())
 }
 
 #[test]
 fn tells_refusals(rt: HostRuntime) -> Result<(), Fail> {
-    let busy = "a message of this link is not taken yet";
-    assert!(rt; is_told(rt.alloc(), &Busy, busy)?);
-    let stray = "no message of this link waits for an answer";
-    assert!(rt; is_told(rt.alloc(), &Stray, stray)?);
+    const BUSY: &str = "a message of this link is not taken yet";
+    const STRAY: &str = "no message of this link waits for an answer";
+    assert!(rt; is_told(rt.alloc(), &Busy, BUSY)? && is_told(rt.alloc(), &Stray, STRAY)?);
     Ok(())
 }
 
@@ -411,8 +418,7 @@ fn has_memory_for_slots(rt: HostRuntime) {
 #[test]
 fn has_memory_for_a_run(rt: HostRuntime) {
     let events = [LinkEvent::Hand, LinkEvent::Answer(Answer::Rfnm)];
-    assert!(rt; run_link(rt.alloc(), 2, &events).is_ok());
-    assert!(rt; run_link(rt.alloc(), 71, &[]).is_ok());
+    assert!(rt; run_link(rt.alloc(), 2, &events).is_ok() && run_link(rt.alloc(), 71, &[]).is_ok());
 }
 
 // Only `Slots::new` asks for memory: this test passes as well where each later request is refused,

@@ -19,9 +19,11 @@ fn faults_are_told(rt: HostRuntime) -> Result<(), Fail> {
         (HostFault::OutOfMemory, 2, "OutOfMemory", "out of memory"),
     ];
     for &(fault, number, name, text) in ROWS {
-        assert_eq!(rt; number_of(fault), number);
-        assert!(rt; is_shown(rt.alloc(), &fault, name)?);
-        assert!(rt; is_told(rt.alloc(), &fault, text)?);
+        assert!(rt;
+            number_of(fault) == number
+                && is_shown(rt.alloc(), &fault, name)?
+                && is_told(rt.alloc(), &fault, text)?
+        );
     }
     Ok(())
 }
