@@ -230,9 +230,10 @@ fn ends<S: BitStore>(
 ) -> Result<(), Fail> {
     let mut tried: Tried<S> = held_back(rt, alloc, held, past)?;
     takes(rt, &mut tried, text);
-    assert!(rt; is_well(&tried));
     assert!(rt;
-        tried.record(Side::A, B, SENDER).is_none() && tried.record(Side::B, A, RECEIVER).is_none()
+        is_well(&tried)
+            && tried.record(Side::A, B, SENDER).is_none()
+            && tried.record(Side::B, A, RECEIVER).is_none()
     );
     Ok(())
 }
@@ -244,9 +245,10 @@ fn opens<S: BitStore>(rt: &impl Abort, alloc: Global, held: Held) -> Result<(), 
     ask(rt, &mut tried);
     go_on(rt, &mut tried, None);
     takes(rt, &mut tried, Some(b""));
-    assert!(rt; is_well(&tried));
     assert!(rt;
-        is_new(&tried.record(Side::A, B, SENDER)) && is_new(&tried.record(Side::B, A, RECEIVER))
+        is_well(&tried)
+            && is_new(&tried.record(Side::A, B, SENDER))
+            && is_new(&tried.record(Side::B, A, RECEIVER))
     );
     Ok(())
 }
@@ -264,10 +266,15 @@ fn control_held_back<S: BitStore>(rt: &impl Abort, alloc: Global) -> Result<(), 
 // While its receiver has not closed and no host was cleared, the text comes to the connection for
 // which it was given.
 fn text_held_back<S: BitStore>(rt: &impl Abort, alloc: Global) -> Result<(), Fail> {
-    ends::<S>(rt, alloc, TEXT, Past::CloseBySender, Some(b"ab"))?;
-    ends::<S>(rt, alloc, TEXT, Past::CloseByReceiver, None)?;
-    ends::<S>(rt, alloc, TEXT, Past::ResetBySender, None)?;
-    ends::<S>(rt, alloc, TEXT, Past::ResetByReceiver, None)?;
+    const ROWS: &[(Past, Option<&[u8]>)] = &[
+        (Past::CloseBySender, Some(b"ab")),
+        (Past::CloseByReceiver, None),
+        (Past::ResetBySender, None),
+        (Past::ResetByReceiver, None),
+    ];
+    for (past, text) in ROWS {
+        ends::<S>(rt, alloc, TEXT, *past, *text)?;
+    }
     opens::<S>(rt, alloc, TEXT)
 }
 

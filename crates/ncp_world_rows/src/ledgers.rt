@@ -151,15 +151,19 @@ fn wanted(script: Script, events: usize) -> Option<Ledger> {
     }
 }
 
+/// Whether the ledger of the sender is what is wanted, and there is none elsewhere.
+fn has_ledger<S: BitStore>(tried: &Tried<S>, wanted: Option<Ledger>) -> bool {
+    tried.ledger(Side::A, SENDER) == wanted
+        && tried.ledger(Side::B, SENDER).is_none()
+        && tried.ledger(Side::B, RECEIVER).is_none()
+}
+
 /// After each event the ledger of the sender is what is wanted, and there is none elsewhere.
 fn is_kept<S: BitStore>(rt: &impl Abort, alloc: Global, script: Script) -> Result<(), Fail> {
     let mut tried: Tried<S> = Tried::new(alloc)?;
     for event in &events_of(rt, alloc, script)? {
         tried.does(rt, event);
-        assert!(rt; tried.ledger(Side::A, SENDER) == wanted(script, tried.notes().len()));
-        assert!(rt;
-            tried.ledger(Side::B, SENDER).is_none() && tried.ledger(Side::B, RECEIVER).is_none()
-        );
+        assert!(rt; has_ledger(&tried, wanted(script, tried.notes().len())));
     }
     Ok(())
 }

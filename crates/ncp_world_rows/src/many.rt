@@ -162,18 +162,22 @@ const RST_TO_2: &[u8] = &[0, 2, 0, 0, 0, 8, 0, 1, 0, 12];
 
 const RST_TO_3: &[u8] = &[0, 3, 0, 0, 0, 8, 0, 1, 0, 12];
 
-fn say_two_resets(rt: &impl Abort, notes: &[ManyNote]) {
-    assert!(rt; notes.len() == 8);
-    assert!(rt; was_reset(&notes[0], 1, 2) && was_reset(&notes[1], 1, 3));
-    assert!(rt; went(rt, &notes[2], 1, RST_TO_2) && went(rt, &notes[3], 1, RST_TO_3));
-    assert!(rt; was_quiet(&notes[4], 1));
-    assert!(rt; came(&notes[5], 1, 3, 0, Received::Control(1)));
-    assert!(rt; told(&notes[6], 3, 1, UP) && told(&notes[7], 2, 1, DOWN));
+/// Whether the notes say so.
+fn say_two_resets(rt: &impl Abort, notes: &[ManyNote]) -> bool {
+    notes.len() == 8
+        && was_reset(&notes[0], 1, 2)
+        && was_reset(&notes[1], 1, 3)
+        && went(rt, &notes[2], 1, RST_TO_2)
+        && went(rt, &notes[3], 1, RST_TO_3)
+        && was_quiet(&notes[4], 1)
+        && came(&notes[5], 1, 3, 0, Received::Control(1))
+        && told(&notes[6], 3, 1, UP)
+        && told(&notes[7], 2, 1, DOWN)
 }
 
 fn two_resets_over<S: BitStore>(rt: &impl Abort, alloc: Global) -> Result<(), Fail> {
     let tried: ManyTried<S> = ManyTried::run(alloc, &THREE, &TWO_RESETS)?;
-    say_two_resets(rt, tried.notes());
+    assert!(rt; say_two_resets(rt, tried.notes()));
     Ok(())
 }
 
@@ -203,20 +207,26 @@ fn are_bad(alloc: Global, hosts: &[u8]) -> bool {
 /// Fewer than two, more than eight, and twice the same.
 #[test]
 fn bad_hosts_are_refused(rt: HostRuntime) {
-    assert!(rt; MAX_HOSTS == 8);
-    assert!(rt; are_bad(rt.alloc(), &[]) && are_bad(rt.alloc(), &[1]));
     assert!(rt;
-        are_bad(rt.alloc(), &[1, 2, 1]) && are_bad(rt.alloc(), &[1, 2, 3, 4, 5, 6, 7, 8, 9])
+        MAX_HOSTS == 8
+            && are_bad(rt.alloc(), &[])
+            && are_bad(rt.alloc(), &[1])
+            && are_bad(rt.alloc(), &[1, 2, 1])
+            && are_bad(rt.alloc(), &[1, 2, 3, 4, 5, 6, 7, 8, 9])
     );
 }
 
 /// A host is there where its number was given.
 #[test]
 fn hosts_are_there(rt: HostRuntime) -> Result<(), Fail> {
-    let tried: ManyTried<PackedStore> = ManyTried::new(rt.alloc(), &[7, 0, 255])?;
-    assert!(rt; tried.notes().is_empty());
+    const HOSTS: &[u8] = &[7, 0, 255];
+    let tried: ManyTried<PackedStore> = ManyTried::new(rt.alloc(), HOSTS)?;
     assert!(rt;
-        tried.is_there(7) && tried.is_there(0) && tried.is_there(255) && !tried.is_there(1)
+        tried.notes().is_empty()
+            && tried.is_there(7)
+            && tried.is_there(0)
+            && tried.is_there(255)
+            && !tried.is_there(1)
     );
     Ok(())
 }
@@ -309,6 +319,20 @@ fn absent_hosts_do_nothing(rt: HostRuntime) -> Result<(), Fail> {
     Ok(())
 }
 
+/// A reset of a peer that is no host, and a message that did not go out.
+const UNKNOWN: [ManyEvent; 2] = [
+    ManyEvent::Call {
+        host: 1,
+        call: Call::Reset { peer: 4 },
+    },
+    ManyEvent::Deliver {
+        from: 1,
+        to: 2,
+        link: 0,
+    },
+];
+
+/// What is noted of them.
 const UNKNOWN_NOTES: [ManyNote; 2] = [
     ManyNote::Called {
         host: 1,
@@ -330,8 +354,9 @@ const UNKNOWN_NOTES: [ManyNote; 2] = [
 #[test]
 fn unknown_peers_are_refused_by_the_call(rt: HostRuntime) -> Result<(), Fail> {
     let mut tried: ManyTried<PackedStore> = ManyTried::new(rt.alloc(), &THREE)?;
-    tried.does(&rt, &call(1, Call::Reset { peer: 4 }));
-    tried.does(&rt, &deliver(1, 2, 0));
+    for event in &UNKNOWN {
+        tried.does(&rt, event);
+    }
     assert!(rt; are_same(rt.alloc(), tried.notes(), &UNKNOWN_NOTES)?);
     Ok(())
 }
@@ -381,11 +406,13 @@ fn pair_goes_on<S: BitStore>(rt: &impl Abort, tried: &mut ManyTried<S>) {
     tried.does(rt, &call(2, Call::Phase { peer: 1 }));
 }
 
-/// What they note of it.
-fn say_pair(rt: &impl Abort, notes: &[ManyNote]) {
-    assert!(rt; notes.len() == 4);
-    assert!(rt; was_reset(&notes[0], 1, 2) && went(rt, &notes[1], 1, RST_TO_2));
-    assert!(rt; came(&notes[2], 1, 2, 0, Received::Control(1)) && told(&notes[3], 2, 1, UP));
+/// Whether they note that.
+fn say_pair(rt: &impl Abort, notes: &[ManyNote]) -> bool {
+    notes.len() == 4
+        && was_reset(&notes[0], 1, 2)
+        && went(rt, &notes[1], 1, RST_TO_2)
+        && came(&notes[2], 1, 2, 0, Received::Control(1))
+        && told(&notes[3], 2, 1, UP)
 }
 
 /// What two of three note of each other as they come up.
@@ -395,8 +422,7 @@ fn two_of_three_come_up(rt: HostRuntime) -> Result<(), Fail> {
     let before = tried.notes().len();
     pair_goes_on(&rt, &mut tried);
     let notes = tried.notes();
-    assert!(rt; before <= notes.len());
-    say_pair(&rt, &notes[before..]);
+    assert!(rt; before <= notes.len() && say_pair(&rt, &notes[before..]));
     Ok(())
 }
 
@@ -441,14 +467,16 @@ fn a_reset_of_two_leaves_the_text_to_a_third(rt: HostRuntime) -> Result<(), Fail
     let mut tried = connected(&rt, rt.alloc())?;
     send_text(&rt, rt.alloc(), &mut tried)?;
     come_up(&rt, &mut tried, 2, 1);
-    assert!(rt; are_up(&tried, 1, 2) && are_up(&tried, 1, 3));
-    let before = tried.notes().len();
-    tried.does(&rt, &deliver(1, 3, LINK));
-    let notes = tried.notes();
-    assert!(rt;
-        before < notes.len() && came(&notes[before], 1, 3, LINK, Received::Text(Took::Admitted))
-    );
+    assert!(rt; are_up(&tried, 1, 2) && are_up(&tried, 1, 3) && text_comes(&rt, &mut tried));
     Ok(())
+}
+
+/// The text comes to the third. Whether it is admitted.
+fn text_comes<S: BitStore>(rt: &impl Abort, tried: &mut ManyTried<S>) -> bool {
+    let before = tried.notes().len();
+    tried.does(rt, &deliver(1, 3, LINK));
+    let notes = tried.notes();
+    before < notes.len() && came(&notes[before], 1, 3, LINK, Received::Text(Took::Admitted))
 }
 
 /// Whether two hosts are up with each other.

@@ -87,15 +87,25 @@ fn give(alloc: Global, host: u8, text: &Bits) -> Result<ManyEvent, AllocError> {
     })
 }
 
-/// Host 1 gives a text. So does a host that is not there.
-fn events_once(rt: &impl Abort, alloc: Global) -> Result<Vec<ManyEvent>, AllocError> {
-    let text = bits_of(rt, b"ab");
+/// The connection is open.
+fn opened(alloc: Global) -> Result<Vec<ManyEvent>, AllocError> {
     let mut events = Vec::new(alloc);
     for event in OPENING {
         events.push(event)?;
     }
-    events.push(give(alloc, 1, &text)?)?;
-    events.push(give(alloc, 4, &text)?)?;
+    Ok(events)
+}
+
+/// Host 1 gives a text. So does a host that is not there.
+fn push_gives(alloc: Global, events: &mut Vec<ManyEvent>, text: &Bits) -> Result<(), AllocError> {
+    events.push(give(alloc, 1, text)?)?;
+    events.push(give(alloc, 4, text)?)?;
+    Ok(())
+}
+
+fn events_once(rt: &impl Abort, alloc: Global) -> Result<Vec<ManyEvent>, AllocError> {
+    let mut events = opened(alloc)?;
+    push_gives(alloc, &mut events, &bits_of(rt, b"ab"))?;
     events.push(ManyEvent::Lose {
         from: 1,
         to: 2,
@@ -163,8 +173,12 @@ fn does<S: BitStore>(rt: &impl Abort, many: &mut Many<S>, event: &ManyEvent) -> 
         Ok(()) if wants_at_last(many) => count.saturating_add(1),
         Ok(()) => return false,
     };
-    assert!(rt; many.transcript().len() == noted && readings(many) == before);
-    assert!(rt; many.step(event).is_ok() && !wants_at_last(many));
+    assert!(rt;
+        many.transcript().len() == noted
+            && readings(many) == before
+            && many.step(event).is_ok()
+            && !wants_at_last(many)
+    );
     true
 }
 
@@ -187,11 +201,20 @@ fn go_alike<S: BitStore>(
     Ok(refused)
 }
 
-fn steps<S: BitStore>(rt: &impl Abort, alloc: Global) -> Result<bool, Fail> {
-    let events = events(rt, alloc)?;
+/// Does all events twice with hosts of their own.
+fn step_alike<S: BitStore>(
+    rt: &impl Abort,
+    alloc: Global,
+    events: &[ManyEvent],
+) -> Result<bool, Fail> {
     let (mut one, _refused) = made::<S>(alloc)?;
     let (mut other, _refused) = made::<S>(alloc)?;
-    Ok(go_alike(rt, alloc, &mut one, &mut other, &events)?)
+    Ok(go_alike(rt, alloc, &mut one, &mut other, events)?)
+}
+
+fn steps<S: BitStore>(rt: &impl Abort, alloc: Global) -> Result<bool, Fail> {
+    let events = events(rt, alloc)?;
+    step_alike::<S>(rt, alloc, &events)
 }
 
 /// Compares the notes of two runs. Whether one of them notes a call that was refused: up to there both note the same.
@@ -200,7 +223,7 @@ fn notes_refusal(
     alloc: Global,
     notes: &[ManyNote],
     others: &[ManyNote],
-) -> Result<bool, Fail> {
+) -> Result<bool, AllocError> {
     for (note, again) in notes.iter().zip(others.iter()) {
         if is_wanting(note) || is_wanting(again) {
             return Ok(true);
@@ -210,19 +233,29 @@ fn notes_refusal(
     Ok(false)
 }
 
-/// Runs all events twice. Whether one of the runs was refused, or notes a call that was.
-fn runs<S: BitStore>(rt: &impl Abort, alloc: Global) -> Result<bool, Fail> {
-    let events = events(rt, alloc)?;
-    let one = Many::<S>::run(alloc, &THREE, &events);
-    let other = Many::<S>::run(alloc, &THREE, &events);
-    match (&one, &other) {
-        (Ok(one), Ok(other)) => notes_refusal(rt, alloc, one.transcript(), other.transcript()),
+/// Whether one of two runs was refused, or notes a call that was.
+fn are_alike<S: BitStore>(
+    rt: &impl Abort,
+    alloc: Global,
+    one: &Result<Many<S>, ManyFault>,
+    other: &Result<Many<S>, ManyFault>,
+) -> Result<bool, Fail> {
+    match (one, other) {
+        (Ok(one), Ok(other)) => Ok(notes_refusal(rt, alloc, one.transcript(), other.transcript())?),
         (Err(_), Err(_)) => Err("refused twice".into()),
         (Err(fault), Ok(_)) | (Ok(_), Err(fault)) => {
             assert!(rt; *fault == ManyFault::OutOfMemory);
             Ok(true)
         }
     }
+}
+
+/// Runs all events twice, and compares.
+fn runs<S: BitStore>(rt: &impl Abort, alloc: Global) -> Result<bool, Fail> {
+    let events = events(rt, alloc)?;
+    let one = Many::<S>::run(alloc, &THREE, &events);
+    let other = Many::<S>::run(alloc, &THREE, &events);
+    are_alike(rt, alloc, &one, &other)
 }
 
 /// Whether memory for three hosts was refused once.

@@ -57,8 +57,12 @@ fn does<S: BitStore>(rt: &impl Abort, world: &mut World<S>, event: &Event) -> bo
         Ok(()) if wants_at_last(world) => many.saturating_add(1),
         Ok(()) => return false,
     };
-    assert!(rt; world.transcript().len() == noted && readings(world) == before);
-    assert!(rt; world.step(event).is_ok() && !wants_at_last(world));
+    assert!(rt;
+        world.transcript().len() == noted
+            && readings(world) == before
+            && world.step(event).is_ok()
+            && !wants_at_last(world)
+    );
     true
 }
 
@@ -81,11 +85,20 @@ fn go_alike<S: BitStore>(
     Ok(refused)
 }
 
-fn steps<S: BitStore>(rt: &impl Abort, alloc: Global) -> Result<bool, AllocError> {
-    let events = events(rt, alloc)?;
+/// Does all events in two worlds of their own.
+fn step_alike<S: BitStore>(
+    rt: &impl Abort,
+    alloc: Global,
+    events: &[Event],
+) -> Result<bool, AllocError> {
     let (mut one, _refused) = made::<S>(alloc)?;
     let (mut other, _refused) = made::<S>(alloc)?;
-    go_alike(rt, alloc, &mut one, &mut other, &events)
+    go_alike(rt, alloc, &mut one, &mut other, events)
+}
+
+fn steps<S: BitStore>(rt: &impl Abort, alloc: Global) -> Result<bool, AllocError> {
+    let events = events(rt, alloc)?;
+    step_alike::<S>(rt, alloc, &events)
 }
 
 /// Compares the notes of two runs. Whether one of them notes a call that was refused: up to there both note the same.
@@ -94,7 +107,7 @@ fn notes_refusal(
     alloc: Global,
     notes: &[Note],
     others: &[Note],
-) -> Result<bool, Fail> {
+) -> Result<bool, AllocError> {
     for (note, again) in notes.iter().zip(others.iter()) {
         if is_wanting(note) || is_wanting(again) {
             return Ok(true);
@@ -104,16 +117,26 @@ fn notes_refusal(
     Ok(false)
 }
 
-/// Runs all events twice. Whether one of the runs was refused, or notes a call that was.
+/// Whether one of two runs was refused, or notes a call that was.
+fn are_alike<S: BitStore>(
+    rt: &impl Abort,
+    alloc: Global,
+    one: &Result<World<S>, AllocError>,
+    other: &Result<World<S>, AllocError>,
+) -> Result<bool, Fail> {
+    match (one, other) {
+        (Ok(one), Ok(other)) => Ok(notes_refusal(rt, alloc, one.transcript(), other.transcript())?),
+        (Err(_), Err(_)) => Err("refused twice".into()),
+        _ => Ok(true),
+    }
+}
+
+/// Runs all events twice, and compares.
 fn runs<S: BitStore>(rt: &impl Abort, alloc: Global) -> Result<bool, Fail> {
     let events = events(rt, alloc)?;
     let one = run::<S>(alloc, A, B, &events);
     let other = run::<S>(alloc, A, B, &events);
-    match (&one, &other) {
-        (Ok(one), Ok(other)) => notes_refusal(rt, alloc, one.transcript(), other.transcript()),
-        (Err(_), Err(_)) => Err("refused twice".into()),
-        _ => Ok(true),
-    }
+    are_alike(rt, alloc, &one, &other)
 }
 
 /// Whether memory for a world was refused once.
