@@ -14,14 +14,19 @@ const PAIR: Pair = Pair {
     remote: 2,
 };
 
-// Whether a note of a script of one host has these lines.
-fn is_noted(alloc: Global, number: u32, note: HostNote, lines: &[u8]) -> bool {
-    is_said(alloc, Speaker::Host, number, &note, lines)
+// The number of a note, the note, and its lines.
+type Row<'a> = (u32, HostNote, &'a [u8]);
+
+// The lines of each note.
+fn expect(rt: &impl Abort, alloc: Global, speaker: Speaker, rows: &[Row<'_>]) {
+    for (number, note, lines) in rows {
+        assert!(rt; is_said(alloc, speaker, *number, note, lines));
+    }
 }
 
-// Whether a call that was done has this line.
-fn is_done(alloc: Global, number: u32, call: Call, line: &[u8]) -> bool {
-    is_noted(alloc, number, HostNote::Done { call }, line)
+// Whether a note of a script of one host has these lines.
+fn is_noted(alloc: Global, number: u32, note: &HostNote, lines: &[u8]) -> bool {
+    is_said(alloc, Speaker::Host, number, note, lines)
 }
 
 // Whether a text that is given has this line.
@@ -31,115 +36,155 @@ fn is_given(alloc: Global, number: u32, bytes: &[u8], line: &[u8]) -> Result<boo
         pair: PAIR,
         text: message(alloc, bytes)?,
     };
-    Ok(is_done(alloc, number, call, line))
+    Ok(is_noted(alloc, number, &HostNote::Done { call }, line))
 }
 
 #[test]
 fn calls_that_are_done(rt: HostRuntime) -> Result<(), Fail> {
-    let alloc = rt.alloc();
-    let pair = PAIR;
-    let ask_send = Call::AskSend {
-        peer: 2,
-        pair,
-        size: 8,
-        room: 1024,
-    };
-    let ask_receive = Call::AskReceive {
-        peer: 2,
-        pair,
-        room: 1024,
-    };
-    assert!(rt;
-        is_done(alloc, 1, Call::Reset { peer: 2 }, b"1 reset 2 ok\n")
-            && is_done(alloc, 2, ask_send, b"2 ask-send 2 ok\n")
-            && is_done(alloc, 3, ask_receive, b"3 ask-receive 2 ok\n")
-            && is_given(alloc, 4, b"abc", b"4 give 2 ok\n")?
-    );
+    const ROWS: [Row<'static>; 9] = [
+        (
+            1,
+            HostNote::Done {
+                call: Call::Reset { peer: 2 },
+            },
+            b"1 reset 2 ok\n",
+        ),
+        (
+            2,
+            HostNote::Done {
+                call: Call::AskSend {
+                    peer: 2,
+                    pair: PAIR,
+                    size: 8,
+                    room: 1024,
+                },
+            },
+            b"2 ask-send 2 ok\n",
+        ),
+        (
+            3,
+            HostNote::Done {
+                call: Call::AskReceive {
+                    peer: 2,
+                    pair: PAIR,
+                    room: 1024,
+                },
+            },
+            b"3 ask-receive 2 ok\n",
+        ),
+        (
+            5,
+            HostNote::Done {
+                call: Call::Allocate {
+                    peer: 2,
+                    pair: PAIR,
+                    messages: 2,
+                    bits: 16,
+                },
+            },
+            b"5 allocate 2 ok\n",
+        ),
+        (
+            6,
+            HostNote::Done {
+                call: Call::CallBack {
+                    peer: 2,
+                    pair: PAIR,
+                    fm: 64,
+                    fb: 1,
+                },
+            },
+            b"6 call-back 2 ok\n",
+        ),
+        (
+            10,
+            HostNote::Done {
+                call: Call::Interrupt {
+                    peer: 255,
+                    pair: PAIR,
+                },
+            },
+            b"10 interrupt 255 ok\n",
+        ),
+        (
+            11,
+            HostNote::Done {
+                call: Call::Echo { peer: 0, byte: 65 },
+            },
+            b"11 echo 0 ok\n",
+        ),
+        (
+            12,
+            HostNote::Done {
+                call: Call::Close {
+                    peer: 2,
+                    pair: PAIR,
+                },
+            },
+            b"12 close 2 ok\n",
+        ),
+        (
+            13,
+            HostNote::Done {
+                call: Call::Wake { peer: 2 },
+            },
+            b"13 wake 2 ok\n",
+        ),
+    ];
+    expect(&rt, rt.alloc(), Speaker::Host, &ROWS);
+    assert!(rt; is_given(rt.alloc(), 4, b"abc", b"4 give 2 ok\n")?);
     Ok(())
 }
 
 #[test]
-fn calls_about_allocation_that_are_done(rt: HostRuntime) {
-    let alloc = rt.alloc();
-    let pair = PAIR;
-    let allocate = Call::Allocate {
-        peer: 2,
-        pair,
-        messages: 2,
-        bits: 16,
-    };
-    let call_back = Call::CallBack {
-        peer: 2,
-        pair,
-        fm: 64,
-        fb: 1,
-    };
-    assert!(rt;
-        is_done(alloc, 5, allocate, b"5 allocate 2 ok\n")
-            && is_done(alloc, 6, call_back, b"6 call-back 2 ok\n")
-    );
-}
-
-#[test]
-fn other_calls_that_are_done(rt: HostRuntime) {
-    let alloc = rt.alloc();
-    let pair = PAIR;
-    let interrupt = Call::Interrupt { peer: 255, pair };
-    let echo = Call::Echo { peer: 0, byte: 65 };
-    assert!(rt;
-        is_done(alloc, 10, interrupt, b"10 interrupt 255 ok\n")
-            && is_done(alloc, 11, echo, b"11 echo 0 ok\n")
-            && is_done(alloc, 12, Call::Close { peer: 2, pair }, b"12 close 2 ok\n")
-            && is_done(alloc, 13, Call::Wake { peer: 2 }, b"13 wake 2 ok\n")
-    );
-}
-
-// Whether a call that was refused has this line.
-fn is_refused(alloc: Global, number: u32, call: Call, fault: CallFault, line: &[u8]) -> bool {
-    is_noted(alloc, number, HostNote::Refused { call, fault }, line)
-}
-
-#[test]
 fn calls_that_are_refused(rt: HostRuntime) {
-    let alloc = rt.alloc();
-    let pair = PAIR;
-    let echo = Call::Echo { peer: 2, byte: 66 };
-    let state = Call::State { peer: 2, pair };
-    let take = Call::Take {
-        peer: 3,
-        pair,
-        bytes: 100,
-    };
-    let ask_send = Call::AskSend {
-        peer: 2,
-        pair,
-        size: 8,
-        room: 8,
-    };
-    assert!(rt;
-        is_refused(alloc, 6, echo, CallFault::Busy, b"6 echo 2 refused Busy\n")
-            && is_refused(
-                alloc,
-                29,
-                state,
-                CallFault::NoEntry,
-                b"29 state 2 refused NoEntry\n",
-            )
-            && is_refused(
-                alloc,
-                4294967295,
-                take,
-                CallFault::UnknownPeer,
-                b"4294967295 take 3 refused UnknownPeer\n",
-            )
-            && is_refused(
-                alloc,
-                7,
-                ask_send,
-                CallFault::OutOfMemory,
-                b"7 ask-send 2 refused OutOfMemory\n",
-            )
-    );
+    const ROWS: [Row<'static>; 4] = [
+        (
+            6,
+            HostNote::Refused {
+                call: Call::Echo { peer: 2, byte: 66 },
+                fault: CallFault::Busy,
+            },
+            b"6 echo 2 refused Busy\n",
+        ),
+        (
+            29,
+            HostNote::Refused {
+                call: Call::State {
+                    peer: 2,
+                    pair: PAIR,
+                },
+                fault: CallFault::NoEntry,
+            },
+            b"29 state 2 refused NoEntry\n",
+        ),
+        (
+            4294967295,
+            HostNote::Refused {
+                call: Call::Take {
+                    peer: 3,
+                    pair: PAIR,
+                    bytes: 100,
+                },
+                fault: CallFault::UnknownPeer,
+            },
+            b"4294967295 take 3 refused UnknownPeer\n",
+        ),
+        (
+            7,
+            HostNote::Refused {
+                call: Call::AskSend {
+                    peer: 2,
+                    pair: PAIR,
+                    size: 8,
+                    room: 8,
+                },
+                fault: CallFault::OutOfMemory,
+            },
+            b"7 ask-send 2 refused OutOfMemory\n",
+        ),
+    ];
+    expect(&rt, rt.alloc(), Speaker::Host, &ROWS);
 }
 
 // Whether a text that was taken has this line.
@@ -150,7 +195,7 @@ fn is_taken(alloc: Global, number: u32, bytes: &[u8], line: &[u8]) -> Result<boo
         bytes: 100,
         text: message(alloc, bytes)?,
     };
-    Ok(is_noted(alloc, number, note, line))
+    Ok(is_noted(alloc, number, &note, line))
 }
 
 #[test]
@@ -190,7 +235,7 @@ fn expect_states(rt: &impl Abort, alloc: Global, rows: &[(Record, &[u8])]) {
             pair: PAIR,
             record: *record,
         };
-        assert!(rt; is_noted(alloc, 25, note, line));
+        assert!(rt; is_noted(alloc, 25, &note, line));
     }
 }
 
@@ -220,14 +265,7 @@ fn states(rt: HostRuntime) {
             },
             b"25 state 2 ok end=send asked=0 heard=1 opened=0 leaving=0 left=1 cls=0 link=2 size=- messages=1 bits=0 stored=8 interrupts=0\n",
         ),
-    ];
-    expect_states(&rt, rt.alloc(), ROWS);
-}
-
-#[test]
-fn states_of_receivers(rt: HostRuntime) {
-    // a receiver that asked knows the link, and one that heard the request knows the size
-    const ROWS: &[(Record, &[u8])] = &[
+        // a receiver that asked knows the link, and one that heard the request knows the size
         (
             Record {
                 end: End::Receive,
@@ -286,13 +324,8 @@ fn phases(rt: HostRuntime) {
             peer: 2,
             flags: *flags,
         };
-        assert!(rt; is_noted(rt.alloc(), 4, note, line));
+        assert!(rt; is_noted(rt.alloc(), 4, &note, line));
     }
-}
-
-// Whether a reading of an echo has this line.
-fn is_echoed(alloc: Global, number: u32, byte: Option<u8>, line: &[u8]) -> bool {
-    is_noted(alloc, number, HostNote::Echoed { peer: 2, byte }, line)
 }
 
 #[test]
@@ -311,28 +344,38 @@ fn readings(rt: HostRuntime) {
         other: 2,
         unknown: 3,
     };
-    let alloc = rt.alloc();
-    let counts = HostNote::Counts {
-        peer: 2,
-        counts: COUNTS,
-    };
-    let ignored = HostNote::Ignored { ignored: IGNORED };
-    assert!(rt;
-        is_echoed(alloc, 1, None, b"1 echoed 2 ok none\n")
-            && is_echoed(alloc, 2, Some(65), b"2 echoed 2 ok 65\n")
-            && is_noted(
-                alloc,
-                3,
-                counts,
-                b"3 counts 2 ok stray=1 faults=2 wrong-link=3 wrong-size=4 not-up=5 late=6 over=7\n",
-            )
-            && is_noted(
-                alloc,
-                4,
-                ignored,
-                b"4 ignored ok short=1 other=2 unknown=3\n",
-            )
-    );
+    const ROWS: [Row<'static>; 4] = [
+        (
+            1,
+            HostNote::Echoed {
+                peer: 2,
+                byte: None,
+            },
+            b"1 echoed 2 ok none\n",
+        ),
+        (
+            2,
+            HostNote::Echoed {
+                peer: 2,
+                byte: Some(65),
+            },
+            b"2 echoed 2 ok 65\n",
+        ),
+        (
+            3,
+            HostNote::Counts {
+                peer: 2,
+                counts: COUNTS,
+            },
+            b"3 counts 2 ok stray=1 faults=2 wrong-link=3 wrong-size=4 not-up=5 late=6 over=7\n",
+        ),
+        (
+            4,
+            HostNote::Ignored { ignored: IGNORED },
+            b"4 ignored ok short=1 other=2 unknown=3\n",
+        ),
+    ];
+    expect(&rt, rt.alloc(), Speaker::Host, &ROWS);
 }
 
 // The lines of bits that came.
@@ -342,7 +385,7 @@ fn expect_in(rt: &impl Abort, alloc: Global, rows: &[(u32, Received, &[u8])]) ->
             message: message(alloc, b"\x04\x02\x00\x00")?,
             received: *received,
         };
-        assert!(rt; is_noted(alloc, *number, note, line));
+        assert!(rt; is_noted(alloc, *number, &note, line));
     }
     Ok(())
 }
@@ -361,13 +404,6 @@ fn what_comes(rt: HostRuntime) -> Result<(), Fail> {
         (5, Received::WrongLink, b"5 in wrong-link\n"),
         (6, Received::WrongSize, b"6 in wrong-size\n"),
         (7, Received::Control(10), b"7 in control 10\n"),
-    ];
-    expect_in(&rt, rt.alloc(), ROWS)
-}
-
-#[test]
-fn texts_that_come(rt: HostRuntime) -> Result<(), Fail> {
-    const ROWS: &[(u32, Received, &[u8])] = &[
         (1, Received::Text(Took::Admitted), b"1 in text admitted\n"),
         (2, Received::Text(Took::Late), b"2 in text late\n"),
         (
@@ -382,24 +418,31 @@ fn texts_that_come(rt: HostRuntime) -> Result<(), Fail> {
     expect_in(&rt, rt.alloc(), ROWS)
 }
 
-// Whether an answer has this line.
-fn is_answered(alloc: Global, received: Received, line: &[u8]) -> bool {
-    let note = HostNote::Answered {
-        peer: 2,
-        link: 0,
-        answer: Answer::Rfnm,
-        received,
-    };
-    is_noted(alloc, 2, note, line)
-}
-
 #[test]
 fn answers_that_come(rt: HostRuntime) {
-    let alloc = rt.alloc();
-    assert!(rt;
-        is_answered(alloc, Received::Stray, b"2 in stray\n")
-            && is_answered(alloc, Received::Answered, b"2 in answered\n")
-    );
+    const ROWS: [Row<'static>; 2] = [
+        (
+            2,
+            HostNote::Answered {
+                peer: 2,
+                link: 0,
+                answer: Answer::Rfnm,
+                received: Received::Stray,
+            },
+            b"2 in stray\n",
+        ),
+        (
+            2,
+            HostNote::Answered {
+                peer: 2,
+                link: 0,
+                answer: Answer::Rfnm,
+                received: Received::Answered,
+            },
+            b"2 in answered\n",
+        ),
+    ];
+    expect(&rt, rt.alloc(), Speaker::Host, &ROWS);
 }
 
 // Whether a message that goes out has these lines.
@@ -418,51 +461,58 @@ fn is_out(
 
 #[test]
 fn what_goes_out(rt: HostRuntime) -> Result<(), Fail> {
-    let alloc = rt.alloc();
-    assert!(rt;
-        is_out(
-            alloc,
+    const ROWS: &[(Speaker, u32, &[u8], &[u8])] = &[
+        (
             Speaker::Host,
             7,
             b"\x00\x02\x00\x00\x00\x08\x00\x03\x00\x0d\x09\x41",
             b"7 out host=2 link=0 bits=96\n  size=8 count=3\n  RRP\n  ECO data=65\n",
-        )? && is_out(
-            alloc,
+        ),
+        (
             Speaker::Host,
             21,
             b"\x00\x02\x02\x00\x00\x08\x00\x02\x00\x61\x62",
             b"21 out host=2 link=2 bits=88\n  size=8 count=2\n  text bits=16 6162\n",
-        )? && is_noted(alloc, 26, HostNote::Nothing, b"26 out nothing\n")
-    );
+        ),
+        (
+            Speaker::Side(b'b'),
+            23,
+            b"\x00\x01\x00\x00\x00\x08\x00\x09\x00\x03\x00\x00\x00\x02\x00\x00\x00\x03",
+            b"23 b out host=1 link=0 bits=144\n  size=8 count=9\n  CLS my=2 your=3\n",
+        ),
+    ];
+    for (speaker, number, bytes, lines) in ROWS {
+        assert!(rt; is_out(rt.alloc(), *speaker, *number, bytes, lines)?);
+    }
+    assert!(rt; is_noted(rt.alloc(), 26, &HostNote::Nothing, b"26 out nothing\n"));
     Ok(())
 }
 
 #[test]
-fn sides_of_two_hosts(rt: HostRuntime) -> Result<(), Fail> {
-    const SIDE: Speaker = Speaker::Side(b'b');
-    let alloc = rt.alloc();
-    let pair = PAIR;
-    let done = HostNote::Done {
-        call: Call::AskReceive {
-            peer: 1,
-            pair,
-            room: 1024,
-        },
-    };
-    let refused = HostNote::Refused {
-        call: Call::State { peer: 1, pair },
-        fault: CallFault::NoEntry,
-    };
-    assert!(rt;
-        is_said(alloc, SIDE, 8, &done, b"8 b ask-receive ok\n")
-            && is_out(
-                alloc,
-                SIDE,
-                23,
-                b"\x00\x01\x00\x00\x00\x08\x00\x09\x00\x03\x00\x00\x00\x02\x00\x00\x00\x03",
-                b"23 b out host=1 link=0 bits=144\n  size=8 count=9\n  CLS my=2 your=3\n",
-            )?
-            && is_said(alloc, SIDE, 30, &refused, b"30 b state refused NoEntry\n")
-    );
-    Ok(())
+fn sides_of_two_hosts(rt: HostRuntime) {
+    const ROWS: [Row<'static>; 2] = [
+        (
+            8,
+            HostNote::Done {
+                call: Call::AskReceive {
+                    peer: 1,
+                    pair: PAIR,
+                    room: 1024,
+                },
+            },
+            b"8 b ask-receive ok\n",
+        ),
+        (
+            30,
+            HostNote::Refused {
+                call: Call::State {
+                    peer: 1,
+                    pair: PAIR,
+                },
+                fault: CallFault::NoEntry,
+            },
+            b"30 b state refused NoEntry\n",
+        ),
+    ];
+    expect(&rt, rt.alloc(), Speaker::Side(b'b'), &ROWS);
 }

@@ -54,6 +54,23 @@ pub(crate) fn is_said(
     }
 }
 
+/// Plays these inputs, and writes the lines of their notes.
+fn play_each(
+    alone: &mut Alone<PackedStore>,
+    inputs: &[Input],
+    sink: &mut MemorySink,
+) -> Result<(), PlayFault> {
+    let mut page = Page::new();
+    let mut heading = Heading {
+        number: 1,
+        speaker: Speaker::Host,
+    };
+    for input in inputs {
+        play_input(alone, input, &mut heading, &mut page, sink)?;
+    }
+    page.flush(sink).or(Err(PlayFault::WriteFailed))
+}
+
 /// Plays these inputs, and compares the lines of their notes.
 pub(crate) fn expect_run(
     rt: &impl Abort,
@@ -62,17 +79,8 @@ pub(crate) fn expect_run(
     lines: &[u8],
 ) -> Result<(), Fail> {
     let mut alone = Alone::<PackedStore>::new(alloc, ME, &[PEER])?;
-    let mut page = Page::new();
     let mut sink = MemorySink::new(alloc, ROOM, None)?;
-    let mut heading = Heading {
-        number: 1,
-        speaker: Speaker::Host,
-    };
-    for input in inputs {
-        play_input(&mut alone, input, &mut heading, &mut page, &mut sink)?;
-    }
-    page.flush(&mut sink)?;
-    assert!(rt; sink.bytes() == lines);
+    assert!(rt; play_each(&mut alone, inputs, &mut sink) == Ok(()) && sink.bytes() == lines);
     Ok(())
 }
 

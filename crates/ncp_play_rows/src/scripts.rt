@@ -90,8 +90,8 @@ fn lines_are_read_as_they_stand(rt: HostRuntime) -> Result<(), Fail> {
 
 #[test]
 fn no_hosts(rt: HostRuntime) -> Result<(), Fail> {
-    for script in [
-        b"".as_slice(),
+    const SCRIPTS: &[&[u8]] = &[
+        b"",
         b"# a\n\n",
         b"phase 2\nhost 1 2\n",
         b"host 1\n",
@@ -99,7 +99,8 @@ fn no_hosts(rt: HostRuntime) -> Result<(), Fail> {
         b"host 1 2 2\n",
         b"host 1 2 3 4 5 6 7 8 9 10\n",
         b"hosts 1 2\n",
-    ] {
+    ];
+    for script in SCRIPTS {
         expect(&rt, rt.alloc(), script, Err(PlayFault::BadHosts), b"")?;
     }
     Ok(())
@@ -107,17 +108,15 @@ fn no_hosts(rt: HostRuntime) -> Result<(), Fail> {
 
 #[test]
 fn bad_lines(rt: HostRuntime) -> Result<(), Fail> {
-    for (script, line) in [
-        (
-            b"host 1 2\nphase 2\n\n# a\nphase  2\nout\n".as_slice(),
-            5u32,
-        ),
+    const ROWS: &[(&[u8], u32)] = &[
+        (b"host 1 2\nphase 2\n\n# a\nphase  2\nout\n", 5),
         (b"host 1 2\nphase 2\nphase 2\r", 3),
         (b"host 1 2\nphase 2\nout\r\r\n", 3),
         (b"host 1 2\nphase 2\nfeed", 3),
         (b"host 1 2\nphase 2\na out\n", 3),
-    ] {
-        let fault = PlayFault::BadLine(line);
+    ];
+    for (script, line) in ROWS {
+        let fault = PlayFault::BadLine(*line);
         expect(&rt, rt.alloc(), script, Err(fault), b"1 phase 2 ok down\n")?;
     }
     Ok(())
@@ -195,8 +194,8 @@ fn long_lines(rt: HostRuntime) -> Result<(), Fail> {
 
 #[test]
 fn faults_of_feeds(rt: HostRuntime) -> Result<(), Fail> {
-    for (script, fault) in [
-        (b"host 1 2\nout\nfeed\n".as_slice(), FileFault::BadHeader),
+    const ROWS: &[(&[u8], FileFault)] = &[
+        (b"host 1 2\nout\nfeed\n", FileFault::BadHeader),
         (b"host 1 2\nout\nfeed\nNCPH", FileFault::BadHeader),
         (b"host 1 2\nout\nfeed\r\nNCPI\x00", FileFault::Truncated),
         (b"host 1 2\nout\nfeed\nNCPI\x20\x01", FileFault::TooLong),
@@ -204,8 +203,9 @@ fn faults_of_feeds(rt: HostRuntime) -> Result<(), Fail> {
             b"host 1 2\nout\nfeed\nNCPI\x00\x01\xc0",
             FileFault::SpareNotZero,
         ),
-    ] {
-        let answer = Err(PlayFault::Feed(fault));
+    ];
+    for (script, fault) in ROWS {
+        let answer = Err(PlayFault::Feed(*fault));
         expect(&rt, rt.alloc(), script, answer, b"1 out nothing\n")?;
     }
     Ok(())
@@ -236,40 +236,107 @@ fn feed_of_front(len: usize) -> (PlayFault, usize) {
     }
 }
 
+// Whether a script that is played with this read and this write failing, where one does, has this answer and the first
+// so many bytes of these lines.
+fn is_played(
+    alloc: Global,
+    script: &[u8],
+    (read, write): (Option<u32>, Option<u32>),
+    answer: Result<bool, PlayFault>,
+    len: usize,
+    lines: &[u8],
+) -> Result<bool, Fail> {
+    Ok(play(alloc, script, read, write)?.is(answer, len, lines))
+}
+
 #[test]
 fn each_failed_read_is_told(rt: HostRuntime) -> Result<(), Fail> {
+    const FAULT: Result<bool, PlayFault> = Err(PlayFault::ReadFailed);
     for count in 1..93u32 {
-        let played = play(rt.alloc(), FIRST, Some(count), None)?;
         let len = first_lines_of_front((count as usize).saturating_sub(1));
-        let answer = Err(PlayFault::ReadFailed);
-        assert!(rt; played.is(answer, len, FIRST_LINES), "at {count}");
+        assert!(rt;
+            is_played(
+                rt.alloc(),
+                FIRST,
+                (Some(count), None),
+                FAULT,
+                len,
+                FIRST_LINES
+            )?,
+            "at {count}"
+        );
     }
-    let played = play(rt.alloc(), FIRST, Some(93), None)?;
-    assert!(rt; played.is(Ok(false), FIRST_LINES.len(), FIRST_LINES));
+    let len = FIRST_LINES.len();
+    assert!(rt;
+        is_played(
+            rt.alloc(),
+            FIRST,
+            (Some(93), None),
+            Ok(false),
+            len,
+            FIRST_LINES
+        )?
+    );
     Ok(())
 }
 
 #[test]
 fn each_failed_read_of_a_feed_is_told(rt: HostRuntime) -> Result<(), Fail> {
     for count in 1..38u32 {
-        let played = play(rt.alloc(), FEED, Some(count), None)?;
         let (fault, len) = feed_of_front((count as usize).saturating_sub(1));
-        assert!(rt; played.is(Err(fault), len, FEED_LINES), "at {count}");
+        assert!(rt;
+            is_played(
+                rt.alloc(),
+                FEED,
+                (Some(count), None),
+                Err(fault),
+                len,
+                FEED_LINES
+            )?,
+            "at {count}"
+        );
     }
-    let played = play(rt.alloc(), FEED, Some(38), None)?;
-    assert!(rt; played.is(Ok(true), FEED_LINES.len(), FEED_LINES));
+    let len = FEED_LINES.len();
+    assert!(rt;
+        is_played(
+            rt.alloc(),
+            FEED,
+            (Some(38), None),
+            Ok(true),
+            len,
+            FEED_LINES
+        )?
+    );
     Ok(())
 }
 
 #[test]
 fn each_failed_write_is_told(rt: HostRuntime) -> Result<(), Fail> {
+    const FAULT: Result<bool, PlayFault> = Err(PlayFault::WriteFailed);
     for count in 1..92u32 {
-        let played = play(rt.alloc(), FEED, None, Some(count))?;
         let len = (count as usize).saturating_sub(1);
-        let answer = Err(PlayFault::WriteFailed);
-        assert!(rt; played.is(answer, len, FEED_LINES), "at {count}");
+        assert!(rt;
+            is_played(
+                rt.alloc(),
+                FEED,
+                (None, Some(count)),
+                FAULT,
+                len,
+                FEED_LINES
+            )?,
+            "at {count}"
+        );
     }
-    let played = play(rt.alloc(), FEED, None, Some(92))?;
-    assert!(rt; played.is(Ok(true), FEED_LINES.len(), FEED_LINES));
+    let len = FEED_LINES.len();
+    assert!(rt;
+        is_played(
+            rt.alloc(),
+            FEED,
+            (None, Some(92)),
+            Ok(true),
+            len,
+            FEED_LINES
+        )?
+    );
     Ok(())
 }

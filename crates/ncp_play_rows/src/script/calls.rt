@@ -58,9 +58,8 @@ fn reads_calls(rt: HostRuntime) {
 
 #[test]
 fn refuses_what_is_no_call(rt: HostRuntime) {
-    let alloc = rt.alloc();
-    for line in [
-        b"reset 2 3".as_slice(),
+    const LINES: &[&[u8]] = &[
+        b"reset 2 3",
         b"reset 2 ",
         b"reset",
         b"give 2 3 2 0 ",
@@ -68,8 +67,9 @@ fn refuses_what_is_no_call(rt: HostRuntime) {
         b"",
         b"echo 2 256",
         b"in 0",
-    ] {
-        assert!(rt; call_in(alloc, line, None).is_none());
+    ];
+    for line in LINES {
+        assert!(rt; call_in(rt.alloc(), line, None).is_none());
     }
 }
 
@@ -104,16 +104,9 @@ fn reads_lines_of_one_host(rt: HostRuntime) {
 
 #[test]
 fn refuses_what_is_no_line_of_one_host(rt: HostRuntime) {
-    let alloc = rt.alloc();
-    for line in [
-        b"out 2".as_slice(),
-        b"feed ",
-        b"in",
-        b"in 32 0502",
-        b"phase",
-        b"",
-    ] {
-        assert!(rt; line_in(alloc, line).is_none());
+    const LINES: &[&[u8]] = &[b"out 2", b"feed ", b"in", b"in 32 0502", b"phase", b""];
+    for line in LINES {
+        assert!(rt; line_in(rt.alloc(), line).is_none());
     }
 }
 

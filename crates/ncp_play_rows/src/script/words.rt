@@ -20,8 +20,8 @@ fn reads_numbers(rt: HostRuntime) {
 
 #[test]
 fn refuses_what_is_no_number(rt: HostRuntime) {
-    let words = [
-        b"".as_slice(),
+    const WORDS: &[&[u8]] = &[
+        b"",
         b"4294967296",
         b"00000000007",
         b"+7",
@@ -29,7 +29,7 @@ fn refuses_what_is_no_number(rt: HostRuntime) {
         b"0x7",
         b" 7",
     ];
-    for word in words {
+    for word in WORDS {
         assert!(rt; Words::new(word).next_u32().is_none());
     }
     assert!(rt;
@@ -66,18 +66,10 @@ fn reads_bits(rt: HostRuntime) {
 
 #[test]
 fn refuses_what_are_no_bits(rt: HostRuntime) {
-    let lines = [
-        b"".as_slice(),
-        b"8",
-        b"8 ",
-        b"8 6",
-        b"8 6162",
-        b"8 6g",
-        b"16 61",
-        b"4 f1",
-        b"x 00",
+    const LINES: &[&[u8]] = &[
+        b"", b"8", b"8 ", b"8 6", b"8 6162", b"8 6g", b"16 61", b"4 f1", b"x 00",
     ];
-    for line in lines {
+    for line in LINES {
         assert!(rt; Words::new(line).next_bits().is_none());
     }
 }
