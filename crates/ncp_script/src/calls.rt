@@ -1,6 +1,6 @@
 //! The call that the words of a line are.
 ghost use Rattle.std.specs.Prelude.{◌≡◌, ◌≢◌, ◌∷◌, IfOk, option_map};
-ghost use Rattle.ncp_script.specs.declared.verbs.Verb.TheVariants.{Give};
+ghost use Rattle.ncp_script.specs.declared.verbs.Verb.TheVariants.{AskSend, AskReceive, Give, Take, Allocate, CallBack};
 ghost use Rattle.ncp_script.specs.Calls.{pair_call, peer_call, verb_call, call_of, all_of};
 
 use crate::line_words::Words;
@@ -9,45 +9,70 @@ use ncp_model::Pair;
 use ncp_transcript::{Call, Message};
 use std::alloc::{AllocError, Global};
 
+// The arguments of a call that asks to send.
+fn ask_send(peer: u8, pair: Pair, words: &mut Words<'_>) -> Option<Call>
+    ensures { option_map (λ call. (call, words.new)) result ≡ pair_call AskSend peer pair words.old }
+{
+    let size = words.next_u8()?;
+    let room = words.next_u32()?;
+    Some(Call::AskSend {
+        peer,
+        pair,
+        size,
+        room,
+    })
+}
+
+// The argument of a call that asks to receive.
+fn ask_receive(peer: u8, pair: Pair, words: &mut Words<'_>) -> Option<Call>
+    ensures { option_map (λ call. (call, words.new)) result ≡ pair_call AskReceive peer pair words.old }
+{
+    let room = words.next_u32()?;
+    Some(Call::AskReceive { peer, pair, room })
+}
+
+// The argument of a call that takes text.
+fn take(peer: u8, pair: Pair, words: &mut Words<'_>) -> Option<Call>
+    ensures { option_map (λ call. (call, words.new)) result ≡ pair_call Take peer pair words.old }
+{
+    let bytes = words.next_u32()?;
+    Some(Call::Take { peer, pair, bytes })
+}
+
+// The arguments of a call that allocates.
+fn allocate(peer: u8, pair: Pair, words: &mut Words<'_>) -> Option<Call>
+    ensures { option_map (λ call. (call, words.new)) result ≡ pair_call Allocate peer pair words.old }
+{
+    let messages = words.next_u16()?;
+    let bits = words.next_u32()?;
+    Some(Call::Allocate {
+        peer,
+        pair,
+        messages,
+        bits,
+    })
+}
+
+// The arguments of a call that calls back.
+fn call_back(peer: u8, pair: Pair, words: &mut Words<'_>) -> Option<Call>
+    ensures { option_map (λ call. (call, words.new)) result ≡ pair_call CallBack peer pair words.old }
+{
+    let fm = words.next_u8()?;
+    let fb = words.next_u8()?;
+    Some(Call::CallBack { peer, pair, fm, fb })
+}
+
 // A call of a pair that has no text: its arguments behind the pair.
 fn call_at_pair(verb: Verb, peer: u8, pair: Pair, words: &mut Words<'_>) -> Option<Call>
     requires { verb ≢ Give }
     ensures { option_map (λ call. (call, words.new)) result ≡ pair_call verb peer pair words.old }
 {
     match verb {
-        Verb::AskSend => {
-            let size = words.next_u8()?;
-            let room = words.next_u32()?;
-            Some(Call::AskSend {
-                peer,
-                pair,
-                size,
-                room,
-            })
-        }
-        Verb::AskReceive => {
-            let room = words.next_u32()?;
-            Some(Call::AskReceive { peer, pair, room })
-        }
-        Verb::Take => {
-            let bytes = words.next_u32()?;
-            Some(Call::Take { peer, pair, bytes })
-        }
-        Verb::Allocate => {
-            let messages = words.next_u16()?;
-            let bits = words.next_u32()?;
-            Some(Call::Allocate {
-                peer,
-                pair,
-                messages,
-                bits,
-            })
-        }
-        Verb::CallBack => {
-            let fm = words.next_u8()?;
-            let fb = words.next_u8()?;
-            Some(Call::CallBack { peer, pair, fm, fb })
-        }
+        Verb::AskSend => ask_send(peer, pair, words),
+        Verb::AskReceive => ask_receive(peer, pair, words),
+        Verb::Take => take(peer, pair, words),
+        Verb::Allocate => allocate(peer, pair, words),
+        Verb::CallBack => call_back(peer, pair, words),
         Verb::Interrupt => Some(Call::Interrupt { peer, pair }),
         Verb::Close => Some(Call::Close { peer, pair }),
         Verb::State => Some(Call::State { peer, pair }),
