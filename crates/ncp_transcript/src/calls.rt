@@ -72,37 +72,41 @@ pub fn perform<S: BitStore>(
     ensures host { IfOk result (λ note. host.new ≡ after_note note host.old) }
     ensures err { OnErr result (host.new ≡ host.old) }
 {
-    match call {
-        Call::Give { peer, pair, text } => give(alloc, host, *peer, *pair, text),
-        Call::Take { peer, pair, bytes } => take(alloc, host, *peer, *pair, *bytes),
-        Call::State { peer, pair } => Ok(state(host, *peer, *pair)),
-        Call::Phase { peer } => Ok(phase(host, *peer)),
-        Call::Echoed { peer } => Ok(echoed(host, *peer)),
-        Call::Errors { peer } => errors(alloc, host, *peer),
-        Call::Counts { peer } => Ok(counts(host, *peer)),
-        Call::Waiting { peer, place } => Ok(waiting(host, *peer, *place)),
-        Call::Kept { peer, link } => kept(alloc, host, *peer, *link),
+    match *call {
+        Call::Give {
+            peer,
+            pair,
+            ref text,
+        } => give(alloc, host, peer, pair, text),
+        Call::Take { peer, pair, bytes } => take(alloc, host, peer, pair, bytes),
+        Call::State { peer, pair } => Ok(state(host, peer, pair)),
+        Call::Phase { peer } => Ok(phase(host, peer)),
+        Call::Echoed { peer } => Ok(echoed(host, peer)),
+        Call::Errors { peer } => errors(alloc, host, peer),
+        Call::Counts { peer } => Ok(counts(host, peer)),
+        Call::Waiting { peer, place } => Ok(waiting(host, peer, place)),
+        Call::Kept { peer, link } => kept(alloc, host, peer, link),
         Call::Ignored => Ok(HostNote::Ignored {
             ignored: host.ignored(),
         }),
-        Call::Reset { peer } => Ok(reset(host, *peer)),
+        Call::Reset { peer } => Ok(reset(host, peer)),
         Call::AskSend {
             peer,
             pair,
             size,
             room,
-        } => Ok(ask_send(host, *peer, *pair, *size, *room)),
-        Call::AskReceive { peer, pair, room } => Ok(ask_receive(host, *peer, *pair, *room)),
+        } => Ok(ask_send(host, peer, pair, size, room)),
+        Call::AskReceive { peer, pair, room } => Ok(ask_receive(host, peer, pair, room)),
         Call::Allocate {
             peer,
             pair,
             messages,
             bits,
-        } => Ok(allocate(host, *peer, *pair, *messages, *bits)),
-        Call::CallBack { peer, pair, fm, fb } => Ok(call_back(host, *peer, *pair, *fm, *fb)),
-        Call::Interrupt { peer, pair } => Ok(interrupt(host, *peer, *pair)),
-        Call::Echo { peer, byte } => Ok(echo(host, *peer, *byte)),
-        Call::Close { peer, pair } => Ok(close(host, *peer, *pair)),
-        Call::Wake { peer } => Ok(wake(host, *peer)),
+        } => Ok(allocate(host, peer, pair, messages, bits)),
+        Call::CallBack { peer, pair, fm, fb } => Ok(call_back(host, peer, pair, fm, fb)),
+        Call::Interrupt { peer, pair } => Ok(interrupt(host, peer, pair)),
+        Call::Echo { peer, byte } => Ok(echo(host, peer, byte)),
+        Call::Close { peer, pair } => Ok(close(host, peer, pair)),
+        Call::Wake { peer } => Ok(wake(host, peer)),
     }
 }
