@@ -1,2 +1,3 @@
 pub mod ManyFound
+mod Appended
 mod Tellings
