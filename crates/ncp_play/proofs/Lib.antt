@@ -1,3 +1,4 @@
 pub mod Writing
 pub mod MoreNotes
 pub mod OneInput
+mod Appended

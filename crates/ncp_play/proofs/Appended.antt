@@ -1,0 +1,7 @@
+-- A page to which seven texts were appended, one behind the other.
+use Rattle.std.proofs.Common.{◌≡◌, ℕ, List, ◌++◌, ap, ◌∙◌, append_assoc}
+
+pub seven_appended : (p p1 p2 p3 p4 p5 p6 p7 a b c d e f g : List ℕ) → p1 ≡ p ++ a → p2 ≡ p1 ++ b → p3 ≡ p2 ++ c → p4 ≡ p3 ++ d → p5 ≡ p4 ++ e → p6 ≡ p5 ++ f → p7 ≡ p6 ++ g → p7 ≡ p ++ (a ++ b ++ c ++ d ++ e ++ f ++ g)
+seven_appended p p1 p2 p3 p4 p5 p6 p7 a b c d e f g h1 h2 h3 h4 h5 h6 h7 =
+    let joined : p ++ a ++ b ++ c ++ d ++ e ++ f ++ g ≡ p ++ (a ++ b ++ c ++ d ++ e ++ f ++ g) = simp append_assoc in
+    h7 ∙ ap (λ (q : List ℕ). q ++ g) (h6 ∙ ap (λ (q : List ℕ). q ++ f) (h5 ∙ ap (λ (q : List ℕ). q ++ e) (h4 ∙ ap (λ (q : List ℕ). q ++ d) (h3 ∙ ap (λ (q : List ℕ). q ++ c) (h2 ∙ ap (λ (q : List ℕ). q ++ b) h1))))) ∙ joined
