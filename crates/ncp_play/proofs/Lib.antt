@@ -1,4 +1,4 @@
 pub mod Writing
 pub mod MoreNotes
 pub mod OneInput
-mod Appended
+pub mod Appended

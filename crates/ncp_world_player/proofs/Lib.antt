@@ -1,3 +1,2 @@
 pub mod ManyFound
-mod Appended
 mod Tellings

@@ -4,7 +4,7 @@ use Rattle.ncp_play.specs.declared.heading.Heading.{Heading}
 use Rattle.ncp_play.specs.NoteLines.{front}
 use Rattle.ncp_world_lines.specs.Moves.{word_of}
 use Rattle.ncp_world_lines.specs.ManyNotes.{heading_at}
-use Rattle.ncp_world_lines.proofs.Appended.{six_appended}
+use Rattle.ncp_play.proofs.Appended.{six_appended}
 use Rattle.ncp_world_lines.proofs.many_notes.push_move.Goals as goal
 
 pub returns-clause-bytes : goal.returns-clause-bytes

@@ -1,6 +1,6 @@
 use Rattle.std.proofs.Common.{◌++◌, codes, sym, ap, ◌∙◌}
 use Rattle.ncp_world_player.specs.LedgerLines.{amount_words, ledger_words}
-use Rattle.ncp_world_player.proofs.Appended.{five_appended}
+use Rattle.ncp_play.proofs.Appended.{five_appended}
 use Rattle.ncp_world_player.proofs.ledger_lines.push_ledger.Goals as goal
 
 pub returns-clause-bytes : goal.returns-clause-bytes

@@ -1,7 +1,0 @@
--- A page to which six texts were appended, one behind the other.
-use Rattle.std.proofs.Common.{◌≡◌, ℕ, List, ◌++◌, ap, ◌∙◌, append_assoc}
-
-pub six_appended : (p p1 p2 p3 p4 p5 p6 a b c d e f : List ℕ) → p1 ≡ p ++ a → p2 ≡ p1 ++ b → p3 ≡ p2 ++ c → p4 ≡ p3 ++ d → p5 ≡ p4 ++ e → p6 ≡ p5 ++ f → p6 ≡ p ++ (a ++ b ++ c ++ d ++ e ++ f)
-six_appended p p1 p2 p3 p4 p5 p6 a b c d e f h1 h2 h3 h4 h5 h6 =
-    let joined : p ++ a ++ b ++ c ++ d ++ e ++ f ≡ p ++ (a ++ b ++ c ++ d ++ e ++ f) = simp append_assoc in
-    h6 ∙ ap (λ (q : List ℕ). q ++ f) (h5 ∙ ap (λ (q : List ℕ). q ++ e) (h4 ∙ ap (λ (q : List ℕ). q ++ d) (h3 ∙ ap (λ (q : List ℕ). q ++ c) (h2 ∙ ap (λ (q : List ℕ). q ++ b) h1)))) ∙ joined
