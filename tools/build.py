@@ -72,6 +72,10 @@ def chains(crates, uses):
     return behind
 
 
+def is_program(name):
+    return os.path.isfile(f"{TOP}/crates/{name}/src/main.rt")
+
+
 def processors():
     return len(os.sched_getaffinity(0))
 
@@ -158,7 +162,9 @@ class Build:
 
     def jobs(self, name):
         """How many jobs a crate may have, as many as its work is worth: what is urgent one for each processor, and the others
-        those that no crate needs."""
+        those that no crate needs. A program has one: what takes long there is to link all that it stands on."""
+        if is_program(name):
+            return 1
         waiting = sum(map(self.can_begin, self.left))
         spare = processors() if self.is_urgent(name) else processors() // (len(self.running) + waiting)
         return max(1, min(spare, int(work_of(name, self.uses) / WORK_OF_A_JOB)))
@@ -167,9 +173,8 @@ class Build:
         """Has the toolchain build a crate, a program by a run that asks nothing of it, and returns its status and what it said.
         What is urgent goes before the others."""
         folder = f"{place}/crates/{name}"
-        is_program = os.path.isfile(f"{folder}/src/main.rt")
         first = [] if is_urgent else ["nice", "-n", "10"]
-        words = [*first, *RT, *(["run", "--jobs", f"{jobs}", "--", "--help"] if is_program else ["lib", "--jobs", f"{jobs}"])]
+        words = [*first, *RT, *(["run", "--jobs", f"{jobs}", "--", "--help"] if is_program(name) else ["lib", "--jobs", f"{jobs}"])]
         ran = subprocess.Popen(words, cwd=folder, stdin=subprocess.DEVNULL, stdout=subprocess.PIPE, stderr=subprocess.STDOUT, text=True, errors="replace")
         self.running[name] = ran
         log = ran.communicate()[0]
