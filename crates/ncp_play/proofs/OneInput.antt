@@ -1,8 +1,8 @@
 -- One note more that is told.
-use Rattle.std.proofs.Common.{◌≡◌, ℕ, ◌-◌, false, List, [], ◌∷◌, ◌++◌, length, get_or, Option, Result, Ok, Err, sym, ap, ◌∙◌, subst, arith}
+use Rattle.std.proofs.Common.{◌≡◌, ℕ, ◌-◌, true, false, List, [], ◌∷◌, ◌++◌, length, get_or, Option, Result, Ok, Err, sym, ap, ◌∙◌, subst, arith}
 use Rattle.std.proofs.Math.Seq.{get_or-append_seam}
 use Rattle.std.proofs.lemmas.List.{length-append}
-use Rattle.std.specs.Result.{OnOk, is_err}
+use Rattle.std.specs.Result.{OnOk, OnErr, is_err}
 use Rattle.ncp_transcript.specs.declared.note.HostNote.{HostNote}
 use Rattle.ncp_stream.specs.Streams.{SaidSoFar, SaysText, SaysBeginning}
 use Rattle.ncp_play.specs.declared.heading.Heading.{Heading}
@@ -34,3 +34,8 @@ last_note notes before note it e at =
 pub on_no_error : {E : Type 0} (P : Type 0) (r : Result Unit E) → OnOk r P → is_err r ≡ false → P
 on_no_error P (Ok done) h e = h
 on_no_error P (Err fault) h e = let f : ⊥ = cc in absurd f
+
+-- and where one is
+pub on_error : {T E : Type 0} (P : Type 0) (r : Result T E) → OnErr r P → is_err r ≡ true → P
+on_error P (Ok done) h e = let f : ⊥ = cc in absurd f
+on_error P (Err fault) h e = h

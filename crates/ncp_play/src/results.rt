@@ -221,16 +221,16 @@ pub(crate) fn push_result(page: &mut Page, note: &HostNote)
     ensures bytes { page.new ≡ page.old ++ result_words note.now }
     ensures len { length page.new ≤ length page.old + LONGEST_RESULT }
 {
-    match note {
-        HostNote::Refused { fault, .. } => push_refused(page, *fault),
+    match *note {
+        HostNote::Refused { fault, .. } => push_refused(page, fault),
         HostNote::Done { .. } => page.push_text(b" ok"),
-        HostNote::Took { text, .. } => push_took(page, text),
-        HostNote::State { record, .. } => push_state(page, record),
-        HostNote::Phase { flags, .. } => push_phase(page, *flags),
-        HostNote::Echoed { byte, .. } => push_echoed(page, *byte),
-        HostNote::Errors { errors, .. } => push_errors(page, errors),
-        HostNote::Counts { counts, .. } => push_counts(page, counts),
-        HostNote::Ignored { ignored } => push_ignored(page, ignored),
+        HostNote::Took { ref text, .. } => push_took(page, text),
+        HostNote::State { ref record, .. } => push_state(page, record),
+        HostNote::Phase { flags, .. } => push_phase(page, flags),
+        HostNote::Echoed { byte, .. } => push_echoed(page, byte),
+        HostNote::Errors { ref errors, .. } => push_errors(page, errors),
+        HostNote::Counts { ref counts, .. } => push_counts(page, counts),
+        HostNote::Ignored { ref ignored } => push_ignored(page, ignored),
         _ => {}
     }
 }

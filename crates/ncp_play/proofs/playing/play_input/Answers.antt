@@ -1,12 +1,20 @@
 use Rattle.std.proofs.Common.{◌≡◌, ◌∙◌, ◌++◌, ◌∷◌, [], List, sym, subst}
 use Rattle.ncp_transcript.specs.declared.note.HostNote.{HostNote}
-use Rattle.ncp_transcript.specs.Alone.{IsStep}
+use Rattle.ncp_transcript.specs.Alone.{Alone, IsStep}
 use Rattle.ncp_stream.specs.Streams.{SaysText, SaysBeginning}
 use Rattle.ncp_play.specs.declared.heading.Heading.{Heading}
 use Rattle.ncp_play.specs.NoteLines.{note_lines}
 use Rattle.ncp_play.specs.Playing.{Tells, TellsBeginning}
-use Rattle.ncp_play.proofs.OneInput.{tells_one, tells_one_broken, last_note, on_no_error}
+use Rattle.ncp_play.proofs.OneInput.{tells_one, tells_one_broken, last_note, on_no_error, on_error}
 use Rattle.ncp_play.proofs.playing.play_input.Goals as goal
+
+pub returns-then-is_err-clause-events : goal.returns-then-is_err-clause-events
+returns-then-is_err-clause-events g c = on_error (c.step.new.self ≡ c.args.alone.now) c.step.result c.step.ensures.err (sym c.is_err.ensures.value ∙ c.if-is_err.true)
+
+pub returns-then-is_err-clause-told : goal.returns-then-is_err-clause-told
+returns-then-is_err-clause-told g c = λ was first told.
+    let same = on_error (c.step.new.self ≡ c.args.alone.now) c.step.result c.step.ensures.err (sym c.is_err.ensures.value ∙ c.if-is_err.true) in
+    subst (λ (alone : Alone). Tells was first alone.notes c.args.heading.now c.args.page.now (g.W.Sink.written c.args.sink.now)) (sym same) told
 
 pub returns-in-Ok-clause-told : goal.returns-in-Ok-clause-told
 returns-in-Ok-clause-told g c = λ was first told.
@@ -32,3 +40,15 @@ returns-in-Ok-clause-events g c = on_no_error (IsStep c.args.input.now c.args.al
 
 pub returns-in-Err-clause-events : goal.returns-in-Err-clause-events
 returns-in-Err-clause-events g c = on_no_error (IsStep c.args.input.now c.args.alone.now c.step.new.self) c.step.result c.step.ensures.step (sym c.is_err.ensures.value ∙ c.if-is_err.false)
+
+pub returns-in-Ok-clause-mark : goal.returns-in-Ok-clause-mark
+returns-in-Ok-clause-mark g c = c.in-Ok.ensures.mark
+
+pub returns-in-Ok-clause-writes : goal.returns-in-Ok-clause-writes
+returns-in-Ok-clause-writes g c = c.in-Ok.ensures.writes
+
+pub returns-in-Err-clause-mark : goal.returns-in-Err-clause-mark
+returns-in-Err-clause-mark g c = c.in-Err.ensures.mark
+
+pub returns-in-Err-clause-writes : goal.returns-in-Err-clause-writes
+returns-in-Err-clause-writes g c = c.in-Err.ensures.writes
