@@ -5,6 +5,7 @@ ghost use Rattle.ncp_stream.specs.Streams.{SaysTextOrBeginning};
 ghost use Rattle.ncp_page.specs.Lines.{field};
 ghost use Rattle.ncp_play.specs.NoteLines.{front};
 ghost use Rattle.ncp_world_lines.specs.Moves.{word_of};
+ghost use Rattle.ncp_world_lines.specs.WorldNotes.{came_words, answer_words};
 ghost use Rattle.ncp_world_lines.specs.ManyNotes.{heading_at, many_move_line, vain_line, many_subnet_line, many_note_lines};
 
 use crate::world_notes::{push_answered, push_came, push_word};
@@ -12,6 +13,7 @@ use ncp_page::{LONGEST_NUMBER, PAGE_SIZE, Page, push_field};
 use ncp_pairs::{ManyEvent, ManyNote};
 use ncp_play::{Heading, LONGEST_FRONT, LONGEST_RECEIVED, Speaker, push_front, say_note};
 use ncp_stream::{Failed, Sink};
+use ncp_transcript::HostNote;
 use ncp_two::Move;
 
 // How many letters the longest word has that names a move.
@@ -54,13 +56,22 @@ fn push_move(page: &mut Page, number: u32, from: u8, to: u8, wanted: Move, link:
     page.push(b' ');
 }
 
-// Appends the line of a move that was not possible.
-fn push_vain_move(page: &mut Page, number: u32, from: u8, to: u8, wanted: Move, link: u8)
-    requires { length page.old + LONGEST_LINE ≤ PAGE_SIZE }
-    ensures { page.new ≡ page.old ++ many_move_line number from to wanted link (codes "nothing") }
+// Appends the line of a move, of which these words say what came.
+fn push_told_line(
+    page: &mut Page,
+    number: u32,
+    from: u8,
+    to: u8,
+    wanted: Move,
+    link: u8,
+    outcome: &[u8],
+)
+    requires room { length page.old + LONGEST_LINE ≤ PAGE_SIZE }
+    requires short { length outcome.now ≤ LONGEST_RECEIVED }
+    ensures { page.new ≡ page.old ++ many_move_line number from to wanted link outcome.now }
 {
     push_move(page, number, from, to, wanted, link);
-    page.push_text(b"nothing");
+    page.push_text(outcome);
     page.push(b'\n');
 }
 
@@ -69,21 +80,41 @@ fn push_vain(page: &mut Page, number: u32, event: &ManyEvent)
     requires { length page.old + LONGEST_LINE ≤ PAGE_SIZE }
     ensures { page.new ≡ page.old ++ vain_line number event.now }
 {
-    match event {
+    match *event {
         ManyEvent::Deliver { from, to, link } => {
-            push_vain_move(page, number, *from, *to, Move::Deliver, *link)
+            push_told_line(page, number, from, to, Move::Deliver, link, b"nothing")
         }
         ManyEvent::Lose { from, to, link } => {
-            push_vain_move(page, number, *from, *to, Move::Lose, *link)
+            push_told_line(page, number, from, to, Move::Lose, link, b"nothing")
         }
         ManyEvent::Dead { from, to, link } => {
-            push_vain_move(page, number, *from, *to, Move::Dead, *link)
+            push_told_line(page, number, from, to, Move::Dead, link, b"nothing")
         }
         ManyEvent::Answer { from, to, link } => {
-            push_vain_move(page, number, *from, *to, Move::Answer, *link)
+            push_told_line(page, number, from, to, Move::Answer, link, b"nothing")
         }
         _ => {}
     }
+}
+
+// Appends the line of a message that came.
+fn push_came_line(page: &mut Page, number: u32, from: u8, to: u8, link: u8, note: &HostNote)
+    requires { length page.old + LONGEST_LINE ≤ PAGE_SIZE }
+    ensures { page.new ≡ page.old ++ many_move_line number from to Move.Deliver link (came_words note.now) }
+{
+    push_move(page, number, from, to, Move::Deliver, link);
+    push_came(page, note);
+    page.push(b'\n');
+}
+
+// Appends the line of an answer that came.
+fn push_answered_line(page: &mut Page, number: u32, from: u8, to: u8, link: u8, note: &HostNote)
+    requires { length page.old + LONGEST_LINE ≤ PAGE_SIZE }
+    ensures { page.new ≡ page.old ++ many_move_line number from to Move.Answer link (answer_words note.now) }
+{
+    push_move(page, number, from, to, Move::Answer, link);
+    push_answered(page, note);
+    page.push(b'\n');
 }
 
 // Appends the line of what the subnet did.
@@ -91,37 +122,28 @@ fn push_subnet_line(page: &mut Page, number: u32, note: &ManyNote)
     requires { length page.old + LONGEST_LINE ≤ PAGE_SIZE }
     ensures { page.new ≡ page.old ++ many_subnet_line number note.now }
 {
-    match note {
+    match *note {
         ManyNote::Came {
             from,
             to,
             link,
-            note,
-        } => {
-            push_move(page, number, *from, *to, Move::Deliver, *link);
-            push_came(page, note);
-        }
+            ref note,
+        } => push_came_line(page, number, from, to, link, note),
         ManyNote::Lost { from, to, link } => {
-            push_move(page, number, *from, *to, Move::Lose, *link);
-            page.push_text(b"ok");
+            push_told_line(page, number, from, to, Move::Lose, link, b"ok")
         }
         ManyNote::FoundDead { from, to, link } => {
-            push_move(page, number, *from, *to, Move::Dead, *link);
-            page.push_text(b"ok");
+            push_told_line(page, number, from, to, Move::Dead, link, b"ok")
         }
         ManyNote::Answered {
             from,
             to,
             link,
-            note,
-        } => {
-            push_move(page, number, *from, *to, Move::Answer, *link);
-            push_answered(page, note);
-        }
-        ManyNote::Nothing { event } => return push_vain(page, number, event),
-        _ => return,
+            ref note,
+        } => push_answered_line(page, number, from, to, link, note),
+        ManyNote::Nothing { ref event } => push_vain(page, number, event),
+        _ => {}
     }
-    page.push(b'\n');
 }
 
 // Says the line of what the subnet did.

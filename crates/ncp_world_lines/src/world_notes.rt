@@ -5,7 +5,7 @@ ghost use Rattle.ncp_stream.specs.Streams.{SaysTextOrBeginning};
 ghost use Rattle.ncp_page.specs.Lines.{field};
 ghost use Rattle.ncp_play.specs.NoteLines.{front};
 ghost use Rattle.ncp_world_lines.specs.Moves.{word_of};
-ghost use Rattle.ncp_world_lines.specs.WorldNotes.{heading_of, came_words, answer_word, answer_words, subnet_line, world_note_lines};
+ghost use Rattle.ncp_world_lines.specs.WorldNotes.{heading_of, came_words, answer_word, answer_words, move_line, subnet_line, world_note_lines};
 
 use crate::moves::{letter_of, word_of};
 use ncp_page::{LONGEST_NUMBER, PAGE_SIZE, Page, push_field};
@@ -95,35 +95,62 @@ pub(crate) fn push_answered(page: &mut Page, note: &HostNote)
     }
 }
 
+// Appends the line of a move, of which these words say what came.
+fn push_told_line(page: &mut Page, number: u32, side: Side, wanted: Move, link: u8, outcome: &[u8])
+    requires room { length page.old + LONGEST_LINE ≤ PAGE_SIZE }
+    requires short { length outcome.now ≤ LONGEST_RECEIVED }
+    ensures { page.new ≡ page.old ++ move_line number side wanted link outcome.now }
+{
+    push_move(page, number, side, wanted, link);
+    page.push_text(outcome);
+    page.push(b'\n');
+}
+
+// Appends the line of a message that came.
+fn push_came_line(page: &mut Page, number: u32, side: Side, link: u8, note: &HostNote)
+    requires { length page.old + LONGEST_LINE ≤ PAGE_SIZE }
+    ensures { page.new ≡ page.old ++ move_line number side Move.Deliver link (came_words note.now) }
+{
+    push_move(page, number, side, Move::Deliver, link);
+    push_came(page, note);
+    page.push(b'\n');
+}
+
+// Appends the line of an answer that came.
+fn push_answered_line(page: &mut Page, number: u32, side: Side, link: u8, note: &HostNote)
+    requires { length page.old + LONGEST_LINE ≤ PAGE_SIZE }
+    ensures { page.new ≡ page.old ++ move_line number side Move.Answer link (answer_words note.now) }
+{
+    push_move(page, number, side, Move::Answer, link);
+    push_answered(page, note);
+    page.push(b'\n');
+}
+
 // Appends the line of what the subnet did.
 fn push_subnet_line(page: &mut Page, number: u32, note: &Note)
     requires { length page.old + LONGEST_LINE ≤ PAGE_SIZE }
     ensures { page.new ≡ page.old ++ subnet_line number note.now }
 {
-    match note {
-        Note::Came { side, link, note } => {
-            push_move(page, number, *side, Move::Deliver, *link);
-            push_came(page, note);
-        }
-        Note::Lost { side, link } => {
-            push_move(page, number, *side, Move::Lose, *link);
-            page.push_text(b"ok");
-        }
+    match *note {
+        Note::Came {
+            side,
+            link,
+            ref note,
+        } => push_came_line(page, number, side, link, note),
+        Note::Lost { side, link } => { push_told_line(page, number, side, Move::Lose, link, b"ok") }
         Note::FoundDead { side, link } => {
-            push_move(page, number, *side, Move::Dead, *link);
-            page.push_text(b"ok");
+            push_told_line(page, number, side, Move::Dead, link, b"ok")
         }
-        Note::Answered { side, link, note } => {
-            push_move(page, number, *side, Move::Answer, *link);
-            push_answered(page, note);
-        }
+        Note::Answered {
+            side,
+            link,
+            ref note,
+        } => push_answered_line(page, number, side, link, note),
         Note::Nothing { side, link, wanted } => {
-            push_move(page, number, *side, *wanted, *link);
-            page.push_text(b"nothing");
+            push_told_line(page, number, side, wanted, link, b"nothing")
         }
-        _ => return,
+        _ => {}
     }
-    page.push(b'\n');
 }
 
 // Says the line of what the subnet did.
