@@ -1,5 +1,6 @@
+use Rattle.std.proofs.Common.{Bool}
 use Rattle.std.proofs.lemmas.Result.{err_from_is_err_and}
-use Rattle.ncp_scene.proofs.PlayedLines.{asks_err, asks_none, event_err, event_ok}
+use Rattle.ncp_scene.proofs.PlayedLines.{asks_err, asks_none, event_err, event_ok, tells_any, tells_err}
 use Rattle.ncp_scene.proofs.player.play_next.Goals as goal
 
 pub returns-in_err-event-clause-events : goal.returns-in_err-event-clause-events
@@ -22,3 +23,21 @@ pub returns-clause-events : goal.returns-clause-events
 returns-clause-events g c = λ bytes ahead.
     event_ok g.C.Scene.rules c.args.first.now c.args.lines.now.number bytes c.args.player.now.hosts c.in-Some.event c.in-Some.ended c.next_event.new.lines (g.R.Source.left c.next_event.new.source) c.play_event.new.hosts
     (rw c.in-Some.is at (c.in_ok-event.ensures.told bytes ahead)) c.in_ok-play_event.ensures.event
+
+pub returns-in_err-event-clause-told : goal.returns-in_err-event-clause-told
+returns-in_err-event-clause-told g c = λ began was told.
+    let player = c.args.player.now in
+    tells_any g.C.Scene.rules (g.T.Teller.tale c.args.first.now) began was player.hosts player.number player.page (g.W.Sink.written c.args.sink.now) c.from_residual.result told
+
+pub returns-in_default-clause-told : goal.returns-in_default-clause-told
+returns-in_default-clause-told g c = λ began was told. told
+
+pub returns-in_err-play_event-clause-told : goal.returns-in_err-play_event-clause-told
+returns-in_err-play_event-clause-told g c = λ began was told.
+    let p = err_from_is_err_and c.from_residual-in_err-play_event.result c.from_residual-in_err-play_event.ensures.1 in
+    rw (p.1, p.2) (
+    tells_err g.C.Scene.rules (g.T.Teller.tale c.args.first.now) began was c.play_event.new.hosts (Unit {0}) Bool c.play_event.new.number c.play_event.new.page (g.W.Sink.written c.play_event.new.sink) c.in_err-play_event.field-0.0
+    (c.in_err-play_event.ensures.told began was told))
+
+pub returns-clause-told : goal.returns-clause-told
+returns-clause-told g c = λ began was told. c.in_ok-play_event.ensures.told began was told

@@ -1,9 +1,17 @@
 use Rattle.std.proofs.Common.{◌≡◌, ◌∙◌, ℕ, sym, subst}
 use Rattle.ncp_stream.specs.Streams.{SaysText, SaysBeginning}
-use Rattle.ncp_play.proofs.OneInput.{on_no_error}
+use Rattle.ncp_play.proofs.OneInput.{on_no_error, on_error}
 use Rattle.ncp_scene.specs.Playing.{Tells}
 use Rattle.ncp_scene.proofs.OneEvent.{tells_one, tells_one_broken, last_note}
 use Rattle.ncp_scene.proofs.playing.play_event.Goals as goal
+
+pub returns-then-is_err-clause-event : goal.returns-then-is_err-clause-event
+returns-then-is_err-clause-event g c = on_error (c.step.new.hosts ≡ c.args.hosts.now) c.step.result c.step.ensures.err (sym c.is_err.ensures.value ∙ c.if-is_err.true)
+
+pub returns-then-is_err-clause-told : goal.returns-then-is_err-clause-told
+returns-then-is_err-clause-told g c = λ began was told.
+    let same = on_error (c.step.new.hosts ≡ c.args.hosts.now) c.step.result c.step.ensures.err (sym c.is_err.ensures.value ∙ c.if-is_err.true) in
+    subst (λ (hosts : g.row.C-Hosts.Denot). Tells g.C.Scene.rules (g.T.Teller.tale c.args.first.now) began was hosts c.args.number.now c.args.page.now (g.W.Sink.written c.args.sink.now)) (sym same) told
 
 pub returns-in-Ok-clause-event : goal.returns-in-Ok-clause-event
 returns-in-Ok-clause-event g c = on_no_error (g.C.Scene.rules.Step c.args.event.now c.args.hosts.now c.step.new.hosts) c.step.result c.step.ensures.step (sym c.is_err.ensures.value ∙ c.if-is_err.false)
@@ -30,3 +38,15 @@ returns-in-Err-clause-told g c = λ began was told.
     let same : c.index-notes-notes.result ≡ one.0 = last_note c.notes-notes.result.now (rules.notes before) one.0 c.index-notes-notes.result (c.notes-notes.ensures.notes ∙ one.1) c.index-notes-notes.is in
     let says = subst (λ (note : g.row.C-Note.Denot). SaysBeginning page old (tale.of_note number note hosts) now) same c.in-Err.ensures.told in
     tells_one_broken rules tale began was number before hosts one.0 page old told one.1 one.2 now says
+
+pub returns-in-Ok-clause-mark : goal.returns-in-Ok-clause-mark
+returns-in-Ok-clause-mark g c = c.in-Ok.ensures.mark
+
+pub returns-in-Ok-clause-writes : goal.returns-in-Ok-clause-writes
+returns-in-Ok-clause-writes g c = c.in-Ok.ensures.writes
+
+pub returns-in-Err-clause-mark : goal.returns-in-Err-clause-mark
+returns-in-Err-clause-mark g c = c.in-Err.ensures.mark
+
+pub returns-in-Err-clause-writes : goal.returns-in-Err-clause-writes
+returns-in-Err-clause-writes g c = c.in-Err.ensures.writes
