@@ -1,5 +1,6 @@
 use Rattle.std.proofs.Common.{drop}
 use Rattle.std.proofs.lemmas.Result.{err_from_is_err_and}
+use Rattle.ncp_feed.proofs.Arrivals.{told_as}
 use Rattle.ncp_feed.proofs.Whole.{feed_ends, heard_part, feed_sent}
 use Rattle.ncp_feed.proofs.feeding.feed.Goals as goal
 
@@ -22,3 +23,13 @@ returns-clause-events g c = λ bytes ahead.
 
 pub returns-clause-told : goal.returns-clause-told
 returns-clause-told g c = λ was first told. c.send_all.ensures.told was first (c.in_ok-hear_all.ensures.told was first told)
+
+pub returns-in-Err-clause-told : goal.returns-in-Err-clause-told
+returns-in-Err-clause-told g c = λ was first told. told
+
+pub returns-in_err-hear_all-clause-told : goal.returns-in_err-hear_all-clause-told
+returns-in_err-hear_all-clause-told g c = λ was first told.
+    let p = err_from_is_err_and c.from_residual.result c.from_residual.ensures.1 in
+    rw (p.1, p.2) (
+    told_as (Unit {0}) (Unit {0}) was first c.hear_all.new.alone.notes c.in_err-hear_all.field-0.0 c.hear_all.new.heading c.hear_all.new.page (g.W.Sink.written c.hear_all.new.sink)
+    (c.in_err-hear_all.ensures.told was first told))

@@ -1,6 +1,6 @@
-use Rattle.std.proofs.Common.{refl}
+use Rattle.std.proofs.Common.{Bool, refl}
 use Rattle.std.proofs.lemmas.Result.{err_from_is_err_and}
-use Rattle.ncp_feed.proofs.Arrivals.{next_ends, next_breaks}
+use Rattle.ncp_feed.proofs.Arrivals.{told_as, next_ends, next_breaks}
 use Rattle.ncp_feed.proofs.hearing.hear_next.Goals as goal
 
 pub returns-in_err-play_input-in-Ok-true-clause-events : goal.returns-in_err-play_input-in-Ok-true-clause-events
@@ -22,3 +22,19 @@ returns-in-Ok-false-clause-events g c = λ bytes ahead. (rw c.in-Ok-false.field-
 pub returns-in-Err-clause-events : goal.returns-in-Err-clause-events
 returns-in-Err-clause-events g c = λ bytes ahead.
     next_ends bytes c.read_record.new.window c.read_record.new.message (g.R.Source.left c.read_record.new.source) c.args.alone.now c.args.alone.now c.in-Err.fault (c.in-Err.ensures.told bytes ahead) refl
+
+pub returns-in_err-play_input-in-Ok-true-clause-told : goal.returns-in_err-play_input-in-Ok-true-clause-told
+returns-in_err-play_input-in-Ok-true-clause-told g c = λ was first told.
+    let p = err_from_is_err_and c.from_residual.result c.from_residual.ensures.1 in
+    rw (p.1, p.2) (
+    told_as (Unit {0}) Bool was first c.play_input.new.alone.notes c.in_err-play_input-in-Ok-true.field-0.0 c.play_input.new.heading c.play_input.new.page (g.W.Sink.written c.play_input.new.sink)
+    (c.in_err-play_input-in-Ok-true.ensures.told was first told))
+
+pub returns-in_ok-play_input-in-Ok-true-clause-told : goal.returns-in_ok-play_input-in-Ok-true-clause-told
+returns-in_ok-play_input-in-Ok-true-clause-told g c = λ was first told. c.in_ok-play_input-in-Ok-true.ensures.told was first told
+
+pub returns-in-Ok-false-clause-told : goal.returns-in-Ok-false-clause-told
+returns-in-Ok-false-clause-told g c = λ was first told. told
+
+pub returns-in-Err-clause-told : goal.returns-in-Err-clause-told
+returns-in-Err-clause-told g c = λ was first told. told
