@@ -1,4 +1,4 @@
-use Rattle.std.proofs.Common.{ℕ, List, sym, ap, ◌∙◌, subst}
+use Rattle.std.proofs.Common.{ℕ, List, rules, sym, ap, ◌∙◌, subst}
 use Rattle.ncp_stream.specs.Streams.{SaysTextOrBeginning}
 use Rattle.ncp_world_lines.specs.Recorded.{sent_from, came_to, bytes_if, note_bytes}
 use Rattle.ncp_world_lines.proofs.recording.say_world_record.Goals as goal
@@ -14,3 +14,6 @@ returns-in-Answered-clause-told g c =
     let w = g.W.Sink in
     subst (λ (bytes : List ℕ). SaysTextOrBeginning c.args.page.now (w.written c.args.sink.now) bytes c.say_came-in-Answered.result c.say_came-in-Answered.new.page (w.written c.say_came-in-Answered.new.sink))
     (ap (λ host. bytes_if (came_to host c.in-Answered.note)) c.number_of-in-Answered.ensures ∙ ap (note_bytes c.args.hosts) (sym c.in-Answered.is)) c.say_came-in-Answered.ensures.told
+
+pub returns-in_default : goal.returns-in_default
+returns-in_default g c = search rules
