@@ -1,5 +1,5 @@
 -- Laws of the words on lists of commands.
-use Rattle.std.proofs.Common.{◌≡◌, ℕ, ◌+◌, ◌<◌, ◌==◌, suc, zero, Bool, true, false, not, if◌then◌else◌, List, [], ◌∷◌, ◌++◌, drop, refl, sym, ◌∙◌, arith}
+use Rattle.std.proofs.Common.{◌≡◌, ℕ, ◌+◌, ◌<◌, ◌==◌, suc, zero, Bool, true, false, not, ◌||◌, if◌then◌else◌, List, [], ◌∷◌, ◌++◌, drop, refl, sym, ap, ◌∙◌, arith}
 use Rattle.std.specs.List.{filter, list_any}
 use Rattle.std.proofs.lemmas.List.{append_assoc, append-nil}
 use Rattle.std.proofs.lemmas.List.Elements.{filter-append}
@@ -94,14 +94,18 @@ arrives_nothing c u e = by_count (rsts u) (rrps u) refl refl
     by_count (suc i) j r p = arrives_anew [] c u (omega arith) ∙ e
     by_count i (suc j) r p = arrives_anew [] c u (omega arith) ∙ e
 
+any_more : (b : Bool) (n : ℕ) → (b || not (n == 0)) ≡ not (bit b + n == 0)
+any_more true n = grind arith
+any_more false n = grind arith
+
 -- whether one is among these
 pub any-rsts : (q : List Command) → list_any is_rst q ≡ not (rsts q == 0)
 any-rsts [] = refl
-any-rsts (c ∷ q) = let h = any-rsts q in grind arith
+any-rsts (c ∷ q) = ap (λ (b : Bool). is_rst c || b) (any-rsts q) ∙ any_more (is_rst c) (rsts q)
 
 pub any-rrps : (q : List Command) → list_any is_rrp q ≡ not (rrps q == 0)
 any-rrps [] = refl
-any-rrps (c ∷ q) = let h = any-rrps q in grind arith
+any-rrps (c ∷ q) = ap (λ (b : Bool). is_rrp c || b) (any-rrps q) ∙ any_more (is_rrp c) (rrps q)
 
 -- the others behind the first RST
 abbrev pub after_rst : List Command → List Command
