@@ -3,3 +3,6 @@ use Rattle.ncp_bits.proofs.bits.Bits.len.Goals as goal
 
 pub returns-clause-len : goal.returns-clause-len
 returns-clause-len c = length-packed c.self.invariant c.self.view_is
+
+pub returns-clause-fits : goal.returns-clause-fits
+returns-clause-fits c = c.self.invariant.fits

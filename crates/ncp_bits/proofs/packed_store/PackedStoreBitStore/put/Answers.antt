@@ -26,3 +26,6 @@ returns-clause-ok c =
     ∙ c.append_run-self-inside.ensures.held
     ∙ ap (λ (bytes : List ℕ). run bytes c.self.inside.from c.self.inside.len ++ c.args.part) c.as_mut_slice.ensures.value
     ∙ ap (λ (store : Stored). store.held ++ c.args.part) c.self.view_is
+
+pub returns-then-len-self-clause-ok : goal.returns-then-len-self-clause-ok
+returns-then-len-self-clause-ok c = tt

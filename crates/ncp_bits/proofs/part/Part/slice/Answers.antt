@@ -17,3 +17,6 @@ returns-clause-bits c =
     c.of_bytes.ensures.bits
     ∙ sym (range-run c.self.inside.bytes.now c.self.inside.skip c.self.inside.len c.args.at c.args.len (omega arith))
     ∙ ap (λ (bits : List Bool). slice_range bits c.args.at (c.args.at + c.args.len)) c.self.view_is
+
+pub returns-clause-len : goal.returns-clause-len
+returns-clause-len c = c.of_bytes.ensures.len
