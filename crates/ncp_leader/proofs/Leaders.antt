@@ -1,6 +1,6 @@
 -- Reading and writing a leader.
-use Rattle.std.proofs.Common.{◌≡◌, ℕ, ◌+◌, ◌^◌, ◌<◌, ◌≤◌, Bool, true, false, cond, List, ◌++◌, length, drop, Result, Ok, Err, ap, ◌∙◌, arith, refl}
-use Rattle.std.proofs.lemmas.List.{append_assoc}
+use Rattle.std.proofs.Common.{◌≡◌, ℕ, ◌+◌, ◌^◌, ◌<◌, ◌≤◌, Bool, true, false, cond, List, [], ◌++◌, length, drop, Result, Ok, Err, sym, ap, ◌∙◌, arith, refl}
+use Rattle.std.proofs.lemmas.List.{append_assoc, append-nil}
 use Rattle.std.proofs.lemmas.Bool.{le-ltb}
 use Rattle.ncp_numbers.specs.Numbers.{number_of, bits_of}
 use Rattle.ncp_numbers.proofs.Numbers.{number_of_range}
@@ -75,3 +75,14 @@ one_value {x = x} {y = y} r p q = same_ok r x y p q
 pub one_leader : (bits : List Bool) (one other : Leader) → BeginsWith bits one → BeginsWith bits other → one ≡ other
 one_leader bits one other p q =
     one_value (leader_in bits) (ap leader_in p.form ∙ leader_in-bits one p.rest p.fits) (ap leader_in q.form ∙ leader_in-bits other q.rest q.fits)
+
+-- ---- what is written is a leader
+
+-- numbers of four and eight bits, each behind the ones before
+pub leader_pushed : (leader : Leader) (none one two three four all : List Bool) (flags kind host link low : ℕ) → none ≡ []
+    → one ≡ none ++ bits_of 4 flags → two ≡ one ++ bits_of 4 kind → three ≡ two ++ bits_of 8 host → four ≡ three ++ bits_of 8 link → all ≡ four ++ bits_of 8 low
+    → flags ≡ leader.flags → kind ≡ leader.kind → host ≡ leader.host → link ≡ leader.link → low ≡ leader.low → all ≡ leader_bits leader
+leader_pushed leader none one two three four all flags kind host link low n a b c d e f k h l w = rw (e, d, c, b, a, n, f, k, h, l, w) (simp append_assoc)
+
+pub BeginsWith-bits : (leader : Leader) (bits : List Bool) → IsLeader leader → bits ≡ leader_bits leader → BeginsWith bits leader
+BeginsWith-bits leader bits fits same = record { fits = fits; rest = []; form = same ∙ sym (append-nil (leader_bits leader)) }
