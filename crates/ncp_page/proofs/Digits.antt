@@ -16,7 +16,7 @@ abbrev holds_digits : ℕ → Bool
 holds_digits zero = true
 holds_digits (suc n) = eqb (get_or DIGITS n 0) (hex_digit n) && holds_digits n
 
-digit_below : (n k : ℕ) → holds_digits n ≡ true → k < n → get_or DIGITS k 0 ≡ hex_digit k
+pub digit_below : (n k : ℕ) → holds_digits n ≡ true → k < n → get_or DIGITS k 0 ≡ hex_digit k
 digit_below zero k h lt = absurd (omega arith)
 digit_below (suc n) k h lt =
     let parts = and_parts (eqb (get_or DIGITS n 0) (hex_digit n)) (holds_digits n) h in

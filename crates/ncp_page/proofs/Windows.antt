@@ -1,9 +1,11 @@
 -- Bytes that come into a window and are used up.
-use Rattle.std.proofs.Common.{◌≡◌, ℕ, ◌+◌, ◌-◌, ◌≤◌, List, ◌++◌, length, take, drop, slice_range, Option, Some, None, sym, ap, ◌∙◌, arith, refl}
-use Rattle.std.proofs.lemmas.List.{length-take, drop-drop, drop-take, append_assoc}
+use Rattle.std.proofs.Common.{◌≡◌, ℕ, ◌+◌, ◌-◌, ◌<◌, ◌≤◌, Bool, List, ◌++◌, length, take, drop, slice_range, Option, Some, None, sym, ap, ◌∙◌, arith, refl}
+use Rattle.std.proofs.lemmas.List.{length-append, length-take, length-take-le, take_at, drop-drop, drop-take, append_assoc}
 use Rattle.std.specs.Io.KnownBytes.{Consumes, Keeps}
 use Rattle.ncp_stream.proofs.Streaming.{front_more}
 use Rattle.ncp_stream.specs.Streams.{Moves}
+use Rattle.ncp_stream.specs.Pieces.{reads_for, reads_beyond}
+use Rattle.ncp_page.specs.Windows.{effort}
 
 pub skipped : (bytes window : List ℕ) (from to count : ℕ) → slice_range bytes from to ≡ window → from ≤ to → count ≤ length window → slice_range bytes (from + count) to ≡ drop count window
 skipped bytes window from to count e h k =
@@ -34,3 +36,24 @@ moves_none window (Some xs) (Some ys) h = λ bytes k. let e : xs ≡ k.0 = cc in
 
 pub moves_more : (v w u : List ℕ) (a b c : Option (List ℕ)) → Moves v a w b → Moves w b u c → Moves v a u c
 moves_more v w u a b c h k = λ bytes m. k bytes (h bytes m)
+
+-- a window after a read that failed: its bytes stand in front, and no more is left to be done
+pub refused : (moved rest : List ℕ) (n : ℕ) → n ≤ length moved → slice_range (take n moved ++ rest) 0 n ≡ take n moved
+refused moved rest n h = take_at (take n moved) rest (n - 0) (length-take-le n moved h ∙ omega arith)
+
+pub beyond_kept : (full : Bool) (was now : ℕ) (a b : Option (List ℕ)) → Keeps a b → now ≡ was - 1 → reads_beyond full was a ≤ reads_beyond full now b + 1
+beyond_kept full was now None b h e = omega arith
+beyond_kept full was now (Some xs) None h e = absurd h
+beyond_kept full was now (Some xs) (Some ys) h e = let same : reads_for full (length ys) ≡ reads_for full (length xs) = ap (λ zs. reads_for full (length zs)) h in omega arith
+
+pub effort_kept : (was now : ℕ) (before window : List ℕ) → now ≡ was - 1 → window ≡ before → effort now window ≤ effort was before
+effort_kept was now before window e same = let l : length window ≡ length before = ap length same in omega arith
+
+-- a window that bytes came into is longer
+pub grown : (window piece more : List ℕ) (count : ℕ) → more ≡ window ++ take count piece → count ≤ length piece → 0 < count → length window < length more
+grown window piece more count e h some =
+    let l : length more ≡ length window + count = ap length e ∙ length-append window (take count piece) ∙ ap (λ n. length window + n) (length-take-le count piece h) in
+    omega arith
+
+pub grows_more : (v w u : List ℕ) → ((piece : List ℕ) × (w ≡ v ++ piece)) → ((piece : List ℕ) × (u ≡ w ++ piece)) → (piece : List ℕ) × (u ≡ v ++ piece)
+grows_more v w u h k = (h.0 ++ k.0, k.1 ∙ ap (λ xs. xs ++ k.0) h.1 ∙ append_assoc v h.0 k.0)

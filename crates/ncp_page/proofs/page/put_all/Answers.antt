@@ -1,10 +1,14 @@
-use Rattle.std.proofs.Common.{◌∙◌, length, subst, arith}
+use Rattle.std.proofs.Common.{◌∙◌, length, inl, refl, subst, arith}
 use Rattle.std.proofs.Math.Bool.{or-false}
 use Rattle.std.proofs.lemmas.List.{take_rest, length-drop}
 use Rattle.std.specs.Io.KnownBytes.{Appends}
 use Rattle.ncp_page.proofs.Pieces.{written_once}
-use Rattle.ncp_stream.proofs.Streaming.{appends_more, take_on}
+use Rattle.ncp_stream.proofs.Streaming.{appends_none, appends_more, take_on}
 use Rattle.ncp_page.proofs.page.put_all.Goals as goal
+
+pub loop-done-init : goal.loop-done-init
+loop-done-init g c =
+    record { inside = omega arith; bytes = appends_none (g.W.Sink.written c.args.sink.now); writes = λ all. inl (refl, refl); mark = refl }
 
 pub loop-done-preserved : goal.loop-done-preserved
 loop-done-preserved g c =

@@ -9,3 +9,6 @@ push_digits-requires c = omega (arith, length-decimal-le 20 c.args.number (omega
 pub returns-clause-len : goal.returns-clause-len
 returns-clause-len c =
     omega (arith, length-decimal-le 20 c.args.number (omega arith) (omega arith) (omega arith), simp length-append at (ap length c.push_digits.ensures))
+
+pub returns-clause-bytes : goal.returns-clause-bytes
+returns-clause-bytes c = c.push_digits.ensures
