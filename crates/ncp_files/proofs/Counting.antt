@@ -1,21 +1,33 @@
 -- Counting records, one after the other.
-use Rattle.std.proofs.Common.{◌≡◌, ℕ, ◌+◌, ◌≤◌, Bool, true, false, cond, List, [], ◌∷◌, ◌++◌, length, take, drop, Option, Some, None, Result, Ok, Err, refl, sym, ap, ◌∙◌, arith, subst}
+use Rattle.std.proofs.Common.{◌≡◌, ◌≢◌, ℕ, ◌+◌, ◌≤◌, Bool, true, false, cond, eqb, List, [], ◌∷◌, ◌++◌, length, take, drop, Option, Some, None, Result, Ok, Err, refl, sym, ap, ◌∙◌, arith, subst}
 use Rattle.std.proofs.lemmas.List.{append_assoc}
+use Rattle.std.proofs.lemmas.Bool.{ne_eqb}
 use Rattle.std.specs.List.{count_by}
 use Rattle.std.proofs.lemmas.List.Recursion.{is_count_by}
 use Rattle.ncp_files.specs.declared.file.FileFault.{FileFault}
 use Rattle.ncp_files.specs.declared.file.FileFault.TheVariants.{BadHeader, Truncated, TooLong, SpareNotZero, ReadFailed, WriteFailed, BadDirection, Mixed}
+use Rattle.ncp_leader.specs.declared.leader.Leader.{Leader}
+use Rattle.ncp_leader.specs.Message.{message_in}
 use Rattle.ncp_files.specs.declared.tally.Verdict.{Verdict}
+use Rattle.ncp_files.specs.declared.tally.Verdict.TheVariants.{Other}
 use Rattle.ncp_files.specs.declared.tally.Tally.{Tally}
 use Rattle.ncp_files.specs.declared.version.Version.{Version}
 use Rattle.ncp_files.specs.File.{version_of, HoldsBy}
 use Rattle.ncp_files.specs.Versions.{Recorded, next_in}
 use Rattle.ncp_files.specs.Steps.{ReadsVersion, Stops}
-use Rattle.ncp_files.specs.Checked.{capped, count_of, verdict_of_record, is_short, is_of_type_0, is_faulty, is_bad, tally_of}
+use Rattle.ncp_files.specs.Checked.{verdict_of_message, verdict_behind, capped, count_of, verdict_of_record, is_short, is_of_type_0, is_faulty, is_bad, tally_of}
 use Rattle.ncp_files.specs.Tallies.{one_more, tally_with, tally_from, TalliesFrom, no_messages, TalliesFile}
 use Rattle.ncp_files.proofs.Files.{version_of-short}
 use Rattle.ncp_files.proofs.Placing.{in_front}
 use Rattle.ncp_files.proofs.Progress.{behind_version, inside_cut}
+
+-- ---- one message
+
+pub regular_judged : (message : List Bool) (leader : Leader) → leader.kind ≡ 0 → verdict_of_message (message_in message) ≡ verdict_behind message (Ok leader)
+regular_judged message leader h = rw h refl
+
+pub other_judged : (message : List Bool) (leader : Leader) → leader.kind ≢ 0 → Other ≡ verdict_behind message (Ok leader)
+other_judged message leader h = let other : eqb leader.kind 0 ≡ false = ne_eqb _ 0 h in rw other refl
 
 -- ---- the counts
 

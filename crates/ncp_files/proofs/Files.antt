@@ -15,6 +15,7 @@ use Rattle.ncp_bits.proofs.Enough.{read_bytes-append}
 use Rattle.ncp_files.specs.declared.file.FileFault.{FileFault}
 use Rattle.ncp_files.specs.declared.file.FileFault.TheVariants.{BadHeader, Truncated, TooLong, SpareNotZero, ReadFailed, WriteFailed, BadDirection, Mixed}
 use Rattle.ncp_files.specs.File.{version_of, one_direction, direction_of, next_record, record_of, fault_of_bits}
+use Rattle.ncp_page.specs.Windows.{effort}
 use Rattle.ncp_stream.specs.Streams.{Ahead}
 use Rattle.ncp_files.specs.Steps.{CutOff, StandsWhole, HasFaultInFront, ReadsRecord}
 
@@ -25,6 +26,13 @@ ahead_at_end window bytes None h k = let e : ⊥ = cc in absurd e
 ahead_at_end window bytes (Some xs) h k =
     let e : h.0 ≡ [] = let f : xs ≡ h.0 = cc in sym f ∙ k in
     sym h.2 ∙ ap (λ ys. window ++ ys) e ∙ append-nil window
+
+-- bytes that were used up are not left to be done
+pub effort_dropped : (reads count : ℕ) (window left : List ℕ) → left ≡ drop count window → effort reads left ≤ effort reads window
+effort_dropped reads count window left e = omega (arith, length-drop count window, ap length e)
+
+pub effort_shorter : (reads : ℕ) (window left : List ℕ) → length left < length window → effort reads left < effort reads window
+effort_shorter reads window left h = omega arith
 
 -- ---- headers
 

@@ -13,3 +13,4 @@ pub mod ShownFiles
 pub mod Files
 pub mod Written
 pub mod Judged
+pub mod Limits

@@ -22,53 +22,79 @@ const LONGEST_WORDS: usize = 100;
 // How many bytes the line of a text has at most.
 const LONGEST_TEXT_LINE: usize = LONGEST_LINE + MAX_BITS / 4;
 
-// A field: its name and its number.
-type Field<'a> = (&'a [u8], u32);
-
 // How many bytes the name of a field has at most.
 const LONGEST_NAME: usize = 10;
 
-// Appends a command's name and field. It is inlined, as the two below, so that each name is of a known
+// Appends a command's name and its only field. It is inlined, so that the field's name is of a known
 // length and copied in one or two moves.
 #[inline(always)]
-fn push_one(page: &mut Page, name: &[u8; 3], one: Field<'_>)
-    requires one { length one.0.now ≤ LONGEST_NAME }
+fn push_one(page: &mut Page, name: &[u8; 3], word: &[u8], number: u8)
+    requires word { length word.now ≤ LONGEST_NAME }
     requires room { length page.old + LONGEST_WORDS ≤ PAGE_SIZE }
-    ensures bytes { page.new ≡ page.old ++ (name.now ++ field one.entry.0.now one.entry.1) }
+    ensures bytes { page.new ≡ page.old ++ (name.now ++ field word.now number) }
     ensures len { length page.new ≤ length page.old + LONGEST_WORDS }
 {
     page.push_text(name);
-    push_field(page, one.0, one.1);
+    push_field(page, word, u32::from(number));
 }
 
-// Appends a command's name and two fields.
-#[inline(always)]
-fn push_two(page: &mut Page, name: &[u8; 3], one: Field<'_>, two: Field<'_>)
-    requires one { length one.0.now ≤ LONGEST_NAME }
-    requires two { length two.0.now ≤ LONGEST_NAME }
-    requires room { length page.old + LONGEST_WORDS ≤ PAGE_SIZE }
-    ensures bytes { page.new ≡ page.old ++ (name.now ++ field one.entry.0.now one.entry.1 ++ field two.entry.0.now two.entry.1) }
+// Appends the words of an RTS.
+fn push_rts(page: &mut Page, receive: u32, send: u32, link: u8)
+    requires { length page.old + LONGEST_WORDS ≤ PAGE_SIZE }
+    ensures bytes { page.new ≡ page.old ++ command_words (Command.Rts receive send link) }
     ensures len { length page.new ≤ length page.old + LONGEST_WORDS }
 {
-    page.push_text(name);
-    push_field(page, one.0, one.1);
-    push_field(page, two.0, two.1);
+    page.push_text(b"RTS");
+    push_field(page, b" receive=", receive);
+    push_field(page, b" send=", send);
+    push_field(page, b" link=", u32::from(link));
 }
 
-// Appends a command's name and three fields.
-#[inline(always)]
-fn push_three(page: &mut Page, name: &[u8; 3], one: Field<'_>, two: Field<'_>, three: Field<'_>)
-    requires one { length one.0.now ≤ LONGEST_NAME }
-    requires two { length two.0.now ≤ LONGEST_NAME }
-    requires three { length three.0.now ≤ LONGEST_NAME }
-    requires room { length page.old + LONGEST_WORDS ≤ PAGE_SIZE }
-    ensures bytes { page.new ≡ page.old ++ (name.now ++ field one.entry.0.now one.entry.1 ++ field two.entry.0.now two.entry.1 ++ field three.entry.0.now three.entry.1) }
+// Appends the words of an STR.
+fn push_str(page: &mut Page, send: u32, receive: u32, size: u8)
+    requires { length page.old + LONGEST_WORDS ≤ PAGE_SIZE }
+    ensures bytes { page.new ≡ page.old ++ command_words (Command.Str send receive size) }
+    ensures len { length page.new ≤ length page.old + LONGEST_WORDS }
+{
+    page.push_text(b"STR");
+    push_field(page, b" send=", send);
+    push_field(page, b" receive=", receive);
+    push_field(page, b" size=", u32::from(size));
+}
+
+// Appends the words of a CLS.
+fn push_cls(page: &mut Page, my: u32, your: u32)
+    requires { length page.old + LONGEST_WORDS ≤ PAGE_SIZE }
+    ensures bytes { page.new ≡ page.old ++ command_words (Command.Cls my your) }
+    ensures len { length page.new ≤ length page.old + LONGEST_WORDS }
+{
+    page.push_text(b"CLS");
+    push_field(page, b" my=", my);
+    push_field(page, b" your=", your);
+}
+
+// Appends the name and the amounts of an ALL or a RET.
+fn push_amounts(page: &mut Page, name: &[u8; 3], link: u8, messages: u16, bits: u32)
+    requires { length page.old + LONGEST_WORDS ≤ PAGE_SIZE }
+    ensures bytes { page.new ≡ page.old ++ (name.now ++ field (codes " link=") link ++ field (codes " messages=") messages ++ field (codes " bits=") bits) }
     ensures len { length page.new ≤ length page.old + LONGEST_WORDS }
 {
     page.push_text(name);
-    push_field(page, one.0, one.1);
-    push_field(page, two.0, two.1);
-    push_field(page, three.0, three.1);
+    push_field(page, b" link=", u32::from(link));
+    push_field(page, b" messages=", u32::from(messages));
+    push_field(page, b" bits=", bits);
+}
+
+// Appends the words of a GVB.
+fn push_gvb(page: &mut Page, link: u8, fm: u8, fb: u8)
+    requires { length page.old + LONGEST_WORDS ≤ PAGE_SIZE }
+    ensures bytes { page.new ≡ page.old ++ command_words (Command.Gvb link fm fb) }
+    ensures len { length page.new ≤ length page.old + LONGEST_WORDS }
+{
+    page.push_text(b"GVB");
+    push_field(page, b" link=", u32::from(link));
+    push_field(page, b" fm=", u32::from(fm));
+    push_field(page, b" fb=", u32::from(fb));
 }
 
 // Appends a name of three letters, a code and data.
@@ -95,59 +121,29 @@ fn push_command(page: &mut Page, command: &Command)
             receive,
             send,
             link,
-        } => push_three(
-            page,
-            b"RTS",
-            (b" receive=", receive),
-            (b" send=", send),
-            (b" link=", u32::from(link)),
-        ),
+        } => push_rts(page, receive, send, link),
         Command::Str {
             send,
             receive,
             size,
-        } => push_three(
-            page,
-            b"STR",
-            (b" send=", send),
-            (b" receive=", receive),
-            (b" size=", u32::from(size)),
-        ),
-        Command::Cls { my, your } => push_two(page, b"CLS", (b" my=", my), (b" your=", your)),
+        } => push_str(page, send, receive, size),
+        Command::Cls { my, your } => push_cls(page, my, your),
         Command::All {
             link,
             messages,
             bits,
-        } => push_three(
-            page,
-            b"ALL",
-            (b" link=", u32::from(link)),
-            (b" messages=", u32::from(messages)),
-            (b" bits=", bits),
-        ),
-        Command::Gvb { link, fm, fb } => push_three(
-            page,
-            b"GVB",
-            (b" link=", u32::from(link)),
-            (b" fm=", u32::from(fm)),
-            (b" fb=", u32::from(fb)),
-        ),
+        } => push_amounts(page, b"ALL", link, messages, bits),
+        Command::Gvb { link, fm, fb } => push_gvb(page, link, fm, fb),
         Command::Ret {
             link,
             messages,
             bits,
-        } => push_three(
-            page,
-            b"RET",
-            (b" link=", u32::from(link)),
-            (b" messages=", u32::from(messages)),
-            (b" bits=", bits),
-        ),
-        Command::Inr { link } => push_one(page, b"INR", (b" link=", u32::from(link))),
-        Command::Ins { link } => push_one(page, b"INS", (b" link=", u32::from(link))),
-        Command::Eco { byte } => push_one(page, b"ECO", (b" data=", u32::from(byte))),
-        Command::Erp { byte } => push_one(page, b"ERP", (b" data=", u32::from(byte))),
-        Command::Err { code, bytes } => push_error(page, b"ERR", code, &bytes),
+        } => push_amounts(page, b"RET", link, messages, bits),
+        Command::Inr { link } => push_one(page, b"INR", b" link=", link),
+        Command::Ins { link } => push_one(page, b"INS", b" link=", link),
+        Command::Eco { byte } => push_one(page, b"ECO", b" data=", byte),
+        Command::Erp { byte } => push_one(page, b"ERP", b" data=", byte),
+        Command::Err { code, ref bytes } => push_error(page, b"ERR", code, bytes),
         Command::Rst => page.push_text(b"RST"),
         Command::Rrp => page.push_text(b"RRP"),
     }

@@ -3,6 +3,9 @@ use Rattle.ncp_numbers.specs.Bytes.{bytes_for}
 use Rattle.ncp_files.proofs.Files.{record_told, record_behind, told_fault}
 use Rattle.ncp_files.proofs.checking.judge_record.Goals as goal
 
+pub skip_record-requires : goal.skip_record-requires
+skip_record-requires c = c.requires
+
 pub returns-in-Err-clause-told : goal.returns-in-Err-clause-told
 returns-in-Err-clause-told c = λ bytes left a.
     let piece = c.message_bytes.ensures ∙ ap (λ w. slice_range w 2 (2 + bytes_for c.args.len)) c.unread.ensures.bytes in

@@ -1,4 +1,4 @@
-use Rattle.std.proofs.Common.{◌∙◌, sym, ap}
+use Rattle.std.proofs.Common.{◌∙◌, is_some, sym, ap}
 use Rattle.std.proofs.lemmas.Result.{err_from_is_err_and}
 use Rattle.ncp_files.specs.Converted.{message_at}
 use Rattle.ncp_files.proofs.Passages.{is_other, is_same}
@@ -25,3 +25,9 @@ returns-clause-told g c = λ bytes a.
       ap (message_at c.args.turn.wanted) read.1 ∙ at_accepted c.args.turn.wanted (record { passage = c.in-Some.passage; message = c.read_next.new.message }) read.0 (is_same c.in-Some.passage c.args.turn.wanted (sym c.ne.ensures ∙ c.if-ne.false)),
       read.2,
     )
+
+pub returns-clause-taken : goal.returns-clause-taken
+returns-clause-taken g c = λ more. c.in_ok-passage.ensures.taken (ap is_some c.in-Some.is)
+
+pub returns-clause-effort : goal.returns-clause-effort
+returns-clause-effort g c = λ more. c.in_ok-passage.ensures.effort (ap is_some c.in-Some.is)

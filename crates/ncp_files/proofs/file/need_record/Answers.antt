@@ -1,4 +1,5 @@
-use Rattle.std.proofs.Common.{◌≡◌, ◌≢◌, ◌<◌, ◌++◌, length, sym, ap, ◌∙◌, arith}
+use Rattle.std.proofs.Common.{◌≡◌, ◌≢◌, ◌<◌, ◌++◌, ◌||◌, true, length, sym, ap, ◌∙◌, le_trans, arith}
+use Rattle.std.proofs.Math.Bool.{or-false}
 use Rattle.std.proofs.lemmas.List.{length-append}
 use Rattle.std.proofs.lemmas.Bool.{eqb-false}
 use Rattle.std.proofs.lemmas.Bool.Decides.{nat_tests}
@@ -58,3 +59,38 @@ returns-then-not-branch-2-clause-told g c = λ bytes a.
     ap next_record (ahead_at_end c.need-2.new.self bytes (g.S.Source.left c.need-2.new.source) (c.in_ok-need-2.ensures.moved bytes (c.in_ok-need.ensures.moved bytes a)) short.1)
     ∙ next_short c.need-2.new.self c.from-len.result (omega (arith, simp length-append at (ap length grows.1)))
     (len ∙ sym (number_grows c.need.new.self grows.0 c.need-2.new.self grows.1 there)) c.if-len-gt-MAX_BITS.false (omega (arith, short.0, c.div_ceil.ensures))
+
+pub returns-in_err-need-2-clause-mark : goal.returns-in_err-need-2-clause-mark
+returns-in_err-need-2-clause-mark g c =
+    let p = err_from_is_err_and c.from_residual-in_err-need-2.result c.from_residual-in_err-need-2.ensures.1 in
+    rw (p.1, p.2) (c.in_err-need-2.ensures.mark ∙ ap (λ b. b || true) (c.in_ok-need.ensures.mark ∙ or-false _))
+
+pub returns-in_err-need-2-clause-reads : goal.returns-in_err-need-2-clause-reads
+returns-in_err-need-2-clause-reads g c = le_trans (c.in_ok-need.ensures.taken c.if-not-branch.false) c.in_err-need-2.ensures.reads
+
+pub returns-in_err-need-2-clause-effort : goal.returns-in_err-need-2-clause-effort
+returns-in_err-need-2-clause-effort g c = le_trans c.in_err-need-2.ensures.effort c.in_ok-need.ensures.effort
+
+pub returns-then-not-branch-2-clause-mark : goal.returns-then-not-branch-2-clause-mark
+returns-then-not-branch-2-clause-mark g c = c.in_ok-need-2.ensures.mark ∙ or-false _ ∙ c.in_ok-need.ensures.mark
+
+pub returns-then-not-branch-2-clause-reads : goal.returns-then-not-branch-2-clause-reads
+returns-then-not-branch-2-clause-reads g c = le_trans (c.in_ok-need.ensures.taken c.if-not-branch.false) c.in_ok-need-2.ensures.reads
+
+pub returns-then-not-branch-2-clause-effort : goal.returns-then-not-branch-2-clause-effort
+returns-then-not-branch-2-clause-effort g c = le_trans c.in_ok-need-2.ensures.effort c.in_ok-need.ensures.effort
+
+pub returns-clause-told : goal.returns-clause-told
+returns-clause-told g c = λ bytes a. c.in_ok-need-2.ensures.moved bytes (c.in_ok-need.ensures.moved bytes a)
+
+pub returns-clause-mark : goal.returns-clause-mark
+returns-clause-mark g c = c.in_ok-need-2.ensures.mark ∙ or-false _ ∙ c.in_ok-need.ensures.mark
+
+pub returns-clause-reads : goal.returns-clause-reads
+returns-clause-reads g c = le_trans (c.in_ok-need.ensures.taken c.if-not-branch.false) c.in_ok-need-2.ensures.reads
+
+pub returns-clause-taken : goal.returns-clause-taken
+returns-clause-taken g c = λ found. le_trans (c.in_ok-need.ensures.taken c.if-not-branch.false) (c.in_ok-need-2.ensures.taken c.if-not-branch-2.false)
+
+pub returns-clause-effort : goal.returns-clause-effort
+returns-clause-effort g c = le_trans c.in_ok-need-2.ensures.effort c.in_ok-need.ensures.effort

@@ -1,3 +1,5 @@
+use Rattle.std.proofs.Common.{◌∙◌, ◌||◌, is_some, sym, ap, le-add_right}
+use Rattle.std.proofs.Math.Bool.{or-false}
 use Rattle.std.proofs.lemmas.Result.{err_from_is_err_and}
 use Rattle.ncp_files.specs.Versions.{next_in}
 use Rattle.ncp_files.specs.Lines.{record_lines}
@@ -24,3 +26,23 @@ returns-in-Err-clause-told g c = λ bytes was said a k.
     let read = rw c.in-Some.is at (c.in_ok-passage.ensures.told bytes a) in
     let broken = c.in-Err.ensures.told in
     (record { passage = c.in-Some.passage; message = c.read_next_of.new.message }, read.0, broken.0, read.1, broken.1 was said k)
+
+pub returns-in_err-passage-clause-writes : goal.returns-in_err-passage-clause-writes
+returns-in_err-passage-clause-writes g c = le-add_right _ _
+
+pub returns-in_err-passage-clause-sink_mark : goal.returns-in_err-passage-clause-sink_mark
+returns-in_err-passage-clause-sink_mark g c =
+    let p = err_from_is_err_and c.from_residual.result c.from_residual.ensures.1 in
+    rw (p.1, p.2) (sym (or-false _) ∙ ap (λ b. g.W.Sink.has_failed c.args.sink.now || b) (sym c.in_err-passage.ensures.other))
+
+pub returns-in_default-clause-writes : goal.returns-in_default-clause-writes
+returns-in_default-clause-writes g c = le-add_right _ _
+
+pub returns-in_default-clause-sink_mark : goal.returns-in_default-clause-sink_mark
+returns-in_default-clause-sink_mark g c = sym (or-false _)
+
+pub returns-in-Ok-clause-taken : goal.returns-in-Ok-clause-taken
+returns-in-Ok-clause-taken g c = λ more. c.in_ok-passage.ensures.taken (ap is_some c.in-Some.is)
+
+pub returns-in-Ok-clause-effort : goal.returns-in-Ok-clause-effort
+returns-in-Ok-clause-effort g c = λ more. c.in_ok-passage.ensures.effort (ap is_some c.in-Some.is)

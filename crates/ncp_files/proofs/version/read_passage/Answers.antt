@@ -1,8 +1,9 @@
-use Rattle.std.proofs.Common.{◌≡◌, ◌++◌, ◌∙◌, None, Some, Ok, drop, slice_index_or, refl, sym, ap}
+use Rattle.std.proofs.Common.{◌≡◌, ◌++◌, ◌∙◌, ◌||◌, true, None, Some, Ok, drop, slice_index_or, refl, sym, ap, le_trans}
+use Rattle.std.proofs.Math.Bool.{or-false}
 use Rattle.std.proofs.lemmas.Result.{err_from_is_err_and}
 use Rattle.ncp_files.specs.Versions.{placed, direction_by, next_passage}
 use Rattle.ncp_files.specs.declared.file.FileFault.TheVariants.{Truncated}
-use Rattle.ncp_files.proofs.Files.{ahead_at_end}
+use Rattle.ncp_files.proofs.Files.{ahead_at_end, effort_dropped}
 use Rattle.ncp_files.proofs.Placing.{passage_none, first_stays, longer, passage_bad, passage_cut, passage_read}
 use Rattle.ncp_files.proofs.version.read_passage.Goals as goal
 
@@ -55,3 +56,36 @@ returns-clause-told g c = λ bytes a.
           ∙ ap (λ w. Ok (Some (placed c.in-Some.direction (slice_index_or w 1 0), drop 2 c.need-2.new.self ++ ahead.0))) (sym c.unread-2.ensures.bytes),
       (ahead.0, ahead.1, ap (λ w. w ++ ahead.0) c.skip.ensures),
     )
+
+pub returns-in_err-need-2-clause-mark : goal.returns-in_err-need-2-clause-mark
+returns-in_err-need-2-clause-mark g c =
+    let p = err_from_is_err_and c.from_residual-in_err-need-2.result c.from_residual-in_err-need-2.ensures.1 in
+    rw (p.1, p.2) (c.in_err-need-2.ensures.mark ∙ ap (λ b. b || true) (c.in_ok-need.ensures.mark ∙ or-false _))
+
+pub returns-in_err-need-2-clause-reads : goal.returns-in_err-need-2-clause-reads
+returns-in_err-need-2-clause-reads g c = le_trans (c.in_ok-need.ensures.taken c.if-not-branch.false) c.in_err-need-2.ensures.reads
+
+pub returns-in_err-need-2-clause-effort : goal.returns-in_err-need-2-clause-effort
+returns-in_err-need-2-clause-effort g c = le_trans c.in_err-need-2.ensures.effort c.in_ok-need.ensures.effort
+
+pub returns-then-not-branch-2-clause-mark : goal.returns-then-not-branch-2-clause-mark
+returns-then-not-branch-2-clause-mark g c = c.in_ok-need-2.ensures.mark ∙ or-false _ ∙ c.in_ok-need.ensures.mark
+
+pub returns-then-not-branch-2-clause-reads : goal.returns-then-not-branch-2-clause-reads
+returns-then-not-branch-2-clause-reads g c = le_trans (c.in_ok-need.ensures.taken c.if-not-branch.false) c.in_ok-need-2.ensures.reads
+
+pub returns-then-not-branch-2-clause-effort : goal.returns-then-not-branch-2-clause-effort
+returns-then-not-branch-2-clause-effort g c = le_trans c.in_ok-need-2.ensures.effort c.in_ok-need.ensures.effort
+
+pub returns-clause-mark : goal.returns-clause-mark
+returns-clause-mark g c = c.in_ok-need-2.ensures.mark ∙ or-false _ ∙ c.in_ok-need.ensures.mark
+
+pub returns-clause-reads : goal.returns-clause-reads
+returns-clause-reads g c = le_trans (c.in_ok-need.ensures.taken c.if-not-branch.false) c.in_ok-need-2.ensures.reads
+
+pub returns-clause-taken : goal.returns-clause-taken
+returns-clause-taken g c = λ found. le_trans (c.in_ok-need.ensures.taken c.if-not-branch.false) (c.in_ok-need-2.ensures.taken c.if-not-branch-2.false)
+
+pub returns-clause-effort : goal.returns-clause-effort
+returns-clause-effort g c =
+    le_trans (effort_dropped (g.S.Source.reads c.need-2.new.source) 2 c.need-2.new.self c.skip.new.self c.skip.ensures) (le_trans c.in_ok-need-2.ensures.effort c.in_ok-need.ensures.effort)
