@@ -4,8 +4,9 @@ use Rattle.std.specs.List.{position_or_len, before_first}
 use Rattle.std.specs.Result.{IsErr}
 use Rattle.std.specs.Io.KnownBytes.{IsAtEnd}
 use Rattle.std.proofs.lemmas.Bool.Decides.{nat_tests}
-use Rattle.std.proofs.lemmas.List.{take_all, append-nil, length-take}
+use Rattle.std.proofs.lemmas.List.{take_all, append-nil, length-take, length-drop}
 use Rattle.std.proofs.lemmas.Grind.{common_steps}
+use Rattle.ncp_page.specs.Windows.{effort}
 use Rattle.ncp_stream.specs.declared.source.Failed.{Failed}
 use Rattle.ncp_stream.specs.Streams.{Ahead, Moves}
 use Rattle.ncp_script.specs.declared.line_buffer.TheConstants.{MAX_KEPT}
@@ -122,3 +123,15 @@ no_text (byte ∷ text) line e empty = let zero = is_zero (length (byte ∷ text
 pub some_text : (text line : List ℕ) → text ≡ line → false ≡ (length text == 0) → line ≡ [] → ⊥
 some_text [] line e empty none = cc
 some_text (byte ∷ text) line e empty none = cc
+
+-- ---- what is left to be done
+
+-- less, where the line ends in the window
+pub effort_ends : (reads all used : ℕ) (window piece left : List ℕ) → piece ≡ window → (place : ℕ) × (position is_lf piece ≡ Some place) × (used ≡ place + 1) → left ≡ drop used window → effort reads window ≤ all → effort reads left < all
+effort_ends reads all used window piece left same u skipped h =
+    let inside = place_inside piece u.0 u.1 in
+    omega (arith, inside, u.2, ap length same, ap length skipped, length-drop used window)
+
+-- and where it goes on behind the window
+pub effort_goes : (reads all : ℕ) (window left : List ℕ) (count : ℕ) → 1 ≤ length window → count ≡ length window → left ≡ drop count window → effort reads window ≤ all → effort reads left < all
+effort_goes reads all window left count some e skipped h = omega (arith, ap length skipped, length-drop count window)

@@ -1,4 +1,4 @@
-use Rattle.std.proofs.Common.{◌∙◌, Ok, refl, sym, arith}
+use Rattle.std.proofs.Common.{◌∙◌, ◌||◌, true, false, Ok, refl, sym, ap, lt_of_lt_of_le, arith}
 use Rattle.std.proofs.Math.Bool.{or-false}
 use Rattle.ncp_script.specs.declared.line_buffer.LineKind.TheVariants as kinds
 use Rattle.ncp_reader.specs.declared.lines.Lines.{Lines}
@@ -68,3 +68,26 @@ returns-clause-told g c = λ bytes ahead.
     let first = c.loop-ended.lines.number in
     let lines : Lines = record { window = c.next_line.new.window; line = c.next_line.new.line; number = first } in
     before.2 (Ok Over) lines left (none_to_read first before.0 c.next_line.new.line c.next_line.new.window c.in_ok-ended.field-0 left c.in_default.not-Some (c.in_ok-ended.ensures.told before.0 before.1))
+
+pub returns-in_err-ended-clause-mark : goal.returns-in_err-ended-clause-mark
+returns-in_err-ended-clause-mark g c =
+    c.in_err-ended.ensures.mark ∙ ap (λ b. b || true) c.loop-ended.invariant.mark ∙ ap (λ failed. g.S.Source.has_failed c.args.source.now || failed) (sym c.from_residual.ensures.0)
+
+pub loop-ended-smaller : goal.loop-ended-smaller
+loop-ended-smaller g c = c.in_ok-ended.ensures.effort (goes_with_lf c.in_ok-ended.field-0 c.in-Some.ended c.in-Some.is c.if-ended.true)
+
+pub returns-in-Skipped-2-clause-mark : goal.returns-in-Skipped-2-clause-mark
+returns-in-Skipped-2-clause-mark g c = c.in_ok-ended.ensures.mark ∙ ap (λ b. b || false) c.loop-ended.invariant.mark
+
+pub returns-in-TooLong-clause-mark : goal.returns-in-TooLong-clause-mark
+returns-in-TooLong-clause-mark g c = c.in_ok-ended.ensures.mark ∙ ap (λ b. b || false) c.loop-ended.invariant.mark
+
+pub returns-in-Played-clause-effort : goal.returns-in-Played-clause-effort
+returns-in-Played-clause-effort g c = λ goes.
+    lt_of_lt_of_le (c.in_ok-ended.ensures.effort (goes_with_lf c.in_ok-ended.field-0 c.in-Some.ended c.in-Some.is goes)) c.loop-ended.invariant.effort
+
+pub returns-in-Played-clause-mark : goal.returns-in-Played-clause-mark
+returns-in-Played-clause-mark g c = c.in_ok-ended.ensures.mark ∙ ap (λ b. b || false) c.loop-ended.invariant.mark
+
+pub returns-clause-mark : goal.returns-clause-mark
+returns-clause-mark g c = c.in_ok-ended.ensures.mark ∙ ap (λ b. b || false) c.loop-ended.invariant.mark
