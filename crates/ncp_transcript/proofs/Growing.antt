@@ -1,12 +1,13 @@
 -- A transcript grows at its end.
-use Rattle.std.proofs.Common.{◌≡◌, ◌<◌, ℕ, suc, true, List, [], ◌∷◌, ◌++◌, length, refl, sym, ap, ◌∙◌, subst}
+use Rattle.std.proofs.Common.{◌≡◌, ◌<◌, ℕ, suc, true, List, [], ◌∷◌, ◌++◌, length, Result, Ok, Err, refl, sym, ap, ◌∙◌, subst}
+use Rattle.std.specs.Result.{OnOk, IfErr, OnErr}
 use Rattle.std.proofs.lemmas.List.{append_assoc, append-nil}
 use Rattle.ncp_host.specs.Host.{Host, numbers_of, is_one_of, are_peers, new_host}
 use Rattle.ncp_transcript.specs.declared.input.Input.{Input}
 use Rattle.ncp_transcript.specs.declared.note.HostNote.{HostNote}
 use Rattle.ncp_transcript.specs.After.{after_note, after_notes}
 use Rattle.ncp_transcript.specs.Runs.{IsSaid, IsRun, AreNotes, began, IsTranscript}
-use Rattle.ncp_transcript.specs.Alone.{Alone, AreSteps}
+use Rattle.ncp_transcript.specs.Alone.{Alone, IsStep, AreSteps}
 use Rattle.ncp_transcript.proofs.Beginning.{numbers_new, began_new, began_noted, same_me, same_peers}
 use Rattle.ncp_transcript.proofs.Saying.{noted_said}
 
@@ -40,6 +41,22 @@ transcript_grows some now note h after t said e is =
       run = subst (λ (ns : List HostNote). IsRun ns (began after)) (sym e) (subst (IsRun (some ++ note ∷ [])) (sym same) (run_append some (note ∷ []) (began h) t.run (subst (IsSaid note) t.state said, tt)));
       state = is ∙ ap (after_note note) t.state ∙ sym (after_append some (note ∷ []) (began h)) ∙ ap (after_notes (some ++ note ∷ [])) (sym same) ∙ ap (λ (ns : List HostNote). after_notes ns (began after)) (sym e);
     }
+
+-- an input was done and noted, or there was no memory for it
+pub transcript_stepped : {E : Type 0} (r : Result (Unit {0}) E) (input : Input) (before now : Alone)
+    → OnOk r (IsStep input before now) → OnErr r ((now.notes ≡ before.notes) × (now.host ≡ before.host)) → IsTranscript before.notes before.host → IsTranscript now.notes now.host
+transcript_stepped (Ok done) input before now step same t =
+    transcript_grows before.notes now.notes step.0 before.host now.host t (noted_said input step.0 before.host step.1) step.2 step.3
+transcript_stepped (Err e) input before now step same t =
+    subst (λ (h : Host). IsTranscript now.notes h) (sym same.1) (subst (λ (ns : List HostNote). IsTranscript ns before.host) (sym same.0) t)
+
+pub if_err : {T E P : Type 0} (r : Result T E) → P → OnErr r P
+if_err (Ok it) p = tt
+if_err (Err e) p = p
+
+pub is_err_of : {T E : Type 0} (r : Result T E) (e known : E) → r ≡ Err e → e ≡ known → IfErr r (λ x. x ≡ known)
+is_err_of (Ok it) e known is same = tt
+is_err_of (Err x) e known is same = cc
 
 -- The notes of inputs are a run, one for each.
 

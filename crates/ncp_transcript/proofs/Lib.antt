@@ -4,4 +4,5 @@ pub mod Quiet
 pub mod Beginning
 pub mod Saying
 pub mod Growing
+pub mod Doing
 pub mod Touching

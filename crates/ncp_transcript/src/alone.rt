@@ -60,6 +60,22 @@ fn note_of<S: BitStore>(
     }
 }
 
+// An input is done to a host and noted behind notes, which grow first.
+fn grow<S: BitStore>(
+    alloc: Global,
+    host: &mut Host<S>,
+    notes: &mut Vec<HostNote>,
+    input: &Input,
+) -> Result<(), AllocError>
+    ensures step { OnOk result (IsStep input.now (record { host = host.old; notes = notes.old.items }) (record { host = host.new; notes = notes.new.items })) }
+    ensures err { OnErr result ((notes.new.items ≡ notes.old.items) × (host.new ≡ host.old)) }
+{
+    notes.reserve(1)?;
+    let note = note_of(alloc, host, input)?;
+    notes.push_reserved(note);
+    Ok(())
+}
+
 impl<S: BitStore> Alone<S> {
     /// A new host of the number `me` with these peers, and no notes.
     ///
@@ -87,10 +103,7 @@ impl<S: BitStore> Alone<S> {
         ensures step { OnOk result (IsStep input.now self.old self.new) }
         ensures err { OnErr result (self.new ≡ self.old) }
     {
-        self.notes.reserve(1)?;
-        let note = note_of(self.alloc, &mut self.host, input)?;
-        self.notes.push_reserved(note);
-        Ok(())
+        grow(self.alloc, &mut self.host, &mut self.notes, input)
     }
 
     /// The notes of all inputs, the first input's first.

@@ -1,8 +1,22 @@
-use Rattle.std.proofs.Common.{sym, ap, ◌∙◌}
+use Rattle.std.proofs.Common.{Option, sym, ap, ◌∙◌}
+use Rattle.ncp_leader.specs.declared.leader.Leader.{Leader}
+use Rattle.ncp_terms.specs.declared.answer.Answer.{Answer}
 use Rattle.ncp_host.specs.PeerState.{answer_comes}
 use Rattle.ncp_host.specs.Host.{changed}
+use Rattle.ncp_host.specs.Hearing.{answer_of}
+use Rattle.ncp_host.specs.Arrivals.{received_in}
+use Rattle.ncp_host.specs.declared.received.Received.{Received}
+use Rattle.ncp_transcript.specs.declared.note.HostNote.TheVariants.{Answered}
+use Rattle.ncp_transcript.specs.Noting.{note_as}
 use Rattle.ncp_transcript.proofs.Arriving.{after_answer}
 use Rattle.ncp_transcript.proofs.arrivals.hear_in_room.Goals as goal
+
+pub returns-in-Some-clause-note : goal.returns-in-Some-clause-note
+returns-in-Some-clause-note g c =
+    let leader = c.in-Some.leader in
+    ap (λ (answer : Answer). Answered leader.host leader.link answer c.receive-received.result) c.answer_of.ensures
+    ∙ ap (λ (received : Received). Answered leader.host leader.link (answer_of leader.kind) received) c.receive-received.ensures.received
+    ∙ ap (λ (o : Option Leader). note_as o c.args.bits.now (received_in c.args.bits.now c.args.host.now)) c.in-Some.ensures
 
 pub returns-in-Some-clause-host : goal.returns-in-Some-clause-host
 returns-in-Some-clause-host g c =

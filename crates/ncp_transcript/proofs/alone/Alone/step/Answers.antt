@@ -1,12 +1,15 @@
-use Rattle.std.proofs.Common.{List, [], ◌∷◌, ◌++◌, ap, ◌∙◌}
-use Rattle.ncp_transcript.specs.declared.note.HostNote.{HostNote}
-use Rattle.ncp_transcript.proofs.Saying.{noted_said}
-use Rattle.ncp_transcript.proofs.Growing.{transcript_grows}
+use Rattle.std.proofs.Common.{subst}
+use Rattle.std.specs.Result.{OnOk}
+use Rattle.ncp_transcript.specs.Alone.{Alone, IsStep}
+use Rattle.ncp_transcript.proofs.Growing.{transcript_stepped}
 use Rattle.ncp_transcript.proofs.alone.Alone.step.Goals as goal
 
-pub invariant_of-self-2 : goal.invariant_of-self-2
-invariant_of-self-2 g c =
-    transcript_grows c.self.inside.notes.items c.push_reserved.new.self.items c.in_ok-note.note c.self.inside.host c.note_of.new.host c.self.invariant
-    (noted_said c.args.input.now c.in_ok-note.note c.self.inside.host c.in_ok-note.ensures.note)
-    (c.push_reserved.ensures.items ∙ ap (λ (ns : List HostNote). ns ++ c.in_ok-note.note ∷ []) c.reserve.ensures.items)
-    c.in_ok-note.ensures.host
+pub invariant_of-self : goal.invariant_of-self
+invariant_of-self g c =
+    transcript_stepped c.grow.result c.args.input.now (record { host = c.self.inside.host; notes = c.self.inside.notes.items }) (record { host = c.grow.new.host; notes = c.grow.new.notes.items })
+    c.grow.ensures.step c.grow.ensures.err c.self.invariant
+
+pub returns-clause-step : goal.returns-clause-step
+returns-clause-step g c =
+    let now : Alone = record { host = c.grow.new.host; notes = c.grow.new.notes.items } in
+    subst (λ (before : Alone). OnOk c.grow.result (IsStep c.args.input.now before now)) c.self.view_is c.grow.ensures.step
