@@ -1,5 +1,5 @@
 -- The hosts in their row: whether one is there, and where it is; and what one of them noted.
-use Rattle.std.proofs.Common.{◌≡◌, ◌<◌, ◌+◌, ℕ, suc, ◌==◌, true, false, ◌||◌, Bool, cond, List, [], ◌∷◌, map, length, get_or, Option, None, Some, Bor, if◌then◌else◌, Result, Ok, Err, IfOk, refl, sym, ap, ◌∙◌, arith}
+use Rattle.std.proofs.Common.{◌≡◌, ◌<◌, ◌+◌, ℕ, suc, ◌==◌, true, false, ◌||◌, Bool, cond, List, [], ◌∷◌, map, length, get_or, Option, None, Some, Bor, if◌then◌else◌, Result, Ok, Err, IfOk, OnErr, refl, sym, ap, ◌∙◌, arith}
 use Rattle.std.specs.Prelude.{slice_get, slice_set}
 use Rattle.std.specs.Option.{is_some, IsSome, option_copied}
 use Rattle.std.specs.List.{position, position_from}
@@ -10,6 +10,7 @@ use Rattle.ncp_transcript.specs.declared.note.HostNote.{HostNote}
 use Rattle.ncp_transcript.specs.After.{after_note}
 use Rattle.ncp_step.specs.Told.{after_told}
 use Rattle.ncp_pairs.specs.Numbered.{thing_in, at_thing}
+use Rattle.ncp_pairs.specs.Crowd.{host_or_none}
 use Rattle.ncp_many.specs.Found.{IsAt, at_told}
 
 -- a number has a place where it is there
@@ -72,8 +73,29 @@ at-same n (x ∷ xs) = go (x.0 == n) (at-same n xs)
     go true rest = refl
     go false rest = ap (λ (ys : List (ℕ × Host)). x ∷ ys) rest
 
-pub told-done : {E : Type 0} (r : Result (Option HostNote) E) (xs : List (ℕ × Host)) (n i : ℕ) (x : ℕ × Host) (h : Host) → IsAt xs n i → slice_get xs i ≡ Some x
-    → IfOk r (λ note. h ≡ after_told note x.1) → IfOk r (λ note. slice_set xs i (x.0, h) ≡ at_told n note xs)
-told-done (Ok None) xs n i x h at got e = ap (λ (y : Host). slice_set xs i (x.0, y)) e ∙ sym ((at x got).1 (λ (y : Host). y)) ∙ at-same n xs
-told-done (Ok (Some note)) xs n i x h at got e = ap (λ (y : Host). slice_set xs i (x.0, y)) e ∙ sym ((at x got).1 (after_note note))
-told-done (Err f) xs n i x h at got e = tt
+-- The host of a number at its place, and what it noted there.
+module _ (xs : List (ℕ × Host)) (n i : ℕ) (d x : ℕ × Host) (at : IsAt xs n i) (inside : i < length xs) (read : x ≡ get_or xs i d) where
+  got : slice_get xs i ≡ Some x
+  got = slice_get-get_or xs i d inside ∙ ap (λ (y : ℕ × Host). Some y) (sym read)
+
+  pub host-there : x.1 ≡ host_or_none n (thing_in xs n)
+  host-there = sym (ap (host_or_none n) (at x got).0)
+
+  stays : (h : Host) → h ≡ x.1 → slice_set xs i (x.0, h) ≡ xs
+  stays h e = ap (λ (y : Host). slice_set xs i (x.0, y)) e ∙ sym ((at x got).1 (λ (y : Host). y)) ∙ at-same n xs
+
+  noted : (note : HostNote) (h : Host) → h ≡ after_note note x.1 → slice_set xs i (x.0, h) ≡ at_thing n (after_note note) xs
+  noted note h e = ap (λ (y : Host). slice_set xs i (x.0, y)) e ∙ sym ((at x got).1 (after_note note))
+
+  pub noted-there : {E : Type 0} (r : Result HostNote E) (h : Host) → IfOk r (λ note. h ≡ after_note note x.1) → IfOk r (λ note. slice_set xs i (x.0, h) ≡ at_thing n (after_note note) xs)
+  noted-there (Ok note) h e = noted note h e
+  noted-there (Err f) h e = tt
+
+  pub told-there : {E : Type 0} (r : Result (Option HostNote) E) (h : Host) → IfOk r (λ note. h ≡ after_told note x.1) → IfOk r (λ note. slice_set xs i (x.0, h) ≡ at_told n note xs)
+  told-there (Ok None) h e = stays h e
+  told-there (Ok (Some note)) h e = noted note h e
+  told-there (Err f) h e = tt
+
+  pub kept-there : {A E : Type 0} (r : Result A E) (h : Host) → OnErr r (h ≡ x.1) → OnErr r (slice_set xs i (x.0, h) ≡ xs)
+  kept-there (Ok a) h e = tt
+  kept-there (Err f) h e = stays h e

@@ -191,7 +191,7 @@ impl<S: BitStore> Many<S> {
     {
         let mut many = Many::new(alloc, hosts)?;
         for event in events {
-            many.step(event)?;
+            many.happen(event)?;
         }
         many.keeps();
         Ok(many)

@@ -1,14 +1,29 @@
-use Rattle.std.proofs.Common.{◌≡◌, ℕ, Some, sym, ap, ◌∙◌}
-use Rattle.std.specs.Prelude.{slice_get}
-use Rattle.std.proofs.lemmas.Option.{slice_get-get_or}
+use Rattle.std.proofs.Common.{◌≡◌, IfOk, subst}
+use Rattle.ncp_subnet.specs.Messages.{answer_about}
+use Rattle.ncp_subnet.specs.Subnet.{transit_at}
 use Rattle.ncp_host.specs.Host.{Host}
-use Rattle.ncp_many.proofs.Members.{told-done}
+use Rattle.ncp_step.specs.Told.{told}
+use Rattle.ncp_many.proofs.Members.{host-there, told-there, kept-there}
 use Rattle.ncp_many.proofs.crowd.answered.Goals as goal
+
+pub returns-clause-note : goal.returns-clause-note
+returns-clause-note g c =
+    subst (λ (h : Host). IfOk c.answers.result (λ note. note ≡ told (answer_about c.args.to c.args.link (transit_at c.args.subnet.now c.args.from c.args.to c.args.link)) h))
+    (host-there c.args.members.now c.args.from c.place_of-place.result c.index-members-place.result (c.member.inside.number, c.member.inside.host) c.place_of-place.ensures.place c.place_of-place.ensures.inside c.member.view_is)
+    c.answers.ensures.note
 
 pub returns-clause-hosts : goal.returns-clause-hosts
 returns-clause-hosts g c =
-    let place : ℕ = c.place_of-place.result in
-    let got : slice_get c.args.members.now place ≡ Some (c.member.inside.number, c.member.inside.host) =
-    slice_get-get_or c.args.members.now place c.index-members-place.result c.place_of-place.ensures.inside
-    ∙ ap (λ (x : ℕ × Host). Some x) (sym c.member.view_is) in
-    told-done c.answers.result c.args.members.now c.args.from place (c.member.inside.number, c.member.inside.host) c.answers.new.host c.place_of-place.ensures.place got c.answers.ensures.host
+    told-there c.args.members.now c.args.from c.place_of-place.result c.index-members-place.result (c.member.inside.number, c.member.inside.host) c.place_of-place.ensures.place c.place_of-place.ensures.inside c.member.view_is
+    c.answers.result c.answers.new.host c.answers.ensures.host
+
+pub returns-clause-err : goal.returns-clause-err
+returns-clause-err g c =
+    kept-there c.args.members.now c.args.from c.place_of-place.result c.index-members-place.result (c.member.inside.number, c.member.inside.host) c.place_of-place.ensures.place c.place_of-place.ensures.inside c.member.view_is
+    c.answers.result c.answers.new.host c.answers.ensures.err
+
+pub returns-clause-subnet : goal.returns-clause-subnet
+returns-clause-subnet g c = c.answers.ensures.subnet
+
+pub returns-clause-kept : goal.returns-clause-kept
+returns-clause-kept g c = c.answers.ensures.kept

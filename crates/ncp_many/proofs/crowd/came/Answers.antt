@@ -1,14 +1,29 @@
-use Rattle.std.proofs.Common.{◌≡◌, ℕ, Some, sym, ap, ◌∙◌}
-use Rattle.std.specs.Prelude.{slice_get}
-use Rattle.std.proofs.lemmas.Option.{slice_get-get_or}
+use Rattle.std.proofs.Common.{◌≡◌, IfOk, subst}
+use Rattle.ncp_subnet.specs.Messages.{arriving}
+use Rattle.ncp_subnet.specs.Subnet.{transit_at}
 use Rattle.ncp_host.specs.Host.{Host}
-use Rattle.ncp_many.proofs.Members.{told-done}
+use Rattle.ncp_step.specs.Told.{told}
+use Rattle.ncp_many.proofs.Members.{host-there, told-there, kept-there}
 use Rattle.ncp_many.proofs.crowd.came.Goals as goal
+
+pub returns-clause-note : goal.returns-clause-note
+returns-clause-note g c =
+    subst (λ (h : Host). IfOk c.comes.result (λ note. note ≡ told (arriving c.args.from (transit_at c.args.subnet.now c.args.from c.args.to c.args.link)) h))
+    (host-there c.args.members.now c.args.to c.place_of-place.result c.index-members-place.result (c.member.inside.number, c.member.inside.host) c.place_of-place.ensures.place c.place_of-place.ensures.inside c.member.view_is)
+    c.comes.ensures.note
 
 pub returns-clause-hosts : goal.returns-clause-hosts
 returns-clause-hosts g c =
-    let place : ℕ = c.place_of-place.result in
-    let got : slice_get c.args.members.now place ≡ Some (c.member.inside.number, c.member.inside.host) =
-    slice_get-get_or c.args.members.now place c.index-members-place.result c.place_of-place.ensures.inside
-    ∙ ap (λ (x : ℕ × Host). Some x) (sym c.member.view_is) in
-    told-done c.comes.result c.args.members.now c.args.to place (c.member.inside.number, c.member.inside.host) c.comes.new.host c.place_of-place.ensures.place got c.comes.ensures.host
+    told-there c.args.members.now c.args.to c.place_of-place.result c.index-members-place.result (c.member.inside.number, c.member.inside.host) c.place_of-place.ensures.place c.place_of-place.ensures.inside c.member.view_is
+    c.comes.result c.comes.new.host c.comes.ensures.host
+
+pub returns-clause-err : goal.returns-clause-err
+returns-clause-err g c =
+    kept-there c.args.members.now c.args.to c.place_of-place.result c.index-members-place.result (c.member.inside.number, c.member.inside.host) c.place_of-place.ensures.place c.place_of-place.ensures.inside c.member.view_is
+    c.comes.result c.comes.new.host c.comes.ensures.err
+
+pub returns-clause-subnet : goal.returns-clause-subnet
+returns-clause-subnet g c = c.comes.ensures.subnet
+
+pub returns-clause-kept : goal.returns-clause-kept
+returns-clause-kept g c = c.comes.ensures.kept

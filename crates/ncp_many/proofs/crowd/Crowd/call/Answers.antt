@@ -1,14 +1,32 @@
-use Rattle.std.proofs.Common.{◌≡◌, ℕ, List, ap, ◌∙◌, subst}
-use Rattle.ncp_host.specs.Host.{Host}
-use Rattle.ncp_transcript.specs.Noting.{CallNoted}
-use Rattle.ncp_pairs.specs.Numbered.{thing_in}
-use Rattle.ncp_pairs.specs.Crowd.{Crowd, host_or_none}
-use Rattle.ncp_many.proofs.Noting.{noted-call}
+use Rattle.std.proofs.Common.{◌≡◌, refl, ap, ◌∙◌, subst}
+use Rattle.std.specs.Vec.{with_items}
+use Rattle.std.proofs.lemmas.List.{with_items_is}
+use Rattle.ncp_pairs.specs.declared.many_event.ManyEvent.TheVariants as events
+use Rattle.ncp_pairs.specs.declared.many_note.ManyNote.TheVariants as many
+use Rattle.ncp_pairs.specs.Crowd.{Crowd, is_there, after_many}
+use Rattle.ncp_pairs.specs.ManyHappening.{ManyNoted}
+use Rattle.ncp_many.proofs.Noting.{noted-call, crowd-is, lent, on-err}
 use Rattle.ncp_many.proofs.crowd.Crowd.call.Goals as goal
 
 pub returns-clause-note : goal.returns-clause-note
 returns-clause-note g c =
-    let same : c.deref_mut.result.now ≡ c.args.self.now.hosts = c.deref_mut.ensures.value ∙ ap (λ (m : Crowd). m.hosts) c.self.view_is in
-    noted-call c.args.self.now c.args.host c.args.call.now c.in_ok-note.note c.requires
-    (subst (λ (hosts : List (ℕ × Host)). CallNoted c.args.call.now c.in_ok-note.note (host_or_none c.args.host (thing_in hosts c.args.host))) same c.in_ok-note.ensures.note)
-    c.called.ensures.fits
+    let was : Crowd = record { hosts = c.deref_mut.result.now; subnet = c.self.inside.subnet } in
+    let same : was ≡ c.args.self.now = lent c.deref_mut.result.now c.self.inside.members.items c.self.inside.subnet c.args.self.now c.deref_mut.ensures.value c.self.view_is in
+    let there = ap (is_there c.args.host) same ∙ c.requires in
+    subst (λ (m : Crowd). ManyNoted (events.Call c.args.host c.args.call.now) (many.Called c.args.host c.in_ok-note.note) m) same (noted-call was c.args.host c.args.call.now c.in_ok-note.note there c.in_ok-note.ensures.note c.called.ensures.fits)
+
+pub returns-clause-crowd : goal.returns-clause-crowd
+returns-clause-crowd g c =
+    let was : Crowd = record { hosts = c.deref_mut.result.now; subnet = c.self.inside.subnet } in
+    let same : was ≡ c.args.self.now = lent c.deref_mut.result.now c.self.inside.members.items c.self.inside.subnet c.args.self.now c.deref_mut.ensures.value c.self.view_is in
+    let note = many.Called c.args.host c.in_ok-note.note in
+    crowd-is (with_items c.self.inside.members c.called.new.members).items c.self.inside.subnet (after_many note was)
+    (with_items_is c.self.inside.members c.called.new.members (c.called.auto.members ∙ c.deref_mut.ensures.len) ∙ c.in_ok-note.ensures.hosts)
+    refl
+    ∙ ap (after_many note) same
+
+pub returns-in_err-note-clause-err : goal.returns-in_err-note-clause-err
+returns-in_err-note-clause-err g c =
+    on-err c.from_residual.result
+    (crowd-is (with_items c.self.inside.members c.called.new.members).items c.self.inside.subnet (record { hosts = c.self.inside.members.items; subnet = c.self.inside.subnet })
+    (with_items_is c.self.inside.members c.called.new.members (c.called.auto.members ∙ c.deref_mut.ensures.len) ∙ c.in_err-note.ensures.err ∙ c.deref_mut.ensures.value) refl ∙ c.self.view_is)
