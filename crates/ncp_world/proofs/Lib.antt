@@ -1,3 +1,4 @@
+pub mod Delivering
 pub mod Sums
 pub mod Ledgers
 pub mod Books

@@ -1,5 +1,6 @@
 //! `Hosts`: two hosts and the subnet between them.
-ghost use Rattle.std.specs.Prelude.{◌≡◌, ◌≢◌, IfOk, OnErr};
+ghost use Rattle.std.specs.Prelude.{◌≡◌, ◌≢◌, [], ◌∷◌, IfOk, OnErr};
+ghost use Rattle.ncp_host.specs.Host.{new_host};
 ghost use Rattle.ncp_two.specs.Between.{new_hosts, other, number_of, host_of, after_note};
 ghost use Rattle.ncp_two.specs.Happening.{IsCalled, note_of_out, note_of_delivery, note_of_loss, note_of_death, note_of_answer, Noted};
 
@@ -48,6 +49,14 @@ fn other(side: Side) -> Side
     }
 }
 
+// A new host with one peer, which is another.
+fn new_host_of<S: BitStore>(alloc: Global, number: u8, peer: u8) -> Result<Host<S>, AllocError>
+    requires { number ≢ peer }
+    ensures { IfOk result (λ host. host ≡ new_host number (peer ∷ [])) }
+{
+    new_host(alloc, number, &[peer])
+}
+
 impl<S: BitStore> Hosts<S> {
     pub(crate) fn new(alloc: Global, a: u8, b: u8) -> Result<Hosts<S>, AllocError>
         requires { a ≢ b }
@@ -56,8 +65,8 @@ impl<S: BitStore> Hosts<S> {
         Ok(Hosts {
             number_a: a,
             number_b: b,
-            a: new_host(alloc, a, &[b])?,
-            b: new_host(alloc, b, &[a])?,
+            a: new_host_of(alloc, a, b)?,
+            b: new_host_of(alloc, b, a)?,
             subnet: Subnet::new(alloc, a, b)?,
         })
     }

@@ -181,7 +181,7 @@ pub fn run<S: BitStore>(
 {
     let mut world = World::new(alloc, a, b)?;
     for event in events {
-        world.step(event)?;
+        world.happen(event)?;
     }
     world.keeps();
     Ok(world)

@@ -1,4 +1,4 @@
-use Rattle.std.proofs.Common.{◌≡◌, IfSome, Some, sym, ap, ◌∙◌, subst}
+use Rattle.std.proofs.Common.{IfSome, sym, ap, ◌∙◌, subst}
 use Rattle.ncp_two.specs.Transcript.{Noted_world}
 use Rattle.ncp_two.specs.Ledgers.{ledger_of, IsBalanced}
 use Rattle.ncp_world.specs.Booked.{IsBooked}
