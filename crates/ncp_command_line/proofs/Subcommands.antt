@@ -1,0 +1,21 @@
+-- A program with one more subcommand, of what clap says of adding it.
+use Rattle.std.proofs.Common.{◌≡◌, false, Result, ap, ◌∙◌}
+use Rattle.std.specs.Prelude.{IfOk}
+use Rattle.std.specs.declared.alloc.AllocError.{AllocError}
+use Rattle.std.proofs.lemmas.Result.{IfOk-weaker}
+use Rattle.clap.specs.Built.{AddsSubcommand}
+use Rattle.clap.specs.Simple.{App, Shape, app_of, shape_of, with_subcommand}
+use Rattle.clap.specs.declared.builder.command.Command.{Command}
+use Rattle.clap.specs.declared.builder.command.Command.TheViews.{out-Command}
+
+-- one of this shape, which has no global argument
+pub has_subcommand : (result : Result Command AllocError) (program sub : Command) (shape : Shape) → (out-Command sub).has_globals ≡ false → shape_of sub ≡ shape
+    → IfOk result (AddsSubcommand program sub) → IfOk result (λ command. app_of command ≡ with_subcommand (app_of program) shape)
+has_subcommand result program sub shape local is told =
+    IfOk-weaker result (AddsSubcommand program sub) (λ command. app_of command ≡ with_subcommand (app_of program) shape) (λ command adds. adds.shape local ∙ ap (with_subcommand (app_of program)) is) told
+
+-- and of a program that is known
+pub is_with : (result : Result Command AllocError) (program : Command) (app : App) (shape : Shape) → app_of program ≡ app
+    → IfOk result (λ command. app_of command ≡ with_subcommand (app_of program) shape) → IfOk result (λ command. app_of command ≡ with_subcommand app shape)
+is_with result program app shape is told =
+    IfOk-weaker result (λ command. app_of command ≡ with_subcommand (app_of program) shape) (λ command. app_of command ≡ with_subcommand app shape) (λ command e. e ∙ ap (λ a. with_subcommand a shape) is) told
