@@ -17,7 +17,7 @@ use ncp_transcript::Alone;
 use std::alloc::Global;
 
 /// How lines end that were all played.
-#[derive(Clone, Copy, Debug, Drop)]
+#[derive(Clone, Copy, Drop)]
 pub(crate) enum LinesEnd {
     /// No line is left.
     Over,
