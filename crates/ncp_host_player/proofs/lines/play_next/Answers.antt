@@ -1,8 +1,11 @@
+use Rattle.std.proofs.Common.{Option}
 use Rattle.std.proofs.lemmas.Result.{err_from_is_err_and}
 use Rattle.ncp_script.specs.Scripts as scripts
 use Rattle.ncp_script.specs.Scripts.{lines_of}
 use Rattle.ncp_host_player.specs.Asking.{course_of}
+use Rattle.ncp_host_player.specs.declared.lines.LinesEnd.{LinesEnd}
 use Rattle.ncp_host_player.proofs.Does.{does_none, asked_fault, does_fault, next_fault, does_one, does_one_last}
+use Rattle.ncp_host_player.proofs.Telling.{tells_end}
 use Rattle.ncp_host_player.proofs.lines.play_next.Goals as goal
 use Rattle.ncp_host_player.proofs.lines.play_next.Goals.{then-ended, else-ended}
 
@@ -38,3 +41,13 @@ returns-after-ended-clause-events g c = λ bytes ahead.
       | then-ended w ↦ does_one c.args.lines.now.number bytes c.in-Does.input c.in-Does.ended c.if-ended.result c.args.alone.now c.play_input.new.alone c.next_asked.new.lines left w.if-ended.true w.result-is asks c.in_ok-play_input-in-Does.ensures.events
       | else-ended w ↦ does_one_last c.args.lines.now.number bytes c.in-Does.input c.in-Does.ended c.if-ended.result c.args.alone.now c.play_input.new.alone c.next_asked.new.lines left w.if-ended.false w.result-is asks c.in_ok-play_input-in-Does.ensures.events
     ]
+
+pub returns-in_err-play_input-in-Does-clause-told : goal.returns-in_err-play_input-in-Does-clause-told
+returns-in_err-play_input-in-Does-clause-told g c = λ was first tells.
+    let result = c.from_residual-in_err-play_input-in-Does.result in
+    let p = err_from_is_err_and result c.from_residual-in_err-play_input-in-Does.ensures.1 in
+    tells_end (Unit {0}) (Option LinesEnd) was first c.play_input.new.alone.notes result p.0 c.play_input.new.heading c.play_input.new.page (g.W.Sink.written c.play_input.new.sink) p.1
+    (rw p.2 (c.in_err-play_input-in-Does.ensures.told was first tells))
+
+pub returns-after-ended-clause-told : goal.returns-after-ended-clause-told
+returns-after-ended-clause-told g c = λ was first tells. c.in_ok-play_input-in-Does.ensures.told was first tells
