@@ -5,9 +5,11 @@
 
 The toolchain builds one crate at a time in a checkout. So each lane but the first has a room of its own, a copy of the
 crates' sources, and what one lane has built is given to all; the first lane works in the checkout itself. Lines on
-standard error say how far it is, on a terminal one line that changes; where a crate is not built, what was said last.
+standard error say how far it is, on a terminal one line that changes; where a crate is not built, which errors were found
+there, or where none was named what was said last.
 """
 import os
+import re
 import shutil
 import signal
 import subprocess
@@ -25,6 +27,8 @@ ROOM = 4_000_000_000
 BEGINNING = 150
 READING = 12
 WORK_OF_A_JOB = 300
+# A line of the toolchain that names an error, as `error: ..` or `src/file.rt:1:1: error[kind]: ..`.
+AN_ERROR = re.compile(r"(^|: )error[\[:]")
 
 
 def lines_of_crates():
@@ -195,7 +199,7 @@ class Build:
             self.failed = name
             say("")
             lines = log.splitlines()
-            print("\n".join([it for it in lines if "error" in it][:20] or lines[-20:]), file=sys.stderr)
+            print("\n".join([it for it in lines if AN_ERROR.search(it)][:20] or lines[-20:]), file=sys.stderr)
 
     def tell(self):
         now = sorted(self.running, key=self.behind.get, reverse=True)
@@ -227,6 +231,8 @@ def say(line):
 
 
 def main():
+    if len(sys.argv) != 2 or sys.argv[1] not in uses_of_crates():
+        sys.exit("usage: tools/build.py NAME, a crate of crates.txt")
     build = Build(sys.argv[1])
     for number in (signal.SIGINT, signal.SIGTERM):
         signal.signal(number, build.stop)
