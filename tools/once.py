@@ -61,7 +61,10 @@ def for_one_build(call, is_library, keeping):
 
 
 def main():
-    script = os.path.realpath(shutil.which("rt"))
+    found = shutil.which("rt")
+    if not found:
+        sys.exit("rt is not found: the toolchain is not on the path")
+    script = os.path.realpath(found)
     try:
         rt = loaded(script)
         crate = rt.rtlib.Crate
