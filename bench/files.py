@@ -15,8 +15,6 @@ WORK = [
     (XXD, ["xxd", "-p"], 1),
     (CAT, ["cat"], 1),
 ]
-# The generator's files have faults, which `show` and `check` say by status 1.
-STATUSES = (0, 1)
 
 
 def made(size, version):
@@ -30,7 +28,7 @@ def rows(_room):
         runs = {what: [] for what, _, _ in WORK}
         for _ in range(ROUNDS):
             for what, command, version in WORK:
-                runs[what].append(once(command, made(size, version), STATUSES))
+                runs[what].append(once(command, made(size, version)))
         for what, _, version in WORK:
             seconds, peak = best_of(runs[what])
             yield Row(what, f"{size} MiB", os.path.getsize(made(size, version)), "bytes", seconds, peak)

@@ -3,6 +3,7 @@
 
 The hosts that they come from are 1 to 63, or 1 to the second number. The file is of version 1, or of that which
 the third number names: in version 2 the same messages all come at host 1."""
+import argparse
 import random
 import struct
 import sys
@@ -29,8 +30,8 @@ def leader(kind, host, link):
     return bytes([kind, host, link, 0])
 
 
-def record(message, bits=None):
-    return struct.pack(">H", 8 * len(message) if bits is None else bits) + message
+def record(message):
+    return struct.pack(">H", 8 * len(message)) + message
 
 
 def control(r, host):
@@ -50,9 +51,15 @@ def answer(r, host):
 
 
 def main():
-    size = int(sys.argv[1]) << 20
-    hosts = int(sys.argv[2]) if len(sys.argv) > 2 else 63
-    header, place = (b"NCPJ", b"I\x01") if sys.argv[3:] == ["2"] else (b"NCPI", b"")
+    parser = argparse.ArgumentParser(description=__doc__)
+    parser.add_argument("size", type=int)
+    parser.add_argument("hosts", type=int, nargs="?", default=63)
+    parser.add_argument("version", type=int, nargs="?", default=1, choices=(1, 2))
+    asked = parser.parse_args()
+    if not 1 <= asked.hosts <= 255:
+        parser.error("hosts are 1 to 255")
+    size, hosts = asked.size << 20, asked.hosts
+    header, place = (b"NCPJ", b"I\x01") if asked.version == 2 else (b"NCPI", b"")
     r = random.Random(1972)
     # In large blocks, as a copy is written: what came in small ones takes the kernel longer to hand out.
     with open(sys.stdout.fileno(), "wb", buffering=1 << 20, closefd=False) as out:

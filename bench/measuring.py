@@ -11,7 +11,7 @@ from collections import namedtuple
 
 HERE = os.path.dirname(os.path.abspath(__file__))
 TOP = os.path.dirname(HERE)
-sys.path.append(os.path.join(TOP, "tools"))
+sys.path.insert(0, os.path.join(TOP, "tools"))
 from build import below, uses_of_crates  # noqa: E402
 
 DATA = os.path.join(HERE, "data")
@@ -26,7 +26,8 @@ Row = namedtuple("Row", "what of amount unit seconds peak")
 @functools.cache
 def build_ncp():
     """Builds the program where it is not built. It is measured without its launcher."""
-    subprocess.run([LAUNCHER, "--help"], stdout=subprocess.DEVNULL, check=True)
+    if subprocess.run([LAUNCHER, "--help"], stdout=subprocess.DEVNULL).returncode:
+        sys.exit("the program was not built")
 
 
 def kept(name, write):
@@ -51,7 +52,7 @@ def processor():
     return used.ru_utime + used.ru_stime
 
 
-def once(command, path, statuses=(0,)):
+def once(command, path):
     """The processor's time of a run on a file, and how many KiB of memory it had at most, as far as that was seen."""
     with open(path, "rb") as source:
         begin = processor()
@@ -60,7 +61,7 @@ def once(command, path, statuses=(0,)):
         while child.poll() is None:
             peak = max(peak, peak_of(child.pid))
             time.sleep(0.002)
-    if child.returncode not in statuses:
+    if child.returncode:
         sys.exit(f"{command}: status {child.returncode}")
     return processor() - begin, peak
 
@@ -78,8 +79,8 @@ def best_of(runs):
     return min(seconds for seconds, _ in runs), max(peak for _, peak in runs)
 
 
-def best(command, path, statuses=(0,)):
-    return best_of([once(command, path, statuses) for _ in range(RUNS)])
+def best(command, path):
+    return best_of([once(command, path) for _ in range(RUNS)])
 
 
 def least(program, given, wanted):

@@ -2,6 +2,7 @@
 """Refuses each request for memory in turn, of each call that takes memory and of the program, and tells what stood then.
 
 `calls` or `program` behind its name does one of the two."""
+import argparse
 import glob
 import itertools
 import os
@@ -208,11 +209,14 @@ def program(refuser):
 
 
 def main():
-    parts = sys.argv[1:] or ["calls", "program"]
+    halves = {"calls": calls, "program": program}
+    parser = argparse.ArgumentParser(description=__doc__)
+    parser.add_argument("half", nargs="?", choices=halves)
+    half = parser.parse_args().half
     with tempfile.TemporaryDirectory(prefix="ncp-refuse-") as room:
         refuser = Refuser(room)
-        for part in parts:
-            {"calls": calls, "program": program}[part](refuser)
+        for part in [half] if half else halves:
+            halves[part](refuser)
 
 
 if __name__ == "__main__":

@@ -2,7 +2,7 @@
 """Measures what the program and its crates do, in one table with ratios, and counts instructions and memory.
 
 `run.py` measures everything; `run.py times` or `run.py counts` one half."""
-import sys
+import argparse
 import tempfile
 
 import feed
@@ -59,10 +59,13 @@ def counts(room):
 
 
 def main():
+    parser = argparse.ArgumentParser(description=__doc__)
+    parser.add_argument("half", nargs="?", choices=("times", "counts"))
+    half = parser.parse_args().half
     with tempfile.TemporaryDirectory(prefix="ncp-bench-") as room:
-        if "counts" not in sys.argv[1:]:
+        if half != "counts":
             times(room)
-        if "times" not in sys.argv[1:]:
+        if half != "times":
             counts(room)
 
 
