@@ -63,6 +63,8 @@ class Ladder:
             if line.startswith("  "):
                 self.detail(words)
             elif words:
+                if len(words) < 3 or words[1] not in COLUMN:
+                    sys.exit("not a line that `ncp world` prints of two hosts: " + line.rstrip("\n"))
                 self.event(words[0], words[1], words[2], words[3:])
 
     def detail(self, words):
@@ -96,7 +98,7 @@ class Ladder:
 def readable(digits):
     """The bytes of a text: as letters where they are some, else their digits."""
     letters = bytes.fromhex(digits)
-    return '"%s"' % letters.decode() if all(32 < byte < 127 for byte in letters) else digits
+    return '"%s"' % letters.decode() if all(32 <= byte < 127 for byte in letters) else digits
 
 
 def wrapped(words):
