@@ -20,6 +20,25 @@ static inline void want(uint32_t wanted, uint32_t answered, const char *what)
     exit(1);
 }
 
+/* The same of ncp_new, whose numbers have names of their own. */
+static inline void want_new(uint32_t wanted, uint32_t answered, const char *what)
+{
+    char name[NCP_LONGEST_NAME];
+    size_t bytes = 0;
+    if (answered == wanted) return;
+    (void)ncp_new_name(answered, name, sizeof name, &bytes);
+    printf("%s answered %.*s\n", what, (int)bytes, name);
+    exit(1);
+}
+
+/* Whether a host is up with a peer. */
+static inline bool is_up(struct ncp_host *host, uint8_t peer)
+{
+    struct ncp_flags flags;
+    want(NCP_DONE, ncp_phase(host, peer, &flags), "phase");
+    return !(flags.down || flags.want || flags.owe || flags.wait);
+}
+
 /* A message as digits, behind words. */
 static inline void say(const char *words, const uint8_t *message, size_t bits)
 {

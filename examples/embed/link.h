@@ -30,6 +30,10 @@ static inline void give_up(const char *what)
 static inline struct sockaddr_un address(const char *path)
 {
     struct sockaddr_un at;
+    if (strlen(path) >= sizeof at.sun_path) {
+        errno = ENAMETOOLONG;
+        give_up(path);
+    }
     memset(&at, 0, sizeof at);
     at.sun_family = AF_UNIX;
     strncpy(at.sun_path, path, sizeof at.sun_path - 1);
@@ -49,7 +53,7 @@ static inline void begin(struct end *end, uint8_t me, uint8_t peer, const char *
     if (end->socket < 0) give_up("socket");
     if (bind(end->socket, (const struct sockaddr *)&at, sizeof at) != 0) give_up("bind");
     if (setsockopt(end->socket, SOL_SOCKET, SO_RCVTIMEO, &patience, sizeof patience) != 0) give_up("setsockopt");
-    want(NCP_DONE, ncp_new(&end->host, me, &peer, 1), "new");
+    want_new(NCP_DONE, ncp_new(&end->host, me, &peer, 1), "new");
 }
 
 /* Sends a message as a datagram. While the other program has no socket yet it waits a little. */
@@ -96,13 +100,22 @@ static inline void take_one(struct end *end)
     uint8_t answer[LEADER];
     uint8_t *message = datagram + HEAD;
     ssize_t len = recv(end->socket, datagram, sizeof datagram, 0);
-    if (len < HEAD + LEADER) give_up("recv");
+    if (len < 0) give_up("recv");
+    if (len < HEAD + LEADER) {
+        fputs("a datagram came that is too short for a message\n", stderr);
+        exit(1);
+    }
     if (message[0] == REGULAR) {
         answer_of(RFNM, message, answer);
         message[1] = end->peer;
         post(end, answer, 8 * sizeof answer);
     }
     hand(&end->host, message, (size_t)len - HEAD, (size_t)datagram[0] << 8 | datagram[1]);
+}
+
+static inline bool end_is_up(struct end *end)
+{
+    return is_up(&end->host, end->peer);
 }
 
 /* Whether nothing of the control link is out or waits. */

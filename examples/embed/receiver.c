@@ -5,13 +5,6 @@
 
 enum { ME = 2, PEER = 1, EVEN = 2, ODD = 3 };
 
-static bool is_up(struct end *end)
-{
-    struct ncp_flags flags;
-    want(NCP_DONE, ncp_phase(&end->host, PEER, &flags), "phase");
-    return !(flags.down || flags.want || flags.owe || flags.wait);
-}
-
 static bool is_open(struct end *end)
 {
     struct ncp_connection it;
@@ -37,10 +30,13 @@ int main(int argc, char **argv)
     uint8_t text[NCP_LONGEST_MESSAGE];
     size_t bits = 0;
     struct end end;
-    if (argc != 3) return 2;
+    if (argc != 3) {
+        fputs("usage: receiver HERE THERE\n", stderr);
+        return 2;
+    }
     begin(&end, ME, PEER, argv[1], argv[2]);
 
-    until(&end, is_up);
+    until(&end, end_is_up);
     puts("up");
     want(NCP_DONE, ncp_ask_receive(&end.host, PEER, EVEN, ODD, 1024), "ask_receive");
     until(&end, is_open);

@@ -5,13 +5,6 @@
 
 enum { ME = 1, PEER = 2, ODD = 3, EVEN = 2 };
 
-static bool is_up(struct end *end)
-{
-    struct ncp_flags flags;
-    want(NCP_DONE, ncp_phase(&end->host, PEER, &flags), "phase");
-    return !(flags.down || flags.want || flags.owe || flags.wait);
-}
-
 static bool was_asked(struct end *end)
 {
     struct ncp_connection it;
@@ -42,11 +35,14 @@ int main(int argc, char **argv)
 {
     const uint8_t hello[] = {'h', 'e', 'l', 'l', 'o'};
     struct end end;
-    if (argc != 3) return 2;
+    if (argc != 3) {
+        fputs("usage: sender HERE THERE\n", stderr);
+        return 2;
+    }
     begin(&end, ME, PEER, argv[1], argv[2]);
 
     want(NCP_DONE, ncp_reset(&end.host, PEER), "reset");
-    until(&end, is_up);
+    until(&end, end_is_up);
     puts("up");
     until(&end, was_asked);
     want(NCP_DONE, ncp_ask_send(&end.host, PEER, ODD, EVEN, 8, 1024), "ask_send");

@@ -38,9 +38,7 @@ static void settle(struct ncp_host *a, struct ncp_host *b)
 
 static void say_up(struct ncp_host *host, uint8_t peer, const char *name)
 {
-    struct ncp_flags flags;
-    want(NCP_DONE, ncp_phase(host, peer, &flags), "phase");
-    printf("%s is %s\n", name, flags.down || flags.want || flags.owe || flags.wait ? "not up" : "up");
+    printf("%s is %s\n", name, is_up(host, peer) ? "up" : "not up");
 }
 
 static void say_state(struct ncp_host *host, uint8_t peer, uint32_t local, uint32_t remote, const char *name)
@@ -72,9 +70,9 @@ int main(void)
     /* Without a host nothing is done. */
     want(NCP_NO_HOST, ncp_reset(&a, B), "reset of no host");
     want(NCP_NO_HOST, ncp_reset(NULL, B), "reset of a null handle");
-    want(NCP_NEW_BAD_PEERS, ncp_new(&a, A, peer_of_b, 1), "a host that is its own peer");
-    want(NCP_DONE, ncp_new(&a, A, peer_of_a, 1), "new");
-    want(NCP_DONE, ncp_new(&b, B, peer_of_b, 1), "new");
+    want_new(NCP_NEW_BAD_PEERS, ncp_new(&a, A, peer_of_b, 1), "a host that is its own peer");
+    want_new(NCP_DONE, ncp_new(&a, A, peer_of_a, 1), "new");
+    want_new(NCP_DONE, ncp_new(&b, B, peer_of_b, 1), "new");
     want(NCP_NO_POINTER, ncp_take(&b, A, EVEN, ODD, 5, NULL, sizeof text, &bits), "take into nothing");
     want(NCP_SHORT_BUFFER, ncp_take(&b, A, EVEN, ODD, 5, text, 5, &bits), "take into five bytes");
     want(NCP_NOT_UP, ncp_ask_send(&a, B, ODD, EVEN, 8, 1024), "ask_send before a reset");
