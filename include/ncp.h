@@ -16,10 +16,11 @@
  *   left there: it may be moved to another place, but of two copies only one is used.
  * - One call at a time for each host, also of those that only read, and each host on the thread that
  *   made it.
- * - A pointer that is not null leads to as much memory as the length beside it says, no two of one
- *   call overlap, and each is aligned as its type asks.
- * - malloc, realloc and free are one allocator, which aligns to 16 bytes; no call is made in a signal
- *   handler.
+ * - A pointer that is not null leads to as much memory as the length beside it says, or to one of its
+ *   type; no two of one call overlap, and each is aligned as its type asks.
+ * - malloc, realloc and free are one allocator, which aligns a block to each power of two up to 16 that
+ *   divides its size. No call is made in a signal handler, or in the forked child of a process with
+ *   threads.
  */
 #ifndef NCP_H
 #define NCP_H
@@ -67,16 +68,18 @@ enum {
     /* By ncp_receive and ncp_give: 40 and the number of the fault of bits. */
     NCP_TOO_LONG = 41,       /* more than 8192 bits */
     NCP_SHORT_BYTES = 42,    /* fewer bytes than the bits take */
-    NCP_SPARE_NOT_ZERO = 43, /* a spare bit of the last byte used is set */
+    NCP_SPARE_NOT_ZERO = 43  /* a spare bit of the last byte used is set */
+};
 
-    /* Lengths in bytes. */
+/* Lengths in bytes: of the longest message or text, command, and name. */
+enum {
     NCP_LONGEST_MESSAGE = 1024,
     NCP_LONGEST_COMMAND = 12,
     NCP_LONGEST_NAME = 12
 };
 
-/* What became of bits that came: `what` of `struct ncp_arrived`, in the order in which it is judged. Where
- * nothing is said of `detail`, it is 0. */
+/* What became of bits that came: `what` of `struct ncp_arrived`, in the order in which it is judged, but that
+ * NCP_ARRIVED_NOT_UP comes before NCP_ARRIVED_TEXT. Where nothing is said of `detail`, it is 0. */
 enum {
     NCP_ARRIVED_SHORT = 1,      /* fewer than 32 bits */
     NCP_ARRIVED_OTHER = 2,      /* `detail`: a type that says nothing to a host */
@@ -89,12 +92,12 @@ enum {
                                  * zero, 5 the text is shorter than byte size and byte count say */
     NCP_ARRIVED_WRONG_LINK = 7, /* link 1, or over 71 */
     NCP_ARRIVED_WRONG_SIZE = 8, /* a control message whose bytes have not 8 bits */
-    NCP_ARRIVED_CONTROL = 9,    /* `detail`: how many whole commands were read */
+    NCP_ARRIVED_CONTROL = 9,    /* `detail`: how many whole commands were read, those that were dropped too */
     NCP_ARRIVED_TEXT = 10,      /* `detail`: 1 admitted, 2 late, 3 wrong size, 4 over, 5 not open */
     NCP_ARRIVED_NOT_UP = 11     /* a text while the host is not up with the peer */
 };
 
-/* A host, or none. */
+/* A host, or none. NCP_EMPTY only initializes one, as in `struct ncp_host host = NCP_EMPTY;`. */
 struct ncp_host {
     void *at;
 };
@@ -105,23 +108,26 @@ struct ncp_arrived {
     uint32_t detail;
 };
 
-/* The flags for a peer: the host is up with it where none is set. */
+/* The flags for a peer: the host is up with it where none is set. Each peer starts with `down` alone. */
 struct ncp_flags {
-    bool down;
-    bool want;
-    bool owe;
-    bool wait;
+    bool down; /* nothing was made that brings the host up with the peer */
+    bool want; /* an RST is to be made, once the data links are quiet */
+    bool owe;  /* an RRP is to be made, once the data links are quiet */
+    bool wait; /* an RST was made, and its RRP has not come */
 };
 
 /* What was counted of what came from a peer. Each count stays at its highest value. */
 struct ncp_counted {
-    uint32_t stray;
-    uint32_t faults;
-    uint32_t wrong_link;
-    uint32_t wrong_size;
-    uint32_t not_up;
-    uint32_t late;
-    uint32_t over;
+    uint32_t stray;      /* answers on links with nothing unanswered, RRPs that none awaited, and ERPs that
+                          * answered no echo */
+    uint32_t faults;     /* messages of type 0 that are no regular messages */
+    uint32_t wrong_link; /* regular messages on link 1 or on links over 71 */
+    uint32_t wrong_size; /* control messages whose bytes have not 8 bits, and texts whose bytes have not the
+                          * size of their connection */
+    uint32_t not_up;     /* texts, commands but RST and RRP, and faults of control texts while the host was
+                          * not up */
+    uint32_t late;       /* texts, and commands that name a link, for an end that is leaving or left */
+    uint32_t over;       /* texts that are more than what was allocated */
 };
 
 /* What was counted of messages that are of no peer. */
@@ -133,8 +139,8 @@ struct ncp_discarded {
 
 /* An ERR that came: its code, and the bytes that it is about. */
 struct ncp_noted {
-    uint8_t code;
-    uint8_t bytes[10];
+    uint8_t code;      /* 1 to 5 as docs/PROTOCOL.md has them, or what else a peer sends */
+    uint8_t bytes[10]; /* the first of a command, and zeros behind them */
 };
 
 /* What is known of a connection. */
@@ -196,7 +202,7 @@ static inline bool ncp_is_made(const struct ncp_host *host)
 }
 
 /* Makes a host of the number `me` with these peers, in this order. It is down with each. A host that
- * was there before is freed. `host` need not have one, but may not be null.
+ * was there before is freed where NCP_DONE is answered. `host` need not have one, but may not be null.
  * Refused, in this order: NCP_NEW_BAD_PEERS (not one to eight, not distinct, or one is `me`),
  * NCP_NEW_OUT_OF_MEMORY. */
 static inline uint32_t ncp_new(struct ncp_host *host, uint8_t me, const uint8_t *peers, size_t count)
@@ -276,7 +282,9 @@ static inline uint32_t ncp_give(struct ncp_host *host, uint8_t peer, uint32_t lo
 }
 
 /* Takes held text from its front: `*bits` bits in the first bytes of `out`, which has `len` bytes. They
- * are as many whole bytes of the connection as `bytes` asks for, are held, and fit one message.
+ * are as many whole bytes of the connection as `bytes` asks for, are held, and fit one message. A
+ * receiver that closes and is emptied makes its CLS: where that is the 513th command that waits, the
+ * host goes down with the peer, and the bits are answered all the same.
  * Refused, in this order: NCP_SHORT_BUFFER (fewer than NCP_LONGEST_MESSAGE), NCP_UNKNOWN_PEER,
  * NCP_NOT_UP, NCP_NO_ENTRY, NCP_CLOSING (left), NCP_NOT_OPEN (never opened), NCP_WRONG_END (a
  * sender). */
@@ -315,8 +323,8 @@ static inline uint32_t ncp_interrupt(struct ncp_host *host, uint8_t peer, uint32
 }
 
 /* Closes this side of a connection: what is stored is dropped, and a CLS waits then, or while a text is
- * out it is due. Refused, in this order: NCP_UNKNOWN_PEER, NCP_NOT_UP, NCP_NO_ENTRY, NCP_CLOSING,
- * NCP_QUEUE_FULL. */
+ * out it is due. Refused, in this order: NCP_UNKNOWN_PEER, NCP_NOT_UP, NCP_NO_ENTRY, NCP_CLOSING (left,
+ * or leaving at a sending end), NCP_QUEUE_FULL (also where no command would wait). */
 static inline uint32_t ncp_close(struct ncp_host *host, uint8_t peer, uint32_t local, uint32_t remote)
 {
     if (!ncp_is_made(host)) return NCP_NO_HOST;
