@@ -100,6 +100,8 @@ static void no_pointer(struct ncp_host *host)
     IS(NCP_NO_POINTER, ncp_kept(host, PEER, 0, NULL, sizeof out, &size));
     IS(NCP_NO_POINTER, ncp_kept(host, PEER, 0, out, sizeof out, NULL));
     IS(NCP_NO_POINTER, ncp_name(0, NULL, 12, &size));
+    IS(NCP_NO_POINTER, ncp_name(0, text, 12, NULL));
+    IS(NCP_NO_POINTER, ncp_new_name(0, NULL, 12, &size));
     IS(NCP_NO_POINTER, ncp_new_name(0, text, 12, NULL));
     is_untouched(__LINE__);
 }
