@@ -66,7 +66,7 @@ impl<S: BitStore> ManyTried<S> {
             return false;
         };
         match host.state(peer, pair) {
-            Ok(record) => record.opened,
+            Ok(record) => record.opened && !record.leaving && !record.left,
             Err(_) => false,
         }
     }

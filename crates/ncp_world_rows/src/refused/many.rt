@@ -217,13 +217,16 @@ fn steps<S: BitStore>(rt: &impl Abort, alloc: Global) -> Result<bool, Fail> {
     step_alike::<S>(rt, alloc, &events)
 }
 
-/// Compares the notes of two runs. Whether one of them notes a call that was refused: up to there both note the same.
+/// Compares the notes of two runs, of which each noted each event. Whether one of them notes a call that was refused:
+/// up to there both note the same.
 fn notes_refusal(
     rt: &impl Abort,
     alloc: Global,
+    events: &[ManyEvent],
     notes: &[ManyNote],
     others: &[ManyNote],
 ) -> Result<bool, AllocError> {
+    assert!(rt; notes.len() == events.len() && others.len() == events.len());
     for (note, again) in notes.iter().zip(others.iter()) {
         if is_wanting(note) || is_wanting(again) {
             return Ok(true);
@@ -233,15 +236,22 @@ fn notes_refusal(
     Ok(false)
 }
 
-/// Whether one of two runs was refused, or notes a call that was.
+/// Whether one of two runs of these events was refused, or notes a call that was.
 fn are_alike<S: BitStore>(
     rt: &impl Abort,
     alloc: Global,
+    events: &[ManyEvent],
     one: &Result<Many<S>, ManyFault>,
     other: &Result<Many<S>, ManyFault>,
 ) -> Result<bool, Fail> {
     match (one, other) {
-        (Ok(one), Ok(other)) => Ok(notes_refusal(rt, alloc, one.transcript(), other.transcript())?),
+        (Ok(one), Ok(other)) => Ok(notes_refusal(
+            rt,
+            alloc,
+            events,
+            one.transcript(),
+            other.transcript(),
+        )?),
         (Err(_), Err(_)) => Err("refused twice".into()),
         (Err(fault), Ok(_)) | (Ok(_), Err(fault)) => {
             assert!(rt; *fault == ManyFault::OutOfMemory);
@@ -255,7 +265,7 @@ fn runs<S: BitStore>(rt: &impl Abort, alloc: Global) -> Result<bool, Fail> {
     let events = events(rt, alloc)?;
     let one = Many::<S>::run(alloc, &THREE, &events);
     let other = Many::<S>::run(alloc, &THREE, &events);
-    are_alike(rt, alloc, &one, &other)
+    are_alike(rt, alloc, &events, &one, &other)
 }
 
 /// Whether memory for three hosts was refused once.

@@ -101,13 +101,16 @@ fn steps<S: BitStore>(rt: &impl Abort, alloc: Global) -> Result<bool, AllocError
     step_alike::<S>(rt, alloc, &events)
 }
 
-/// Compares the notes of two runs. Whether one of them notes a call that was refused: up to there both note the same.
+/// Compares the notes of two runs, of which each noted each event. Whether one of them notes a call that was refused:
+/// up to there both note the same.
 fn notes_refusal(
     rt: &impl Abort,
     alloc: Global,
+    events: &[Event],
     notes: &[Note],
     others: &[Note],
 ) -> Result<bool, AllocError> {
+    assert!(rt; notes.len() == events.len() && others.len() == events.len());
     for (note, again) in notes.iter().zip(others.iter()) {
         if is_wanting(note) || is_wanting(again) {
             return Ok(true);
@@ -117,15 +120,22 @@ fn notes_refusal(
     Ok(false)
 }
 
-/// Whether one of two runs was refused, or notes a call that was.
+/// Whether one of two runs of these events was refused, or notes a call that was.
 fn are_alike<S: BitStore>(
     rt: &impl Abort,
     alloc: Global,
+    events: &[Event],
     one: &Result<World<S>, AllocError>,
     other: &Result<World<S>, AllocError>,
 ) -> Result<bool, Fail> {
     match (one, other) {
-        (Ok(one), Ok(other)) => Ok(notes_refusal(rt, alloc, one.transcript(), other.transcript())?),
+        (Ok(one), Ok(other)) => Ok(notes_refusal(
+            rt,
+            alloc,
+            events,
+            one.transcript(),
+            other.transcript(),
+        )?),
         (Err(_), Err(_)) => Err("refused twice".into()),
         _ => Ok(true),
     }
@@ -136,7 +146,7 @@ fn runs<S: BitStore>(rt: &impl Abort, alloc: Global) -> Result<bool, Fail> {
     let events = events(rt, alloc)?;
     let one = run::<S>(alloc, A, B, &events);
     let other = run::<S>(alloc, A, B, &events);
-    are_alike(rt, alloc, &one, &other)
+    are_alike(rt, alloc, &events, &one, &other)
 }
 
 /// Whether memory for a world was refused once.
