@@ -1,7 +1,7 @@
 //! Any bits that come.
 use super::steps::{Call, Step};
 use super::{
-    COMES_UP, DEAD, INCOMPLETE, INWARD, OTHER, RFNM, ROOM, RTS, STR, Tried, goes, goes_up,
+    COMES_UP, DEAD, INCOMPLETE, INWARD, NOBODY, OTHER, RFNM, ROOM, RTS, STR, Tried, goes, goes_up,
 };
 use crate::known::{LINK, ME, NO_COUNTS, OUTWARD, PEER, RECEIVER, SENDER, UP, bits_of};
 use ncp_bits::{BitStore, PackedStore, PlainStore};
@@ -91,10 +91,17 @@ fn cut_texts_are_judged(rt: HostRuntime) -> Result<(), Fail> {
     goes_up(&rt, rt.alloc(), STEPS)
 }
 
-// Links that carry nothing, and bytes that have not 8 bits; another peer stays as it was.
+// A host that is no peer, links that carry nothing, bytes that have not 8 bits, and an answer to nothing:
+// another peer stays as it was.
 #[test]
 fn links_and_sizes_are_judged(rt: HostRuntime) -> Result<(), Fail> {
+    const IGNORED: Ignored = Ignored {
+        short: 0,
+        other: 0,
+        unknown: 1,
+    };
     const COUNTS: Counts = Counts {
+        stray: 1,
         wrong_link: 2,
         wrong_size: 1,
         not_up: 1,
@@ -104,11 +111,18 @@ fn links_and_sizes_are_judged(rt: HostRuntime) -> Result<(), Fail> {
         Step::Of(OTHER),
         Step::ComesUp,
         Step::OpensReceiver,
+        Step::HasCounts(NO_COUNTS),
+        Step::Knows(INWARD, RECEIVER),
+        Step::Wait(0),
+        Step::Of(NOBODY),
+        Step::Text(LINK, &[0x61], Received::Unknown),
         Step::Of(PEER),
         Step::Text(1, &[], Received::WrongLink),
         Step::Text(72, &[], Received::WrongLink),
         Step::Comes(&[0, 2, 0, 0, 0, 7, 0, 0, 0], Received::WrongSize),
         Step::Text(LINK, &[0x61], Received::NotUp),
+        Step::Answered(DEAD, LINK, Received::Stray),
+        Step::HasIgnored(IGNORED),
         Step::HasCounts(COUNTS),
         Step::Of(OTHER),
         Step::HasCounts(NO_COUNTS),
