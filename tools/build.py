@@ -4,10 +4,11 @@
     tools/build.py NAME
 
 The toolchain builds one crate at a time in a checkout. So each lane but the first has a room of its own, a copy of the
-crates' sources, and what one lane has built is given to all; the first lane works in the checkout itself. Lines on
-standard error say how far it is, on a terminal one line that changes; where a crate is not built, which errors were found
-there, or where none was named what was said last.
+crates' sources with what the checkout has built, and what one lane has built is given to all; the first lane works in the
+checkout itself. Lines on standard error say how far it is, on a terminal one line that changes; where a crate is not built,
+which errors were found there, or where none was named what was said last.
 """
+import filecmp
 import os
 import re
 import shutil
@@ -17,9 +18,11 @@ import sys
 import tempfile
 import threading
 
+sys.dont_write_bytecode = True
+import once
+
 TOP = os.path.dirname(os.path.dirname(os.path.abspath(__file__)))
 SOURCES = ("src", "specs", "proofs")
-RT = [sys.executable, f"{TOP}/tools/once.py"]
 # What a lane may take of memory, in bytes.
 ROOM = 4_000_000_000
 # What it is to begin a crate, to read a library, and the work that a crate has for each of its jobs, all in lines of code
@@ -101,7 +104,7 @@ class Build:
         self.left = sorted(self.crates, key=self.behind.get, reverse=True)
         self.built, self.running, self.failed = set(), {}, None
         self.changed = threading.Condition()
-        self.places = [TOP]
+        self.places, self.rt = [TOP], rt()
 
     def run(self):
         """Builds all, and returns whether that went well. Where the sources stand is told in a file, for the launcher."""
@@ -119,7 +122,8 @@ class Build:
         return len(self.built) == len(self.crates)
 
     def furnished(self, room):
-        """A new room with the sources of these crates."""
+        """A new room with the sources of these crates, and what the checkout has built of them, which is built again only where
+        its sources changed."""
         os.mkdir(room)
         shutil.copy(f"{TOP}/HANDLES", room)
         with open(f"{room}/crates.txt", "w", encoding="utf-8") as file:
@@ -129,6 +133,8 @@ class Build:
             for part in SOURCES:
                 if os.path.isdir(f"{TOP}/crates/{name}/{part}"):
                     shutil.copytree(f"{TOP}/crates/{name}/{part}", f"{room}/crates/{name}/{part}")
+            if os.path.isdir(rlib_of(TOP, name)):
+                shutil.copytree(rlib_of(TOP, name), rlib_of(room, name), copy_function=link_or_copy)
         return room
 
     def work(self, place):
@@ -178,18 +184,18 @@ class Build:
         What is urgent goes before the others."""
         folder = f"{place}/crates/{name}"
         first = [] if is_urgent else ["nice", "-n", "10"]
-        words = [*first, *RT, *(["run", "--jobs", f"{jobs}", "--", "--help"] if is_program(name) else ["lib", "--jobs", f"{jobs}"])]
+        words = [*first, *self.rt, *(["run", "--jobs", f"{jobs}", "--", "--help"] if is_program(name) else ["lib", "--jobs", f"{jobs}"])]
         ran = subprocess.Popen(words, cwd=folder, stdin=subprocess.DEVNULL, stdout=subprocess.PIPE, stderr=subprocess.STDOUT, text=True, errors="replace")
         self.running[name] = ran
         log = ran.communicate()[0]
         return ran.returncode, log
 
     def give(self, place, name):
-        """Gives what a place has built of a crate to the others."""
-        made = f"{place}/crates/{name}/out/rlib"
+        """Gives what a place has built of a crate to the others, but to those that have it."""
+        made = rlib_of(place, name)
         for other in self.places if os.path.isdir(made) else ():
-            if other != place:
-                to = f"{other}/crates/{name}/out/rlib"
+            to = rlib_of(other, name)
+            if other != place and not is_same(f"{made}/stamp", f"{to}/stamp"):
                 shutil.rmtree(to, ignore_errors=True)
                 shutil.copytree(made, to, copy_function=link_or_copy)
         self.built.add(name)
@@ -214,6 +220,19 @@ class Build:
                 ran.terminate()
 
 
+def rlib_of(place, name):
+    """Where a place has the library that is built of a crate."""
+    return f"{place}/crates/{name}/out/rlib"
+
+
+def is_same(one, other):
+    """Whether two files have the same bytes; not where one is not there."""
+    try:
+        return filecmp.cmp(one, other, shallow=False)
+    except OSError:
+        return False
+
+
 def link_or_copy(one, other):
     """Gives a file of a library a second name, where it can have one: the toolchain removes such a file before it makes it anew."""
     try:
@@ -228,6 +247,15 @@ def say(line):
         print(f"\r{line[:78]:78}\r{line[:78]}", end="", file=sys.stderr, flush=True)
     elif line:
         print(line, file=sys.stderr, flush=True)
+
+
+def rt():
+    """The command of the toolchain: as a first build wants it, where the kit is one that tools/once.py knows."""
+    kit = once.kit()
+    if kit in once.KNOWN:
+        return [sys.executable, f"{TOP}/tools/once.py"]
+    print(f"tools/build.py: {kit} is not a kit that tools/once.py knows, so the plain rt builds, which takes longer", file=sys.stderr)
+    return ["rt"]
 
 
 def main():

@@ -10,15 +10,31 @@ proved. Here, while the sum of a crate is taken, that of each crate below it is 
 And rt keeps what it has proved of a crate for its next check, and builds a library with all its proofs. Here nothing is
 kept, and a library holds what others can cite of it. That is cheaper: no copies of the compiler read the libraries anew
 and hand their work on by files, and what stands on many libraries has less to read.
+
+All this changes functions inside rt by their names. So of a kit that is none of those it was tried with it says so in a line,
+and runs the plain rt.
 """
 import functools
 import importlib.machinery
 import importlib.util
 import os
 import shutil
+import subprocess
 import sys
 
 sys.dont_write_bytecode = True
+
+# The kits in which the functions have these names and do what is said above.
+KNOWN = ("rattle-kit-13b", "rattle-kit-13f")
+
+
+def kit():
+    """The name of the kit on the path, or what stands in its place."""
+    try:
+        told = subprocess.run(["rt", "version"], stdin=subprocess.DEVNULL, stdout=subprocess.PIPE, text=True, errors="replace").stdout
+    except OSError:
+        return "a toolchain that is not on the path"
+    return told.split()[0] if told.split() else "a kit without a name"
 
 
 def loaded(script):
@@ -64,15 +80,14 @@ def main():
     found = shutil.which("rt")
     if not found:
         sys.exit("rt is not found: the toolchain is not on the path")
-    script = os.path.realpath(found)
-    try:
-        rt = loaded(script)
-        crate = rt.rtlib.Crate
-        crate.stamp = each_once(crate.stamp)
-        crate.call = for_one_build(crate.call, crate.makes_rlib, rt.rtlib.KEPT)
-    except (AttributeError, SyntaxError, UnicodeDecodeError):
-        # a kit of another make
+    script, name = os.path.realpath(found), kit()
+    if name not in KNOWN:
+        print(f"tools/once.py: {name} is not a kit that this was tried with: this is the plain rt", file=sys.stderr, flush=True)
         os.execv(script, ["rt", *sys.argv[1:]])
+    rt = loaded(script)
+    crate = rt.rtlib.Crate
+    crate.stamp = each_once(crate.stamp)
+    crate.call = for_one_build(crate.call, crate.makes_rlib, rt.rtlib.KEPT)
     sys.exit(rt.main(sys.argv[1:]))
 
 

@@ -1,0 +1,98 @@
+"""tools/audit in a repository of one crate: an edit that is proved is found, and what was passed is tried again once it changed."""
+import os
+import shutil
+import subprocess
+import tempfile
+import unittest
+
+TOOLS = os.path.dirname(os.path.dirname(os.path.abspath(__file__)))
+SOURCE = """//! A crate of two functions, one of which promises nothing.
+#![tactic(auto)]
+
+ghost use Rattle.std.specs.Prelude.{◌≡◌};
+
+pub fn same(x: u8) -> u8
+    ensures { result ≡ x }
+{
+    let same = x;
+    same
+}
+
+pub fn any(x: u8) -> u8 {
+    x / 2
+}
+"""
+REFUSED = """file: src/lib.rt
+old:     let same = x;
+new:     let same = x / 2;
+"""
+PROVED = """file: src/lib.rt
+old:     x / 2
+new:     x / 4
+"""
+
+
+@unittest.skipUnless(shutil.which("rt"), "the toolchain is not on the path")
+class TestAudit(unittest.TestCase):
+    def setUp(self):
+        self.top = tempfile.mkdtemp(prefix="ncp-audit-test-")
+        self.addCleanup(shutil.rmtree, self.top)
+        for name, text in {"crates.txt": "sample:\n", "HANDLES": "Handles allowed: none.\n", "crates/sample/src/lib.rt": SOURCE}.items():
+            self.write(name, text)
+        os.mkdir(f"{self.top}/tools")
+        shutil.copy(f"{TOOLS}/audit", f"{self.top}/tools")
+
+    def write(self, name, text):
+        os.makedirs(os.path.dirname(f"{self.top}/{name}"), exist_ok=True)
+        with open(f"{self.top}/{name}", "w", encoding="utf-8") as file:
+            file.write(text)
+
+    def audit(self, *words):
+        ran = subprocess.run([f"{self.top}/tools/audit", *words], stdout=subprocess.PIPE, stderr=subprocess.STDOUT, text=True)
+        return ran.returncode, ran.stdout.splitlines()
+
+    def test_what_is_proved_is_found(self):
+        self.write("audit/sample/halves.edit", REFUSED)
+        self.write("audit/sample/quarters.edit", PROVED)
+
+        status, lines = self.audit()
+
+        self.assertEqual((status, lines[-1]), (1, "1 refused, 1 proved"))
+        self.assertTrue(lines[-3].startswith("sample/halves: refused: "))
+        self.assertTrue(lines[-2].startswith("sample/quarters: PROVED"))
+        self.assertFalse(os.path.getsize(f"{self.top}/audit/PASSED"))
+
+        os.remove(f"{self.top}/audit/sample/quarters.edit")
+        self.assertEqual(self.audit("--changed")[1][-1], "1 refused, 0 proved")
+        self.assertEqual(self.audit("--changed"), (0, ["audit: nothing that the audits of audit/PASSED rest on has changed"]))
+
+        self.write("crates/sample/src/lib.rt", SOURCE.replace("result ≡ x", "result ≡ result"))
+        status, lines = self.audit("--changed")
+        self.assertEqual((status, lines[0], lines[-1]), (1, "audit: changed since it was passed: sample", "0 refused, 1 proved"))
+
+    def test_what_cannot_be_tried_fails(self):
+        self.write("audit/sample/nowhere.edit", REFUSED.replace("let same = x;\nnew", "let none = x;\nnew"))
+
+        status, lines = self.audit("sample")
+
+        self.assertEqual((status, lines[-1]), (1, "0 refused, 0 proved"))
+        self.assertTrue(lines[0].startswith("sample/nowhere: NOT TRIED: "))
+
+    def test_many_changed_crates_are_not_tried(self):
+        names = [f"sample{number}" for number in range(5)]
+        self.write("crates.txt", "".join(f"{name}:\n" for name in names))
+        for name in names:
+            self.write(f"crates/{name}/src/lib.rt", SOURCE)
+            self.write(f"audit/{name}/halves.edit", REFUSED)
+
+        status, lines = self.audit("--changed")
+
+        self.assertEqual(status, 1)
+        self.assertIn(f"run `tools/audit {' '.join(names)}`", lines[-1])
+
+    def test_words_that_are_no_crates(self):
+        self.assertEqual(self.audit("another"), (2, ["usage: tools/audit [CRATE..] | --changed"]))
+
+
+if __name__ == "__main__":
+    unittest.main()
