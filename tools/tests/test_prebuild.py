@@ -1,0 +1,117 @@
+"""tools/prebuild in a repository of two crates, with a toolchain that only says its name: what is prebuilt is compared with
+what is built here by its bytes, and with another kit by its answers."""
+import os
+import shutil
+import subprocess
+import tempfile
+import time
+import unittest
+
+TOP = os.path.dirname(os.path.dirname(os.path.dirname(os.path.abspath(__file__))))
+RT = """#!/bin/sh
+[ "$1" = version ] && echo "$KIT"
+"""
+LIBRARY = """#!/bin/sh
+cat "$(dirname "$0")/../crates/ncp_embed/src/lib.rt" >"$1/libncp.a"
+"""
+PROGRAM = """#!/bin/sh
+# {remark}
+echo {answer} "$@"
+"""
+CRATES = """ncp:
+ncp_embed staticlib:
+"""
+
+
+def write(path, text, mode=0o644):
+    os.makedirs(os.path.dirname(path), exist_ok=True)
+    with open(path, "w", encoding="utf-8") as file:
+        file.write(text)
+    os.chmod(path, mode)
+
+
+class Prebuilding(unittest.TestCase):
+    def setUp(self):
+        self.room = tempfile.TemporaryDirectory()
+        self.addCleanup(self.room.cleanup)
+        self.top = f"{self.room.name}/top"
+        for name in ("prebuild", "sources", "prove"):
+            os.makedirs(f"{self.top}/tools", exist_ok=True)
+            shutil.copy(f"{TOP}/tools/{name}", f"{self.top}/tools")
+        write(f"{self.room.name}/bin/rt", RT, 0o755)
+        write(f"{self.top}/include/library", LIBRARY, 0o755)
+        write(f"{self.top}/crates.txt", CRATES)
+        write(f"{self.top}/crates/ncp/src/main.rt", "code\n")
+        write(f"{self.top}/crates/ncp_embed/src/lib.rt", "code of the library\n")
+        write(f"{self.top}/examples/one.script", "hosts 1 2\n")
+        self.kit = "kit one"
+        self.build()
+
+    def build(self, remark="one build", answer="answer"):
+        """Builds the program, after all sources were touched."""
+        time.sleep(0.01)
+        write(f"{self.top}/crates/ncp/out/ncp", PROGRAM.format(remark=remark, answer=answer), 0o755)
+
+    def prebuild(self, *words):
+        """The status of tools/prebuild, and what it said."""
+        path = f"{self.room.name}/bin:{os.environ['PATH']}"
+        ran = subprocess.run([f"{self.top}/tools/prebuild", *words], env={**os.environ, "PATH": path, "KIT": self.kit},
+                             stdout=subprocess.PIPE, stderr=subprocess.STDOUT, text=True)
+        return ran.returncode, ran.stdout
+
+    def test_what_was_made_is_as_here(self):
+        self.assertEqual(self.prebuild()[0], 0)
+        status, said = self.prebuild("--compare")
+        self.assertEqual(status, 0, said)
+        self.assertIn("the same bytes as here", said)
+
+    def test_nothing_is_there(self):
+        status, said = self.prebuild("--compare")
+        self.assertEqual(status, 1)
+        self.assertIn("run tools/prebuild", said)
+
+    def test_other_sources(self):
+        self.prebuild()
+        write(f"{self.top}/crates/ncp/src/main.rt", "other code\n")
+        self.build()
+        status, said = self.prebuild("--compare")
+        self.assertEqual(status, 1)
+        self.assertIn("prebuilt/ncp was built from other sources", said)
+        self.assertIn("prebuilt/libncp.a is of these sources", said)
+        self.assertIn("run tools/prebuild", said)
+
+    def test_other_bytes(self):
+        self.prebuild()
+        self.build(remark="another build")
+        status, said = self.prebuild("--compare")
+        self.assertEqual(status, 1)
+        self.assertIn("is other bytes than", said)
+
+    def test_a_file_that_sums_do_not_know(self):
+        self.prebuild()
+        write(f"{self.top}/prebuilt/ncp", "something else", 0o755)
+        status, said = self.prebuild("--compare")
+        self.assertEqual(status, 1)
+        self.assertIn("is not the file of which SUMS has the sum", said)
+
+    def test_another_kit_with_the_same_answers(self):
+        self.prebuild()
+        self.kit = "kit two"
+        self.build(remark="the build of another kit")
+        status, said = self.prebuild("--compare")
+        self.assertEqual(status, 0, said)
+        self.assertIn("another kit, kit one", said)
+        self.assertIn("answers as here", said)
+
+    def test_another_kit_with_other_answers(self):
+        self.prebuild()
+        self.kit = "kit two"
+        self.build(answer="another")
+        status, said = self.prebuild("--compare")
+        self.assertEqual(status, 1)
+        self.assertIn("answers otherwise than", said)
+        self.assertIn("examples/one.script", said)
+
+
+if __name__ == "__main__":
+    unittest.main()
