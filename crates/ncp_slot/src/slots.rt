@@ -100,7 +100,9 @@ impl Slots {
         for _place in 0..SLOTS {
             slots.push_reserved(Slot::Empty);
         }
-        Ok(Slots { slots: slots.into_boxed_slice() })
+        Ok(Slots {
+            slots: slots.into_boxed_slice(),
+        })
     }
 
     /// Keeps a copy of a message, to go out on a link. Busy, and nothing changes, where the link
