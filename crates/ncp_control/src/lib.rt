@@ -10,3 +10,4 @@ pub mod laws;
 
 pub use commands::Commands;
 pub use finding::find_fault;
+pub use ncp_terms::{Command, CommandFault, put_command};

@@ -14,5 +14,6 @@ pub mod laws;
 mod slot;
 mod slots;
 
+pub use ncp_terms::Answer;
 pub use slot::{Busy, Slot, Stray};
 pub use slots::{DATA_LINKS, FIRST_DATA_LINK, LAST_LINK, SLOTS, Slots, UNUSED_LINK, has_slot};

@@ -9,6 +9,7 @@ use crate::slot::{Busy, Slot, Stray};
 use ncp_bits::Bits;
 use ncp_terms::Answer;
 use std::alloc::{AllocError, Global};
+use std::boxed::BoxedSlice;
 use std::marker::Model;
 
 /// The first link that carries a connection.
@@ -67,24 +68,26 @@ fn all_empty(slots: &[Slot<Bits>]) -> bool
 }
 
 /// The slots of a host's links to one peer, link 0 and links [`FIRST_DATA_LINK`] to [`LAST_LINK`].
-/// Their room is made by [`Slots::new`]; no other call takes memory.
+/// Their room is made by [`Slots::new`]. No other call takes memory, by the type: a boxed slice cannot
+/// grow, and lends no allocator.
 #[derive(Debug, Drop)]
 pub struct Slots {
-    slots: Vec<Slot<Bits>>,
+    slots: BoxedSlice<Slot<Bits>, Global>,
 }
 
 impl Model for Slots {
     ghost use Rattle.std.specs.Prelude.{◌≡◌, length};
     ghost use Rattle.ncp_slot.specs.declared.slots.TheConstants.{SLOTS};
+    ghost use Rattle.std.specs.Box.{boxed_slice_items};
     ghost use Rattle.ncp_slot.specs.Slots.{LinkSlots, slots_in, coded_slots};
 
     ghost Value = { LinkSlots };
 
     ghost coded = { coded_slots };
 
-    ghost view = { λ all. slots_in all.slots.items };
+    ghost view = { λ all. slots_in (boxed_slice_items all.slots) };
 
-    ghost invariant = { λ all. length all.slots.items ≡ SLOTS };
+    ghost invariant = { λ all. length (boxed_slice_items all.slots) ≡ SLOTS };
 }
 
 impl Slots {
@@ -97,7 +100,9 @@ impl Slots {
         for _place in 0..SLOTS {
             slots.push_reserved(Slot::Empty);
         }
-        Ok(Slots { slots })
+        Ok(Slots {
+            slots: slots.into_boxed_slice(),
+        })
     }
 
     /// Keeps a copy of a message, to go out on a link. Busy, and nothing changes, where the link

@@ -14,17 +14,19 @@ use crate::fault::SubnetFault;
 use crate::way::Way;
 use ncp_bits::Bits;
 use std::alloc::{AllocError, Global};
+use std::boxed::BoxedSlice;
 use std::marker::Model;
 
 /// The subnet between hosts. On each link from one host to another it has at most one message that
-/// is not answered yet. The room for all of them is made by [`Subnet::new`] and [`Subnet::among`];
-/// no other call takes memory.
+/// is not answered yet. The room for all of them is made by [`Subnet::new`] and [`Subnet::among`]. No
+/// other call takes memory, by the type: boxed slices cannot grow, and lend no allocator.
 #[derive(Drop)]
 pub struct Subnet {
-    ways: Vec<Way>,
+    ways: BoxedSlice<Way, Global>,
 }
 
 impl Model for Subnet {
+    ghost use Rattle.std.specs.Box.{boxed_slice_items};
     ghost use Rattle.std.specs.Coded.{codes};
     ghost use Rattle.ncp_subnet.specs.Subnet.{Subnet as Seen, subnet_in};
     ghost use Rattle.ncp_subnet.specs.Codes.{coded_in_transit};
@@ -33,7 +35,7 @@ impl Model for Subnet {
 
     ghost coded = { Prim.hlevel (codes, coded_in_transit) };
 
-    ghost view = { λ subnet. subnet_in subnet.ways.items };
+    ghost view = { λ subnet. subnet_in (boxed_slice_items subnet.ways) };
 }
 
 // Where the way from one host to another is.
@@ -83,7 +85,9 @@ impl Subnet {
         for from in hosts {
             push_ways_from(&mut ways, alloc, *from, hosts)?;
         }
-        Ok(Subnet { ways })
+        Ok(Subnet {
+            ways: ways.into_boxed_slice(),
+        })
     }
 
     /// Takes a copy of a message at a host, with the destination and the link of its leader.

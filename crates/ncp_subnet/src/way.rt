@@ -10,6 +10,7 @@ use crate::addressed::{Addressed, answer_of};
 use crate::transit::Transit;
 use ncp_bits::Bits;
 use std::alloc::{AllocError, Global};
+use std::boxed::BoxedSlice;
 use std::marker::Model;
 
 /// How many links there are from one host to another, by the eight bits of a leader.
@@ -20,19 +21,20 @@ pub const LINKS: usize = 256;
 pub(crate) struct Way {
     from: u8,
     to: u8,
-    links: Vec<Transit<Addressed>>,
+    links: BoxedSlice<Transit<Addressed>, Global>,
 }
 
 impl Model for Way {
     ghost use Rattle.std.specs.Prelude.{◌≡◌, length};
+    ghost use Rattle.std.specs.Box.{boxed_slice_items};
     ghost use Rattle.ncp_subnet.specs.declared.way.TheConstants.{LINKS};
     ghost use Rattle.ncp_subnet.specs.Ways.{OneWay};
 
     ghost Value = { OneWay };
 
-    ghost view = { λ way. record { from = way.from; to = way.to; links = way.links.items } };
+    ghost view = { λ way. record { from = way.from; to = way.to; links = boxed_slice_items way.links } };
 
-    ghost invariant = { λ way. length way.links.items ≡ LINKS };
+    ghost invariant = { λ way. length (boxed_slice_items way.links) ≡ LINKS };
 }
 
 impl Way {
@@ -44,7 +46,11 @@ impl Way {
         for _link in 0..LINKS {
             links.push_reserved(Transit::Free);
         }
-        Ok(Way { from, to, links })
+        Ok(Way {
+            from,
+            to,
+            links: links.into_boxed_slice(),
+        })
     }
 
     /// Whether it is the way from one host to another.

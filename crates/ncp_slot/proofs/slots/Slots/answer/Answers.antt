@@ -1,3 +1,4 @@
+use Rattle.std.specs.Box.{boxed_slice_items}
 use Rattle.std.proofs.Common.{◌≡◌, ◌<◌, ◌∙◌, length, ◌≢◌, ◌≤◌, ◌-◌, inl, inr, Bool, List, true, slice_set, Result, Ok, Err, OnOk, sym, ap, arith}
 use Rattle.std.proofs.lemmas.Bool.{cases_lt}
 use Rattle.ncp_slot.specs.declared.slot.Slot.TheVariants.{Empty}
@@ -18,38 +19,38 @@ on_ok (Err e) p = tt
 
 pub returns-then-not-has_slot-clause-variant : goal.returns-then-not-has_slot-clause-variant
 returns-then-not-has_slot-clause-variant c =
-    let past : c.args.link ≢ 1 → length c.self.inside.slots.items ≤ c.args.link - 1 = λ has. elim (cases_lt LAST_LINK c.args.link) [ inl h ↦ omega arith | inr h ↦ absurd (no c (has, h)) ] in
-    let none : slot_at c.args.self.now c.args.link ≡ Empty = slot_at-past c.self.inside.slots.items c.args.self.now c.args.link c.self.view_is past in
+    let past : c.args.link ≢ 1 → length (boxed_slice_items c.self.inside.slots) ≤ c.args.link - 1 = λ has. elim (cases_lt LAST_LINK c.args.link) [ inl h ↦ omega arith | inr h ↦ absurd (no c (has, h)) ] in
+    let none : slot_at c.args.self.now c.args.link ≡ Empty = slot_at-past (boxed_slice_items c.self.inside.slots) c.args.self.now c.args.link c.self.view_is past in
     (λ no_ok. cc, λ travelling. let t : is_travelling {M = List Bool} Empty ≡ true = rw none at travelling in t)
 
 pub returns-then-not-has_slot-clause-slot : goal.returns-then-not-has_slot-clause-slot
 returns-then-not-has_slot-clause-slot c =
-    let past : c.args.link ≢ 1 → length c.self.inside.slots.items ≤ c.args.link - 1 = λ has. elim (cases_lt LAST_LINK c.args.link) [ inl h ↦ omega arith | inr h ↦ absurd (no c (has, h)) ] in
-    let none : slot_at c.args.self.now c.args.link ≡ Empty = slot_at-past c.self.inside.slots.items c.args.self.now c.args.link c.self.view_is past in
+    let past : c.args.link ≢ 1 → length (boxed_slice_items c.self.inside.slots) ≤ c.args.link - 1 = λ has. elim (cases_lt LAST_LINK c.args.link) [ inl h ↦ omega arith | inr h ↦ absurd (no c (has, h)) ] in
+    let none : slot_at c.args.self.now c.args.link ≡ Empty = slot_at-past (boxed_slice_items c.self.inside.slots) c.args.self.now c.args.link c.self.view_is past in
     ap (λ s. slot_at s c.args.link) c.self.view_is ∙ none ∙ ap (answered c.args.answer) (sym none)
 
 pub returns-clause-variant : goal.returns-clause-variant
 returns-clause-variant c =
-    let inside : c.place_of.result < length c.self.inside.slots.items = omega arith in
-    let read : slot_at c.args.self.now c.args.link ≡ c.index_mut.result.now = slot_at-place c.self.inside.slots.items c.args.self.now c.args.link c.place_of.result c.index_mut.result.now c.self.view_is (c.has_slot.ensures.0 c.if-not-has_slot.false).0 c.place_of.ensures.place inside c.index_mut.ensures.value in
+    let inside : c.place_of.result < length (boxed_slice_items c.self.inside.slots) = omega arith in
+    let read : slot_at c.args.self.now c.args.link ≡ c.index_mut.result.now = slot_at-place (boxed_slice_items c.self.inside.slots) c.args.self.now c.args.link c.place_of.result c.index_mut.result.now c.self.view_is (c.has_slot.ensures.0 c.if-not-has_slot.false).0 c.place_of.ensures.place inside c.index_mut.ensures.value in
     (λ ok. ap is_travelling read ∙ c.answer.ensures.variant.0 ok, λ travelling. c.answer.ensures.variant.1 (ap is_travelling (sym read) ∙ travelling))
 
 pub returns-clause-slot : goal.returns-clause-slot
 returns-clause-slot c =
-    let inside : c.place_of.result < length c.self.inside.slots.items = omega arith in
-    let read : slot_at c.args.self.now c.args.link ≡ c.index_mut.result.now = slot_at-place c.self.inside.slots.items c.args.self.now c.args.link c.place_of.result c.index_mut.result.now c.self.view_is (c.has_slot.ensures.0 c.if-not-has_slot.false).0 c.place_of.ensures.place inside c.index_mut.ensures.value in
-    let written : slots_in (slice_set c.self.inside.slots.items c.place_of.result c.answer.new.self) ≡ with_slot c.args.self.now c.args.link c.answer.new.self = slots_in-place c.self.inside.slots.items c.args.self.now c.args.link c.place_of.result c.answer.new.self c.self.view_is (c.has_slot.ensures.0 c.if-not-has_slot.false).0 c.place_of.ensures.place inside in
+    let inside : c.place_of.result < length (boxed_slice_items c.self.inside.slots) = omega arith in
+    let read : slot_at c.args.self.now c.args.link ≡ c.index_mut.result.now = slot_at-place (boxed_slice_items c.self.inside.slots) c.args.self.now c.args.link c.place_of.result c.index_mut.result.now c.self.view_is (c.has_slot.ensures.0 c.if-not-has_slot.false).0 c.place_of.ensures.place inside c.index_mut.ensures.value in
+    let written : slots_in (slice_set (boxed_slice_items c.self.inside.slots) c.place_of.result c.answer.new.self) ≡ with_slot c.args.self.now c.args.link c.answer.new.self = slots_in-place (boxed_slice_items c.self.inside.slots) c.args.self.now c.args.link c.place_of.result c.answer.new.self c.self.view_is (c.has_slot.ensures.0 c.if-not-has_slot.false).0 c.place_of.ensures.place inside in
     slot_at-changed _ _ _ _ written ∙ c.answer.ensures.slot ∙ ap (answered c.args.answer) (sym read)
 
 pub returns-clause-others : goal.returns-clause-others
 returns-clause-others c =
-    let inside : c.place_of.result < length c.self.inside.slots.items = omega arith in
-    let written : slots_in (slice_set c.self.inside.slots.items c.place_of.result c.answer.new.self) ≡ with_slot c.args.self.now c.args.link c.answer.new.self = slots_in-place c.self.inside.slots.items c.args.self.now c.args.link c.place_of.result c.answer.new.self c.self.view_is (c.has_slot.ensures.0 c.if-not-has_slot.false).0 c.place_of.ensures.place inside in
+    let inside : c.place_of.result < length (boxed_slice_items c.self.inside.slots) = omega arith in
+    let written : slots_in (slice_set (boxed_slice_items c.self.inside.slots) c.place_of.result c.answer.new.self) ≡ with_slot c.args.self.now c.args.link c.answer.new.self = slots_in-place (boxed_slice_items c.self.inside.slots) c.args.self.now c.args.link c.place_of.result c.answer.new.self c.self.view_is (c.has_slot.ensures.0 c.if-not-has_slot.false).0 c.place_of.ensures.place inside in
     OthersStay-changed _ _ _ _ written
 
 pub returns-clause-ok : goal.returns-clause-ok
 returns-clause-ok c =
-    let inside : c.place_of.result < length c.self.inside.slots.items = omega arith in
-    let read : slot_at c.args.self.now c.args.link ≡ c.index_mut.result.now = slot_at-place c.self.inside.slots.items c.args.self.now c.args.link c.place_of.result c.index_mut.result.now c.self.view_is (c.has_slot.ensures.0 c.if-not-has_slot.false).0 c.place_of.ensures.place inside c.index_mut.ensures.value in
-    let written : slots_in (slice_set c.self.inside.slots.items c.place_of.result c.answer.new.self) ≡ with_slot c.args.self.now c.args.link c.answer.new.self = slots_in-place c.self.inside.slots.items c.args.self.now c.args.link c.place_of.result c.answer.new.self c.self.view_is (c.has_slot.ensures.0 c.if-not-has_slot.false).0 c.place_of.ensures.place inside in
+    let inside : c.place_of.result < length (boxed_slice_items c.self.inside.slots) = omega arith in
+    let read : slot_at c.args.self.now c.args.link ≡ c.index_mut.result.now = slot_at-place (boxed_slice_items c.self.inside.slots) c.args.self.now c.args.link c.place_of.result c.index_mut.result.now c.self.view_is (c.has_slot.ensures.0 c.if-not-has_slot.false).0 c.place_of.ensures.place inside c.index_mut.ensures.value in
+    let written : slots_in (slice_set (boxed_slice_items c.self.inside.slots) c.place_of.result c.answer.new.self) ≡ with_slot c.args.self.now c.args.link c.answer.new.self = slots_in-place (boxed_slice_items c.self.inside.slots) c.args.self.now c.args.link c.place_of.result c.answer.new.self c.self.view_is (c.has_slot.ensures.0 c.if-not-has_slot.false).0 c.place_of.ensures.place inside in
     on_ok c.answer.result (written ∙ ap (with_slot c.args.self.now c.args.link) (c.answer.ensures.slot ∙ ap (answered c.args.answer) (sym read)))

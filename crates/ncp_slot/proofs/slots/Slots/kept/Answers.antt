@@ -1,3 +1,4 @@
+use Rattle.std.specs.Box.{boxed_slice_items}
 use Rattle.std.proofs.Common.{◌≡◌, ◌≢◌, ◌<◌, ◌≤◌, ◌-◌, ◌∙◌, inl, inr, true, length, sym, ap, arith}
 use Rattle.std.proofs.lemmas.Bool.{cases_lt}
 use Rattle.ncp_slot.specs.declared.slot.Slot.TheVariants.{Empty}
@@ -13,12 +14,12 @@ no c has = let t : c.has_slot.result ≡ true = c.has_slot.ensures.1 has in cc
 
 pub returns-then-not-has_slot-clause-kept : goal.returns-then-not-has_slot-clause-kept
 returns-then-not-has_slot-clause-kept c =
-    let past : c.args.link ≢ 1 → length c.self.inside.slots.items ≤ c.args.link - 1 = λ has. elim (cases_lt LAST_LINK c.args.link) [ inl h ↦ omega arith | inr h ↦ absurd (no c (has, h)) ] in
-    let none : slot_at c.args.self.now c.args.link ≡ Empty = slot_at-past c.self.inside.slots.items c.args.self.now c.args.link c.self.view_is past in
+    let past : c.args.link ≢ 1 → length (boxed_slice_items c.self.inside.slots) ≤ c.args.link - 1 = λ has. elim (cases_lt LAST_LINK c.args.link) [ inl h ↦ omega arith | inr h ↦ absurd (no c (has, h)) ] in
+    let none : slot_at c.args.self.now c.args.link ≡ Empty = slot_at-past (boxed_slice_items c.self.inside.slots) c.args.self.now c.args.link c.self.view_is past in
     ap kept_message (sym none)
 
 pub returns-clause-kept : goal.returns-clause-kept
 returns-clause-kept c =
-    let inside : c.place_of.result < length c.self.inside.slots.items = omega arith in
-    let read : slot_at c.args.self.now c.args.link ≡ c.index.result.now = slot_at-place c.self.inside.slots.items c.args.self.now c.args.link c.place_of.result c.index.result.now c.self.view_is (c.has_slot.ensures.0 c.if-not-has_slot.false).0 c.place_of.ensures.place inside c.index.ensures in
+    let inside : c.place_of.result < length (boxed_slice_items c.self.inside.slots) = omega arith in
+    let read : slot_at c.args.self.now c.args.link ≡ c.index.result.now = slot_at-place (boxed_slice_items c.self.inside.slots) c.args.self.now c.args.link c.place_of.result c.index.result.now c.self.view_is (c.has_slot.ensures.0 c.if-not-has_slot.false).0 c.place_of.ensures.place inside c.index.ensures in
     c.kept.ensures ∙ ap kept_message (sym read)

@@ -14,11 +14,11 @@ loop-place-preserved c = record {
 }
 
 pub invariant_of-result : goal.invariant_of-result
-invariant_of-result c = ap length c.loop-place.invariant.empty ∙ length-replicate _ _ ∙ omega arith
+invariant_of-result c = ap length c.into_boxed_slice.ensures.items ∙ ap length c.loop-place.invariant.empty ∙ length-replicate _ _ ∙ omega arith
 
 pub returns-clause-each : goal.returns-clause-each
-returns-clause-each c link = ap (λ (items : List LinkSlot). slot_at (slots_in items) link) c.loop-place.invariant.empty ∙ slot_at-replicate c.loop-place._place link
+returns-clause-each c link = ap (λ (items : List LinkSlot). slot_at (slots_in items) link) (c.into_boxed_slice.ensures.items ∙ c.loop-place.invariant.empty) ∙ slot_at-replicate c.loop-place._place link
 
 pub returns-clause-all : goal.returns-clause-all
 unfolding no_slots
-returns-clause-all c = ap slots_in c.loop-place.invariant.empty ∙ (let all : c.loop-place._place ≡ SLOTS = omega arith in ap (λ (n : ℕ). slots_in (replicate n Empty)) all)
+returns-clause-all c = ap slots_in (c.into_boxed_slice.ensures.items ∙ c.loop-place.invariant.empty) ∙ (let all : c.loop-place._place ≡ SLOTS = omega arith in ap (λ (n : ℕ). slots_in (replicate n Empty)) all)

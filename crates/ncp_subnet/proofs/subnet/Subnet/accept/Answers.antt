@@ -1,4 +1,5 @@
 use Rattle.std.proofs.Common.{◌≡◌, ◌≢◌, ◌∙◌, true, false, slice_set, inl, inr, refl, sym, ap}
+use Rattle.std.specs.Box.{boxed_slice_items}
 use Rattle.ncp_leader.specs.declared.leader.Leader.{Leader}
 use Rattle.ncp_subnet.specs.declared.transit.Transit.TheVariants.{Free, Accepted}
 use Rattle.ncp_subnet.specs.Transit.{is_free}
@@ -12,7 +13,7 @@ use Rattle.ncp_subnet.proofs.subnet.Subnet.accept.Goals as goal
 
 no_way : (c : goal.In_default) → has_way c.args.self.now c.args.from (host_in c.args.message.now) ≡ false
 no_way c = ap (λ (leader : Leader). has_way c.args.self.now c.args.from leader.host) (sym c.in_ok-leader.ensures.leader)
-    ∙ has_way-none c.self.inside.ways.items c.args.self.now c.args.from c.in_ok-leader.leader.host c.self.view_is (none-by c.deref.result.now c.self.inside.ways.items c.args.from c.in_ok-leader.leader.host c.way_between.result c.deref.ensures.value c.way_between.ensures c.in_default.is)
+    ∙ has_way-none (boxed_slice_items c.self.inside.ways) c.args.self.now c.args.from c.in_ok-leader.leader.host c.self.view_is (none-by c.deref.result.now (boxed_slice_items c.self.inside.ways) c.args.from c.in_ok-leader.leader.host c.way_between.result c.deref.ensures.value c.way_between.ensures c.in_default.is)
 
 pub returns-in_default-clause-variant : goal.returns-in_default-clause-variant
 returns-in_default-clause-variant c = (λ e. absurd cc, λ none. absurd (none.1.0 (no_way c)))
@@ -22,29 +23,29 @@ returns-in_default-clause-first c = inr (λ not. not c.in_ok-leader.ensures.regu
 
 -- A way leads there, and the link is not free.
 
-found_taken : (c : goal.After-self-1) → Found c.self.inside.ways.items c.args.from c.in_ok-leader.leader.host c.in_ok-leader.leader.link c.in-Some.place c.index_mut-way.result.now
-found_taken c = found-by c.deref.result.now c.self.inside.ways.items c.args.from c.in_ok-leader.leader.host c.in_ok-leader.leader.link c.in-Some.place c.index_mut-way.result.now c.way_between.result c.deref.ensures.value c.way_between.ensures c.in-Some.is c.index_mut-way.ensures.value c.is_free.ensures.inside
+found_taken : (c : goal.After-self-1) → Found (boxed_slice_items c.self.inside.ways) c.args.from c.in_ok-leader.leader.host c.in_ok-leader.leader.link c.in-Some.place c.index_mut-way.result.now
+found_taken c = found-by c.deref.result.now (boxed_slice_items c.self.inside.ways) c.args.from c.in_ok-leader.leader.host c.in_ok-leader.leader.link c.in-Some.place c.index_mut-way.result.now c.way_between.result c.deref.ensures.value c.way_between.ensures c.in-Some.is c.index_mut-way.ensures.value c.is_free.ensures.inside
 
 way_taken : (c : goal.After-self-1) → has_way c.args.self.now c.args.from (host_in c.args.message.now) ≡ true
 way_taken c = ap (λ (leader : Leader). has_way c.args.self.now c.args.from leader.host) (sym c.in_ok-leader.ensures.leader)
-    ∙ has_way-found c.self.inside.ways.items c.args.self.now c.args.from c.in_ok-leader.leader.host c.in-Some.place c.self.view_is ((found_taken c).position)
+    ∙ has_way-found (boxed_slice_items c.self.inside.ways) c.args.self.now c.args.from c.in_ok-leader.leader.host c.in-Some.place c.self.view_is ((found_taken c).position)
 
 read_taken : (c : goal.After-self-1) → transit_at c.args.self.now c.args.from (host_in c.args.message.now) (link_in c.args.message.now) ≡ on_link c.index_mut-way.result.now c.in_ok-leader.leader.link
 read_taken c = ap (λ (leader : Leader). transit_at c.args.self.now c.args.from leader.host leader.link) (sym c.in_ok-leader.ensures.leader)
-    ∙ transit-found c.self.inside.ways.items c.args.self.now c.args.from c.in_ok-leader.leader.host c.in_ok-leader.leader.link c.in-Some.place c.index_mut-way.result.now c.self.view_is (found_taken c)
+    ∙ transit-found (boxed_slice_items c.self.inside.ways) c.args.self.now c.args.from c.in_ok-leader.leader.host c.in_ok-leader.leader.link c.in-Some.place c.index_mut-way.result.now c.self.view_is (found_taken c)
 
 -- A way leads there, and the link is free.
 
-found_open : (c : goal.After-self-2-1) → Found c.self.inside.ways.items c.args.from c.in_ok-leader.leader.host c.in_ok-leader.leader.link c.in-Some.place c.index_mut-way.result.now
-found_open c = found-by c.deref.result.now c.self.inside.ways.items c.args.from c.in_ok-leader.leader.host c.in_ok-leader.leader.link c.in-Some.place c.index_mut-way.result.now c.way_between.result c.deref.ensures.value c.way_between.ensures c.in-Some.is c.index_mut-way.ensures.value c.is_free.ensures.inside
+found_open : (c : goal.After-self-2-1) → Found (boxed_slice_items c.self.inside.ways) c.args.from c.in_ok-leader.leader.host c.in_ok-leader.leader.link c.in-Some.place c.index_mut-way.result.now
+found_open c = found-by c.deref.result.now (boxed_slice_items c.self.inside.ways) c.args.from c.in_ok-leader.leader.host c.in_ok-leader.leader.link c.in-Some.place c.index_mut-way.result.now c.way_between.result c.deref.ensures.value c.way_between.ensures c.in-Some.is c.index_mut-way.ensures.value c.is_free.ensures.inside
 
 way_open : (c : goal.After-self-2-1) → has_way c.args.self.now c.args.from (host_in c.args.message.now) ≡ true
 way_open c = ap (λ (leader : Leader). has_way c.args.self.now c.args.from leader.host) (sym c.in_ok-leader.ensures.leader)
-    ∙ has_way-found c.self.inside.ways.items c.args.self.now c.args.from c.in_ok-leader.leader.host c.in-Some.place c.self.view_is ((found_open c).position)
+    ∙ has_way-found (boxed_slice_items c.self.inside.ways) c.args.self.now c.args.from c.in_ok-leader.leader.host c.in-Some.place c.self.view_is ((found_open c).position)
 
 read_open : (c : goal.After-self-2-1) → transit_at c.args.self.now c.args.from (host_in c.args.message.now) (link_in c.args.message.now) ≡ on_link c.index_mut-way.result.now c.in_ok-leader.leader.link
 read_open c = ap (λ (leader : Leader). transit_at c.args.self.now c.args.from leader.host leader.link) (sym c.in_ok-leader.ensures.leader)
-    ∙ transit-found c.self.inside.ways.items c.args.self.now c.args.from c.in_ok-leader.leader.host c.in_ok-leader.leader.link c.in-Some.place c.index_mut-way.result.now c.self.view_is (found_open c)
+    ∙ transit-found (boxed_slice_items c.self.inside.ways) c.args.self.now c.args.from c.in_ok-leader.leader.host c.in_ok-leader.leader.link c.in-Some.place c.index_mut-way.result.now c.self.view_is (found_open c)
 
 is_taken : (c : goal.After-self-1) → transit_at c.args.self.now c.args.from (host_in c.args.message.now) (link_in c.args.message.now) ≢ Free
 is_taken c = not_free (transit_at c.args.self.now c.args.from (host_in c.args.message.now) (link_in c.args.message.now)) (ap is_free (read_taken c) ∙ sym c.is_free.ensures.free ∙ c.if-not-is_free.true)
@@ -64,6 +65,6 @@ returns-clause-variant c = (λ e. (λ not. not c.in_ok-leader.ensures.regular, (
 
 pub returns-clause-ok : goal.returns-clause-ok
 returns-clause-ok c =
-    ap (λ (way : OneWay). subnet_in (slice_set c.self.inside.ways.items c.in-Some.place way)) c.accept.ensures
-    ∙ changed-found c.self.inside.ways.items c.args.self.now c.args.from c.in_ok-leader.leader.host c.in_ok-leader.leader.link c.in-Some.place c.index_mut-way.result.now (Accepted c.args.message.now) c.self.view_is (found_open c)
+    ap (λ (way : OneWay). subnet_in (slice_set (boxed_slice_items c.self.inside.ways) c.in-Some.place way)) c.accept.ensures
+    ∙ changed-found (boxed_slice_items c.self.inside.ways) c.args.self.now c.args.from c.in_ok-leader.leader.host c.in_ok-leader.leader.link c.in-Some.place c.index_mut-way.result.now (Accepted c.args.message.now) c.self.view_is (found_open c)
     ∙ ap (λ (leader : Leader). with_transit c.args.self.now c.args.from leader.host leader.link (Accepted c.args.message.now)) c.in_ok-leader.ensures.leader

@@ -1,4 +1,5 @@
 use Rattle.std.proofs.Common.{◌≡◌, ◌∙◌, ap}
+use Rattle.std.specs.Box.{boxed_slice_items}
 use Rattle.std.specs.List.{flat_map}
 use Rattle.std.proofs.lemmas.List.{take_all}
 use Rattle.ncp_subnet.specs.Ways.{free_ways_from}
@@ -7,9 +8,9 @@ use Rattle.ncp_subnet.proofs.NewRows.{has_way-new, transit-new}
 use Rattle.ncp_subnet.proofs.subnet.Subnet.among.Goals as goal
 
 -- it is the new one
-made : (c : goal.After-loop-from) → subnet_in c.loop-from.ways.items ≡ new_subnet c.args.hosts.now
+made : (c : goal.After-into_boxed_slice) → subnet_in (boxed_slice_items c.into_boxed_slice.result) ≡ new_subnet c.args.hosts.now
 unfolding new_subnet
-made c = ap subnet_in (c.loop-from.invariant ∙ ap (flat_map (λ from. free_ways_from from c.args.hosts.now)) (take_all c.loop-from.from-index c.args.hosts.now c.loop-from-test.false))
+made c = ap subnet_in (c.into_boxed_slice.ensures.items ∙ c.loop-from.invariant ∙ ap (flat_map (λ from. free_ways_from from c.args.hosts.now)) (take_all c.loop-from.from-index c.args.hosts.now c.loop-from-test.false))
 
 pub returns-clause-subnet : goal.returns-clause-subnet
 returns-clause-subnet c = made c

@@ -1,4 +1,5 @@
 use Rattle.std.proofs.Common.{◌≡◌, ◌∙◌, sym, ap}
+use Rattle.std.specs.Box.{boxed_slice_items}
 use Rattle.ncp_subnet.specs.Transit.{is_delivered}
 use Rattle.ncp_subnet.specs.Ways.{on_link}
 use Rattle.ncp_subnet.specs.Subnet.{transit_at}
@@ -6,15 +7,15 @@ use Rattle.ncp_subnet.proofs.Rows.{Found, found-by, none-by, transit-found, tran
 use Rattle.ncp_subnet.proofs.subnet.Subnet.delivered.Goals as goal
 
 -- the way that was found, as it was
-found : (c : goal.After-is_delivered) → Found c.self.inside.ways.items c.args.from c.args.to c.args.link c.in-Some.place c.index.result.now
-found c = found-by c.deref.result.now c.self.inside.ways.items c.args.from c.args.to c.args.link c.in-Some.place c.index.result.now c.way_between.result c.deref.ensures.value c.way_between.ensures c.in-Some.is c.index.ensures c.is_delivered.ensures.inside
+found : (c : goal.After-is_delivered) → Found (boxed_slice_items c.self.inside.ways) c.args.from c.args.to c.args.link c.in-Some.place c.index.result.now
+found c = found-by c.deref.result.now (boxed_slice_items c.self.inside.ways) c.args.from c.args.to c.args.link c.in-Some.place c.index.result.now c.way_between.result c.deref.ensures.value c.way_between.ensures c.in-Some.is c.index.ensures c.is_delivered.ensures.inside
 
 read : (c : goal.After-is_delivered) → transit_at c.args.self.now c.args.from c.args.to c.args.link ≡ on_link c.index.result.now c.args.link
-read c = transit-found c.self.inside.ways.items c.args.self.now c.args.from c.args.to c.args.link c.in-Some.place c.index.result.now c.self.view_is (found c)
+read c = transit-found (boxed_slice_items c.self.inside.ways) c.args.self.now c.args.from c.args.to c.args.link c.in-Some.place c.index.result.now c.self.view_is (found c)
 
 pub returns-in-Some : goal.returns-in-Some
 returns-in-Some c = c.is_delivered.ensures.delivered ∙ ap is_delivered (sym (read c))
 
 pub returns-in-None : goal.returns-in-None
-returns-in-None c = sym (ap is_delivered (transit-none c.self.inside.ways.items c.args.self.now c.args.from c.args.to c.args.link c.self.view_is
-    (none-by c.deref.result.now c.self.inside.ways.items c.args.from c.args.to c.way_between.result c.deref.ensures.value c.way_between.ensures c.in-None.is)))
+returns-in-None c = sym (ap is_delivered (transit-none (boxed_slice_items c.self.inside.ways) c.args.self.now c.args.from c.args.to c.args.link c.self.view_is
+    (none-by c.deref.result.now (boxed_slice_items c.self.inside.ways) c.args.from c.args.to c.way_between.result c.deref.ensures.value c.way_between.ensures c.in-None.is)))

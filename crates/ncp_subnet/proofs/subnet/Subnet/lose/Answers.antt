@@ -1,4 +1,5 @@
 use Rattle.std.proofs.Common.{◌≡◌, ◌∙◌, refl, sym, ap, slice_set}
+use Rattle.std.specs.Box.{boxed_slice_items}
 use Rattle.ncp_subnet.specs.declared.transit.Transit.TheVariants.{Lost}
 use Rattle.ncp_subnet.specs.Transit.{is_accepted, lost}
 use Rattle.ncp_subnet.specs.Ways.{OneWay, on_link}
@@ -7,35 +8,35 @@ use Rattle.ncp_subnet.proofs.Rows.{Found, found-by, none-by, transit-found, chan
 use Rattle.ncp_subnet.proofs.subnet.Subnet.lose.Goals as goal
 
 -- the way that was found, as it was
-found : (c : goal.After-self-1) → Found c.self.inside.ways.items c.args.from c.args.to c.args.link c.in-Some.place c.index_mut.result.now
-found c = found-by c.deref.result.now c.self.inside.ways.items c.args.from c.args.to c.args.link c.in-Some.place c.index_mut.result.now c.way_between.result c.deref.ensures.value c.way_between.ensures c.in-Some.is c.index_mut.ensures.value c.lose.ensures.inside
+found : (c : goal.After-self-1) → Found (boxed_slice_items c.self.inside.ways) c.args.from c.args.to c.args.link c.in-Some.place c.index_mut.result.now
+found c = found-by c.deref.result.now (boxed_slice_items c.self.inside.ways) c.args.from c.args.to c.args.link c.in-Some.place c.index_mut.result.now c.way_between.result c.deref.ensures.value c.way_between.ensures c.in-Some.is c.index_mut.ensures.value c.lose.ensures.inside
 
 read : (c : goal.After-self-1) → transit_at c.args.self.now c.args.from c.args.to c.args.link ≡ on_link c.index_mut.result.now c.args.link
-read c = transit-found c.self.inside.ways.items c.args.self.now c.args.from c.args.to c.args.link c.in-Some.place c.index_mut.result.now c.self.view_is (found c)
+read c = transit-found (boxed_slice_items c.self.inside.ways) c.args.self.now c.args.from c.args.to c.args.link c.in-Some.place c.index_mut.result.now c.self.view_is (found c)
 
 pub returns-in-Some-clause-told : goal.returns-in-Some-clause-told
 returns-in-Some-clause-told c = c.lose.ensures.told ∙ ap is_accepted (sym (read c))
 
 pub returns-in-Some-clause-lost : goal.returns-in-Some-clause-lost
 returns-in-Some-clause-lost c = when_accepted c.lose.result Lost (on_link c.index_mut.result.now c.args.link) c.lose.ensures.told (λ is.
-    ap (λ (way : OneWay). subnet_in (slice_set c.self.inside.ways.items c.in-Some.place way)) c.lose.ensures.way
-    ∙ changed-found c.self.inside.ways.items c.args.self.now c.args.from c.args.to c.args.link c.in-Some.place c.index_mut.result.now (lost (on_link c.index_mut.result.now c.args.link)) c.self.view_is (found c)
+    ap (λ (way : OneWay). subnet_in (slice_set (boxed_slice_items c.self.inside.ways) c.in-Some.place way)) c.lose.ensures.way
+    ∙ changed-found (boxed_slice_items c.self.inside.ways) c.args.self.now c.args.from c.args.to c.args.link c.in-Some.place c.index_mut.result.now (lost (on_link c.index_mut.result.now c.args.link)) c.self.view_is (found c)
     ∙ ap (with_transit c.args.self.now c.args.from c.args.to c.args.link) is)
 
 pub returns-in-None-clause-told : goal.returns-in-None-clause-told
-returns-in-None-clause-told c = sym (ap is_accepted (transit-none c.self.inside.ways.items c.args.self.now c.args.from c.args.to c.args.link c.self.view_is
-    (none-by c.deref.result.now c.self.inside.ways.items c.args.from c.args.to c.way_between.result c.deref.ensures.value c.way_between.ensures c.in-None.is)))
+returns-in-None-clause-told c = sym (ap is_accepted (transit-none (boxed_slice_items c.self.inside.ways) c.args.self.now c.args.from c.args.to c.args.link c.self.view_is
+    (none-by c.deref.result.now (boxed_slice_items c.self.inside.ways) c.args.from c.args.to c.way_between.result c.deref.ensures.value c.way_between.ensures c.in-None.is)))
 
 pub returns-in-Some-clause-none : goal.returns-in-Some-clause-none
 returns-in-Some-clause-none c = when_not_accepted c.lose.result Lost (on_link c.index_mut.result.now c.args.link) c.lose.ensures.told (λ is.
-    unchanged c.self.inside.ways.items c.args.self.now c.args.link c.in-Some.place c.index_mut.result.now c.lose.new.self (lost (on_link c.index_mut.result.now c.args.link)) c.self.view_is c.index_mut.ensures.value c.lose.ensures.way is)
+    unchanged (boxed_slice_items c.self.inside.ways) c.args.self.now c.args.link c.in-Some.place c.index_mut.result.now c.lose.new.self (lost (on_link c.index_mut.result.now c.args.link)) c.self.view_is c.index_mut.ensures.value c.lose.ensures.way is)
 
 pub returns-in-Some-clause-transit : goal.returns-in-Some-clause-transit
-returns-in-Some-clause-transit c = transit-changed c.self.inside.ways.items c.args.self.now c.args.from c.args.to c.args.link c.in-Some.place c.index_mut.result.now c.lose.new.self lost c.self.view_is (found c) c.lose.ensures.way
+returns-in-Some-clause-transit c = transit-changed (boxed_slice_items c.self.inside.ways) c.args.self.now c.args.from c.args.to c.args.link c.in-Some.place c.index_mut.result.now c.lose.new.self lost c.self.view_is (found c) c.lose.ensures.way
 
 pub returns-in-Some-clause-others : goal.returns-in-Some-clause-others
-returns-in-Some-clause-others c = others-stay c.self.inside.ways.items c.args.self.now c.args.from c.args.to c.args.link c.in-Some.place c.index_mut.result.now c.lose.new.self (lost (on_link c.index_mut.result.now c.args.link)) c.self.view_is (found c) c.lose.ensures.way
+returns-in-Some-clause-others c = others-stay (boxed_slice_items c.self.inside.ways) c.args.self.now c.args.from c.args.to c.args.link c.in-Some.place c.index_mut.result.now c.lose.new.self (lost (on_link c.index_mut.result.now c.args.link)) c.self.view_is (found c) c.lose.ensures.way
 
 pub returns-in-None-clause-transit : goal.returns-in-None-clause-transit
-returns-in-None-clause-transit c = transit-kept c.self.inside.ways.items c.args.self.now c.args.from c.args.to c.args.link lost c.self.view_is
-    (none-by c.deref.result.now c.self.inside.ways.items c.args.from c.args.to c.way_between.result c.deref.ensures.value c.way_between.ensures c.in-None.is) refl
+returns-in-None-clause-transit c = transit-kept (boxed_slice_items c.self.inside.ways) c.args.self.now c.args.from c.args.to c.args.link lost c.self.view_is
+    (none-by c.deref.result.now (boxed_slice_items c.self.inside.ways) c.args.from c.args.to c.way_between.result c.deref.ensures.value c.way_between.ensures c.in-None.is) refl

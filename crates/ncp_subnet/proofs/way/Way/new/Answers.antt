@@ -12,4 +12,4 @@ loop-link-preserved c = record {
 }
 
 pub invariant_of-result : goal.invariant_of-result
-invariant_of-result c = ap length c.loop-link.invariant.free ∙ length-replicate _ _ ∙ omega arith
+invariant_of-result c = ap length c.into_boxed_slice.ensures.items ∙ ap length c.loop-link.invariant.free ∙ length-replicate _ _ ∙ omega arith

@@ -1,0 +1,47 @@
+//! Laws about what is ready, what goes out next and what bits change, each the contract of a function
+//! that does nothing.
+ghost use Rattle.std.specs.Prelude.{◌≡◌, ◌≢◌, ◌⊎◌, ◌<◌, ℕ, Bool, true, false, List, [], ◌∷◌, None, Some, Ok, Err};
+ghost use Rattle.ncp_leader.specs.declared.leader.Leader.{Leader};
+ghost use Rattle.ncp_leader.specs.declared.leader.Short.{Short};
+ghost use Rattle.ncp_terms.specs.declared.command.Command.{Command};
+ghost use Rattle.ncp_slot.specs.declared.slot.Slot.{Slot};
+ghost use Rattle.ncp_slot.specs.Slots.{HasSlot, slot_at};
+ghost use Rattle.ncp_model.specs.Peers.{Peer};
+ghost use Rattle.ncp_host.specs.PeerState.{PeerState};
+ghost use Rattle.ncp_host.specs.Host.{Host, state_of};
+ghost use Rattle.ncp_host.specs.Arrivals.{OnlyNamedPeerChanges};
+ghost use Rattle.ncp_host.specs.Readiness.{is_ready_by, is_ready, NoLinkReady, IsFirstLink, IsNext};
+
+/// What is to go out again is ready. What is out or is held is not, whatever is new; with nothing out,
+/// link 0 is ready exactly where a command waits.
+pub fn what_is_out_or_held_is_not_ready()
+    ensures again { (message : List Bool) (on : ℕ) (p : Peer) → is_ready_by (Slot.Ready message) on p ≡ true }
+    ensures out { (message : List Bool) (on : ℕ) (p : Peer) → is_ready_by (Slot.Travelling message) on p ≡ false }
+    ensures held { (message : List Bool) (on : ℕ) (p : Peer) → is_ready_by (Slot.Held message) on p ≡ false }
+    ensures waits { (p : Peer) (c : Command) (cs : List Command) → p.phase.waiting ≡ c ∷ cs → is_ready_by Slot.Empty 0 p ≡ true }
+    ensures none { (p : Peer) → p.phase.waiting ≡ [] → is_ready_by Slot.Empty 0 p ≡ false }
+{}
+
+/// Nothing goes out next only where no link to any peer is ready, to the first peer or to one behind it.
+pub fn nothing_goes_out_only_where_nothing_is_ready()
+    ensures first { (on : ℕ) (p : ℕ × PeerState) (ps : List (ℕ × PeerState)) → HasSlot on → is_ready on p.1 ≡ true → IsNext None (p ∷ ps) → ⊥ }
+    ensures behind { (on : ℕ) (p q : ℕ × PeerState) (ps : List (ℕ × PeerState)) → HasSlot on → is_ready on q.1 ≡ true → IsNext None (p ∷ q ∷ ps) → ⊥ }
+    ensures none { (message : List Bool) → IsNext (Some message) [] → ⊥ }
+{}
+
+/// A message that is to go out again on link 0 goes out next, and no other: whatever is ready on the
+/// links above and to the peers behind, and where no link to the peer before is ready.
+pub fn the_first_that_is_ready_goes_out()
+    ensures may { (p : ℕ × PeerState) (ps : List (ℕ × PeerState)) (again : List Bool) → slot_at p.1.slots 0 ≡ Slot.Ready again → IsNext (Some again) (p ∷ ps) }
+    ensures alone { (p : ℕ × PeerState) (ps : List (ℕ × PeerState)) (again message : List Bool) → slot_at p.1.slots 0 ≡ Slot.Ready again → IsNext (Some message) (p ∷ ps) → message ≡ again }
+    ensures behind { (p q : ℕ × PeerState) (ps : List (ℕ × PeerState)) (again message : List Bool) → NoLinkReady p.1 → slot_at q.1.slots 0 ≡ Slot.Ready again → IsNext (Some message) (p ∷ q ∷ ps) → message ≡ again }
+    ensures lower { (lower on : ℕ) (s : PeerState) → lower < on → HasSlot lower → is_ready lower s ≡ true → IsFirstLink on s → ⊥ }
+{}
+
+/// Bits whose leader names a peer change what the host has for no other; and where they change what
+/// is counted of no peer, or have no leader, what it has for each peer stays.
+pub fn bits_change_no_other_peer()
+    ensures other { (leader : Leader) (before now : Host) (other : ℕ) → other ≢ leader.host → OnlyNamedPeerChanges (Ok leader) before now → state_of now other ≡ state_of before other }
+    ensures either { (leader : Leader) (before now : Host) → OnlyNamedPeerChanges (Ok leader) before now → (now.ignored ≡ before.ignored) ⊎ (now.peers ≡ before.peers) }
+    ensures short { (short : Short) (before now : Host) → OnlyNamedPeerChanges (Err short) before now → now.peers ≡ before.peers }
+{}
