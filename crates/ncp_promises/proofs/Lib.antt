@@ -9,3 +9,6 @@ pub mod Opening
 pub mod Beginnings
 pub mod First
 pub mod NoErrs
+pub mod MadeMatched
+pub mod MadeWalking
+pub mod MadeWalk

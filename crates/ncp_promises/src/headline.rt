@@ -13,13 +13,14 @@ ghost use Rattle.ncp_runs.specs.Links.{fresh_on, told_on, slot_told};
 ghost use Rattle.ncp_runs.specs.Marks.{record_marked, marks_of};
 ghost use Rattle.ncp_runs.specs.Echoing.{echo_of, last_of};
 ghost use Rattle.ncp_runs.specs.Counted.{counted_of, counts_told};
-ghost use Rattle.ncp_runs.specs.Making.{made_of, is_up_told, message_of, joined};
+ghost use Rattle.ncp_runs.specs.Making.{made_of, made_since, is_up_told, message_of, joined};
 ghost use Rattle.ncp_two.specs.declared.note.Note.{Note};
 ghost use Rattle.ncp_two.specs.declared.side.Side as sides;
 ghost use Rattle.ncp_two.specs.Between.{Hosts, other, number_of, host_of};
 ghost use Rattle.ncp_two.specs.Sides.{notes_at};
-ghost use Rattle.ncp_two.specs.Transcript.{IsTranscript};
+ghost use Rattle.ncp_two.specs.Transcript.{began, IsTranscript};
 ghost use Rattle.ncp_two.specs.Seen.{had_for};
+ghost use Rattle.ncp_promises.specs.Since.{watch_at, none_watched, watched_from};
 ghost use Rattle.ncp_promises.specs.Promised.{SubnetHonest, GotBegins, EachByteOnce, WithinAllocation, LedgersBalanced, CameInOrder, CommandsInOrder, EachActedOnce, NoErrMade};
 
 use crate::promises::{commands_act_once_in_order, what_comes_acts_once_and_is_right};
@@ -50,6 +51,14 @@ pub fn each_host_is_what_its_notes_say()
 {
     each_host_is_by_itself();
 }
+
+/// What is watched at each host of a world for the phrase of commands in order is what its own notes say: the commands
+/// that it made since it was last cleared are the last of those that its notes say it made, from that clearing on, and
+/// those that came since then are those that came by its notes; RST and RRP are left out of both.
+pub fn what_is_watched_is_in_the_notes_of_each_host()
+    ensures made { (notes : List Note) (w : Hosts) (side : sides.Side) → IsTranscript notes w → (watch_at side (watched_from notes (began w) none_watched)).made ≡ made_since (made_of (notes_of (number_of (other side) w) (notes_at side notes))) }
+    ensures came { (notes : List Note) (w : Hosts) (side : sides.Side) → IsTranscript notes w → (watch_at side (watched_from notes (began w) none_watched)).came ≡ (made_of (notes_of (number_of (other side) w) (notes_at side notes))).came }
+{}
 
 /// Over every list of calls, deliveries, losses, answers and orders between links, what a receiver got on a
 /// live connection is a beginning of what was given, each byte once, never beyond its allocation; each
