@@ -10,3 +10,6 @@ pub mod Beginnings
 pub mod First
 pub mod NoErrs
 pub mod OutTaken
+pub mod MadeMatched
+pub mod MadeWalking
+pub mod MadeWalk

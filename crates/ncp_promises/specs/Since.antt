@@ -16,6 +16,8 @@ use Rattle.ncp_hosts.specs.Watching.{Watch, begins_anew, sees_call, sees_echo, s
 use Rattle.ncp_host.specs.PeerState.{PeerState, control_link}
 use Rattle.ncp_two.specs.World.{World, swap, Asked, Asks, Asks_echo, Asks_reset, Asks_wake, Told, Called, In, Answered}
 use Rattle.ncp_two.specs.Underway.{commands_of, underway}
+use Rattle.ncp_two.specs.declared.side.Side as side_names
+use Rattle.ncp_two.specs.declared.side.Side.TheVariants as sides
 use Rattle.ncp_two.specs.declared.note.Note.{Note}
 use Rattle.ncp_two.specs.Between.{Hosts, after_note}
 use Rattle.ncp_two.specs.Seen.{seen, as_rules, told_of, side_of}
@@ -30,6 +32,11 @@ nothing_seen = record { made = []; came = []; pasts = empty; violated = false }
 
 abbrev pub none_watched : Watches
 none_watched = record { this = nothing_seen; that = nothing_seen }
+
+-- what is watched at the host of a side
+abbrev pub watch_at : side_names.Side → Watches → Watch
+watch_at sides.A p = p.this
+watch_at sides.B p = p.that
 
 abbrev pub other_way : Watches → Watches
 other_way p = record { this = p.that; that = p.this }

@@ -7,7 +7,8 @@ use Rattle.ncp_leader.specs.Leader.{leader_in}
 use Rattle.ncp_leader.specs.Message.{message_in}
 use Rattle.ncp_model.specs.declared.pair.Pair.{Pair}
 use Rattle.ncp_model.specs.declared.call_fault.CallFault.{CallFault}
-use Rattle.ncp_model.specs.Peers.{Take, comes_of, reply_of_take}
+use Rattle.ncp_model.specs.Peers.{Take, comes_of, reply_of_take, reply_of_echo}
+use Rattle.ncp_model.specs.Phase.{reset_answer}
 use Rattle.ncp_host.specs.declared.received.Received.{Received}
 use Rattle.ncp_host.specs.declared.received.Received.TheVariants as told_of
 use Rattle.ncp_host.specs.PeerState.{PeerState, calls, answer_comes}
@@ -16,15 +17,17 @@ use Rattle.ncp_host.specs.Output.{leader_to, links, after_output}
 use Rattle.ncp_host.specs.Host.{Host, state_in, state_of, numbers_of, are_distinct, if_known}
 use Rattle.ncp_host.specs.Arrivals.{received_with, received_from}
 use Rattle.ncp_host.specs.Turns.{next_output}
+use Rattle.ncp_transcript.specs.declared.call.Call.{Call}
 use Rattle.ncp_transcript.specs.declared.call.Call.TheVariants as calls_of
 use Rattle.ncp_transcript.specs.declared.note.HostNote.{HostNote}
 use Rattle.ncp_transcript.specs.declared.note.HostNote.TheVariants as notes
-use Rattle.ncp_transcript.specs.Notes.{told_or_refused}
+use Rattle.ncp_transcript.specs.Notes.{done_or_refused, told_or_refused}
+use Rattle.ncp_transcript.specs.Answers.{answer_to}
 use Rattle.ncp_transcript.specs.After.{after_note}
 use Rattle.ncp_transcript.specs.Noting.{answer_with}
 use Rattle.ncp_transcript.specs.Runs.{answer_told, IsSaid}
-use Rattle.ncp_runs.specs.Peers.{peer_of_leader, is_number, names, out_for, note_for}
-use Rattle.ncp_runs.proofs.Said.{IsOut, IsIn, IsSaidOf}
+use Rattle.ncp_runs.specs.Peers.{peer_of_call, peer_of_leader, is_number, names, out_for, note_for}
+use Rattle.ncp_runs.proofs.Said.{IsDone, IsOut, IsIn, IsSaidOf}
 use Rattle.ncp_runs.proofs.States.{done, done_nothing, kind_first, at_peer-state, changed-state, called-state, bits-state, Turn, turn}
 use Rattle.ncp_runs.proofs.Ready.{Addressed, first_is, link_small, output-leader}
 
@@ -107,9 +110,22 @@ in-said (Ok leader) bits told h n s a e f i = go (leader.kind == regular) refl i
         ∙ ap (λ (o : Option PeerState). received_from o leader bits) (at_number h leader.host n s i f)
         ∙ ap (λ (b : Bool). if b then message_received leader.link (message_in bits) s else answer_received leader.link s) g
 
+pub done-ok : (call : Call) (r : Result (Unit {0}) CallFault) → done_or_refused call r ≡ notes.Done call → r ≡ Ok tt
+done-ok call (Ok it) e = refl
+done-ok call (Err fault) e = absurd (cc)
+
+done-said : (call : Call) (h : Host) (n : ℕ) (s : PeerState) → answer_to call h ≡ notes.Done call → state_of h n ≡ Some s → is_number n (peer_of_call call) ≡ true → IsDone call s
+done-said (calls_of.Reset peer) h n s p f e =
+    done-ok (calls_of.Reset peer) (reset_answer s.peer.phase)
+    (ap (λ (o : Option PeerState). done_or_refused (calls_of.Reset peer) (if_known o (λ x. reset_answer x.peer.phase))) (sym (at_number h peer n s e f)) ∙ p)
+done-said (calls_of.Echo peer byte) h n s p f e =
+    done-ok (calls_of.Echo peer byte) (reply_of_echo byte s.peer)
+    (ap (λ (o : Option PeerState). done_or_refused (calls_of.Echo peer byte) (if_known o (λ x. reply_of_echo byte x.peer))) (sym (at_number h peer n s e f)) ∙ p)
+done-said call h n s p f e = tt
+
 pub note-said : (ns : List ℕ) (note : HostNote) (h : Host) (n : ℕ) (s : PeerState) → Holds ns h → IsSaid note h → state_of h n ≡ Some s → names n note ≡ true → IsSaidOf n note s
 note-said ns (notes.Refused call fault) h n s k p f e = tt
-note-said ns (notes.Done call) h n s k p f e = tt
+note-said ns (notes.Done call) h n s k p f e = done-said call h n s p f e
 note-said ns (notes.Took peer pair bytes text) h n s k p f e =
     took-said (reply_of_take (comes_of pair (Take bytes) s.peer)) peer pair bytes text
     (ap (λ (o : Option PeerState). told_or_refused (calls_of.Take peer pair bytes) (notes.Took peer pair bytes) (if_known o (λ x. reply_of_take (comes_of pair (Take bytes) x.peer)))) (sym (at_number h peer n s e f)) ∙ p)

@@ -23,3 +23,6 @@ pub mod MarksKept
 pub mod Recorded
 pub mod Marked
 pub mod LinksMarked
+pub mod EchoTold
+pub mod CountsTold
+pub mod EchoNoted

@@ -13,7 +13,7 @@ use Rattle.ncp_model.specs.Phase as phases
 use Rattle.ncp_model.specs.Sending.{fitting, next_commands}
 use Rattle.ncp_model.specs.Peers.{Peer, is_full_up, echo_replies}
 use Rattle.ncp_model.specs.Peers as peers
-use Rattle.ncp_runs.specs.Making.{Made, made, went_down, reset_asked, rst_came, rrp_came, sent, counts_rrp, counts_rst, made_in, all_made_in, answer_made, reset_made, settling_made, by_other, by_command}
+use Rattle.ncp_runs.specs.Making.{Made, made, heard, went_down, reset_asked, rst_came, rrp_came, sent, counts_rrp, counts_rst, made_in, all_made_in, answer_made, reset_made, settling_made, by_other, by_command}
 
 -- of these that are gone, and the phase: those that wait, and its flags
 pub record Agrees (l : Made) (p : Phase) (gone : List Command) : Type 0 where
@@ -128,14 +128,17 @@ module _ (g : List Command) where
       then-is : up p.phase ≡ true → (peers.hears_other quiet c p).phase ≡ (if is_full_up (answer (hear c p.ends)) then goes_down p.phase else phases.makes_all (made_by_hearing (answer (hear c p.ends)) ++ echo_replies c) p.phase)
       then-is e = is (peers.reaction quiet c p) ∙ ap (λ (b : Bool). if b then (if is_full_up (answer (hear c p.ends)) then goes_down p.phase else phases.makes_all (made_by_hearing (answer (hear c p.ends)) ++ echo_replies c) p.phase) else p.phase) e
 
-      full : (b : Bool) → Agrees (if b then went_down l else all_made_in (made_by_hearing (answer (hear c p.ends)) ++ echo_replies c) p.phase l) (if b then goes_down p.phase else phases.makes_all (made_by_hearing (answer (hear c p.ends)) ++ echo_replies c) p.phase) g
+      heard-agrees : Agrees (heard c l) p.phase g
+      heard-agrees = record { all = a.all; count = a.count; down = a.down; want = a.want; wait = a.wait; owe = a.owe }
+
+      full : (b : Bool) → Agrees (if b then went_down l else all_made_in (made_by_hearing (answer (hear c p.ends)) ++ echo_replies c) p.phase (heard c l)) (if b then goes_down p.phase else phases.makes_all (made_by_hearing (answer (hear c p.ends)) ++ echo_replies c) p.phase) g
       full true = fallen-agrees l p.phase a
-      full false = all_made-agrees (made_by_hearing (answer (hear c p.ends)) ++ echo_replies c) p.phase l a
+      full false = all_made-agrees (made_by_hearing (answer (hear c p.ends)) ++ echo_replies c) p.phase (heard c l) heard-agrees
 
       go : (b : Bool) → up p.phase ≡ b
-          → Agrees (if b then (if is_full_up (answer (hear c p.ends)) then went_down l else all_made_in (made_by_hearing (answer (hear c p.ends)) ++ echo_replies c) p.phase l) else l) (if b then peers.hears_other quiet c p else p).phase g
+          → Agrees (if b then (if is_full_up (answer (hear c p.ends)) then went_down l else all_made_in (made_by_hearing (answer (hear c p.ends)) ++ echo_replies c) p.phase (heard c l)) else l) (if b then peers.hears_other quiet c p else p).phase g
       go true e =
-          subst (λ (q : Phase). Agrees (if is_full_up (answer (hear c p.ends)) then went_down l else all_made_in (made_by_hearing (answer (hear c p.ends)) ++ echo_replies c) p.phase l) q g) (sym (then-is e))
+          subst (λ (q : Phase). Agrees (if is_full_up (answer (hear c p.ends)) then went_down l else all_made_in (made_by_hearing (answer (hear c p.ends)) ++ echo_replies c) p.phase (heard c l)) q g) (sym (then-is e))
           (full (is_full_up (answer (hear c p.ends))))
       go false e = a
 

@@ -5,12 +5,15 @@ use Rattle.ncp_leader.specs.declared.leader.Leader.{Leader}
 use Rattle.ncp_leader.specs.declared.leader.Short.{Short}
 use Rattle.ncp_leader.specs.Leader.{leader_in}
 use Rattle.ncp_leader.specs.Message.{message_in}
-use Rattle.ncp_model.specs.Peers.{Take, comes_of, reply_of_take}
+use Rattle.ncp_model.specs.Peers.{Take, comes_of, reply_of_take, reply_of_echo}
+use Rattle.ncp_model.specs.Phase.{reset_answer}
 use Rattle.ncp_host.specs.declared.received.Received.{Received}
 use Rattle.ncp_host.specs.PeerState.{PeerState}
 use Rattle.ncp_host.specs.Hearing.{message_received, answer_received}
 use Rattle.ncp_host.specs.Output.{leader_to, links, output_on}
 use Rattle.ncp_host.specs.Host.{is_one_of}
+use Rattle.ncp_transcript.specs.declared.call.Call.{Call}
+use Rattle.ncp_transcript.specs.declared.call.Call.TheVariants as calls_of
 use Rattle.ncp_transcript.specs.declared.note.HostNote.{HostNote}
 use Rattle.ncp_transcript.specs.declared.note.HostNote.TheVariants as notes
 use Rattle.ncp_runs.specs.Peers.{note_for}
@@ -25,7 +28,14 @@ abbrev pub IsIn : Result Leader Short → List Bool → Received → PeerState �
 IsIn (Err short) bits told s = ⊥
 IsIn (Ok leader) bits told s = told ≡ message_received leader.link (message_in bits) s
 
+-- a reset that was done was not refused, and neither was an echo
+abbrev pub IsDone : Call → PeerState → Type 0
+IsDone (calls_of.Reset peer) s = reset_answer s.peer.phase ≡ Ok tt
+IsDone (calls_of.Echo peer byte) s = reply_of_echo byte s.peer ≡ Ok tt
+IsDone call s = Unit {0}
+
 abbrev pub IsSaidOf : ℕ → HostNote → PeerState → Type 0
+IsSaidOf n (notes.Done call) s = IsDone call s
 IsSaidOf n (notes.Took peer pair bytes text) s = reply_of_take (comes_of pair (Take bytes) s.peer) ≡ Ok text
 IsSaidOf n (notes.Out message) s = IsOut n message s
 IsSaidOf n (notes.In message told) s = IsIn (leader_in message) message told s

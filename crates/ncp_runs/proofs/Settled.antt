@@ -72,7 +72,7 @@ answers-owe p = go p.owe refl
 settles-clear : (quiet : Bool) (p : Phase) → quiet ≡ true → Clear (phases.settles quiet p)
 settles-clear quiet p q = subst (λ (b : Bool). Clear (if b then asks (answers p) else p)) (sym q) (asks-clear (answers p) (answers-owe p))
 
-makes-clear : (cs : List Command) (p : Phase) → Clear p → Clear (phases.makes_all cs p)
+pub makes-clear : (cs : List Command) (p : Phase) → Clear p → Clear (phases.makes_all cs p)
 makes-clear [] p k = k
 makes-clear (c ∷ cs) p k = makes-clear cs (phases.makes c p) (go (up p && is_other c) (has_place p))
   where

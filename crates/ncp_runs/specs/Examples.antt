@@ -1,15 +1,20 @@
 -- Notes by which the definitions show what they mean.
-use Rattle.std.specs.Prelude.{Bool, true, false, List, [], ◌∷◌, ◌++◌, replicate}
+use Rattle.std.specs.Prelude.{Some, Bool, true, false, List, [], ◌∷◌, ◌++◌, replicate}
 use Rattle.ncp_terms.specs.declared.command.Command.TheVariants as commands
 use Rattle.ncp_terms.specs.declared.answer.Answer.TheVariants.{Rfnm, Incomplete, Dead}
 use Rattle.ncp_model.specs.Rows.{ones}
+use Rattle.ncp_model.specs.declared.outcomes.Error.{Error}
+use Rattle.ncp_model.specs.Phase.{up_phase}
+use Rattle.ncp_model.specs.Peers.{new_peer}
 use Rattle.ncp_model.specs.Happenings as all
 use Rattle.ncp_model.specs.declared.call_fault.CallFault.TheVariants.{UnknownPeer}
 use Rattle.ncp_host.specs.declared.received.Received.TheVariants as received
+use Rattle.ncp_host.specs.PeerState.{PeerState, new_state}
 use Rattle.ncp_transcript.specs.declared.call.Call.TheVariants as calls
 use Rattle.ncp_transcript.specs.declared.note.HostNote.{HostNote}
 use Rattle.ncp_transcript.specs.declared.note.HostNote.TheVariants as notes
 use Rattle.ncp_runs.specs.Acts.{Acted}
+use Rattle.ncp_runs.specs.Echoing.{EchoHistory}
 
 -- host 1 has peers 2 and 3: a reset of the first, the flags of the second, a reset of a host that is no
 -- peer, three bits, and what was ignored
@@ -82,3 +87,20 @@ asked_wrongly = record { what = all.Str_comes 0 0; outcome = all.Erred (commands
 
 abbrev pub gives_back : Acted
 gives_back = record { what = all.Gvb_comes 2 64 128; outcome = all.Accepted; made = commands.Ret 2 1 16 ∷ [] }
+
+-- a host that is up, without a connection; it awaits an echo, after one that was answered and an ERR that came
+
+abbrev pub up_state : PeerState
+up_state = record new_state { peer = record new_peer { phase = up_phase } }
+
+abbrev pub one_error : Error
+one_error = record { code = 3; bytes = 9 ∷ [] }
+
+abbrev pub other_error : Error
+other_error = record { code = 4; bytes = 9 ∷ [] }
+
+abbrev pub echo_before : EchoHistory
+echo_before = record { asked = true; byte = Some 64; errors = one_error ∷ [] }
+
+abbrev pub many_errors : List Error
+many_errors = replicate 16 other_error

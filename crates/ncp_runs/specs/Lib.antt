@@ -4,4 +4,6 @@ pub mod Histories
 pub mod Making
 pub mod Acts
 pub mod Marks
+pub mod Echoing
+pub mod Counted
 pub mod Examples

@@ -1,6 +1,6 @@
 -- The commands that were made for a peer, note by note, less those that a clearing struck, and how many of
--- them went out; what was made and came of RST and RRP, by which a host is up; and the control messages that
--- went out fresh (NIC 8246, control messages, RST and RRP; what is made when, and that a clearing strikes
+-- them went out; those of them that were made since the last clearing, and those that came since then; what was
+-- made and came of RST and RRP, by which a host is up; and the control messages that went out fresh (NIC 8246, control messages, RST and RRP; what is made when, and that a clearing strikes
 -- what waits, all but RST and RRP, are this profile's).
 use Rattle.std.specs.Prelude.{ℕ, ◌+◌, ◌==◌, Bool, true, false, ◌&&◌, if◌then◌else◌, List, [], ◌∷◌, ◌++◌, length, take, drop, Option, None, Some, Result, Ok, Err}
 use Rattle.std.specs.List.{filter, list_any}
@@ -45,6 +45,8 @@ use Rattle.ncp_runs.specs.Links.{LinkHistory, nothing_told, is_fresh, link_of_le
 pub record Made : Type 0 where
   pub all : List Command  -- made, and not struck; the oldest first
   pub gone : ℕ  -- so many of them went out, from the front
+  pub cleared : ℕ  -- so many of them, from the front, were made before the last clearing
+  pub came : List Command  -- that came while up since the last clearing, all but RST and RRP
   pub began : Bool  -- since the start and the last going down an RST or RRP was made
   pub did_reset : Bool  -- since the last reset that was accepted an RST was made
   pub got_answer : Bool  -- since the last RST that was made an RRP came
@@ -52,7 +54,7 @@ pub record Made : Type 0 where
 
 -- at the start nothing is owed either way, and the host is not up
 abbrev pub nothing_made : Made
-nothing_made = record { all = []; gone = 0; began = false; did_reset = true; got_answer = true; gave_answer = true }
+nothing_made = record { all = []; gone = 0; cleared = 0; came = []; began = false; did_reset = true; got_answer = true; gave_answer = true }
 
 -- the host is up with the peer
 abbrev pub is_up_told : Made → Bool
@@ -61,9 +63,21 @@ is_up_told l = l.began && l.did_reset && l.got_answer && l.gave_answer
 abbrev pub made : Command → Made → Made
 made c l = record l { all = l.all ++ c ∷ [] }
 
--- a clearing strikes what has not gone out, all but RST and RRP
+-- a command comes while the host is up
+abbrev pub heard : Command → Made → Made
+heard c l = record l { came = l.came ++ c ∷ [] }
+
+-- A clearing strikes what has not gone out, all but RST and RRP; and what is made and comes counts anew from it on.
+
+abbrev pub not_struck : Made → List Command
+not_struck l = take l.gone l.all ++ filter is_reset (drop l.gone l.all)
+
 abbrev pub struck : Made → Made
-struck l = record l { all = take l.gone l.all ++ filter is_reset (drop l.gone l.all) }
+struck l = record l { all = not_struck l; cleared = length (not_struck l); came = [] }
+
+-- what was made since the last clearing, all but RST and RRP
+abbrev pub made_since : Made → List Command
+made_since l = filter is_other (drop l.cleared l.all)
 
 -- a clearing is one of these: going down, a reset that is accepted, an RST that comes
 abbrev pub went_down : Made → Made
@@ -137,7 +151,7 @@ by_call other s l = l
 abbrev pub by_other : Command → Peer → Made → Made
 by_other c p l =
     if up p.phase
-    then (if is_full_up (answer (hear c p.ends)) then went_down l else all_made_in (made_by_hearing (answer (hear c p.ends)) ++ echo_replies c) p.phase l)
+    then (if is_full_up (answer (hear c p.ends)) then went_down l else all_made_in (made_by_hearing (answer (hear c p.ends)) ++ echo_replies c) p.phase (heard c l))
     else l
 
 abbrev pub by_command : Bool → Command → Peer → Made → Made

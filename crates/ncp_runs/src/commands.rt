@@ -4,6 +4,7 @@ ghost use Rattle.std.specs.List.{list_all};
 ghost use Rattle.ncp_terms.specs.declared.command.Command.{Command as Order};
 ghost use Rattle.ncp_slot.specs.Slots.{data_links};
 ghost use Rattle.ncp_model.specs.Phase.{up, up_phase};
+ghost use Rattle.ncp_model.specs.Peers.{new_peer};
 ghost use Rattle.ncp_host.specs.PeerState.{PeerState, control_link};
 ghost use Rattle.ncp_host.specs.declared.flags.Flags.{Flags as Told};
 ghost use Rattle.ncp_host.specs.Host.{state_of, is_one_of, new_host};
@@ -11,7 +12,7 @@ ghost use Rattle.ncp_transcript.specs.declared.note.HostNote.{HostNote as Note};
 ghost use Rattle.ncp_transcript.specs.After.{after_notes};
 ghost use Rattle.ncp_runs.specs.Peers.{FromBeginning, notes_of};
 ghost use Rattle.ncp_runs.specs.Links.{is_quiet_told, told_on, fresh_on};
-ghost use Rattle.ncp_runs.specs.Making.{is_up_told, made_in, struck, sent, settling_made, nothing_made, made_of, message_of, joined};
+ghost use Rattle.ncp_runs.specs.Making.{is_up_told, made_in, struck, made_since, by_other, sent, settling_made, nothing_made, made_of, message_of, joined};
 ghost use Rattle.ncp_runs.specs.Examples.{message_on_0, message_on_2, lost, held, stray, woken, taken};
 
 use ncp_terms::Command;
@@ -46,10 +47,13 @@ pub fn what_is_owed_waits_for_quiet()
 
 /// That this speaks of something: a command that is made stands last; a clearing strikes what has not gone
 /// out, all but RST and RRP; what fits one message goes; and the RRP that is owed is made before the RST
-/// that is wanted.
+/// that is wanted. What was made and came before a clearing counts no more, and what comes while the host is not up
+/// does not count.
 pub fn commands_are_made_struck_and_sent()
     ensures made { made_in (Command.Eco 2) up_phase (record nothing_made { all = Command.Eco 1 ∷ []; gone = 1 }) ≡ record nothing_made { all = Command.Eco 1 ∷ Command.Eco 2 ∷ []; gone = 1 } }
-    ensures struck { struck (record nothing_made { all = Command.Eco 1 ∷ Command.Eco 2 ∷ Command.Rrp ∷ []; gone = 1 }) ≡ record nothing_made { all = Command.Eco 1 ∷ Command.Rrp ∷ []; gone = 1 } }
+    ensures struck { struck (record nothing_made { all = Command.Eco 1 ∷ Command.Eco 2 ∷ Command.Rrp ∷ []; gone = 1 }) ≡ record nothing_made { all = Command.Eco 1 ∷ Command.Rrp ∷ []; gone = 1; cleared = 2 } }
+    ensures anew { (made_since (record nothing_made { all = Command.Eco 1 ∷ Command.Rrp ∷ Command.Rst ∷ Command.Eco 2 ∷ []; gone = 1; cleared = 2 }) ≡ Command.Eco 2 ∷ []) × (made_since (struck (record nothing_made { all = Command.Eco 1 ∷ Command.Eco 2 ∷ []; gone = 1; came = Command.Eco 3 ∷ [] })) ≡ []) × ((struck (record nothing_made { came = Command.Eco 3 ∷ [] })).came ≡ []) }
+    ensures heard { (by_other (Command.Eco 3) (record new_peer { phase = up_phase }) (record nothing_made { came = Command.Nop ∷ [] }) ≡ record nothing_made { all = Command.Erp 3 ∷ []; came = Command.Nop ∷ Command.Eco 3 ∷ [] }) × (by_other (Command.Eco 3) new_peer nothing_made ≡ nothing_made) }
     ensures sent { sent (record nothing_made { all = Command.Eco 1 ∷ Command.Eco 2 ∷ Command.Rrp ∷ []; gone = 1 }) ≡ record nothing_made { all = Command.Eco 1 ∷ Command.Eco 2 ∷ Command.Rrp ∷ []; gone = 3 } }
     ensures settled { settling_made true (record up_phase { owe = true; want = true }) nothing_made ≡ record nothing_made { all = Command.Rrp ∷ Command.Rst ∷ []; began = true; got_answer = false } }
     ensures waits { settling_made false (record up_phase { owe = true; want = true }) nothing_made ≡ nothing_made }

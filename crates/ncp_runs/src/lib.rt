@@ -3,6 +3,7 @@
 #![tactic(auto)]
 
 pub mod commands;
+pub mod echoes;
 pub mod histories;
 pub mod links;
 pub mod marks;

@@ -18,6 +18,8 @@ ghost use Rattle.ncp_runs.specs.Peers.{FromBeginning, notes_of, notes_for, ignor
 ghost use Rattle.ncp_runs.specs.Links.{is_fresh, told_on, fresh_on, ready_told};
 ghost use Rattle.ncp_runs.specs.Histories.{past_of};
 ghost use Rattle.ncp_runs.specs.Marks.{record_marked, marks_of};
+ghost use Rattle.ncp_runs.specs.Echoing.{echo_of, echoes_told};
+ghost use Rattle.ncp_runs.specs.Counted.{counted_of, counts_told};
 ghost use Rattle.ncp_runs.specs.Making.{made_of, is_up_told, message_of, joined};
 
 use ncp_bits::BitStore;
@@ -27,7 +29,8 @@ use ncp_transcript::{Alone, HostNote};
 /// The transcript of a host is a run from its beginning, of which every law of this crate speaks; and the
 /// host is what its notes leave. All that it has for a peer is what the notes of that peer alone make of it:
 /// each flag, whether it is up, and the record of each pair, if it has one, is what the marks and sums of these
-/// notes say. What is ignored is what its notes say was of no peer.
+/// notes say; and so are the echo that it awaits, the byte of the last one, the last 16 ERRs, and the counts. What is
+/// ignored is what its notes say was of no peer.
 pub fn a_host_is_what_its_notes_say<S: BitStore>(alone: &Alone<S>)
     ensures run { FromBeginning alone.now.host.me (numbers_of alone.now.host.peers) alone.now.notes }
     ensures host { alone.now.host ≡ after_notes alone.now.notes (new_host alone.now.host.me (numbers_of alone.now.host.peers)) }
@@ -38,6 +41,8 @@ pub fn a_host_is_what_its_notes_say<S: BitStore>(alone: &Alone<S>)
     ensures wait { (n : ℕ) (s : PeerState) → state_of alone.now.host n ≡ Some s → s.peer.phase.wait ≡ not (made_of (notes_of n alone.now.notes)).got_answer }
     ensures up { (n : ℕ) (s : PeerState) → state_of alone.now.host n ≡ Some s → up s.peer.phase ≡ is_up_told (made_of (notes_of n alone.now.notes)) }
     ensures records { (n : ℕ) (s : PeerState) (pair : Pair) → state_of alone.now.host n ≡ Some s → record_in pair s.peer.ends ≡ record_marked pair (marks_of pair (notes_of n alone.now.notes)) }
+    ensures echo { (n : ℕ) (s : PeerState) → state_of alone.now.host n ≡ Some s → s.peer.echoes ≡ echoes_told (echo_of (notes_of n alone.now.notes)) }
+    ensures counts { (n : ℕ) (s : PeerState) → state_of alone.now.host n ≡ Some s → s.counts ≡ counts_told (counted_of (notes_of n alone.now.notes)) }
     ensures ignored { alone.now.host.ignored ≡ ignored_by alone.now.notes none_ignored }
 {
     let _notes = alone.transcript();

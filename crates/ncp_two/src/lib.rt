@@ -2,6 +2,7 @@
 //! and the laws of all transcripts. The hosts that do it are in `ncp_world`.
 #![tactic(auto)]
 
+pub mod arrivals;
 mod event;
 pub mod examples;
 pub mod laws;

@@ -1,6 +1,9 @@
-use Rattle.std.proofs.Common.{ℕ, List, Some}
+use Rattle.std.proofs.Common.{ℕ, List, Some, ap}
+use Rattle.ncp_model.specs.Echo.{Echoes}
 use Rattle.ncp_host.specs.PeerState.{PeerState}
 use Rattle.ncp_host.specs.Host.{Host, numbers_of}
+use Rattle.ncp_runs.proofs.EchoTold.{echoes-noted}
+use Rattle.ncp_runs.proofs.CountsTold.{counts-noted}
 use Rattle.ncp_runs.proofs.Begun.{is_run, is_kept}
 use Rattle.ncp_runs.proofs.InOrder.{commands-noted, flags-noted, up-noted}
 use Rattle.ncp_runs.proofs.InRuns.{slot_as_noted}
@@ -84,3 +87,39 @@ returns-clause-records c ns w side pair is =
     let s : PeerState = had_for n h in
     let t = c.each_host_is_by_itself.ensures ns w side is in
     record-there h.me (numbers_of h.peers) all n s pair (is_run all h t) (is_kept all h n (Some s) t (kept-for ns w side is))
+
+pub returns-clause-echo : goal.returns-clause-echo
+returns-clause-echo c ns w side is =
+    let all : List HostNote = notes_at side ns in
+    let h : Host = host_of side w in
+    let n : ℕ = number_of (other side) w in
+    let s : PeerState = had_for n h in
+    let t = c.each_host_is_by_itself.ensures ns w side is in
+    ap (λ (x : Echoes). x.awaited) (echoes-noted h.me (numbers_of h.peers) all n s (is_run all h t) (is_kept all h n (Some s) t (kept-for ns w side is)))
+
+pub returns-clause-echoed : goal.returns-clause-echoed
+returns-clause-echoed c ns w side is =
+    let all : List HostNote = notes_at side ns in
+    let h : Host = host_of side w in
+    let n : ℕ = number_of (other side) w in
+    let s : PeerState = had_for n h in
+    let t = c.each_host_is_by_itself.ensures ns w side is in
+    ap (λ (x : Echoes). x.echoed) (echoes-noted h.me (numbers_of h.peers) all n s (is_run all h t) (is_kept all h n (Some s) t (kept-for ns w side is)))
+
+pub returns-clause-errors : goal.returns-clause-errors
+returns-clause-errors c ns w side is =
+    let all : List HostNote = notes_at side ns in
+    let h : Host = host_of side w in
+    let n : ℕ = number_of (other side) w in
+    let s : PeerState = had_for n h in
+    let t = c.each_host_is_by_itself.ensures ns w side is in
+    ap (λ (x : Echoes). x.errors) (echoes-noted h.me (numbers_of h.peers) all n s (is_run all h t) (is_kept all h n (Some s) t (kept-for ns w side is)))
+
+pub returns-clause-counts : goal.returns-clause-counts
+returns-clause-counts c ns w side is =
+    let all : List HostNote = notes_at side ns in
+    let h : Host = host_of side w in
+    let n : ℕ = number_of (other side) w in
+    let s : PeerState = had_for n h in
+    let t = c.each_host_is_by_itself.ensures ns w side is in
+    counts-noted h.me (numbers_of h.peers) all n s (is_run all h t) (is_kept all h n (Some s) t (kept-for ns w side is))

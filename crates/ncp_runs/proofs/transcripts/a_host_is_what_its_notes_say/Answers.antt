@@ -3,6 +3,8 @@ use Rattle.ncp_host.specs.Host.{Host, numbers_of}
 use Rattle.ncp_runs.proofs.Ignored.{ignored_told}
 use Rattle.ncp_runs.proofs.InOrder.{flags-noted, up-noted}
 use Rattle.ncp_runs.proofs.Recorded.{record-there}
+use Rattle.ncp_runs.proofs.EchoTold.{echoes-noted}
+use Rattle.ncp_runs.proofs.CountsTold.{counts-noted}
 use Rattle.ncp_runs.proofs.Begun.{is_run, is_kept, peer_told}
 use Rattle.ncp_runs.proofs.transcripts.a_host_is_what_its_notes_say.Goals as goal
 
@@ -50,6 +52,18 @@ returns-clause-records g c n s pair there =
     let all = c.args.alone.now.notes in
     let h = c.args.alone.now.host in
     record-there h.me (numbers_of h.peers) all n s pair (is_run all h c.transcript-notes.ensures.run) (is_kept all h n (Some s) c.transcript-notes.ensures.run there)
+
+pub returns-clause-echo : goal.returns-clause-echo
+returns-clause-echo g c n s there =
+    let all = c.args.alone.now.notes in
+    let h = c.args.alone.now.host in
+    echoes-noted h.me (numbers_of h.peers) all n s (is_run all h c.transcript-notes.ensures.run) (is_kept all h n (Some s) c.transcript-notes.ensures.run there)
+
+pub returns-clause-counts : goal.returns-clause-counts
+returns-clause-counts g c n s there =
+    let all = c.args.alone.now.notes in
+    let h = c.args.alone.now.host in
+    counts-noted h.me (numbers_of h.peers) all n s (is_run all h c.transcript-notes.ensures.run) (is_kept all h n (Some s) c.transcript-notes.ensures.run there)
 
 pub returns-clause-ignored : goal.returns-clause-ignored
 returns-clause-ignored g c =
