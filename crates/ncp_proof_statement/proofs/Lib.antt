@@ -1,0 +1,14 @@
+pub mod Taking
+pub mod TakenRuns
+pub mod TakenNoted
+pub mod Giving
+pub mod GivenRuns
+pub mod GivenNoted
+pub mod Bridging
+pub mod Walking
+pub mod Walk
+pub mod Using
+pub mod GoingOn
+pub mod CommandsRead
+pub mod ErrFree
+pub mod Delivering
