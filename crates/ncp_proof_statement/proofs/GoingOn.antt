@@ -1,19 +1,11 @@
 -- What `take` answers goes on in what was given.
-use Rattle.std.proofs.Common.{◌≡◌, ℕ, ◌&&◌, not, Bool, true, false, if◌then◌else◌, List, [], ◌∷◌, ◌++◌, take, drop, Option, None, Some, Result, Ok, Err, refl, sym, ap, ◌∙◌, subst, arith}
-use Rattle.std.proofs.lemmas.List.{append_assoc, append-nil, take-append-drop}
+use Rattle.std.proofs.Common.{◌≡◌, ◌≤◌, ℕ, Bool, true, false, if◌then◌else◌, List, [], ◌∷◌, ◌++◌, length, Option, None, Some, refl, sym, ap, ◌∙◌, subst, arith}
+use Rattle.std.proofs.lemmas.List.{append_assoc, append-nil}
 use Rattle.std.specs.FinMap.{get}
-use Rattle.ncp_terms.specs.declared.command.Command.{Command}
-use Rattle.ncp_model.specs.declared.call_fault.CallFault.{CallFault}
-use Rattle.ncp_model.specs.declared.call_fault.CallFault.TheVariants.{NotUp, Closing, NotOpen, WrongEnd}
 use Rattle.ncp_model.specs.declared.pair.Pair.{Pair}
 use Rattle.ncp_model.specs.Pairs.{sends, receives, turned}
 use Rattle.ncp_model.specs.End.{End, is_live, or_new}
-use Rattle.ncp_model.specs.Act.{Act, Stays, answer}
-use Rattle.ncp_model.specs.Calls.{bits_to_take, emptied, take_bits}
-use Rattle.ncp_model.specs.Happenings.{Takes, Refused, of_take, happens}
-use Rattle.ncp_model.specs.Peers.{Take, comes_of, happened_at, reply_of_take}
-use Rattle.ncp_model.specs.Phase.{up}
-use Rattle.ncp_watch.specs.Histories.{Past, no_past, IsBeginning}
+use Rattle.ncp_watch.specs.Histories.{Past, IsBeginning}
 use Rattle.ncp_hosts.specs.Hosts.{past_of as past_here}
 use Rattle.ncp_host.specs.PeerState.{PeerState, new_state}
 use Rattle.ncp_host.specs.Host.{Host, numbers_of, state_of}
@@ -42,69 +34,48 @@ use Rattle.ncp_two.proofs.Runs.{new-ties}
 use Rattle.ncp_two.proofs.Headlines.{stands, new}
 use Rattle.ncp_promises.proofs.Standing.{kept-for}
 use Rattle.ncp_promises.proofs.Beginnings.{begins}
-use Rattle.ncp_statement.specs.Statement.{taken, given}
-use Rattle.ncp_proof_statement.specs.Since.{TakenSince, nothing_given}
-use Rattle.ncp_proof_statement.proofs.TakenRuns as taking
-use Rattle.ncp_proof_statement.proofs.TakenNoted as taken_noted
-use Rattle.ncp_proof_statement.proofs.GivenRuns as giving
-use Rattle.ncp_proof_statement.proofs.GivenNoted as given_noted
+use Rattle.ncp_statement.specs.Statement.{Use, taken, given, allowed, WithinAllowance}
+use Rattle.ncp_proof_statement.specs.Since.{uses_by, did_run, tallied, Takings, no_takings, takings_with, TakenSince, no_givings, givings_with}
+use Rattle.ncp_proof_statement.proofs.Noted.{took-known, noted-from}
+use Rattle.ncp_proof_statement.proofs.Receiving as receiving
+use Rattle.ncp_proof_statement.proofs.Receiving.{Held, held-at, taken-tallied, allowed-tallied}
+use Rattle.ncp_proof_statement.proofs.Sending as sending
+use Rattle.ncp_proof_statement.proofs.Sending.{given-tallied}
 use Rattle.ncp_proof_statement.proofs.Walking.{mine, ours, only-one}
 use Rattle.ncp_proof_statement.proofs.Walk.{here, there}
-use Rattle.ncp_proof_statement.proofs.Using.{taken-by, given-by}
-
--- Where `take` answers a text, the end is open and receives, it has not left, and it held the text in front.
-
-pub record Held (q : Pair) (o : Option End) (text : List Bool) : Type 0 where
-  pub live : is_live o ≡ true
-  pub there : (or_new o).left ≡ false
-  pub receives_it : receives q ≡ true
-  pub later : List Bool
-  pub front : (or_new o).stored ≡ text ++ later
-
-abbrev told : List Bool → Option Command → Result (List Bool × Option Command) CallFault
-told text c = Ok (text, c)
-
-taken-bits : (q : Pair) (e : End) (count : ℕ) (text : List Bool) → reply_of_take (of_take (answer (take_bits q count e))) ≡ Ok text → take count e.stored ≡ text
-taken-bits q e count text h = by (e.leaving && emptied e count) _ _ _ _ h
-  where
-    by : (b : Bool) (x y : End) (c d : Option Command)
-        → reply_of_take (of_take (answer (if b then Act.Becomes x (told (take count e.stored) c) else Act.Becomes y (told (take count e.stored) d)))) ≡ Ok text → take count e.stored ≡ text
-    by true x y c d h = cc h
-    by false x y c d h = cc h
-
-held : (q : Pair) (bytes : ℕ) (o : Option End) (text : List Bool) → reply_of_take (happens q (Takes bytes) o).outcome ≡ Ok text → Held q o text
-held q bytes None text h = absurd (cc h)
-held q bytes (Some e) text h = go e.left e.opened (receives q) refl refl refl h
-  where
-    go : (l o r : Bool) → e.left ≡ l → e.opened ≡ o → receives q ≡ r
-        → reply_of_take (of_take (answer (if l then Stays (Err Closing) else if not o then Stays (Err NotOpen) else if not r then Stays (Err WrongEnd) else take_bits q (bits_to_take bytes e) e))) ≡ Ok text → Held q (Some e) text
-    go true o r a b c h = absurd (cc h)
-    go false false r a b c h = absurd (cc h)
-    go false true false a b c h = absurd (cc h)
-    go false true true a b c h =
-        let n : ℕ = bits_to_take bytes e in
-        record { live = b; there = a; receives_it = c; later = drop n e.stored; front = sym (take-append-drop n e.stored) ∙ ap (λ (x : List Bool). x ++ drop n e.stored) (taken-bits q e n text h) }
-
-pub held-at : (q : Pair) (bytes : ℕ) (s : PeerState) (text : List Bool) → reply_of_take (comes_of q (Take bytes) s.peer) ≡ Ok text → Held q (get s.peer.ends q) text
-held-at q bytes s text h = go (up s.peer.phase) h
-  where
-    go : (b : Bool) → reply_of_take (if b then (happened_at q (Take bytes) s.peer).outcome else Refused NotUp) ≡ Ok text → Held q (get s.peer.ends q) text
-    go true h = held q bytes (get s.peer.ends q) text h
-    go false h = absurd (cc h)
+use Rattle.ncp_proof_statement.proofs.Using.{taken-by, given-by, allowed-by}
 
 -- What was taken and given, by the histories.
 
-of-live : (o : Option End) (past : Past) (t : List Bool) → is_live o ≡ true → TakenSince o past t → t ≡ past.taken
-of-live None past t live k = absurd (cc)
-of-live (Some e) past t live k = k.0 live
+of-live : (o : Option End) (past : Past) (x : Takings) → is_live o ≡ true → TakenSince o past x → x.taken ≡ past.taken
+of-live None past x live k = absurd (cc)
+of-live (Some e) past x live k = (k.0 live).0
 
-live-taken : (q : Pair) (s noted : PeerState) (past : Past) (t : List Bool) → noted ≡ s → is_live (get s.peer.ends q) ≡ true → TakenSince (get noted.peer.ends q) past t → t ≡ past.taken
-live-taken q s noted past t is live k = of-live (get noted.peer.ends q) past t (ap (λ (x : PeerState). is_live (get x.peer.ends q)) is ∙ live) k
+live-taken : (q : Pair) (s noted : PeerState) (past : Past) (x : Takings) → noted ≡ s → is_live (get s.peer.ends q) ≡ true → TakenSince (get noted.peer.ends q) past x → x.taken ≡ past.taken
+live-taken q s noted past x is live k = of-live (get noted.peer.ends q) past x (ap (λ (y : PeerState). is_live (get y.peer.ends q)) is ∙ live) k
 
 module _ (ns : List Note) (w : Hosts) (t : IsTranscript ns w) where
   agree : (side : Side) (pair : Pair) → past_here (mine side (histories_of ns w)) pair ≡ past_of pair (notes_of (number_of (other side) w) (notes_at side ns))
   agree A pair = here ns w t pair
   agree B pair = there ns w t pair
+
+  -- the notes of the host of a side for the other, and the uses that they tell
+  abbrev Own : Side → List HostNote
+  Own side = notes_of (number_of (other side) w) (notes_at side ns)
+
+  told-uses : (side : Side) (q : Pair) → uses_by q (Own side) ≡ did_run q (Own side) new_state
+  told-uses side q =
+      let h : Host = host_of side w in
+      noted-from h.me (numbers_of h.peers) (number_of (other side) w) q [] (notes_at side ns) (is_run (notes_at side ns) h (by_itself ns w side t))
+
+  taken-told : (side : Side) (q : Pair) → taken side q ns ≡ (tallied takings_with no_takings (did_run q (Own side) new_state)).taken
+  taken-told side q = taken-by q side ns w t ∙ taken-tallied (uses_by q (Own side)) no_takings ∙ ap (λ (us : List Use). (tallied takings_with no_takings us).taken) (told-uses side q)
+
+  allowed-told : (side : Side) (q : Pair) → allowed side q ns ≡ (tallied takings_with no_takings (did_run q (Own side) new_state)).allowed
+  allowed-told side q = allowed-by q side ns w t ∙ allowed-tallied (uses_by q (Own side)) no_takings ∙ ap (λ (us : List Use). (tallied takings_with no_takings us).allowed) (told-uses side q)
+
+  given-told : (side : Side) (q : Pair) → given side q ns ≡ (tallied givings_with no_givings (did_run q (Own side) new_state)).given
+  given-told side q = given-by q side ns w t ∙ given-tallied (uses_by q (Own side)) true [] ∙ ap (λ (us : List Use). (tallied givings_with no_givings us).given) (told-uses side q)
 
   pub taken-is : (side : Side) (q : Pair) → receives q ≡ true → is_live (get (ours side w).peer.ends q) ≡ true → taken side q ns ≡ (past_here (mine side (histories_of ns w)) q).taken
   taken-is side q r live =
@@ -112,26 +83,25 @@ module _ (ns : List Note) (w : Hosts) (t : IsTranscript ns w) where
       let h : Host = host_of side w in
       let all : List HostNote = notes_at side ns in
       let alone = by_itself ns w side t in
-      let run = is_run all h alone in
-      let noted = kept_as_noted h.me (numbers_of h.peers) all n (ours side w) run (is_kept all h n (Some (ours side w)) alone (kept-for ns w side t)) in
-      let k = (taking.run-kept q (notes_of n all) new_state no_past [] (taking.new-kept q)).1 r in
-      taken-by q side ns w t
-      ∙ taken_noted.noted-from h.me (numbers_of h.peers) n q r [] all [] run
+      let noted = kept_as_noted h.me (numbers_of h.peers) all n (ours side w) (is_run all h alone) (is_kept all h n (Some (ours side w)) alone (kept-for ns w side t)) in
+      let k = ((receiving.run-kept q (notes_of n all)).1 r).1 in
+      taken-told side q
       ∙ live-taken q (ours side w) _ (past_of q (notes_of n all)) _ (sym noted) live k
       ∙ sym (ap (λ (x : Past). x.taken) (agree side q))
 
   pub given-is : (side : Side) (p : Pair) → sends p ≡ true → (none : Bool) × ((past_here (mine side (histories_of ns w)) p).given ≡ (if none then [] else given side p ns))
   given-is side p r =
-      let n : ℕ = number_of (other side) w in
-      let h : Host = host_of side w in
-      let all : List HostNote = notes_at side ns in
-      let run = is_run all h (by_itself ns w side t) in
-      let g = (giving.run-kept p (notes_of n all) new_state no_past nothing_given (giving.new-kept p)).1 r in (
+      let g = sending.run-kept p (Own side) r in (
         g.0,
         ap (λ (x : Past). x.given) (agree side p)
             ∙ g.1.0
-            ∙ ap (λ (x : List Bool). if g.0 then [] else x) (sym (given_noted.noted-from h.me (numbers_of h.peers) n p r [] all nothing_given run) ∙ sym (given-by p side ns w t)),
+            ∙ ap (λ (x : List Bool). if g.0 then [] else x) (sym (given-told side p)),
       )
+
+  pub allowance : WithinAllowance ns
+  allowance side q =
+      subst (λ (x : List Bool). length x ≤ allowed side q ns) (sym (taken-told side q))
+      (subst (λ (m : ℕ). length (tallied takings_with no_takings (did_run q (Own side) new_state)).taken ≤ m) (sym (allowed-told side q)) (receiving.run-kept q (Own side)).0)
 
 -- The text that is taken goes on what was taken.
 
@@ -169,7 +139,7 @@ before-take before after w side peer q bytes text t =
     let s = said_at before after note (began w) t.run in
     let m = stands-at before (began w) (run_before before (note ∷ after) (began w) t.run) (stands (before ++ note ∷ after) w t) (new-ties (seen (began w)) (new (before ++ note ∷ after) w t)) in
     let said : runs.IsSaid (of_host.Took peer q bytes text) (host_of side v) = own side v (of_event side s.0 note v s.1) in
-    let had = taken_noted.took-known (state_of (host_of side v) peer) peer q bytes text said in
+    let had = took-known (state_of (host_of side v) peer) peer q bytes text said in
     let is : peer ≡ number_of (other side) v = only-peer (number_of (other side) v) peer had.0 (host_of side v).peers (only-one side v m.0) had.1 in
     let same : ours side v ≡ had.0 = ap (λ (n : ℕ). state_or_new (state_of (host_of side v) n)) (sym is) ∙ ap state_or_new had.1 in
     subst (λ (x : PeerState). Held q (get x.peer.ends q) text) (sym same) (held-at q bytes had.0 text had.2)

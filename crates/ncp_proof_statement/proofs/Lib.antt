@@ -1,9 +1,9 @@
 pub mod Taking
-pub mod TakenRuns
-pub mod TakenNoted
 pub mod Giving
-pub mod GivenRuns
-pub mod GivenNoted
+pub mod Tallies
+pub mod Noted
+pub mod Receiving
+pub mod Sending
 pub mod Bridging
 pub mod Walking
 pub mod Walk

@@ -1,5 +1,5 @@
 -- What users did, by the notes of a transcript, is what they did by the notes of each host for the other.
-use Rattle.std.proofs.Common.{◌≡◌, ℕ, ◌==◌, Bool, true, false, cond, if◌then◌else◌, List, [], ◌∷◌, ◌++◌, Option, None, Some, Result, Ok, Err, inl, inr, refl, sym, ap, ◌∙◌, subst}
+use Rattle.std.proofs.Common.{◌≡◌, ℕ, ◌+◌, ◌==◌, Bool, true, false, cond, if◌then◌else◌, List, [], ◌∷◌, ◌++◌, Option, None, Some, Result, Ok, Err, inl, inr, refl, sym, ap, ◌∙◌, subst}
 use Rattle.std.proofs.lemmas.Bool.{eq-eqb}
 use Rattle.std.proofs.lemmas.List.Elements.{filter-append}
 use Rattle.ncp_leader.specs.declared.leader.Leader.{Leader}
@@ -38,7 +38,7 @@ use Rattle.ncp_two.proofs.OnePeer.{only-peer}
 use Rattle.ncp_two.proofs.SeenSteps.{Stand}
 use Rattle.ncp_two.proofs.SeenRuns.{stand-after}
 use Rattle.ncp_two.proofs.Headlines.{stands}
-use Rattle.ncp_statement.specs.Statement.{Use, Asked, Gave, Had, Let, Else, use_of, use_at, uses, taken_from, given_from, taken, given}
+use Rattle.ncp_statement.specs.Statement.{Use, Asked, Gave, Had, Let, Else, use_of, use_at, uses, taken_from, given_from, allowed_from, taken, given, allowed}
 use Rattle.ncp_proof_statement.specs.Since.{uses_by}
 use Rattle.ncp_proof_statement.proofs.Walking.{only-one}
 use Rattle.ncp_proof_statement.proofs.Walk.{stays}
@@ -66,6 +66,14 @@ given-strip (Gave text ∷ us) false g = given-strip us false (g ++ text)
 given-strip (Had text ∷ us) anew g = given-strip us anew g
 given-strip (Let bits ∷ us) anew g = given-strip us anew g
 given-strip (Else ∷ us) anew g = given-strip us anew g
+
+allowed-strip : (us : List Use) (a : ℕ) → allowed_from a us ≡ allowed_from a (strip us)
+allowed-strip [] a = refl
+allowed-strip (Asked ∷ us) a = allowed-strip us 0
+allowed-strip (Gave text ∷ us) a = allowed-strip us a
+allowed-strip (Had text ∷ us) a = allowed-strip us a
+allowed-strip (Let bits ∷ us) a = allowed-strip us (a + bits)
+allowed-strip (Else ∷ us) a = allowed-strip us a
 
 strip-append : (us vs : List Use) → strip (us ++ vs) ≡ strip us ++ strip vs
 strip-append [] vs = refl
@@ -220,3 +228,6 @@ module _ (pair : Pair) where
 
   pub given-by : (side : Side) (ns : List Note) (w : Hosts) → IsTranscript ns w → given side pair ns ≡ given_from true [] (uses_by pair (notes_of (number_of (other side) w) (notes_at side ns)))
   given-by side ns w t = given-strip (uses side pair ns) true [] ∙ ap (given_from true []) (same-uses side ns w t) ∙ sym (given-strip (uses_by pair (notes_of (number_of (other side) w) (notes_at side ns))) true [])
+
+  pub allowed-by : (side : Side) (ns : List Note) (w : Hosts) → IsTranscript ns w → allowed side pair ns ≡ allowed_from 0 (uses_by pair (notes_of (number_of (other side) w) (notes_at side ns)))
+  allowed-by side ns w t = allowed-strip (uses side pair ns) 0 ∙ ap (allowed_from 0) (same-uses side ns w t) ∙ sym (allowed-strip (uses_by pair (notes_of (number_of (other side) w) (notes_at side ns))) 0)

@@ -9,7 +9,7 @@ ghost use Rattle.ncp_two.specs.declared.side.Side.{Side};
 ghost use Rattle.ncp_two.specs.Between.{Hosts, other, number_of, host_of};
 ghost use Rattle.ncp_two.specs.Seen.{had_for};
 ghost use Rattle.ncp_two.specs.Transcript.{IsTranscript};
-ghost use Rattle.ncp_statement.specs.Statement.{taken, given, TakesGoOn, Each, ReadsAll, HasNoComplaint, InOrder, Delivers, Headline};
+ghost use Rattle.ncp_statement.specs.Statement.{taken, given, TakesGoOn, WithinAllowance, Each, ReadsAll, HasNoComplaint, InOrder, Delivers, Headline};
 ghost use Rattle.ncp_proof_statement.specs.Since.{ComesRight};
 
 use ncp_promises::promises::what_comes_acts_once_and_is_right;
@@ -30,6 +30,12 @@ pub fn what_is_taken_and_held_begins_what_is_given()
 {
     transcripts_keep_the_headline();
 }
+
+/// What was taken since the ask is never more than what was allocated since the ask: of every pair, at either host, at
+/// every moment of any run.
+pub fn what_is_taken_is_within_the_allowance()
+    ensures { (notes : List Note) (w : Hosts) → IsTranscript notes w → WithinAllowance notes }
+{}
 
 /// Each message came once, whole, before its RFNM, or did not come and had none.
 pub fn messages_are_delivered()
@@ -67,6 +73,7 @@ pub fn transcripts_keep_the_page()
     ensures { (notes : List Note) (w : Hosts) → IsTranscript notes w → Headline w.number_a w.number_b notes }
 {
     takes_go_on();
+    what_is_taken_is_within_the_allowance();
     messages_are_delivered();
     messages_come_in_order();
     each_command_is_read();

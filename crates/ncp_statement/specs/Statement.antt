@@ -5,7 +5,7 @@
 -- If the subnet delivers each message whole and once and answers RFNM, or delivers nothing and answers Incomplete
 -- Transmission (delivers), then over every list of calls, deliveries, losses, answers and orders between links, what a
 -- receiver got on a live connection is a beginning of what was given, each byte once (takes_go_on), never beyond its
--- allocation; each command acts once, in order (in_order, each_command_read); and no peer's bits make a host fault
+-- allocation (within_allowance); each command acts once, in order (in_order, each_command_read); and no peer's bits make a host fault
 -- (the contract of `Host::receive`). And neither host complains of the other (no_complaint).
 use Rattle.std.specs.Prelude.{◌≡◌, ◌≤◌, ℕ, ◌+◌, ◌==◌, Bool, true, false, ◌&&◌, if◌then◌else◌, List, [], ◌∷◌, ◌++◌, length}
 use Rattle.std.specs.List.{list_any}
@@ -165,6 +165,7 @@ Each P (n ∷ ns) = P n × Each P ns
 -- The headline, of the notes of the hosts of two numbers.
 pub record Headline (a b : ℕ) (ns : List Note) : Type 0 where
   pub takes_go_on : TakesGoOn ns
+  pub within_allowance : WithinAllowance ns
   pub delivers : Delivers a b ns
   pub in_order : InOrder a b ns
   pub each_command_read : Each ReadsAll ns
