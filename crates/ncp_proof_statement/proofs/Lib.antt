@@ -12,3 +12,4 @@ pub mod GoingOn
 pub mod CommandsRead
 pub mod ErrFree
 pub mod Delivering
+pub mod Carrying

@@ -10,6 +10,7 @@ use Rattle.ncp_subnet.specs.Messages.{link_in}
 use Rattle.ncp_transcript.specs.declared.call.Call.TheVariants as calls
 use Rattle.ncp_transcript.specs.declared.note.HostNote.TheVariants as of_host
 use Rattle.ncp_two.specs.declared.side.Side.TheVariants.{A, B}
+use Rattle.ncp_two.specs.declared.note.Move.{Move}
 use Rattle.ncp_two.specs.declared.note.Note.{Note}
 use Rattle.ncp_two.specs.declared.note.Note.TheVariants as notes
 use Rattle.ncp_two.specs.Underway.{commands_of}
@@ -48,8 +49,15 @@ goes_out m = notes.Out A (of_host.Out m)
 abbrev pub comes : List Bool → List Bool → Received → Note
 comes m as_bits told = notes.Came A (link_in m) (of_host.In as_bits told)
 
+abbrev pub is_lost : List Bool → Note
+is_lost m = notes.Lost A (link_in m)
+
 abbrev pub is_answered : List Bool → Answer → Received → Note
 is_answered m how told = notes.Answered A (link_in m) (of_host.Answered 2 (link_in m) how told)
+
+-- the subnet has no message there to which this may happen
+abbrev pub had_none : List Bool → Move → Note
+had_none m wanted = notes.Nothing A (link_in m) wanted
 
 -- What came to B.
 

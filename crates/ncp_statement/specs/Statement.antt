@@ -6,10 +6,14 @@
 -- Transmission (delivers), then over every list of calls, deliveries, losses, answers and orders between links, what a
 -- receiver got on a live connection is a beginning of what was given, each byte once (takes_go_on), never beyond its
 -- allocation (within_allowance); each command acts once, in order (in_order, each_command_read); and no peer's bits make a host fault
--- (the contract of `Host::receive`). And neither host complains of the other (no_complaint).
+-- (the contract of `Host::receive`).
+--
+-- And the subnet takes what goes out (taken_by_subnet), and neither host complains of the other (no_complaint).
 use Rattle.std.specs.Prelude.{◌≡◌, ◌≤◌, ℕ, ◌+◌, ◌==◌, Bool, true, false, ◌&&◌, if◌then◌else◌, List, [], ◌∷◌, ◌++◌, length}
 use Rattle.std.specs.List.{list_any}
 use Rattle.ncp_subnet.specs.Messages.{link_in}
+use Rattle.ncp_subnet.specs.declared.transit.Transit.TheVariants as transits
+use Rattle.ncp_subnet.specs.Ways.{OnLink}
 use Rattle.ncp_terms.specs.declared.command.Command.{Command}
 use Rattle.ncp_terms.specs.declared.command.Command.TheVariants as commands
 use Rattle.ncp_model.specs.declared.outcomes.Took.TheVariants as took
@@ -23,11 +27,13 @@ use Rattle.ncp_transcript.specs.declared.note.HostNote.{HostNote}
 use Rattle.ncp_transcript.specs.declared.note.HostNote.TheVariants as of_host
 use Rattle.ncp_two.specs.declared.side.Side.{Side}
 use Rattle.ncp_two.specs.declared.side.Side.TheVariants.{A, B}
+use Rattle.ncp_two.specs.declared.note.Move.{Move}
 use Rattle.ncp_two.specs.declared.note.Note.{Note}
 use Rattle.ncp_two.specs.declared.note.Note.TheVariants as notes
 use Rattle.ncp_two.specs.Between.{other}
 use Rattle.ncp_two.specs.Honest.{Deed, Sent, Comes, Other, Clear, answer_deed, if_on, HonestFrom, sent_from, coming, IsBeginning}
 use Rattle.ncp_two.specs.Underway.{commands_of}
+use Rattle.ncp_two.specs.Vain.{CannotBe}
 
 -- 1. What the users of a pair of sockets did.
 
@@ -134,6 +140,27 @@ Delivers a b ns = (side : Side) (on : ℕ) → HonestFrom (number a b side) Clea
 abbrev pub InOrder : ℕ → ℕ → List Note → Type 0
 InOrder a b ns = (side : Side) (on : ℕ) → IsBeginning 1 (coming (deeds side on ns)) (sent_from (number a b side) true (deeds side on ns))
 
+-- What the subnet has on a link: the last message that went out there, till it comes, is lost, or finds no host; and
+-- then what became of it, till it is answered.
+abbrev pub carried_by : Side → ℕ → Note → OnLink → OnLink
+carried_by side on (notes.Out by (of_host.Out m)) has = if is_same side by && link_in m == on then transits.Accepted m else has
+carried_by side on (notes.Came by link note) has = if is_same side by && link == on then transits.Delivered else has
+carried_by side on (notes.Lost by link) has = if is_same side by && link == on then transits.Lost else has
+carried_by side on (notes.FoundDead by link) has = if is_same side by && link == on then transits.Dead else has
+carried_by side on (notes.Answered by link note) has = if is_same side by && link == on then transits.Free else has
+carried_by side on n has = has
+
+abbrev pub carried_from : Side → ℕ → OnLink → List Note → OnLink
+carried_from side on has [] = has
+carried_from side on has (n ∷ ns) = carried_from side on (carried_by side on n has) ns
+
+abbrev pub carried : Side → ℕ → List Note → OnLink
+carried side on ns = carried_from side on transits.Free ns
+
+-- The subnet takes what goes out: that it has nothing to deliver, to lose or to answer is noted only where that is so.
+abbrev pub TakesWhatGoesOut : List Note → Type 0
+TakesWhatGoesOut ns = (before after : List Note) (side : Side) (link : ℕ) (wanted : Move) → ns ≡ before ++ notes.Nothing side link wanted ∷ after → CannotBe wanted (carried side link before)
+
 -- 3. Commands and complaints.
 
 -- Each command that came was read, once: a control message is noted with as many as it has.
@@ -168,5 +195,6 @@ pub record Headline (a b : ℕ) (ns : List Note) : Type 0 where
   pub within_allowance : WithinAllowance ns
   pub delivers : Delivers a b ns
   pub in_order : InOrder a b ns
+  pub taken_by_subnet : TakesWhatGoesOut ns
   pub each_command_read : Each ReadsAll ns
   pub no_complaint : Each HasNoComplaint ns

@@ -6,10 +6,12 @@ ghost use Rattle.ncp_terms.specs.declared.command.Command.TheVariants as command
 ghost use Rattle.ncp_model.specs.declared.outcomes.Took.TheVariants as took;
 ghost use Rattle.ncp_host.specs.declared.received.Received.{Received};
 ghost use Rattle.ncp_subnet.specs.Messages.{link_in, from_host};
+ghost use Rattle.ncp_subnet.specs.declared.transit.Transit.TheVariants.{Free};
 ghost use Rattle.ncp_two.specs.declared.side.Side.TheVariants.{A, B};
+ghost use Rattle.ncp_two.specs.declared.note.Move.TheVariants as moves;
 ghost use Rattle.ncp_two.specs.Underway.{commands_of};
-ghost use Rattle.ncp_statement.specs.Statement.{given, taken, allowed, TakesGoOn, WithinAllowance, Delivers, InOrder, Each, HasNoComplaint, ReadsAll};
-ghost use Rattle.ncp_statement.specs.Examples.{out_pair, in_pair, asks_send, asks_receive, allocates, gives, refused, takes, goes_out, comes, is_answered, text_came, came_read, came_unread};
+ghost use Rattle.ncp_statement.specs.Statement.{given, taken, allowed, TakesGoOn, WithinAllowance, Delivers, InOrder, carried, TakesWhatGoesOut, Each, HasNoComplaint, ReadsAll};
+ghost use Rattle.ncp_statement.specs.Examples.{out_pair, in_pair, asks_send, asks_receive, allocates, gives, refused, takes, goes_out, comes, is_lost, is_answered, had_none, text_came, came_read, came_unread};
 
 /// What is given, taken and allowed: at the side that called, on the pair of the call, since the ask; a give that was
 /// refused is none; and what was given before an ask counts till something is given behind it.
@@ -47,6 +49,18 @@ pub fn wrong_subnets_are_seen()
     ensures made_up { (m n : List Bool) (r : Received) → InOrder 1 2 (comes m n r ∷ []) → ⊥ }
     ensures behind { (m : List Bool) → InOrder 1 2 (goes_out m ∷ []) }
     ensures two_behind { (m : List Bool) (r : Received) → InOrder 1 2 (goes_out m ∷ is_answered m Rfnm r ∷ goes_out m ∷ []) → ⊥ }
+{}
+
+/// A subnet that had nothing to deliver right behind a message that went out, or nothing to answer behind one that came
+/// or was lost, took nothing, and is refused. One that cannot answer yet is not; nor is one that had nothing to deliver
+/// behind an answer.
+pub fn subnets_that_take_nothing_are_seen()
+    ensures nothing { (m : List Bool) → TakesWhatGoesOut (goes_out m ∷ had_none m moves.Deliver ∷ []) → ⊥ }
+    ensures none_lost { (m : List Bool) → TakesWhatGoesOut (goes_out m ∷ had_none m moves.Lose ∷ []) → ⊥ }
+    ensures unanswered { (m n : List Bool) (r : Received) → TakesWhatGoesOut (goes_out m ∷ comes m n r ∷ had_none m moves.Answer ∷ []) → ⊥ }
+    ensures untold { (m : List Bool) → TakesWhatGoesOut (goes_out m ∷ is_lost m ∷ had_none m moves.Answer ∷ []) → ⊥ }
+    ensures not_yet { (m : List Bool) → TakesWhatGoesOut (goes_out m ∷ had_none m moves.Answer ∷ []) }
+    ensures done { (m n : List Bool) (r s : Received) → carried A (link_in m) (goes_out m ∷ comes m n r ∷ is_answered m Rfnm s ∷ []) ≡ Free }
 {}
 
 /// A control message that was not read, or not to its last command, is refused; so are a text that is beyond the

@@ -6,6 +6,7 @@ returns c ns w t = record {
   within_allowance = c.what_is_taken_is_within_the_allowance.ensures ns w t;
   delivers = c.messages_are_delivered.ensures ns w t;
   in_order = c.messages_come_in_order.ensures ns w t;
+  taken_by_subnet = c.what_goes_out_is_taken.ensures.vain ns w t;
   each_command_read = c.each_command_is_read.ensures.read ns w t;
   no_complaint = c.none_complains.ensures ns w t;
 }
