@@ -2,3 +2,4 @@ pub mod Delivering
 pub mod Sums
 pub mod Ledgers
 pub mod Books
+pub mod Noting

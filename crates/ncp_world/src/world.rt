@@ -4,15 +4,18 @@ ghost use Rattle.ncp_two.specs.Between.{new_hosts, host_of, after_notes};
 ghost use Rattle.ncp_two.specs.Ledgers.{ledger_of, IsBalanced};
 ghost use Rattle.ncp_two.specs.Transcript.{new_world, IsStep, AreNotes, IsTranscript};
 ghost use Rattle.ncp_promises.specs.Promised.{SubnetHonest, GotBegins, EachByteOnce, WithinAllocation, LedgersBalanced, CameInOrder, CommandsInOrder, EachActedOnce, NoErrMade, NoErrUnderway, OnlyResetsActed, WaitsAlone, OpenedUnderNoText, EachByItself};
+ghost use Rattle.ncp_promises.specs.Taking.{EachOutTaken};
 ghost use Rattle.ncp_world.specs.Booked.{IsBooked};
 
 use crate::hosts::Hosts;
+use crate::transcript::Transcript;
 use ncp_bits::BitStore;
 use ncp_host::{Host, Pair};
 use ncp_promises::headline::the_headline;
 use ncp_promises::promises::{
     no_err_is_ever_underway, none_opens_while_its_link_has_a_text, only_resets_act_until_the_answer,
 };
+use ncp_promises::taking::what_goes_out_is_taken;
 use ncp_two::transcripts::each_host_is_by_itself;
 use ncp_two::{Event, Ledger, Note, Side};
 use std::alloc::{AllocError, Global};
@@ -21,12 +24,12 @@ use std::marker::Model;
 /// Two hosts and the subnet between them, with their transcript: one note for each event, in order.
 ///
 /// A note takes at most [`crate::NOTE_BYTES`] bytes; beside them one with a message has the message's, and
-/// one of the errors that were read has theirs.
+/// one of the errors that were read has theirs. Only [`World::new`] and [`World::step`] take memory: the readers
+/// are lent the hosts and the notes, and no allocator is in their reach.
 #[derive(Drop)]
 pub struct World<S: BitStore> {
-    alloc: Global,
     hosts: Hosts<S>,
-    notes: Vec<Note>,
+    notes: Transcript,
 }
 
 impl<S: BitStore> Model for World<S> {
@@ -40,9 +43,9 @@ impl<S: BitStore> Model for World<S> {
 
     ghost coded = { Prim.hlevel (codes, coded_ends, coded_slots, coded_in_transit) };
 
-    ghost view = { λ w. record { hosts = w.hosts; notes = w.notes.items } };
+    ghost view = { λ w. record { hosts = w.hosts; notes = w.notes } };
 
-    ghost invariant = { λ w. IsTranscript w.notes.items w.hosts };
+    ghost invariant = { λ w. IsTranscript w.notes w.hosts };
 }
 
 impl<S: BitStore> World<S> {
@@ -50,13 +53,13 @@ impl<S: BitStore> World<S> {
     /// no notes.
     pub fn new(alloc: Global, a: u8, b: u8) -> Result<World<S>, AllocError>
         requires { a ≢ b }
-        ensures { IfOk result (λ world. world ≡ new_world a b) }
+        ensures world { IfOk result (λ world. world ≡ new_world a b) }
+        ensures run { IfOk result (λ world. IsTranscript world.notes world.hosts) }
     {
         let hosts = Hosts::new(alloc, a, b)?;
         Ok(World {
-            alloc,
             hosts,
-            notes: Vec::new(alloc),
+            notes: Transcript::new(alloc),
         })
     }
 
@@ -65,10 +68,7 @@ impl<S: BitStore> World<S> {
         ensures step { OnOk result (IsStep event.now self.old self.new) }
         ensures err { OnErr result (self.new ≡ self.old) }
     {
-        self.notes.reserve(1)?;
-        let note = self.hosts.happen(self.alloc, event)?;
-        self.notes.push_reserved(note);
-        Ok(())
+        self.notes.note(&mut self.hosts, event)
     }
 
     // What is promised of every transcript holds of this one.
@@ -87,9 +87,12 @@ impl<S: BitStore> World<S> {
         ensures waits { WaitsAlone self.now.notes self.now.hosts }
         ensures openings { OpenedUnderNoText self.now.notes self.now.hosts }
         ensures each { EachByItself self.now.notes self.now.hosts }
+        ensures taken { EachOutTaken self.now.notes self.now.hosts }
+        ensures run { IsTranscript self.now.notes self.now.hosts }
     {
         let _notes = self.transcript();
         the_headline();
+        what_goes_out_is_taken();
         no_err_is_ever_underway();
         only_resets_act_until_the_answer();
         none_opens_while_its_link_has_a_text();
@@ -102,7 +105,9 @@ impl<S: BitStore> World<S> {
     /// be given again. It takes amortised constant time beside what the host does.
     ///
     /// Behind `step` and `err`, which say what happens, stand the phrases of the headline, of the
-    /// transcript and the hosts after the event, either way, for each pair.
+    /// transcript and the hosts after the event, either way, for each pair; that the subnet took each
+    /// message that went out (`taken`); and that the notes are a transcript of the hosts (`run`), of which all
+    /// that is proved of transcripts holds.
     pub fn step(&mut self, event: &Event) -> Result<(), AllocError>
         ensures step { OnOk result (IsStep event.now self.old self.new) }
         ensures err { OnErr result (self.new ≡ self.old) }
@@ -120,6 +125,8 @@ impl<S: BitStore> World<S> {
         ensures waits { WaitsAlone self.new.notes self.new.hosts }
         ensures openings { OpenedUnderNoText self.new.notes self.new.hosts }
         ensures each { EachByItself self.new.notes self.new.hosts }
+        ensures taken { EachOutTaken self.new.notes self.new.hosts }
+        ensures run { IsTranscript self.new.notes self.new.hosts }
     {
         let noted = self.happen(event);
         self.keeps();
@@ -154,7 +161,8 @@ impl<S: BitStore> World<S> {
 }
 
 /// A new world of two hosts of these numbers, which differ, after these events; and the phrases of the
-/// headline, of its transcript and its hosts, either way, for each pair.
+/// headline, of its transcript and its hosts, either way, for each pair; that the subnet took each message
+/// that went out (`taken`); and that its notes are a transcript of its hosts (`run`).
 pub fn run<S: BitStore>(
     alloc: Global,
     a: u8,
@@ -178,6 +186,8 @@ pub fn run<S: BitStore>(
     ensures waits { IfOk result (λ world. WaitsAlone world.notes world.hosts) }
     ensures openings { IfOk result (λ world. OpenedUnderNoText world.notes world.hosts) }
     ensures each { IfOk result (λ world. EachByItself world.notes world.hosts) }
+    ensures taken { IfOk result (λ world. EachOutTaken world.notes world.hosts) }
+    ensures run { IfOk result (λ world. IsTranscript world.notes world.hosts) }
 {
     let mut world = World::new(alloc, a, b)?;
     for event in events {

@@ -9,10 +9,10 @@ loop-event-preserved g c = λ last rest.
     c.loop-event.invariant last (next_event c.args.events.now c.loop-event.event-index c.event-item.result c.loop-event.world c.happen.new.self last c.loop-event-test.true c.event-item.is c.in_ok-happen.ensures.step rest)
 
 pub returns-clause-notes : goal.returns-clause-notes
-returns-clause-notes g c = (all_noted c.args.events.now c.loop-event.event-index c.args.a c.args.b c.in_ok-world.world c.loop-event.world c.in_ok-world.ensures c.loop-event.invariant c.loop-event-test.false).0
+returns-clause-notes g c = (all_noted c.args.events.now c.loop-event.event-index c.args.a c.args.b c.in_ok-world.world c.loop-event.world c.in_ok-world.ensures.world c.loop-event.invariant c.loop-event-test.false).0
 
 pub returns-clause-hosts : goal.returns-clause-hosts
-returns-clause-hosts g c = (all_noted c.args.events.now c.loop-event.event-index c.args.a c.args.b c.in_ok-world.world c.loop-event.world c.in_ok-world.ensures c.loop-event.invariant c.loop-event-test.false).1
+returns-clause-hosts g c = (all_noted c.args.events.now c.loop-event.event-index c.args.a c.args.b c.in_ok-world.world c.loop-event.world c.in_ok-world.ensures.world c.loop-event.invariant c.loop-event-test.false).1
 
 pub returns-clause-subnet : goal.returns-clause-subnet
 returns-clause-subnet g c = c.keeps.ensures.subnet
@@ -55,3 +55,9 @@ returns-clause-openings g c = c.keeps.ensures.openings
 
 pub returns-clause-each : goal.returns-clause-each
 returns-clause-each g c = c.keeps.ensures.each
+
+pub returns-clause-run : goal.returns-clause-run
+returns-clause-run g c = c.keeps.ensures.run
+
+pub returns-clause-taken : goal.returns-clause-taken
+returns-clause-taken g c = c.keeps.ensures.taken

@@ -41,3 +41,6 @@ returns-clause-each g c = λ side. c.each_host_is_by_itself.ensures c.args.self.
 
 pub returns-clause-no_err : goal.returns-clause-no_err
 returns-clause-no_err g c = c.no_err_is_ever_underway.ensures c.args.self.now.notes c.args.self.now.hosts c.transcript-notes.ensures.run
+
+pub returns-clause-taken : goal.returns-clause-taken
+returns-clause-taken g c = c.what_goes_out_is_taken.ensures c.args.self.now.notes c.args.self.now.hosts c.transcript-notes.ensures.run

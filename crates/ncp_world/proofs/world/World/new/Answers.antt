@@ -6,7 +6,13 @@ pub invariant_of-result : goal.invariant_of-result
 invariant_of-result g c =
     let fits_a : c.args.a < 2 ^ 8 = omega arith in
     let fits_b : c.args.b < 2 ^ 8 = omega arith in
-    rw c.new-2.ensures.items (transcript_new c.args.a c.args.b c.in_ok-hosts.hosts c.requires fits_a fits_b c.in_ok-hosts.ensures)
+    rw c.new-2.ensures (transcript_new c.args.a c.args.b c.in_ok-hosts.hosts c.requires fits_a fits_b c.in_ok-hosts.ensures)
 
-pub returns : goal.returns
-returns g c = λ k. record { hosts = c.in_ok-hosts.ensures k; notes = c.new-2.ensures.items k }
+pub returns-clause-world : goal.returns-clause-world
+returns-clause-world g c = λ k. record { hosts = c.in_ok-hosts.ensures k; notes = c.new-2.ensures k }
+
+pub returns-clause-run : goal.returns-clause-run
+returns-clause-run g c =
+    let fits_a : c.args.a < 2 ^ 8 = omega arith in
+    let fits_b : c.args.b < 2 ^ 8 = omega arith in
+    rw c.new-2.ensures (transcript_new c.args.a c.args.b c.in_ok-hosts.hosts c.requires fits_a fits_b c.in_ok-hosts.ensures)
