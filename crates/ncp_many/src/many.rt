@@ -6,6 +6,7 @@ ghost use Rattle.ncp_promises.specs.Judged.{ActsOnce, MakesNoErr};
 ghost use Rattle.ncp_promises.specs.Resetting.{OnlyResetsAct};
 ghost use Rattle.ncp_promises.specs.Openings.{OpensUnderNoText};
 ghost use Rattle.ncp_promises.specs.Promised.{SubnetHonest, GotBegins, EachByteOnce, WithinAllocation, LedgersBalanced, CameInOrder, CommandsInOrder, NoErrUnderway, WaitsAlone};
+ghost use Rattle.ncp_promises.specs.Taking.{IsTaken};
 ghost use Rattle.ncp_pairs.specs.Numbered.{thing_in};
 ghost use Rattle.ncp_pairs.specs.Crowd.{is_there, are_hosts, new_crowd, after_many_notes};
 ghost use Rattle.ncp_pairs.specs.ManyTranscript.{new_many, IsManyStep, AreManyNotes, IsManyTranscript};
@@ -14,11 +15,13 @@ ghost use Rattle.ncp_pairs.specs.NotesOfTwo.{ForEachNoteOfTwo};
 
 use crate::crowd::{Crowd, are_hosts};
 use crate::many_fault::ManyFault;
+use crate::transcript::Transcript;
 use ncp_bits::BitStore;
 use ncp_host::Host;
 use ncp_pairs::each_pair::{
     each_note_of_each_pair, each_pair_is_a_world_of_two, the_headline_of_each_pair,
 };
+use ncp_pairs::taking::what_goes_out_of_each_of_many_is_taken;
 use ncp_pairs::transcripts::each_host_of_many_is_by_itself;
 use ncp_pairs::{ManyEvent, ManyNote};
 use std::alloc::{AllocError, Global};
@@ -28,11 +31,12 @@ use std::marker::Model;
 ///
 /// A note takes at most [`crate::MANY_NOTE_BYTES`] bytes; beside them one with a message has the message's,
 /// one of the errors that were read has theirs, and one of a call at a host that is not there has its text's.
+/// Only [`Many::new`] and [`Many::step`] take memory: the readers are lent the hosts and the notes, and no
+/// allocator is in their reach.
 #[derive(Drop)]
 pub struct Many<S: BitStore> {
-    alloc: Global,
     crowd: Crowd<S>,
-    notes: Vec<ManyNote>,
+    notes: Transcript,
 }
 
 impl<S: BitStore> Model for Many<S> {
@@ -46,9 +50,9 @@ impl<S: BitStore> Model for Many<S> {
 
     ghost coded = { Prim.hlevel (codes, coded_ends, coded_slots, coded_in_transit) };
 
-    ghost view = { λ m. record { crowd = m.crowd; notes = m.notes.items } };
+    ghost view = { λ m. record { crowd = m.crowd; notes = m.notes } };
 
-    ghost invariant = { λ m. IsManyTranscript m.notes.items m.crowd };
+    ghost invariant = { λ m. IsManyTranscript m.notes m.crowd };
 }
 
 impl<S: BitStore> Many<S> {
@@ -58,6 +62,7 @@ impl<S: BitStore> Many<S> {
     /// `OutOfMemory`. The subnet takes room for 256 messages from each host to each other.
     pub fn new(alloc: Global, hosts: &[u8]) -> Result<Many<S>, ManyFault>
         ensures many { IfOk result (λ many. many ≡ new_many hosts.now) }
+        ensures run { IfOk result (λ many. IsManyTranscript many.notes many.crowd) }
         ensures good { IfOk result (λ _. are_hosts hosts.now ≡ true) }
         ensures bad { are_hosts hosts.now ≡ false → result ≡ Err ManyFault.BadHosts }
         ensures full { are_hosts hosts.now ≡ true → IfErr result (λ fault. fault ≡ ManyFault.OutOfMemory) }
@@ -67,9 +72,8 @@ impl<S: BitStore> Many<S> {
         }
         let crowd = Crowd::new(alloc, hosts)?;
         Ok(Many {
-            alloc,
             crowd,
-            notes: Vec::new(alloc),
+            notes: Transcript::new(alloc),
         })
     }
 
@@ -78,10 +82,7 @@ impl<S: BitStore> Many<S> {
         ensures step { OnOk result (IsManyStep event.now self.old self.new) }
         ensures err { OnErr result (self.new ≡ self.old) }
     {
-        self.notes.reserve(1)?;
-        let note = self.crowd.happen(self.alloc, event)?;
-        self.notes.push_reserved(note);
-        Ok(())
+        self.notes.note(&mut self.crowd, event)
     }
 
     // What is promised of every transcript of many holds of this one.
@@ -102,12 +103,15 @@ impl<S: BitStore> Many<S> {
         ensures resets { ForEachNoteOfTwo OnlyResetsAct self.now.notes self.now.crowd }
         ensures waits { ForEachTwo WaitsAlone self.now.notes self.now.crowd }
         ensures openings { ForEachNoteOfTwo OpensUnderNoText self.now.notes self.now.crowd }
+        ensures taken { ForEachNoteOfTwo IsTaken self.now.notes self.now.crowd }
+        ensures run { IsManyTranscript self.now.notes self.now.crowd }
     {
         let _notes = self.transcript();
         each_pair_is_a_world_of_two();
         each_host_of_many_is_by_itself();
         the_headline_of_each_pair();
         each_note_of_each_pair();
+        what_goes_out_of_each_of_many_is_taken();
     }
 
     /// Does what an event says, and notes it with what came of it. One whose host, sender or destination is
@@ -119,7 +123,8 @@ impl<S: BitStore> Many<S> {
     /// Behind `step` and `err`, which say what happens, stands what holds of each two of the hosts after
     /// the event, either way: the notes that name both are a transcript of two hosts (`pairs`), which leaves
     /// what is seen of the two (`seen`), and the phrases of the headline hold of them as they are among all.
-    /// And each host is by itself (`each`).
+    /// And the subnet took each message that went out (`taken`), each host is by itself (`each`), and the notes are
+    /// a transcript of the hosts (`run`), of which all that is proved of transcripts of many holds.
     pub fn step(&mut self, event: &ManyEvent) -> Result<(), AllocError>
         ensures step { OnOk result (IsManyStep event.now self.old self.new) }
         ensures err { OnErr result (self.new ≡ self.old) }
@@ -139,6 +144,8 @@ impl<S: BitStore> Many<S> {
         ensures resets { ForEachNoteOfTwo OnlyResetsAct self.new.notes self.new.crowd }
         ensures waits { ForEachTwo WaitsAlone self.new.notes self.new.crowd }
         ensures openings { ForEachNoteOfTwo OpensUnderNoText self.new.notes self.new.crowd }
+        ensures taken { ForEachNoteOfTwo IsTaken self.new.notes self.new.crowd }
+        ensures run { IsManyTranscript self.new.notes self.new.crowd }
     {
         let noted = self.happen(event);
         self.keeps();
@@ -188,6 +195,8 @@ impl<S: BitStore> Many<S> {
         ensures resets { IfOk result (λ many. ForEachNoteOfTwo OnlyResetsAct many.notes many.crowd) }
         ensures waits { IfOk result (λ many. ForEachTwo WaitsAlone many.notes many.crowd) }
         ensures openings { IfOk result (λ many. ForEachNoteOfTwo OpensUnderNoText many.notes many.crowd) }
+        ensures taken { IfOk result (λ many. ForEachNoteOfTwo IsTaken many.notes many.crowd) }
+        ensures run { IfOk result (λ many. IsManyTranscript many.notes many.crowd) }
     {
         let mut many = Many::new(alloc, hosts)?;
         for event in events {

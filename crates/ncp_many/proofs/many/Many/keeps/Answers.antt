@@ -26,3 +26,6 @@ returns-clause-openings g c = c.each_note_of_each_pair.ensures.openings c.args.s
 
 pub returns-clause-allocation : goal.returns-clause-allocation
 returns-clause-allocation g c = c.the_headline_of_each_pair.ensures.allocation c.args.self.now.notes c.args.self.now.crowd c.transcript-notes.ensures.run
+
+pub returns-clause-taken : goal.returns-clause-taken
+returns-clause-taken g c = c.what_goes_out_of_each_of_many_is_taken.ensures c.args.self.now.notes c.args.self.now.crowd c.transcript-notes.ensures.run

@@ -61,3 +61,9 @@ returns-clause-waits g c = c.keeps.ensures.waits
 
 pub returns-clause-openings : goal.returns-clause-openings
 returns-clause-openings g c = c.keeps.ensures.openings
+
+pub returns-clause-run : goal.returns-clause-run
+returns-clause-run g c = c.keeps.ensures.run
+
+pub returns-clause-taken : goal.returns-clause-taken
+returns-clause-taken g c = c.keeps.ensures.taken
