@@ -21,7 +21,7 @@ use Rattle.ncp_hosts.specs.Hosts as hosts
 use Rattle.ncp_host.specs.PeerState.{PeerState}
 use Rattle.ncp_host.specs.Hearing as hearing
 use Rattle.ncp_two.specs.Subnet.{Accepted, Delivered, Subnet, set_at, from_host}
-use Rattle.ncp_two.specs.World.{World, after_received}
+use Rattle.ncp_two.specs.World.{World, In, after_received, received}
 use Rattle.ncp_two.specs.Tie.{control_bits, text_bits, AreCommands, IsTextOn, Stands, Reached, Goes_on, Tied}
 use Rattle.ncp_two.proofs.Ties.{quiet-is, stays}
 use Rattle.ncp_numbers.specs.Numbers.{bits_of}
@@ -68,7 +68,7 @@ control-heard w v m t c =
 -- the histories after it
 
 abbrev pub Heard : ℕ → hosts.World → World → List Bool → World → Type 0
-Heard on w v m x = FollowsWith w.this.pasts (of_message on (from_host v.here m) (message_in (from_host v.here m)) v.that w.that.pasts) x
+Heard on w v m x = FollowsWith (In on (from_host v.here m) (received (from_host v.here m) v.that)) w w.this.pasts (of_message on (from_host v.here m) (message_in (from_host v.here m)) v.that w.that.pasts) x
 
 hears_all-pasts : (there : ℕ) (cs : List Command) (n : Node) (s : PeerState) (u : Subnet) → All IsCommand cs → ModelStands n → Stands there n s u → (hosts.hears_all cs n).pasts ≡ of_commands cs s n.pasts
 hears_all-pasts there [] n s u f g k = refl
@@ -90,7 +90,7 @@ deliver-control : (w : hosts.World) (v : World) (m : List Bool) → Tied w v →
 deliver-control w v m t e = (
   after,
   record {
-    reached = subst Reached (ap (λ (x : model.Subnet (List Command)). hosts.swap (hosts.message_comes x (hosts.swap w))) c.there) (Goes_on t.reached That hosts.Hears);
+    reached = subst Reached led (Goes_on t.reached That hosts.Hears);
     this = record {
       number = t.this.number;
       peer = t.this.peer;
@@ -103,6 +103,7 @@ deliver-control w v m t e = (
   },
   refl,
   hears_all-pasts v.here c.what w.that v.that v.coming c.fits.0 (stands-there w t.reached) t.that ∙ sym (control-told w v m t c w.that.pasts),
+  (That, hosts.Hears, (c.what, c.there), led),
 )
   where
     c : Comes (control_bits v.there) AreCommands w.this.control (slot_at v.this.slots 0) m
@@ -113,6 +114,9 @@ deliver-control w v m t e = (
       this = record w.this { control = record w.this.control { subnet = model.Delivered } };
       that = hosts.hears_all c.what w.that;
     }
+
+    led : hosts.at That hosts.Hears w ≡ after
+    led = ap (λ (x : model.Subnet (List Command)). hosts.swap (hosts.message_comes x (hosts.swap w))) c.there
 
 -- a text
 
@@ -155,7 +159,7 @@ deliver-text : (on : ℕ) (w : hosts.World) (v : World) (m : List Bool) → (on 
 deliver-text on w v m z t e = (
   after,
   record {
-    reached = subst Reached (ap (λ (x : model.Subnet TextOut). hosts.swap (hosts.text_comes on head x (hosts.swap w))) c.there) (Goes_on t.reached That (hosts.Hears_text on head));
+    reached = subst Reached led (Goes_on t.reached That (hosts.Hears_text on head));
     this = record {
       number = t.this.number;
       peer = t.this.peer;
@@ -173,6 +177,7 @@ deliver-text on w v m z t e = (
   },
   refl,
   text-pasts on head c.what w.that ∙ ap (λ (p : Peer). of_text on head (message_with (leader_to v.here on) c.what.of_size c.what.bits) p w.that.pasts) (sym t.that.peer) ∙ sym (text-told on w v m t z c w.that.pasts),
+  (That, hosts.Hears_text on head, ((z, c.fits.0), c.what, c.there), led),
 )
   where
     c : Comes (text_bits v.there on) (IsTextOn on) (w.this.texts on) (slot_at v.this.slots on) m
@@ -192,6 +197,9 @@ deliver-text on w v m z t e = (
       this = record w.this { texts = set_link on l w.this.texts };
       that = hosts.hears_text on head c.what w.that;
     }
+
+    led : hosts.at That (hosts.Hears_text on head) w ≡ after
+    led = ap (λ (x : model.Subnet TextOut). hosts.swap (hosts.text_comes on head x (hosts.swap w))) c.there
 
 pub deliver-ties : (on : ℕ) (w : hosts.World) (v : World) (m : List Bool) → Tied w v → v.going on ≡ Accepted m → Heard on w v m (record v { that = after_received (from_host v.here m) v.that; going = set_at on Delivered v.going })
 deliver-ties on w v m t e = go (on == 0) refl

@@ -20,7 +20,9 @@ use Rattle.ncp_hosts.specs.Hosts.{TextOut, Node, set_link, peer_of}
 use Rattle.ncp_hosts.specs.Hosts as hosts
 use Rattle.ncp_host.specs.PeerState.{PeerState}
 use Rattle.ncp_two.specs.Subnet.{Accepted, Subnet, set_at}
-use Rattle.ncp_two.specs.World.{World}
+use Rattle.ncp_two.specs.World.{World, Out}
+use Rattle.ncp_hosts.specs.Moving.{put_if_any, first_of, as_text}
+use Rattle.ncp_slot.specs.Slot.{ready_message}
 use Rattle.ncp_two.specs.Tie.{Nowhere, Goes, model_of, control_bits, text_bits, AreCommands, IsTextOn, Stands, Reached, Goes_on, Tied}
 use Rattle.ncp_two.proofs.Ties.{Follows}
 use Rattle.ncp_two.proofs.Well.{sends-well, cuts-well, cut-written, EndsWell}
@@ -135,25 +137,37 @@ text-out w v t on z n x p m c y e a q well =
 -- what follows of the world
 
 abbrev pub GoneOut : hosts.World → World → ℕ → List Bool → Type 0
-GoneOut w v on m = Follows w (record v { this = after_output on m v.this; going = set_at (link_in m) (Accepted m) v.going })
+GoneOut w v on m = Follows (Out m) w (record v { this = after_output on m v.this; going = set_at (link_in m) (Accepted m) v.going })
 
 abbrev OutBy : hosts.World → World → ℕ → List Bool → LinkSlot → Type 0
-OutBy w v on m s = Follows w (record v { this = record v.this { slots = with_slot v.this.slots on (slots.Travelling m); peer = after_by s on v.this.peer }; going = set_at (link_in m) (Accepted m) v.going })
+OutBy w v on m s = Follows (Out m) w (record v { this = record v.this { slots = with_slot v.this.slots on (slots.Travelling m); peer = after_by s on v.this.peer }; going = set_at (link_in m) (Accepted m) v.going })
+
+-- what is ready stays so, and what waits is put in
+
+ready-again : {M : Type 0} (o : Option M) (r : M) → ready_message (put_if_any o (model.Ready r)) ≡ Some r
+ready-again None r = refl
+ready-again (Some m) r = refl
+
+ready-new : (q : List Command) (c : Command) (cs : List Command) (k : ℕ) → next_commands q ≡ c ∷ cs → (ds : List Command) × (ready_message (put_if_any (first_of k q) model.Empty) ≡ Some ds)
+ready-new [] c cs k d = absurd (cc d)
+ready-new (x ∷ xs) c cs k d = (take (k + 1) (x ∷ xs), refl)
 
 -- the control message again
 control-again : (w : hosts.World) (v : World) (m r : List Bool) → Tied w v → slot_at v.this.slots 0 ≡ slots.Ready r → Some r ≡ Some m → OutBy w v 0 m (slots.Ready r)
 control-again w v m r t s e =
     let a : Again (control_bits v.there) AreCommands w.this.control r = again (control_bits v.there) AreCommands w.this.control (slot_at v.this.slots 0) (v.going 0) r t.this.control s in
     let x : r ≡ m = cc e in
-    let n : Node = record w.this { control = model_of (Goes a.what) } in (
+    let n : Node = record w.this { control = model_of (Goes a.what) } in
+    let led : hosts.at This (hosts.Sends 0) w ≡ record w { this = n } = ap (λ (l : Link (List Command)). (let o : hosts.World = record w { this = hosts.moved (resets.sends l.slot w.this.host.phase.waiting 0 (record { this = w.this.host; that = w.that.host; going = l; coming = w.that.control })) w.this } in o)) a.there in (
       record w { this = n },
       record {
-        reached = subst Reached (ap (λ (l : Link (List Command)). (let o : hosts.World = record w { this = hosts.moved (resets.sends l.slot w.this.host.phase.waiting 0 (record { this = w.this.host; that = w.that.host; going = l; coming = w.that.control })) w.this } in o)) a.there) (Goes_on t.reached This (hosts.Sends 0));
+        reached = subst Reached led (Goes_on t.reached This (hosts.Sends 0));
         this = control-out w v t n a.what v.this.peer m refl refl (sym x ∙ a.written) a.fits t.this.peer t.this.well;
         that = t.that;
       },
       refl,
       refl,
+      (This, hosts.Sends 0, (a.what, ap (λ (l : Link (List Command)). ready_message (put_if_any (first_of 0 w.this.host.phase.waiting) l.slot)) a.there ∙ ready-again (first_of 0 w.this.host.phase.waiting) a.what), led),
     )
 
 -- a text again
@@ -161,15 +175,17 @@ text-again : (on : ℕ) (w : hosts.World) (v : World) (m r : List Bool) → (on 
 text-again on w v m r z t s e =
     let a : Again (text_bits v.there on) (IsTextOn on) (w.this.texts on) r = again (text_bits v.there on) (IsTextOn on) (w.this.texts on) (slot_at v.this.slots on) (v.going on) r (t.this.texts on z) s in
     let x : r ≡ m = cc e in
-    let n : Node = hosts.goes_out on a.what w.this in (
+    let n : Node = hosts.goes_out on a.what w.this in
+    let led : hosts.at This (hosts.Sends_text on) w ≡ record w { this = n } = ap (λ (l : Link TextOut). (let o : hosts.World = record w { this = hosts.sends_text on l.slot w.this } in o)) a.there in (
       record w { this = n },
       record {
-        reached = subst Reached (ap (λ (l : Link TextOut). (let o : hosts.World = record w { this = hosts.sends_text on l.slot w.this } in o)) a.there) (Goes_on t.reached This (hosts.Sends_text on));
+        reached = subst Reached led (Goes_on t.reached This (hosts.Sends_text on));
         this = text-out w v t on z n a.what v.this.peer m refl refl (sym x ∙ a.written) a.fits t.this.peer t.this.well;
         that = t.that;
       },
       refl,
       refl,
+      (This, hosts.Sends_text on, ((z, a.fits.0), a.what, ap (λ (l : Link TextOut). ready_message (put_if_any (as_text (answer (cut_in on w.this.ends))) l.slot)) a.there ∙ ready-again (as_text (answer (cut_in on w.this.ends))) a.what), led),
     )
 
 -- a control message of what waits
@@ -199,13 +215,11 @@ control-new w v m t s e = go (next_commands q) refl (ap (λ (p : Peer). control_
         let long : length (c ∷ cs) ≡ k + 1 = omega arith in
         let as_many : length (next_commands q) ≡ k + 1 = ap length d ∙ long in
         let front : take (k + 1) q ≡ c ∷ cs = ap (λ (j : ℕ). take j q) (sym as_many) ∙ sym (fitting-take 120 q) ∙ d in
-        let n : Node = record w.this { host = record w.this.host { phase = record w.this.host.phase { waiting = drop (k + 1) q } }; control = model_of (Goes (take (k + 1) q)) } in (
+        let n : Node = record w.this { host = record w.this.host { phase = record w.this.host.phase { waiting = drop (k + 1) q } }; control = model_of (Goes (take (k + 1) q)) } in
+        let led : hosts.at This (hosts.Sends k) w ≡ record w { this = n } = ap (λ (l : Link (List Command)). (let o : hosts.World = record w { this = hosts.moved (resets.sends l.slot q k (record { this = w.this.host; that = w.that.host; going = l; coming = w.that.control })) w.this } in o)) none ∙ ap (λ (b : resets.World). (let o : hosts.World = record w { this = hosts.moved b w.this } in o)) (sends-new q c cs k (record { this = w.this.host; that = w.that.host; going = model.idle; coming = w.that.control }) d) in (
           record w { this = n },
           record {
-            reached = subst Reached
-                (ap (λ (l : Link (List Command)). (let o : hosts.World = record w { this = hosts.moved (resets.sends l.slot q k (record { this = w.this.host; that = w.that.host; going = l; coming = w.that.control })) w.this } in o)) none
-                ∙ ap (λ (b : resets.World). (let o : hosts.World = record w { this = hosts.moved b w.this } in o)) (sends-new q c cs k (record { this = w.this.host; that = w.that.host; going = model.idle; coming = w.that.control }) d))
-                (Goes_on t.reached This (hosts.Sends k));
+            reached = subst Reached led (Goes_on t.reached This (hosts.Sends k));
             this = control-out w v t n (c ∷ cs) (peers.sends v.this.peer) m (ap (λ (ds : List Command). model_of (Goes ds)) front) refl (sym x)
                 (subst AreCommands d (next-are q (subst (λ (p : Peer). All IsCommand p.phase.waiting) t.this.peer t.this.well.waiting)))
                 (ap peers.sends t.this.peer ∙ ap (λ (j : ℕ). (let p : Peer = record (peer_of w.this) { phase = record w.this.host.phase { waiting = drop j q } } in p)) as_many)
@@ -214,6 +228,7 @@ control-new w v m t s e = go (next_commands q) refl (ap (λ (p : Peer). control_
           },
           refl,
           refl,
+          (This, hosts.Sends k, (let r = ready-new q c cs k d in (r.0, ap (λ (l : Link (List Command)). ready_message (put_if_any (first_of k q) l.slot)) none ∙ r.1)), led),
         )
 
 -- a text of what waits
@@ -232,19 +247,18 @@ text-new on w v m z f t s e = go (answer (cut_in on w.this.ends)) refl (ap (λ (
     go (Some text) d e =
         let x : message_to v.there on text.0 text.1 ≡ m = cc e in
         let y : TextOut = record { of_size = text.0; bits = text.1 } in
-        let n : Node = hosts.goes_out on y (record w.this { ends = map_after_at w.this.ends (pair_of (sender_on on w.this.ends)) (cut_in on w.this.ends) }) in (
+        let n : Node = hosts.goes_out on y (record w.this { ends = map_after_at w.this.ends (pair_of (sender_on on w.this.ends)) (cut_in on w.this.ends) }) in
+        let led : hosts.at This (hosts.Sends_text on) w ≡ record w { this = n } = ap (λ (l : Link TextOut). (let o : hosts.World = record w { this = hosts.sends_text on l.slot w.this } in o)) none ∙ ap (λ (p : Option (ℕ × List Bool)). (let o : hosts.World = record w { this = hosts.cuts on p w.this } in o)) d in (
           record w { this = n },
           record {
-            reached = subst Reached
-                (ap (λ (l : Link TextOut). (let o : hosts.World = record w { this = hosts.sends_text on l.slot w.this } in o)) none
-                ∙ ap (λ (p : Option (ℕ × List Bool)). (let o : hosts.World = record w { this = hosts.cuts on p w.this } in o)) d)
-                (Goes_on t.reached This (hosts.Sends_text on));
+            reached = subst Reached led (Goes_on t.reached This (hosts.Sends_text on));
             this = subst (λ (b : Bool). Stands v.there n (record v.this { slots = with_slot v.this.slots on (slots.Travelling m); peer = if b then peers.sends v.this.peer else peers.cuts on v.this.peer }) (set_at (link_in m) (Accepted m) v.going)) (sym z)
                 (text-out w v t on z n y (peers.cuts on v.this.peer) m refl refl (sym x) (f, cut-written on w.this.ends text (good-here w t.reached) (subst (λ (p : Peer). EndsWell p.ends) t.this.peer t.this.well.ends) d) (ap (peers.cuts on) t.this.peer) (cuts-well on v.this.peer t.this.well));
             that = t.that;
           },
           refl,
           refl,
+          (This, hosts.Sends_text on, ((z, f), y, ap (λ (l : Link TextOut). ready_message (put_if_any (as_text (answer (cut_in on w.this.ends))) l.slot)) none ∙ ap (λ (o : Option (ℕ × List Bool)). ready_message (put_if_any (as_text o) model.Empty)) d), led),
         )
 
 -- what is ready on a link

@@ -85,7 +85,7 @@ stand-after (notes.Nothing side link move) w k = k
 
 -- On either side.
 
-abbrev DoesOn : rules.Side → Option Told → World → World → Type 0
+abbrev pub DoesOn : rules.Side → Option Told → World → World → Type 0
 DoesOn side None v x = x ≡ v
 DoesOn side (Some t) v x = (st : worlds.Step) × IsMove st × (at side st v ≡ (x, t))
 
@@ -104,7 +104,7 @@ pub stand-turned : (w : Hosts) → Stand w → Stand (turned w)
 stand-turned w k = record { differ = λ e. k.differ (sym e); fits_a = k.fits_b; fits_b = k.fits_a; a = k.b; b = k.a; to_b = k.to_a; to_a = k.to_b }
 
 module _ (w : Hosts) (k : Stand w) (x : hosts.World) (t : Tied x (seen w)) where
-  abbrev Following : Note → Type 0
+  abbrev pub Following : Note → Type 0
   Following n = DoesOn (as_rules (side_of n)) (told_of n) (seen w) (seen (after_note n w))
 
   abbrev OfA : Note → Type 0
@@ -151,7 +151,7 @@ module _ (w : Hosts) (k : Stand w) (x : hosts.World) (t : Tied x (seen w)) where
   b-dead link true d = on-that (told_of (notes.FoundDead B link)) (seen w) (seen (after_note (notes.FoundDead B link) w)) d
   b-dead link false d = on-that (Some Nothing) (seen w) (seen w) d
 
-  event-does : (event : happens.Event) (note : Note) → Noted event note w → Following note
+  pub event-does : (event : happens.Event) (note : Note) → Noted event note w → Following note
   event-does (events.Call A call) note n = subst Following (sym n.said) (on-this (told_call n.of_host) (seen w) _ (call-does w k call n.of_host n.noted (note-fits call n.of_host w.a n.noted n.fits)))
   event-does (events.Call B call) note n = subst Following (sym n.said) (on-that (told_call n.of_host) (seen w) (seen (host_notes_it B n.of_host w)) (call-does (turned w) k' call n.of_host n.noted (note-fits call n.of_host w.b n.noted n.fits)))
   event-does (events.Out A) note n = subst Following (sym n) (out-does w k x t)

@@ -1,5 +1,5 @@
 -- Each step of the world of bits is some step of the model.
-use Rattle.std.proofs.Common.{◌≡◌, ℕ, zero, suc, ◌+◌, ◌==◌, Bool, true, false, ◌&&◌, List, refl, sym, ap, ◌∙◌, arith, subst}
+use Rattle.std.proofs.Common.{◌≡◌, ℕ, zero, suc, ◌+◌, ◌==◌, Bool, true, false, ◌&&◌, List, Some, refl, sym, ap, ◌∙◌, arith, subst}
 use Rattle.std.specs.List.{list_all, range_with_len}
 use Rattle.std.proofs.lemmas.Bool.{both_ways, eqb-true, ne_eqb}
 use Rattle.ncp_slot.specs.Slots.{LinkSlot}
@@ -9,14 +9,22 @@ use Rattle.ncp_slot.specs.Slot.{woken}
 use Rattle.ncp_slot.proofs.Waking.{slot_at-all_woken}
 use Rattle.ncp_resets.specs.Delivery.{Link, undelivered}
 use Rattle.ncp_resets.specs.Delivery as model
-use Rattle.ncp_resets.specs.Resets.{This, That}
+use Rattle.ncp_resets.specs.Resets.{Side, This, That}
+use Rattle.ncp_resets.specs.Delivery.{answer_of}
+use Rattle.ncp_hosts.specs.Moving.{put_if_any, first_of, as_text}
+use Rattle.ncp_slot.specs.Slot.{ready_message}
+use Rattle.ncp_model.specs.Act.{answer}
+use Rattle.ncp_model.specs.Ends.{cut_in}
+use Rattle.ncp_terms.specs.declared.answer.Answer.{Answer}
+use Rattle.ncp_terms.specs.declared.command.Command.{Command}
+use Rattle.ncp_host.specs.Hearing.{is_wrong_link}
 use Rattle.ncp_model.specs.Peers.{Peer}
 use Rattle.ncp_model.specs.Peers as peers
 use Rattle.ncp_hosts.specs.Hosts.{TextOut, Node, all_empty, set_link, peer_of}
 use Rattle.ncp_hosts.specs.Hosts as hosts
 use Rattle.ncp_host.specs.PeerState.{PeerState}
 use Rattle.ncp_two.specs.Subnet.{Holds, Accepted, Lost, Dead, Subnet, set_at}
-use Rattle.ncp_two.specs.World.{World, Asked, Asks, Asks_echo, Asks_reset, Asks_wake, after_call}
+use Rattle.ncp_two.specs.World.{Told, Called, Out, In, Went_lost, Went_dead, Answered, Nothing, reply_to, World, Asked, Asks, Asks_echo, Asks_reset, Asks_wake, after_call}
 use Rattle.ncp_two.specs.World as worlds
 use Rattle.ncp_two.specs.Tie.{Place, Nowhere, Waits, Goes, Came, Failed, Died, Kept, model_of, slot_of, Carries, control_bits, text_bits, AreCommands, IsTextOn, Stands, Reached, Begins, Goes_on, Tied, IsAsked}
 use Rattle.ncp_hosts.specs.Hosts.{Pasts}
@@ -28,15 +36,42 @@ use Rattle.ncp_two.proofs.Reaching.{good-here}
 use Rattle.ncp_two.proofs.Well.{calls-well, echo-well, reset-well}
 use Rattle.ncp_hosts.proofs.Seeing.{calls_agree, echoes_agree, resets_agree}
 use Rattle.ncp_two.proofs.Unmoved.{Unmoved, calls-unmoved, echo-unmoved, reset-unmoved}
-use Rattle.ncp_two.proofs.Links.{carried, lost, died, wakes, Texts, texts_changed, all_apart, set_at-apart, set_at-same, set_link-apart, set_link-same, zero_apart}
+use Rattle.ncp_two.proofs.Links.{carried, delivered, lost, died, wakes, Texts, texts_changed, all_apart, set_at-apart, set_at-same, set_link-apart, set_link-same, zero_apart}
 
--- the model goes on to a world that this one stands for
-abbrev pub FollowsWith : Pasts → Pasts → World → Type 0
-FollowsWith a b v = (x : hosts.World) × Tied x v × (x.this.pasts ≡ a) × (x.that.pasts ≡ b)
+-- a link of texts
+abbrev pub OnText : ℕ → Type 0
+OnText on = ((on == 0) ≡ false) × (is_wrong_link on ≡ false)
+
+-- what a note tells of is this step of the model, which has the message for it
+abbrev pub IsFor : Told → Side → hosts.Step → hosts.World → Type 0
+IsFor (Called (Asks pair call) reply) This (hosts.Calls p c) w = (p ≡ pair) × (c ≡ call)
+IsFor (Called (Asks_echo byte) reply) This (hosts.Calls_echo b) w = Unit {0}
+IsFor (Called Asks_reset reply) This hosts.Calls_reset w = Unit {0}
+IsFor (Called Asks_wake reply) This hosts.Wakes w = Unit {0}
+IsFor (Out m) This (hosts.Sends n) w = (cs : List Command) × (ready_message (put_if_any (first_of n w.this.host.phase.waiting) w.this.control.slot) ≡ Some cs)
+IsFor (Out m) This (hosts.Sends_text on) w = OnText on × (t : TextOut) × (ready_message (put_if_any (as_text (answer (cut_in on w.this.ends))) (w.this.texts on).slot) ≡ Some t)
+IsFor (In link m r) That hosts.Hears w = (cs : List Command) × (w.this.control.subnet ≡ model.Accepted cs)
+IsFor (In link m r) That (hosts.Hears_text on head) w = OnText on × (t : TextOut) × ((w.this.texts on).subnet ≡ model.Accepted t)
+IsFor (Went_lost link) This hosts.Loses w = (cs : List Command) × (w.this.control.subnet ≡ model.Accepted cs)
+IsFor (Went_lost link) This (hosts.Loses_text on) w = OnText on × (t : TextOut) × ((w.this.texts on).subnet ≡ model.Accepted t)
+IsFor (Went_dead link) This hosts.Dies w = (cs : List Command) × (w.this.control.subnet ≡ model.Accepted cs)
+IsFor (Went_dead link) This (hosts.Text_dies on) w = OnText on × (t : TextOut) × ((w.this.texts on).subnet ≡ model.Accepted t)
+IsFor (Answered link how r) This hosts.Is_answered w = (cs : List Command) × (a : Answer) × (w.this.control.slot ≡ model.Travelling cs) × (answer_of w.this.control.subnet ≡ Some a)
+IsFor (Answered link how r) This (hosts.Text_is_answered on) w = OnText on × (t : TextOut) × (a : Answer) × ((w.this.texts on).slot ≡ model.Travelling t) × (answer_of (w.this.texts on).subnet ≡ Some a)
+IsFor told side step w = ⊥
+
+-- the step by which the model comes from one world to another, where something is noted
+abbrev pub Leads : Told → hosts.World → hosts.World → Type 0
+Leads Nothing w x = x ≡ w
+Leads told w x = (side : Side) × (step : hosts.Step) × IsFor told side step w × (hosts.at side step w ≡ x)
+
+-- the model goes on to a world that this one stands for, as is told
+abbrev pub FollowsWith : Told → hosts.World → Pasts → Pasts → World → Type 0
+FollowsWith told w a b v = (x : hosts.World) × Tied x v × (x.this.pasts ≡ a) × (x.that.pasts ≡ b) × Leads told w x
 
 -- and the histories are as they were
-abbrev pub Follows : hosts.World → World → Type 0
-Follows w v = FollowsWith w.this.pasts w.that.pasts v
+abbrev pub Follows : Told → hosts.World → World → Type 0
+Follows told w v = FollowsWith told w w.this.pasts w.that.pasts v
 
 -- the other way round
 
@@ -88,7 +123,7 @@ stays there n m s r u k q e p wl = record {
 
 -- calls
 
-pub call-ties : (asked : Asked) (w : hosts.World) (v : World) → IsAsked asked → Tied w v → FollowsWith (of_asked asked v.this.peer w.this.pasts) w.that.pasts (record v { this = after_call asked v.this })
+pub call-ties : (asked : Asked) (w : hosts.World) (v : World) → IsAsked asked → Tied w v → FollowsWith (Called asked (reply_to asked v.this)) w (of_asked asked v.this.peer w.this.pasts) w.that.pasts (record v { this = after_call asked v.this })
 call-ties (Asks pair call) w v ok t = (
   hosts.at This (hosts.Calls pair call) w,
   record {
@@ -100,6 +135,7 @@ call-ties (Asks pair call) w v ok t = (
   },
   calls-pasts pair call w.this ∙ ap (λ (p : Peer). of_call pair call p w.this.pasts) (sym t.this.peer),
   refl,
+  (This, hosts.Calls pair call, (refl, refl), refl),
 )
 call-ties (Asks_echo byte) w v ok t = (
   hosts.at This (hosts.Calls_echo byte) w,
@@ -111,6 +147,7 @@ call-ties (Asks_echo byte) w v ok t = (
   },
   echo-pasts byte w.this,
   refl,
+  (This, hosts.Calls_echo byte, tt, refl),
 )
 call-ties Asks_reset w v ok t = (
   hosts.at This hosts.Calls_reset w,
@@ -123,6 +160,7 @@ call-ties Asks_reset w v ok t = (
   },
   reset-pasts w.this,
   refl,
+  (This, hosts.Calls_reset, tt, refl),
 )
 call-ties Asks_wake w v ok t = (
   hosts.at This hosts.Wakes w,
@@ -141,11 +179,12 @@ call-ties Asks_wake w v ok t = (
   },
   refl,
   refl,
+  (This, hosts.Wakes, tt, refl),
 )
 
 -- the subnet loses a message
 
-lose-control : (w : hosts.World) (v : World) (m : List Bool) → Tied w v → v.going 0 ≡ Accepted m → Follows w (record v { going = set_at 0 Lost v.going })
+lose-control : (w : hosts.World) (v : World) (m : List Bool) → Tied w v → v.going 0 ≡ Accepted m → Follows (Went_lost 0) w (record v { going = set_at 0 Lost v.going })
 lose-control w v m t e = (
   hosts.at This hosts.Loses w,
   record {
@@ -162,9 +201,10 @@ lose-control w v m t e = (
   },
   refl,
   refl,
+  (let c = delivered (control_bits v.there) AreCommands w.this.control (slot_at v.this.slots 0) (v.going 0) m t.this.control e in (This, hosts.Loses, (c.what, c.there), refl)),
 )
 
-lose-text : (on : ℕ) (w : hosts.World) (v : World) (m : List Bool) → (on == 0) ≡ false → Tied w v → v.going on ≡ Accepted m → Follows w (record v { going = set_at on Lost v.going })
+lose-text : (on : ℕ) (w : hosts.World) (v : World) (m : List Bool) → (on == 0) ≡ false → Tied w v → v.going on ≡ Accepted m → Follows (Went_lost on) w (record v { going = set_at on Lost v.going })
 lose-text on w v m f t e = (
   hosts.at This (hosts.Loses_text on) w,
   record {
@@ -184,21 +224,22 @@ lose-text on w v m f t e = (
   },
   refl,
   refl,
+  (let c = delivered (text_bits v.there on) (IsTextOn on) (w.this.texts on) (slot_at v.this.slots on) (v.going on) m (t.this.texts on f) e in (This, hosts.Loses_text on, ((f, c.fits.0), c.what, c.there), refl)),
 )
   where
     after : Link TextOut
     after = record (w.this.texts on) { subnet = undelivered model.Lost (w.this.texts on).subnet }
 
-pub lose-ties : (on : ℕ) (w : hosts.World) (v : World) (m : List Bool) → Tied w v → v.going on ≡ Accepted m → Follows w (record v { going = set_at on Lost v.going })
+pub lose-ties : (on : ℕ) (w : hosts.World) (v : World) (m : List Bool) → Tied w v → v.going on ≡ Accepted m → Follows (Went_lost on) w (record v { going = set_at on Lost v.going })
 lose-ties on w v m t e = go (on == 0) refl
   where
-    go : (b : Bool) → (on == 0) ≡ b → Follows w (record v { going = set_at on Lost v.going })
-    go true z = subst (λ (k : ℕ). v.going k ≡ Accepted m → Follows w (record v { going = set_at k Lost v.going })) (sym (eqb-true on 0 z)) (lose-control w v m t) e
+    go : (b : Bool) → (on == 0) ≡ b → Follows (Went_lost on) w (record v { going = set_at on Lost v.going })
+    go true z = subst (λ (k : ℕ). v.going k ≡ Accepted m → Follows (Went_lost k) w (record v { going = set_at k Lost v.going })) (sym (eqb-true on 0 z)) (lose-control w v m t) e
     go false z = lose-text on w v m z t e
 
 -- the subnet finds the destination of a message dead
 
-die-control : (w : hosts.World) (v : World) (m : List Bool) → Tied w v → v.going 0 ≡ Accepted m → Follows w (record v { going = set_at 0 Dead v.going })
+die-control : (w : hosts.World) (v : World) (m : List Bool) → Tied w v → v.going 0 ≡ Accepted m → Follows (Went_dead 0) w (record v { going = set_at 0 Dead v.going })
 die-control w v m t e = (
   hosts.at This hosts.Dies w,
   record {
@@ -215,9 +256,10 @@ die-control w v m t e = (
   },
   refl,
   refl,
+  (let c = delivered (control_bits v.there) AreCommands w.this.control (slot_at v.this.slots 0) (v.going 0) m t.this.control e in (This, hosts.Dies, (c.what, c.there), refl)),
 )
 
-die-text : (on : ℕ) (w : hosts.World) (v : World) (m : List Bool) → (on == 0) ≡ false → Tied w v → v.going on ≡ Accepted m → Follows w (record v { going = set_at on Dead v.going })
+die-text : (on : ℕ) (w : hosts.World) (v : World) (m : List Bool) → (on == 0) ≡ false → Tied w v → v.going on ≡ Accepted m → Follows (Went_dead on) w (record v { going = set_at on Dead v.going })
 die-text on w v m f t e = (
   hosts.at This (hosts.Text_dies on) w,
   record {
@@ -237,14 +279,15 @@ die-text on w v m f t e = (
   },
   refl,
   refl,
+  (let c = delivered (text_bits v.there on) (IsTextOn on) (w.this.texts on) (slot_at v.this.slots on) (v.going on) m (t.this.texts on f) e in (This, hosts.Text_dies on, ((f, c.fits.0), c.what, c.there), refl)),
 )
   where
     after : Link TextOut
     after = record (w.this.texts on) { subnet = undelivered model.Dead (w.this.texts on).subnet }
 
-pub die-ties : (on : ℕ) (w : hosts.World) (v : World) (m : List Bool) → Tied w v → v.going on ≡ Accepted m → Follows w (record v { going = set_at on Dead v.going })
+pub die-ties : (on : ℕ) (w : hosts.World) (v : World) (m : List Bool) → Tied w v → v.going on ≡ Accepted m → Follows (Went_dead on) w (record v { going = set_at on Dead v.going })
 die-ties on w v m t e = go (on == 0) refl
   where
-    go : (b : Bool) → (on == 0) ≡ b → Follows w (record v { going = set_at on Dead v.going })
-    go true z = subst (λ (k : ℕ). v.going k ≡ Accepted m → Follows w (record v { going = set_at k Dead v.going })) (sym (eqb-true on 0 z)) (die-control w v m t) e
+    go : (b : Bool) → (on == 0) ≡ b → Follows (Went_dead on) w (record v { going = set_at on Dead v.going })
+    go true z = subst (λ (k : ℕ). v.going k ≡ Accepted m → Follows (Went_dead k) w (record v { going = set_at k Dead v.going })) (sym (eqb-true on 0 z)) (die-control w v m t) e
     go false z = die-text on w v m z t e

@@ -1,0 +1,4 @@
+mod EndWork
+pub mod EndsWork
+mod PhaseWork
+pub mod PeerWork

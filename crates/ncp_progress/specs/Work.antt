@@ -1,0 +1,115 @@
+-- How much one host can still bring about with one peer, in messages, whatever the peer sends: what it
+-- has still to say, and what the answers to that can make it say. Nothing is presumed of the peer or of
+-- the ends, so the bound is loose where both keep the rules.
+use Rattle.std.specs.Prelude.{ℕ, Bool, ◌+◌, ◌*◌, ◌/◌, not, ◌||◌, if◌then◌else◌, List, [], ◌∷◌, length, Option, None, Some}
+use Rattle.std.specs.List.{sum_by}
+use Rattle.std.specs.FinMap.{entries}
+use Rattle.ncp_terms.specs.declared.command.Command.{Command}
+use Rattle.ncp_terms.specs.declared.command.Command.TheVariants.{Rts, Str, Cls, All, Gvb, Ret, Inr, Ins, Eco, Rst}
+use Rattle.ncp_model.specs.declared.pair.Pair.{Pair}
+use Rattle.ncp_model.specs.Pairs.{sends}
+use Rattle.ncp_model.specs.End.{End}
+use Rattle.ncp_model.specs.Ends.{Ends}
+use Rattle.ncp_model.specs.Phase.{Phase}
+use Rattle.ncp_model.specs.Peers.{Peer, Call, Ask_to_send, Ask_to_receive, Close, Give, Take, Allocate, Call_back, Interrupt}
+use Rattle.ncp_model.specs.Happenings.{Happening, Happened, Outcome, Sent}
+use Rattle.ncp_model.specs.Happenings as all
+
+-- How many messages the coming of a command can still bring about. A request makes an end, whose CLS is
+-- answered (NIC 8246, RTS, STR, CLS); a GVB is answered by a RET, an ECO by an ERP, an RST by an RRP. What
+-- names no connection is answered by an ERR, as the RET may be, and the CLS.
+abbrev pub causes : Command → ℕ
+causes (Rts receive send on) = 2
+causes (Str send receive of_size) = 2
+causes (Gvb on of_messages of_bits) = 2
+causes (Cls my your) = 1
+causes (All on of_messages of_bits) = 1
+causes (Ret on of_messages of_bits) = 1
+causes (Inr on) = 1
+causes (Ins on) = 1
+causes (Eco byte) = 1
+causes Rst = 1
+causes c = 0
+
+-- of the commands of a message together
+unfoldable pub causes_all : List Command → ℕ
+causes_all [] = 0
+causes_all (c ∷ cs) = causes c + causes_all cs
+
+-- commands that wait: each takes a message, and what its coming brings about
+unfoldable pub queue_work : List Command → ℕ
+queue_work [] = 0
+queue_work (c ∷ cs) = 1 + causes c + queue_work cs
+
+-- an end that has still to make its CLS; and at a sender each byte that waits: the text that has it alone,
+-- and the ERR by which that may be answered
+abbrev pub end_work : Pair → End → ℕ
+end_work pair e = (if not e.left || e.leaving then 2 else 0) + (if sends pair then 2 * (length e.stored / e.size) else 0)
+
+abbrev pub end_work_at : Pair → Option End → ℕ
+end_work_at pair None = 0
+end_work_at pair (Some e) = end_work pair e
+
+-- what follows what happened: the commands made, and the end
+abbrev pub happened_work : Pair → Happened → ℕ
+happened_work pair h = queue_work h.made + end_work_at pair h.after
+
+-- how many bytes of its connection a text is at an end
+abbrev pub bytes_at : Option End → List Bool → ℕ
+bytes_at None text = 0
+bytes_at (Some e) text = length text / e.size
+
+-- How much each happening may add to the work of the end that was there before. Text that comes leads to
+-- receiving ends alone; at one that sends it would wait, and each of its bits might be a byte.
+abbrev pub adds : Pair → Happening → Option End → ℕ
+adds pair (all.Asks_to_send of_size with_room own full) before = 5
+adds pair (all.Asks_to_receive with_room on own full) before = 5
+adds pair (all.Closes full) before = 0
+adds pair (all.Gives text) before = 2 * bytes_at before text
+adds pair (all.Takes bytes) before = 0
+adds pair (all.Allocates of_messages of_bits full) before = 2
+adds pair (all.Calls_back of_messages of_bits full) before = 3
+adds pair (all.Interrupts full) before = 2
+adds pair (all.Rts_comes on taken by_peer) before = 2
+adds pair (all.Str_comes of_size by_peer) before = 2
+adds pair all.Cls_comes before = 1
+adds pair (all.All_comes on of_messages of_bits) before = 1
+adds pair (all.Gvb_comes on of_messages of_bits) before = 2
+adds pair (all.Ret_comes on of_messages of_bits) before = 1
+adds pair (all.Inr_comes on) before = 1
+adds pair (all.Ins_comes on) before = 1
+adds pair (all.Text_comes head of_size text) before = 1 + (if sends pair then 2 * length text else 0)
+adds pair all.Text_goes_out before = 0
+adds pair (all.Is_answered how) before = 0
+adds pair all.Is_cleared before = 0
+
+-- how much a text that goes out takes away
+abbrev pub takes_away : Outcome → ℕ
+takes_away (Sent of_size text) = 2
+takes_away outcome = 0
+
+-- of all ends with a peer together
+abbrev pub entry_work : Pair × End → ℕ
+entry_work p = end_work p.0 p.1
+
+unfoldable pub ends_work : Ends → ℕ
+ends_work m = sum_by entry_work (entries m)
+
+-- what one host can still bring about with one peer: what waits, an RRP that is owed, an RST that is
+-- wanted, and the ends
+abbrev pub phase_work : Phase → ℕ
+phase_work q = queue_work q.waiting + (if q.owe then 1 else 0) + (if q.want then 2 else 0)
+
+abbrev pub peer_work : Peer → ℕ
+peer_work p = phase_work p.phase + ends_work p.ends
+
+-- how much a call of a user may add, at the end of its pair as it was before
+abbrev pub credit : Call → Option End → ℕ
+credit (Ask_to_send of_size with_room) before = 5
+credit (Ask_to_receive with_room) before = 5
+credit Close before = 0
+credit (Give text) before = 2 * bytes_at before text
+credit (Take bytes) before = 0
+credit (Allocate of_messages of_bits) before = 2
+credit (Call_back of_messages of_bits) before = 3
+credit Interrupt before = 2

@@ -1,0 +1,2 @@
+pub mod HostWork
+mod RunWork

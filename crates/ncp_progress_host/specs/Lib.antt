@@ -1,0 +1,3 @@
+pub mod HostWork
+pub mod RunWork
+pub mod Rows

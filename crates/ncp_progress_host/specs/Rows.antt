@@ -1,0 +1,21 @@
+-- Messages of a host of number 1, by which the definitions show what they mean.
+use Rattle.std.specs.Prelude.{Bool, List, [], ◌∷◌}
+use Rattle.ncp_numbers.specs.Bytes.{bits_of_bytes}
+
+-- a control message with an RST, and one with an RTS of sockets 2 and 3 on link 2
+abbrev pub with_rst : List Bool
+with_rst = bits_of_bytes (0 ∷ 1 ∷ 0 ∷ 0 ∷ 0 ∷ 8 ∷ 0 ∷ 1 ∷ 0 ∷ 12 ∷ [])
+
+abbrev pub with_rts : List Bool
+with_rts = bits_of_bytes (0 ∷ 1 ∷ 0 ∷ 0 ∷ 0 ∷ 8 ∷ 0 ∷ 10 ∷ 0 ∷ 1 ∷ 0 ∷ 0 ∷ 0 ∷ 2 ∷ 0 ∷ 0 ∷ 0 ∷ 3 ∷ 2 ∷ [])
+
+-- one with an ECO, and an opcode that is not there behind it
+abbrev pub with_fault : List Bool
+with_fault = bits_of_bytes (0 ∷ 1 ∷ 0 ∷ 0 ∷ 0 ∷ 8 ∷ 0 ∷ 3 ∷ 0 ∷ 9 ∷ 65 ∷ 14 ∷ [])
+
+-- a text of one byte on link 2, and on link 1, which carries none
+abbrev pub with_text : List Bool
+with_text = bits_of_bytes (0 ∷ 1 ∷ 2 ∷ 0 ∷ 0 ∷ 8 ∷ 0 ∷ 1 ∷ 0 ∷ 255 ∷ [])
+
+abbrev pub on_link_1 : List Bool
+on_link_1 = bits_of_bytes (0 ∷ 1 ∷ 1 ∷ 0 ∷ 0 ∷ 8 ∷ 0 ∷ 1 ∷ 0 ∷ 255 ∷ [])

@@ -1,0 +1,3 @@
+mod LinkWork
+pub mod HostsWork
+mod Still

@@ -1,0 +1,2 @@
+pub mod HostsWork
+pub mod WorkRuns

@@ -1,0 +1,4 @@
+//! Progress of two hosts of the model: each schedule ends.
+#![tactic(auto)]
+
+pub mod hosts;

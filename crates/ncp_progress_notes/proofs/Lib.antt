@@ -1,0 +1,3 @@
+mod Leading
+pub mod Running
+mod Resting
