@@ -6,7 +6,6 @@ ghost use Rattle.ncp_host.specs.Calls.{call_reply, after_call, take_reply};
 ghost use Rattle.ncp_host.specs.Arrivals.{after_received};
 ghost use Rattle.ncp_host.specs.Host.{Host};
 ghost use Rattle.ncp_host.specs.Readiness.{IsNext};
-ghost use Rattle.ncp_host.specs.Running.{HasLived};
 ghost use Rattle.std.specs.declared.option.Option.TheVariants.{Some};
 ghost use Rattle.ncp_host.specs.Turns.{next_output, after_next_output};
 ghost use Rattle.ncp_embed.specs.Exports.{TouchesOnePeer, held, pair_of, code_in, host_in, any_code_in, any_in, told_in, with_room, message_over, size_of_message, code_of_bits, after_bits, receive_code, arrived_in, told_over};
@@ -66,7 +65,7 @@ pub extern "C" fn ncp_embed_next_output(
     ensures code { result ≡ with_room LONGEST_MESSAGE out.old SHORT_BUFFER (any_code_in next_output handle.old.host) }
     ensures host { handle.new.host ≡ with_room LONGEST_MESSAGE out.old handle.old.host (host_in after_next_output handle.old.host) }
     ensures err { result ≢ DONE → handle.new.host ≡ handle.old.host }
-    ensures first_ready { LONGEST_MESSAGE ≤ length out.old → (h : Host) → handle.old.host ≡ Some (held h) → HasLived h → IsNext (next_output h) h.peers }
+    ensures first_ready { LONGEST_MESSAGE ≤ length out.old → (h : Host) → handle.old.host ≡ Some (held h) → IsNext (next_output h) h.peers }
     ensures message { out.new ≡ with_room LONGEST_MESSAGE out.old out.old (any_in message_over next_output handle.old.host out.old) }
     ensures bits { bits.new ≡ with_room LONGEST_MESSAGE out.old bits.old (any_in size_of_message next_output handle.old.host bits.old) }
 {

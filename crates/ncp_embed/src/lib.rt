@@ -12,6 +12,7 @@ mod calls;
 mod codes;
 mod connection;
 mod handle;
+pub mod laws;
 mod life;
 mod names;
 mod placing;

@@ -3,10 +3,10 @@ ghost use Rattle.std.specs.Prelude.{◌≡◌, ℕ, Bool, true, false, ◌++◌,
 ghost use Rattle.ncp_terms.specs.declared.fault.CommandFault.{CommandFault};
 ghost use Rattle.ncp_model.specs.Echo.{echo_answer, eco_reply};
 ghost use Rattle.ncp_model.specs.Happenings as all;
-ghost use Rattle.ncp_model.specs.Peers.{Peer, Call, happened_at, calls, calls_up, comes_of, reply, reply_of_take, calls_echo, echo_called, accepted, reply_of_echo, hears_fault, hears_text, takes_text, frees, falls};
+ghost use Rattle.ncp_model.specs.Peers.{Peer, Call, happened_at, calls, calls_up, comes_of, reply, reply_of_take, calls_echo, echo_called, accepted, reply_of_echo, hears_fault, hears_text, takes_text, frees, falls, hears, calls_reset};
 ghost use Rattle.ncp_model.specs.Peers as peers;
 ghost use Rattle.ncp_model.specs.PeerRows.{peer_in};
-ghost use Rattle.ncp_model.specs.Phase.{new_phase, up_phase, up, hears_rst, resets, makes_all};
+ghost use Rattle.ncp_model.specs.Phase.{new_phase, up_phase, up, is_resetting, hears_rst, resets, makes_all};
 ghost use Rattle.ncp_model.specs.Rows.{outward, inward, ones, err};
 ghost use Rattle.ncp_model.specs.Sending.{is_full};
 
@@ -56,6 +56,18 @@ pub fn what_is_not_up_lets_nothing_through()
     ensures fault_dropped { hears_fault (record { code = 2; bytes = 4 ∷ 2 ∷ 0 ∷ replicate 7 0 }) (peer_in new_phase) ≡ peer_in new_phase }
     ensures fault_early { hears_fault (record { code = 2; bytes = 4 ∷ 2 ∷ 0 ∷ replicate 7 0 }) (peer_in up_phase) ≡ peer_in (record up_phase { waiting = err 2 (4 ∷ 2 ∷ 0 ∷ replicate 7 0) ∷ [] }) }
     ensures fault_behind { hears_fault (record { code = 1; bytes = 14 ∷ replicate 9 0 }) (peer_in (makes_all (eco_reply 65 ∷ []) up_phase)) ≡ peer_in (record up_phase { waiting = Command.Erp 65 ∷ err 1 (14 ∷ replicate 9 0) ∷ [] }) }
+{}
+
+/// A clearing ends the echo, and leaves the byte of the last one and the errors: a reset that is
+/// accepted, an RST that comes, and going down. A reset that is refused changes nothing, and an RRP is no
+/// clearing. After an RST that came the next echo is good at once.
+pub fn clearings_end_the_echo_alone()
+    ensures reset { (quiet : Bool) (p : Peer) → is_resetting p.phase ≡ false → (calls_reset quiet p).echoes ≡ record p.echoes { awaited = false } }
+    ensures refused { (quiet : Bool) (p : Peer) → is_resetting p.phase ≡ true → calls_reset quiet p ≡ p }
+    ensures rst { (quiet : Bool) (p : Peer) → (hears quiet Command.Rst p).echoes ≡ record p.echoes { awaited = false } }
+    ensures rrp { (quiet : Bool) (p : Peer) → (hears quiet Command.Rrp p).echoes ≡ p.echoes }
+    ensures down { (p : Peer) → (falls p).echoes ≡ record p.echoes { awaited = false } }
+    ensures again { reply_of_echo 66 (hears true Command.Rst (calls_echo 65 (peer_in up_phase))) ≡ Ok tt }
 {}
 
 /// What comes of calls at a host that is up, with a sender and a receiver open on link 2: what they ask

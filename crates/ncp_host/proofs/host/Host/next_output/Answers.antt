@@ -1,9 +1,14 @@
 use Rattle.std.proofs.Common.{◌≡◌, ℕ, Bool, List, Option, sym, subst, ap, ◌∙◌}
 use Rattle.std.specs.List.{zip}
+use Rattle.std.specs.Box.{boxed_slice_items}
+use Rattle.std.specs.Vec.{with_items}
+use Rattle.std.proofs.lemmas.List.{with_items_is}
 use Rattle.ncp_host.specs.PeerState.{PeerState}
 use Rattle.ncp_host.specs.Readiness.{IsNext}
+use Rattle.ncp_host.specs.Running.{HasLived}
 use Rattle.ncp_host.specs.Turns.{message_in_turn, next_output}
 use Rattle.ncp_host.proofs.FirstReady.{lived-next}
+use Rattle.ncp_host.proofs.Living.{sent}
 use Rattle.ncp_host.proofs.host.Host.next_output.Goals as goal
 
 pub returns-clause-message : goal.returns-clause-message
@@ -16,4 +21,10 @@ returns-clause-message g c =
 pub returns-clause-first_ready : goal.returns-clause-first_ready
 returns-clause-first_ready g c =
     let told : ◌≡◌ {A = Option (List Bool)} c.first_output.result (next_output c.args.self.now) = returns-clause-message g c in
-    λ l. subst (λ (o : Option (List Bool)). IsNext o c.args.self.now.peers) (sym told) (lived-next c.args.self.now l)
+    subst (λ (o : Option (List Bool)). IsNext o c.args.self.now.peers) (sym told) (lived-next c.args.self.now (subst HasLived c.self.view_is c.self.invariant.lived))
+
+pub invariant_of-self : goal.invariant_of-self
+invariant_of-self g c =
+    sent c.self.inside.me c.self.inside.numbers.items (boxed_slice_items c.self.inside.peers) c.self.inside.ignored c.self.invariant
+    c.as_slice.result.now c.deref_mut.result.now c.first_output.new.peers (with_items c.self.inside.peers.items c.first_output.new.peers).items c.as_slice.ensures.value c.deref_mut.ensures.value c.first_output.ensures.peers c.first_output.ensures.len
+    (with_items_is c.self.inside.peers.items c.first_output.new.peers (c.first_output.ensures.len ∙ c.deref_mut.ensures.len))
