@@ -11,6 +11,8 @@ mod held_back;
 #[cfg(test)]
 mod ledgers;
 #[cfg(test)]
+mod long_runs;
+#[cfg(test)]
 mod many;
 #[cfg(test)]
 mod many_faults;
@@ -24,6 +26,8 @@ mod refused;
 mod scripts;
 #[cfg(test)]
 mod states;
+#[cfg(test)]
+mod subnet;
 #[cfg(test)]
 mod tried;
 #[cfg(test)]

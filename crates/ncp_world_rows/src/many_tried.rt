@@ -71,6 +71,11 @@ impl<S: BitStore> ManyTried<S> {
         }
     }
 
+    /// Whether a step is answered Ok.
+    pub(super) fn steps(&mut self, event: &ManyEvent) -> bool {
+        self.many.step(event).is_ok()
+    }
+
     /// Steps once. Where memory is refused nothing has happened, and the same event is given again.
     pub(super) fn does(&mut self, rt: &impl Abort, event: &ManyEvent) {
         let many = self.notes().len();

@@ -66,6 +66,11 @@ impl<S: BitStore> Tried<S> {
         self.world.ledger(side, pair)
     }
 
+    /// Whether a step is answered Ok.
+    pub(super) fn steps(&mut self, event: &Event) -> bool {
+        self.world.step(event).is_ok()
+    }
+
     /// Steps once. Where memory is refused nothing has happened, and the same event is given again.
     pub(super) fn does(&mut self, rt: &impl Abort, event: &Event) {
         let many = self.notes().len();

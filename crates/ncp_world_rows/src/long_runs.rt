@@ -1,0 +1,189 @@
+//! Runs of 5,000 events, with ample memory: each is answered Ok, however many stand noted before it.
+use crate::events::{Act, LINK, SENDER, allocated, push};
+use crate::many::THREE;
+use crate::many_tried::ManyTried;
+use crate::tried::{A, B, Tried};
+use crate::wanted::{Wanted, bits_of, says};
+use ncp_bits::{BitStore, PackedStore};
+use ncp_many::{Many, ManyEvent};
+use ncp_transcript::{Alone, Call, Input, Message};
+use ncp_world::{Event, Side, run};
+use std::alloc::{AllocError, Global};
+use std::process::Abort;
+use std::test::Fail;
+
+/// How often a round of ten events happens.
+const ROUNDS: usize = 500;
+
+/// The text of a round of two hosts.
+const TEXT: &[u8] = b"ab";
+
+/// What stands in a round of two hosts behind the giving of a text: it is allowed, goes, comes and is taken.
+const ROUND: &[Act] = &[
+    Act::Allocate,
+    Act::Out(Side::B),
+    Act::Deliver(Side::B, 0),
+    Act::Answer(Side::B, 0),
+    Act::Out(Side::A),
+    Act::Deliver(Side::A, LINK),
+    Act::Answer(Side::A, LINK),
+    Act::State,
+    Act::Take,
+];
+
+/// A connection opens, and a text goes over it in each round.
+fn rounds(rt: &impl Abort, alloc: Global) -> Result<Vec<Event>, AllocError> {
+    let mut events = allocated(alloc)?;
+    for _ in 0..ROUNDS {
+        let call = Call::Give {
+            peer: B,
+            pair: SENDER,
+            text: Message::from_bits(alloc, &bits_of(rt, TEXT))?,
+        };
+        let side = Side::A;
+        events.push(Event::Call { side, call })?;
+        push(&mut events, ROUND)?;
+    }
+    Ok(events)
+}
+
+/// Steps through all events, each answered Ok; and the last text was taken.
+fn steps_through<S: BitStore>(
+    rt: &impl Abort,
+    alloc: Global,
+    events: &[Event],
+) -> Result<(), AllocError> {
+    let mut tried = Tried::<S>::new(alloc)?;
+    for event in events {
+        assert!(rt; tried.steps(event));
+    }
+    let notes = tried.notes();
+    assert!(rt; notes.len() == events.len());
+    match notes.last() {
+        Some(note) => assert!(rt; says(rt, note, &Wanted::Took(TEXT))),
+        None => assert!(rt; false),
+    }
+    Ok(())
+}
+
+#[test]
+fn two_hosts(rt: HostRuntime) -> Result<(), Fail> {
+    let events = rounds(&rt, rt.alloc())?;
+    steps_through::<PackedStore>(&rt, rt.alloc(), &events)?;
+    assert!(rt; run::<PackedStore>(rt.alloc(), A, B, &events).is_ok());
+    Ok(())
+}
+
+/// A round of three hosts: one resets another, and they come up; and what is not there, or not possible, is nothing.
+const ROUND_OF_THREE: [ManyEvent; 10] = [
+    ManyEvent::Call {
+        host: 1,
+        call: Call::Reset { peer: 2 },
+    },
+    ManyEvent::Out { host: 1 },
+    ManyEvent::Deliver {
+        from: 1,
+        to: 2,
+        link: 0,
+    },
+    ManyEvent::Answer {
+        from: 1,
+        to: 2,
+        link: 0,
+    },
+    ManyEvent::Out { host: 2 },
+    ManyEvent::Deliver {
+        from: 2,
+        to: 1,
+        link: 0,
+    },
+    ManyEvent::Answer {
+        from: 2,
+        to: 1,
+        link: 0,
+    },
+    ManyEvent::Call {
+        host: 4,
+        call: Call::Phase { peer: 1 },
+    },
+    ManyEvent::Lose {
+        from: 1,
+        to: 3,
+        link: 0,
+    },
+    ManyEvent::Out { host: 3 },
+];
+
+fn rounds_of_three(alloc: Global) -> Result<Vec<ManyEvent>, AllocError> {
+    let mut events = Vec::new(alloc);
+    for _ in 0..ROUNDS {
+        for event in &ROUND_OF_THREE {
+            events.push(event.copied(alloc)?)?;
+        }
+    }
+    Ok(events)
+}
+
+#[test]
+fn three_hosts(rt: HostRuntime) -> Result<(), Fail> {
+    let events = rounds_of_three(rt.alloc())?;
+    let mut tried = ManyTried::<PackedStore>::new(rt.alloc(), &THREE)?;
+    for event in &events {
+        assert!(rt; tried.steps(event));
+    }
+    assert!(rt; tried.notes().len() == events.len() && tried.is_up(1, 2) && tried.is_up(2, 1));
+    assert!(rt; Many::<PackedStore>::run(rt.alloc(), &THREE, &events).is_ok());
+    Ok(())
+}
+
+/// What comes to a host in a round, as it comes: the answer to its message, RRP and ERP.
+const RFNM: &[u8] = &[5, B, 0, 0];
+
+const RRP: &[u8] = &[0, B, 0, 0, 0, 8, 0, 1, 0, 13];
+
+const ERP: &[u8] = &[0, B, 0, 0, 0, 8, 0, 2, 0, 10, 65];
+
+/// A round of one host: it resets its peer, comes up with it, and has an echo of it.
+fn round_of_one(rt: &impl Abort) -> [Input; 10] {
+    [
+        Input::Call(Call::Reset { peer: B }),
+        Input::Out,
+        Input::In(bits_of(rt, RFNM)),
+        Input::In(bits_of(rt, RRP)),
+        Input::Call(Call::Echo { peer: B, byte: 65 }),
+        Input::Out,
+        Input::In(bits_of(rt, RFNM)),
+        Input::In(bits_of(rt, ERP)),
+        Input::Call(Call::Phase { peer: B }),
+        Input::Out,
+    ]
+}
+
+/// Whether a host does each input of a round.
+fn goes_round<S: BitStore>(alone: &mut Alone<S>, round: &[Input]) -> bool {
+    for input in round {
+        if alone.step(input).is_err() {
+            return false;
+        }
+    }
+    true
+}
+
+/// Whether a host is up with its peer.
+fn is_up<S: BitStore>(alone: &Alone<S>) -> bool {
+    match alone.host().phase(B) {
+        Ok(flags) => flags.up(),
+        Err(_) => false,
+    }
+}
+
+#[test]
+fn one_host(rt: HostRuntime) -> Result<(), Fail> {
+    let round = round_of_one(&rt);
+    let mut alone = Alone::<PackedStore>::new(rt.alloc(), A, &[B])?;
+    for _ in 0..ROUNDS {
+        assert!(rt; goes_round(&mut alone, &round));
+    }
+    assert!(rt; alone.transcript().len() == ROUNDS * round.len() && is_up(&alone));
+    Ok(())
+}
