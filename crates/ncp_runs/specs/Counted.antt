@@ -1,6 +1,7 @@
 -- What was counted of a peer, as its notes say: each note that a count is of, and each command of a control
 -- message (that they are counted is this profile's rule). Here sums go on for ever; what a host keeps of each
--- stays where it can rise no further.
+-- stays where it can rise no further. Of the state that the notes before leave it is read whether the host is up
+-- with the peer, whether it awaits an RRP, and whether the end that a command names is on its way out.
 use Rattle.std.specs.Prelude.{ℕ, ◌+◌, min, Bool, true, false, if◌then◌else◌, List, [], ◌∷◌, Option, None, Some, Result, Ok, Err}
 use Rattle.ncp_numbers.specs.Bytes.{bytes_of}
 use Rattle.ncp_leader.specs.declared.fault.MessageFault.{MessageFault}
