@@ -1,7 +1,7 @@
 //! That the laws speak of something, and what their definitions refuse: small laws that a wrong definition
 //! makes false.
 ghost use Rattle.std.specs.Prelude.{◌≡◌, ℕ, Bool, true, false, List, [], ◌∷◌, Some};
-ghost use Rattle.std.specs.List.{filter};
+ghost use Rattle.std.specs.List.{filter, list_any};
 ghost use Rattle.std.specs.FinMap.{get};
 ghost use Rattle.ncp_terms.specs.declared.command.Command.{Command as Order};
 ghost use Rattle.ncp_slot.specs.Slot.{is_empty};
@@ -14,6 +14,8 @@ ghost use Rattle.ncp_model.specs.Ends.{hear};
 ghost use Rattle.ncp_model.specs.Phase.{up, up_phase, is_other};
 ghost use Rattle.ncp_model.specs.Peers.{new_peer};
 ghost use Rattle.ncp_model.specs.declared.call_fault.CallFault.{CallFault};
+ghost use Rattle.ncp_model.specs.declared.pair.Pair.{Pair};
+ghost use Rattle.ncp_model.specs.Pairs.{sends};
 ghost use Rattle.ncp_model.specs.Rows.{outward, inward, counting};
 ghost use Rattle.ncp_resets.specs.Resets.{This, That};
 ghost use Rattle.ncp_watch.specs.Histories.{no_past};
@@ -26,20 +28,22 @@ ghost use Rattle.ncp_transcript.specs.declared.note.HostNote.TheVariants as of_h
 ghost use Rattle.ncp_two.specs.World.{World, Asks_echo, Asks_reset, Called, In, Reply, Asked};
 ghost use Rattle.ncp_two.specs.Watch.{Both};
 ghost use Rattle.ncp_two.specs.declared.side.Side.TheVariants as sides;
+ghost use Rattle.ncp_two.specs.declared.note.Note.{Note};
 ghost use Rattle.ncp_two.specs.declared.note.Note.TheVariants as notes;
 ghost use Rattle.ncp_two.specs.Between.{Hosts, after_note};
-ghost use Rattle.ncp_two.specs.Seen.{seen};
+ghost use Rattle.ncp_two.specs.Seen.{seen, told};
+ghost use Rattle.ncp_two.specs.Honest.{IsBeginning, sent, came};
 ghost use Rattle.ncp_two.specs.Underway.{commands_of, underway};
 ghost use Rattle.ncp_two.specs.Subnet.{Subnet};
 ghost use Rattle.ncp_promises.specs.EachNote.{OfEachNote};
-ghost use Rattle.ncp_promises.specs.Judged.{ActsOnce, NoneErrs, MakesNoErr};
+ghost use Rattle.ncp_promises.specs.Judged.{ActsOnce, is_err, NoneErrs, MakesNoErr};
 ghost use Rattle.ncp_promises.specs.Errless.{HasNoErr};
-ghost use Rattle.ncp_promises.specs.Resetting.{Waits, OnlyResetsAct};
+ghost use Rattle.ncp_promises.specs.Resetting.{Waits, StillWaits, OnlyResetsAct};
 ghost use Rattle.ncp_promises.specs.Openings.{Opens, OpensOnFreeLinks};
 ghost use Rattle.ncp_promises.specs.Since.{Watches, nothing_seen, of_asked, of_message, CommandsAgree};
 ghost use Rattle.ncp_promises.specs.Headline.{IsWithin};
-ghost use Rattle.ncp_promises.specs.Promised.{IsAllowed};
-ghost use Rattle.ncp_promises.specs.Examples.{up_state, waiting_state, seen_before, IsThis};
+ghost use Rattle.ncp_promises.specs.Promised.{EitherWay, CameInOrder, WaitsAlone, NoErrUnderway, IsAllowed};
+ghost use Rattle.ncp_promises.specs.Examples.{up_state, waiting_state, seen_before, IsThis, IsPairOf};
 
 use ncp_headline::headline::openings_and_texts_out_happen;
 use ncp_terms::Command;
@@ -104,4 +108,15 @@ pub fn notes_are_of_their_own_side()
     ensures of_b { (w : Hosts) (number link : ℕ) → OfEachNote (IsThis number) (notes.Lost sides.B link ∷ []) w → number ≡ w.number_b }
     ensures each { (w : Hosts) (number link : ℕ) → OfEachNote (IsThis number) (notes.Lost sides.A link ∷ notes.Lost sides.B link ∷ []) w → number ≡ w.number_b }
     ensures nothing { (w : Hosts) (number : ℕ) (call : Call) (fault : CallFault) → OfEachNote (IsThis number) (notes.Called sides.A (of_host.Refused call fault) ∷ []) w → seen (after_note (notes.Called sides.A (of_host.Refused call fault)) w) ≡ seen w }
+{}
+
+/// What two hosts promise is promised of both: what is said of a pair is said with either of them as the host that
+/// sends; what came on a link, what a host that waits has, and that no ERR is underway, is said of each. So a phrase
+/// that looks at one of them alone is refused.
+pub fn promises_are_of_both_hosts()
+    ensures this_way { (notes : List Note) (w : Hosts) (pair : Pair) (number : ℕ) → sends pair ≡ true → EitherWay (IsPairOf number) notes w → number ≡ w.number_a }
+    ensures that_way { (notes : List Note) (w : Hosts) (pair : Pair) (number : ℕ) → sends pair ≡ true → EitherWay (IsPairOf number) notes w → number ≡ w.number_b }
+    ensures order { (notes : List Note) (w : Hosts) (on : ℕ) → CameInOrder notes w → IsBeginning 1 (came This on (told notes)) (sent w.number_a This on (told notes)) × IsBeginning 1 (came That on (told notes)) (sent w.number_b That on (told notes)) }
+    ensures waits { (notes : List Note) (w : Hosts) → WaitsAlone notes w → Waits (seen w).this → Waits (seen w).that → StillWaits (seen w).this × StillWaits (seen w).that }
+    ensures errs { (notes : List Note) (w : Hosts) → NoErrUnderway notes w → ((seen w).this.peer.echoes.errors ≡ []) × ((seen w).that.peer.echoes.errors ≡ []) × (list_any is_err (underway (seen w).this (seen w).going) ≡ false) × (list_any is_err (underway (seen w).that (seen w).coming) ≡ false) }
 {}

@@ -62,7 +62,7 @@ at_open-late : (c : Command) (act : End → Act Heard) (o : Option (Pair × End)
 at_open-late c act None h = refl
 at_open-late c act (Some p) h = go p.1.leaving p.1.left p.1.opened
   where
-    go : (a b d : Bool) → is_late (answer (if a || b then Stays Late else if not d then errs not_connected c else act p.1)) ≡ (if a then true else b)
+    go : (a b d : Bool) → is_late (answer (if a || b then Stays Late else if not d then errs not_connected c else act p.1)) ≡ (a || b)
     go true b d = refl
     go false true d = refl
     go false false true = h p.1
@@ -119,11 +119,7 @@ module _ (p : Peer) (t : EchoHistory) (n : Counts) (e : p.echoes ≡ echoes_told
   stray-told : counts_while_up (commands.Erp 0) p (counts_told n) ≡ counts_told (counted_up (commands.Erp 0) p t n)
   stray-told =
       ap (λ (x : Echoes). let k : Counts = record (counts_told n) { stray = one_more_if (not x.awaited) (min n.stray MAX_COUNT) } in k) e
-      ∙ by t.asked
-    where
-      by : (b : Bool) → (let k : Counts = record (counts_told n) { stray = one_more_if (not b) (min n.stray MAX_COUNT) } in k) ≡ (let k : Counts = record (counts_told n) { stray = min (one_if (if b then false else true) n.stray) MAX_COUNT } in k)
-      by true = refl
-      by false = ap (λ (j : ℕ). let k : Counts = record (counts_told n) { stray = j } in k) (risen n.stray)
+      ∙ ap (λ (j : ℕ). let k : Counts = record (counts_told n) { stray = j } in k) (one-told (not t.asked) n.stray)
 
   late-told : (c : Command) → (let k : Counts = record (counts_told n) { late = one_more_if (is_late (answer (hear c p.ends))) (min n.late MAX_COUNT) } in k) ≡ (let k : Counts = record (counts_told n) { late = min (one_if (is_late_end (end_named c p.ends)) n.late) MAX_COUNT } in k)
   late-told c =
@@ -139,11 +135,7 @@ module _ (p : Peer) (t : EchoHistory) (n : Counts) (e : p.echoes ≡ echoes_told
 
   command-counted : (c : Command) → counts_after c p (counts_told n) ≡ counts_told (counted_heard c p t n)
   command-counted commands.Rst = refl
-  command-counted commands.Rrp = by p.phase.wait
-    where
-      by : (b : Bool) → (let k : Counts = record (counts_told n) { stray = one_more_if (not b) (min n.stray MAX_COUNT) } in k) ≡ (let k : Counts = record (counts_told n) { stray = min (one_if (if b then false else true) n.stray) MAX_COUNT } in k)
-      by true = refl
-      by false = ap (λ (j : ℕ). let k : Counts = record (counts_told n) { stray = j } in k) (risen n.stray)
+  command-counted commands.Rrp = ap (λ (j : ℕ). let k : Counts = record (counts_told n) { stray = j } in k) (one-told (not p.phase.wait) n.stray)
   command-counted (commands.Erp byte) = dropped (counts_while_up (commands.Erp byte) p (counts_told n)) (counted_up (commands.Erp byte) p t n) stray-told
   command-counted c = dropped (counts_while_up c p (counts_told n)) (counted_up c p t n) (late-told c)
 
@@ -156,7 +148,11 @@ all-counted (c ∷ cs) s t n e f =
 
 fault-counted : (fault : Option CommandFault) (s : PeerState) (n : Counts) → s.counts ≡ counts_told n → (hears_last fault s).counts ≡ counts_told (counted_fault fault s.peer n)
 fault-counted None s n f = f
-fault-counted (Some fault) s n f = ap (counts_after_fault s.peer) f ∙ ap (λ (j : ℕ). let k : Counts = record (counts_told n) { not_up = j } in k) (one-told (if up s.peer.phase then false else true) n.not_up)
+fault-counted (Some fault) s n f = ap (counts_after_fault s.peer) f ∙ ap (λ (j : ℕ). let k : Counts = record (counts_told n) { not_up = j } in k) (flipped (up s.peer.phase))
+  where
+    flipped : (b : Bool) → one_more_if (if b then false else true) (min n.not_up MAX_COUNT) ≡ min (one_if (not b) n.not_up) MAX_COUNT
+    flipped true = refl
+    flipped false = risen n.not_up
 
 -- A text, by what became of it.
 

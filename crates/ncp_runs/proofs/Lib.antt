@@ -26,3 +26,4 @@ pub mod LinksMarked
 pub mod EchoTold
 pub mod CountsTold
 pub mod EchoNoted
+pub mod Wanting

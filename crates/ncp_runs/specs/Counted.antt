@@ -1,7 +1,8 @@
 -- What was counted of a peer, as its notes say: each note that a count is of, and each command of a control
 -- message (that they are counted is this profile's rule). Here sums go on for ever; what a host keeps of each
--- stays where it can rise no further.
-use Rattle.std.specs.Prelude.{ℕ, ◌+◌, min, Bool, true, false, if◌then◌else◌, List, [], ◌∷◌, Option, None, Some, Result, Ok, Err}
+-- stays where it can rise no further. Of the state that the notes before leave it is read whether the host is up
+-- with the peer, whether it awaits an RRP, and whether the end that a command names is on its way out.
+use Rattle.std.specs.Prelude.{ℕ, ◌+◌, min, Bool, false, not, ◌||◌, if◌then◌else◌, List, [], ◌∷◌, Option, None, Some, Result, Ok, Err}
 use Rattle.ncp_numbers.specs.Bytes.{bytes_of}
 use Rattle.ncp_leader.specs.declared.fault.MessageFault.{MessageFault}
 use Rattle.ncp_leader.specs.Message.{Message, message_in}
@@ -54,17 +55,17 @@ end_named c m = None
 
 abbrev pub is_late_end : Option (Pair × End) → Bool
 is_late_end None = false
-is_late_end (Some p) = if p.1.leaving then true else p.1.left
+is_late_end (Some p) = p.1.leaving || p.1.left
 
 -- A command that comes while the host is up: an ERP where no echo is asked for is stray; and late is as above.
 abbrev pub counted_up : Command → Peer → EchoHistory → Counts → Counts
-counted_up (Erp byte) p t n = record n { stray = one_if (if t.asked then false else true) n.stray }
+counted_up (Erp byte) p t n = record n { stray = one_if (not t.asked) n.stray }
 counted_up c p t n = record n { late = one_if (is_late_end (end_named c p.ends)) n.late }
 
 -- An RRP is stray where none is awaited. While the host is not up all else but an RST is dropped.
 abbrev pub counted_heard : Command → Peer → EchoHistory → Counts → Counts
 counted_heard Rst p t n = n
-counted_heard Rrp p t n = record n { stray = one_if (if p.phase.wait then false else true) n.stray }
+counted_heard Rrp p t n = record n { stray = one_if (not p.phase.wait) n.stray }
 counted_heard c p t n = if up p.phase then counted_up c p t n else record n { not_up = n.not_up + 1 }
 
 abbrev pub counted_heard_all : List Command → PeerState → EchoHistory → Counts → Counts
@@ -80,7 +81,7 @@ fault_read (Ok m) = fault_in (bytes_of m.text)
 
 abbrev pub counted_fault : Option CommandFault → Peer → Counts → Counts
 counted_fault None p n = n
-counted_fault (Some fault) p n = record n { not_up = one_if (if up p.phase then false else true) n.not_up }
+counted_fault (Some fault) p n = record n { not_up = one_if (not (up p.phase)) n.not_up }
 
 -- By each note: of a control message that came its commands count one by one, and then its fault.
 abbrev pub counted_by : HostNote → PeerState → EchoHistory → Counts → Counts

@@ -49,6 +49,12 @@ peer_of_call (calls_of.Waiting peer place) = Some peer
 peer_of_call (calls_of.Kept peer link) = Some peer
 peer_of_call calls_of.Ignored = None
 
+-- the requests: of all calls they alone take memory, for the bits of their pair
+abbrev pub is_request : Call → Bool
+is_request (calls_of.AskSend peer pair size room) = true
+is_request (calls_of.AskReceive peer pair room) = true
+is_request call = false
+
 -- a regular message names the host of its leader: where it comes from, or goes to (BBN 1822, section 3)
 abbrev pub peer_of_leader : Result Leader Short → Option ℕ
 peer_of_leader (Err short) = None

@@ -3,13 +3,14 @@ ghost use Rattle.std.specs.Prelude.{◌≡◌, ℕ, true, false, List, [], ◌�
 ghost use Rattle.ncp_host.specs.PeerState.{new_state};
 ghost use Rattle.ncp_host.specs.Host.{Host, state_of, numbers_of, is_one_of, new_host};
 ghost use Rattle.ncp_host.specs.Counting.{none_ignored};
+ghost use Rattle.ncp_transcript.specs.declared.call.Call.{Call as Called};
 ghost use Rattle.ncp_transcript.specs.declared.note.HostNote.{HostNote as Note};
 ghost use Rattle.ncp_transcript.specs.After.{after_notes};
 ghost use Rattle.ncp_transcript.specs.Runs.{IsRun, IsTranscript};
-ghost use Rattle.ncp_runs.specs.Peers.{FromBeginning, notes_of, notes_for, ignored_by};
+ghost use Rattle.ncp_runs.specs.Peers.{FromBeginning, is_request, notes_of, notes_for, ignored_by};
 ghost use Rattle.ncp_runs.specs.Examples.{two_peers};
 
-use ncp_host::{Flags, Ignored};
+use ncp_host::{CallFault, Flags, Ignored};
 use ncp_transcript::{Call, HostNote};
 
 /// What a host keeps for a peer after any run is what the notes of that peer alone make of it, whatever
@@ -35,6 +36,11 @@ pub fn a_beginning_of_a_run_is_a_run()
 pub fn a_transcript_is_from_its_beginning()
     ensures run { (all : List Note) (h : Host) → IsTranscript all h → FromBeginning h.me (numbers_of h.peers) all }
     ensures host { (all : List Note) (h : Host) → IsTranscript all h → h ≡ after_notes all (new_host h.me (numbers_of h.peers)) }
+{}
+
+/// Want of memory is answered to a request alone: no other call, and nothing that is read, is ever refused for it.
+pub fn want_of_memory_is_of_a_request()
+    ensures { (me : ℕ) (ns : List ℕ) (before after : List Note) (call : Called) → FromBeginning me ns (before ++ HostNote.Refused call CallFault.OutOfMemory ∷ after) → is_request call ≡ true }
 {}
 
 /// That these laws speak of something: a run of a host with two peers, and the notes of each.
