@@ -3,3 +3,4 @@ pub mod Sums
 pub mod Ledgers
 pub mod Books
 pub mod Noting
+pub mod Numbers
