@@ -1,2 +1,3 @@
 pub mod AtRest
 pub mod PairsFinished
+mod Meaning

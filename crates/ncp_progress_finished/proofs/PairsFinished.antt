@@ -112,7 +112,7 @@ module _ (p : Pair) (sp : sends p ≡ true) (rp : receives (turned p) ≡ true) 
       opened q h true t =
           let c : f.cls ≡ true = j.0.there.1 ∙ t in
           let g : f.leaving ≡ true = ff.cls c in
-          Receiver_holds e f refl refl (t, e-cls) (g, c, n.holds g rp)
+          Receiver_holds e f refl refl (t, e-cls, e-stays) (g, c, n.holds g rp)
       opened q h false t =
           let c : f.cls ≡ false = j.0.there.1 ∙ t in
           let g : f.leaving ≡ false = false_or f.leaving (λ g. both_ways f.cls c (n.shut g rp)) in

@@ -77,7 +77,7 @@ pub data PairFinished (pair : Pair) (s r : Option End) (given got : List Bool) :
   Sender_asked : (e f : End) → s ≡ Some e → r ≡ Some f → AskedAlone e → HeardAlone f → f.size ≡ e.size → PairFinished pair s r given got
   Receiver_asked : (e f : End) → s ≡ Some e → r ≡ Some f → HeardAlone e → AskedAlone f → e.link ≡ f.link → PairFinished pair s r given got
   Both_open : (e f : End) → s ≡ Some e → r ≡ Some f → OpenAndAgreed pair e f given got → PairFinished pair s r given got
-  Receiver_holds : (e f : End) → s ≡ Some e → r ≡ Some f → (e.left ≡ true) × (e.cls ≡ false) → (f.leaving ≡ true) × (f.cls ≡ true) × (0 < length f.stored) → PairFinished pair s r given got
+  Receiver_holds : (e f : End) → s ≡ Some e → r ≡ Some f → (e.left ≡ true) × (e.cls ≡ false) × (e.leaving ≡ false) → (f.leaving ≡ true) × (f.cls ≡ true) × (0 < length f.stored) → PairFinished pair s r given got
 
 -- from this host to that one
 abbrev pub PairIsFinished : Pair → World → Type 0
