@@ -37,6 +37,7 @@ use Rattle.ncp_progress_idle.specs.Idle.{LeavingAt, IsSettled, IsIdle}
 use Rattle.ncp_progress_idle.proofs.LeavingEnds.{leaving-ever}
 use Rattle.ncp_progress_idle.proofs.Settled.{ever-idle}
 use Rattle.ncp_progress_finished.specs.Finished.{EndRestsAt, PairFinished, Nobody, Sender_asked, Receiver_asked, Both_open, Receiver_holds, PairIsFinished, IsFinished}
+use Rattle.ncp_progress_finished.proofs.Echoes.{ever-shut}
 use Rattle.ncp_progress_finished.proofs.AtRest.{false_or, none-going, none-coming, no-text, sends-live, at-rest}
 
 -- a text that may not go
@@ -227,8 +228,8 @@ ever-finished es s =
     let t : Ever w = ever es in
     let r : Ever (swap w) = ever-swapped w t in
     let i = ever-idle es s in
-    let this = at-rest w t i.0 i.1 (λ pair. (leaving-ever es pair).0) in
-    let that = at-rest (swap w) r i.1 i.0 (λ pair. (leaving-ever es pair).1) in
+    let this = at-rest w t i.0 i.1 (ever-shut es).0 (λ pair. (leaving-ever es pair).0) in
+    let that = at-rest (swap w) r i.1 i.0 (ever-shut es).1 (λ pair. (leaving-ever es pair).1) in
     record {
       this = this;
       that = that;

@@ -24,12 +24,13 @@ EndRestsAt pair None = Unit {0}
 EndRestsAt pair (Some e) = EndRests pair e
 
 -- a host: no link has a message, no command waits, no text may go out, no flag is set but that it is down,
--- and then it has no ends; and each end rests
+-- and then it has no ends and awaits no echo; and each end rests
 abbrev pub IsAtRest : Node → Type 0
 IsAtRest n = record {
   idle : IsIdle n;
   wait : n.host.phase.wait ≡ false;
   down : n.host.phase.down ≡ true → n.ends ≡ no_ends;
+  echo : n.host.phase.down ≡ true → n.echoes.awaited ≡ false;
   ends : (pair : Pair) → EndRestsAt pair (get n.ends pair);
 }
 

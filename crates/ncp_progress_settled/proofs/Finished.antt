@@ -40,6 +40,7 @@ nothing-left there n s u k q r = record {
   owe = ap (λ (p : Peer). p.phase.owe) k.peer ∙ r.idle.owe;
   wait = ap (λ (p : Peer). p.phase.wait) k.peer ∙ r.wait;
   down = λ d. ap (λ (p : Peer). p.ends) k.peer ∙ r.down (sym (ap (λ (p : Peer). p.phase.down) k.peer) ∙ d);
+  echo = λ d. ap (λ (p : Peer). p.echoes.awaited) k.peer ∙ r.echo (sym (ap (λ (p : Peer). p.phase.down) k.peer) ∙ d);
   ends = λ pair. subst (λ (p : Peer). EndRestsAt pair (get p.ends pair)) (sym k.peer) (r.ends pair);
 }
   where

@@ -35,7 +35,7 @@ abbrev pub IsSettled : World → Type 0
 IsSettled v = IsStill v.there v.this v.going × IsStill v.here v.that v.coming
 
 -- What a host has for its peer where all is finished: no link has a message, no command waits, no flag is set but
--- that it is down, and then it has no ends; and each end rests.
+-- that it is down, and then it has no ends and awaits no echo; and each end rests.
 pub record HasNothingLeft (s : PeerState) : Type 0 where
   pub slots : (on : ℕ) → HasSlot on → slot_at s.slots on ≡ Empty
   pub waiting : s.peer.phase.waiting ≡ []
@@ -43,6 +43,7 @@ pub record HasNothingLeft (s : PeerState) : Type 0 where
   pub owe : s.peer.phase.owe ≡ false
   pub wait : s.peer.phase.wait ≡ false
   pub down : s.peer.phase.down ≡ true → s.peer.ends ≡ no_ends
+  pub echo : s.peer.phase.down ≡ true → s.peer.echoes.awaited ≡ false
   pub ends : (pair : Pair) → EndRestsAt pair (get s.peer.ends pair)
 
 -- a pair from this host to that one, with what was given and got
