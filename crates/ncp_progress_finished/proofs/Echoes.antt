@@ -3,7 +3,6 @@ use Rattle.std.proofs.Common.{◌≡◌, ℕ, Bool, true, false, cond, List, [],
 use Rattle.std.proofs.lemmas.Bool.{both_ways}
 use Rattle.ncp_terms.specs.declared.command.Command.{Command}
 use Rattle.ncp_terms.specs.declared.command.Command.TheVariants as commands
-use Rattle.ncp_model.specs.declared.pair.Pair.{Pair}
 use Rattle.ncp_model.specs.Echo.{Echoes, purge_echo, echo_answer, echo_asked}
 use Rattle.ncp_model.specs.Act.{answer, made_by_call, made_if_any}
 use Rattle.ncp_model.specs.Texts.{Rfnm, made_by_text}
