@@ -1,58 +1,134 @@
 #!/usr/bin/env python3
-"""Prints the files of definitions on which the headline rests, by their `use` lines, and whether docs/MODEL.md lists these and no others."""
+"""Prints the definitions on which the headline rests, from the record that the clauses `headline` cite, as the rows of a
+table, and says whether docs/MODEL.md lists these and no others.
+
+A definition rests on those that its own lines name. Names that are bound in a line count too where a definition has the
+same name, so the list may be too long, never too short. Comments and blank lines are not counted."""
+import functools
 import os
 import re
 import sys
 
 TOP = os.path.join(os.path.dirname(os.path.abspath(__file__)), "..")
 CRATES = os.path.join(TOP, "crates")
-USE = re.compile(r"^(?:pub )?use Rattle\.(\w+)\.specs\.(?:declared\.(\w+)|(\w+))", re.M)
+HEADLINE = ("ncp_statement/specs/Statement.antt", "Headline")
+# What the whole may have beside the plain types of notes.
+MOST_LINES = 400
+
+USE = re.compile(r"^(?:unfoldable )?(?:pub )?use Rattle\.(\w+)\.specs\.([\w.]+?)(?:\.\{([^}]*)\})?(?: as (\w+))?$", re.M)
+HEAD = re.compile(r"^(?:(?:pub|abbrev|unfoldable|opaque|data|record) )+(?=[\w'-])")
+NAME = re.compile(r"[^\s:({]+")
+WORD = re.compile(r"(?<![\w.'-])(?:(\w+)\.)?([\w'-]+)")
+CONSTRUCTOR = re.compile(r"\s+(?:pub )?(\w+) :")
+DATA = re.compile(r"^(?:pub )?data ")
 
 
-def path_of(crate, source, name):
-    """The file of definitions, or of the plain data that is declared in the code, if it is this repository's."""
-    path = f"{crate}/src/{source}.rt" if source else f"{crate}/specs/{name}.antt"
+def path_of(crate, module):
+    """The file of a module of definitions, or of the plain data that is declared in the code, if it is this repository's."""
+    first, *rest = module.split(".")
+    path = f"{crate}/src/{rest[0]}.rt" if first == "declared" else f"{crate}/specs/{first}.antt"
     return path if os.path.exists(os.path.join(CRATES, path)) else None
 
 
 def text_of(path):
-    if not os.path.exists(os.path.join(CRATES, path)):
-        return ""
     with open(os.path.join(CRATES, path), encoding="utf-8") as file:
         return file.read()
 
 
-def used_by(path):
-    return filter(None, (path_of(*found) for found in USE.findall(text_of(path))))
+class File:
+    """What one file of definitions names and defines."""
+
+    def __init__(self, path):
+        self.names, self.modules, self.lines, self.makers = {}, {}, {}, {}
+        text = text_of(path)
+        for crate, module, names, alias in USE.findall(text):
+            used = path_of(crate, module)
+            if used and names:
+                for name in names.split(","):
+                    old, _, new = name.strip().partition(" as ")
+                    self.names[new or old] = (used, old)
+            elif used and alias:
+                self.modules[alias] = used
+        if path.endswith(".antt"):
+            self.read(text)
+
+    def read(self, text):
+        at = None
+        for line in text.split("\n"):
+            line = line.split("--")[0].rstrip()
+            head = HEAD.match(line)
+            if head:
+                at = NAME.match(line, head.end()).group()
+                self.lines[at] = [line]
+            elif line.startswith(("use ", "pub use ", "unfoldable pub use ")):
+                at = None
+            elif line and at:
+                self.lines[at].append(line)
+                made = CONSTRUCTOR.match(line)
+                if made and DATA.match(self.lines[at][0]):
+                    self.makers[made.group(1)] = at
 
 
-def closure(start):
+file_at = functools.cache(File)
+
+
+def meant(path, name):
+    """The definition that a name stands for in a file; of plain data that is declared in the code, its file alone."""
+    if path.endswith(".rt"):
+        return (path, "")
+    file = file_at(path)
+    if name in file.lines:
+        return (path, name)
+    if name in file.makers:
+        return (path, file.makers[name])
+    return meant(*file.names[name]) if name in file.names else None
+
+
+def named_by(path, name):
+    file = file_at(path)
+    for module, word in WORD.findall("\n".join(file.lines[name])):
+        if not module:
+            yield meant(path, word)
+        elif module in file.modules:
+            yield meant(file.modules[module], word)
+
+
+def rests_on(start):
     found, todo = set(), [start]
     while todo:
-        path = todo.pop()
-        if path not in found:
-            found.add(path)
-            todo += used_by(path) if path.endswith(".antt") else []
+        one = todo.pop()
+        if one and one not in found:
+            found.add(one)
+            todo += named_by(*one) if one[1] else []
     return found
 
 
 def listed():
+    """The definitions of the table in docs/MODEL.md, by their files; of plain data the files alone."""
     with open(os.path.join(TOP, "docs", "MODEL.md"), encoding="utf-8") as file:
         part = file.read().split("## What has to be believed\n")[1].split("\n## ")[0]
-    return set(re.findall(r"\w+/(?:specs/\w+\.antt|src/\w+\.rt)", part))
+    rows = re.findall(r"^\| `(\w+/specs/\w+\.antt)` \| ([^|]*) \|", part, re.M)
+    found = {(path, name) for path, names in rows for name in re.findall(r"`([^`]+)`", names)}
+    return found | {(path, "") for path in re.findall(r"\w+/src/\w+\.rt", part)}
 
 
 def main():
-    heads = [f"{crate}/specs/Headline.antt" for crate in sorted(os.listdir(CRATES))]
-    rests = closure(next(path for path in heads if os.path.exists(os.path.join(CRATES, path))))
-    said = listed()
+    rests, said = rests_on(HEADLINE), listed()
     total = 0
-    for path in sorted(rests | said):
-        lines = text_of(path).count("\n")
-        total += lines
-        print(f"{lines:5} {path}" + ("" if path in said else "  NOT LISTED") + ("" if path in rests else "  LISTED WITHOUT NEED"))
-    print(f"{total:5} lines")
-    sys.exit(rests != said)
+    for path in sorted({path for path, name in rests if name}):
+        names = [name for name in file_at(path).lines if (path, name) in rests]
+        count = sum(len(file_at(path).lines[name]) for name in names)
+        total += count
+        print(f"| `{path}` | {', '.join(f'`{name}`' for name in names)} | {count} |")
+    print("plain data:", ", ".join(f"`{path}`" for path, name in sorted(rests) if not name))
+    print(f"{sum(1 for path, name in rests if name)} definitions, {total} lines, {len({path for path, name in rests if name})} files")
+    for path, name in sorted(rests - said):
+        print("NOT LISTED", path, name)
+    for path, name in sorted(said - rests):
+        print("LISTED WITHOUT NEED", path, name)
+    if total > MOST_LINES:
+        print(f"MORE THAN {MOST_LINES} LINES")
+    sys.exit(rests != said or total > MOST_LINES)
 
 
 main()

@@ -1,5 +1,6 @@
 //! `Crowd`: two to eight hosts and the subnet between them.
 ghost use Rattle.std.specs.Prelude.{◌≡◌, ◌<◌, ◌==◌, true, map, length, IfOk, OnErr};
+ghost use Rattle.std.specs.Box.{boxed_slice_items};
 ghost use Rattle.std.specs.List.{position};
 ghost use Rattle.std.specs.Option.{option_copied};
 ghost use Rattle.ncp_subnet.specs.declared.transit.Transit.{Transit};
@@ -24,6 +25,7 @@ use ncp_step::{answers, calls, comes, new_host, sends};
 use ncp_subnet::Subnet;
 use ncp_transcript::{Call, HostNote};
 use std::alloc::{AllocError, Global};
+use std::boxed::BoxedSlice;
 use std::marker::Model;
 
 /// A host, beside its number.
@@ -47,10 +49,11 @@ impl<S: BitStore> Model for Member<S> {
     ghost view = { λ member. (member.number, member.host) };
 }
 
-/// Two to eight hosts, each with the others as its peers, and the subnet between them.
+/// Two to eight hosts, each with the others as its peers, and the subnet between them. The room for the hosts is
+/// made by [`Crowd::new`] and does not grow.
 #[derive(Drop)]
 pub(crate) struct Crowd<S: BitStore> {
-    members: Vec<Member<S>>,
+    members: BoxedSlice<Member<S>, Global>,
     subnet: Subnet,
 }
 
@@ -59,13 +62,14 @@ impl<S: BitStore> Model for Crowd<S> {
     ghost use Rattle.ncp_slot.specs.Slots.{coded_slots};
     ghost use Rattle.ncp_host.specs.Codes.{coded_ends};
     ghost use Rattle.ncp_subnet.specs.Codes.{coded_in_transit};
+    ghost use Rattle.std.specs.Box.{boxed_slice_items};
     ghost use Rattle.ncp_pairs.specs.Crowd.{Crowd as Seen};
 
     ghost Value = { Seen };
 
     ghost coded = { Prim.hlevel (codes, coded_ends, coded_slots, coded_in_transit) };
 
-    ghost view = { λ m. record { hosts = m.members.items; subnet = m.subnet } };
+    ghost view = { λ m. record { hosts = boxed_slice_items m.members; subnet = m.subnet } };
 }
 
 // Whether a number is one of some.
@@ -119,15 +123,18 @@ impl<S: BitStore> Member<S> {
 }
 
 // New hosts of these numbers.
-fn new_members<S: BitStore>(alloc: Global, hosts: &[u8]) -> Result<Vec<Member<S>>, AllocError>
+fn new_members<S: BitStore>(
+    alloc: Global,
+    hosts: &[u8],
+) -> Result<BoxedSlice<Member<S>, Global>, AllocError>
     requires { are_hosts hosts.now ≡ true }
-    ensures { IfOk result (λ members. members.items ≡ map (λ n. (n, new_host n (others n hosts.now))) hosts.now) }
+    ensures { IfOk result (λ members. boxed_slice_items members ≡ map (λ n. (n, new_host n (others n hosts.now))) hosts.now) }
 {
     let mut members = Vec::with_capacity(alloc, hosts.len())?;
     for number in hosts {
         members.push_reserved(Member::new(alloc, *number, hosts)?);
     }
-    Ok(members)
+    Ok(members.into_boxed_slice())
 }
 
 // The first place of a number.

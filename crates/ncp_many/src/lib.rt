@@ -5,6 +5,7 @@
 mod crowd;
 mod many;
 mod many_fault;
+mod transcript;
 
 pub use crowd::are_hosts;
 pub use many::Many;

@@ -8,6 +8,7 @@ pub mod examples;
 mod limits;
 mod many_event;
 mod many_note;
+pub mod taking;
 pub mod transcripts;
 
 pub use limits::MAX_HOSTS;

@@ -9,3 +9,4 @@ pub mod Opening
 pub mod Beginnings
 pub mod First
 pub mod NoErrs
+pub mod OutTaken

@@ -7,3 +7,4 @@ pub mod Headline
 pub mod Examples
 pub mod Errless
 pub mod Promised
+pub mod Taking

@@ -5,3 +5,4 @@
 pub mod examples;
 pub mod headline;
 pub mod promises;
+pub mod taking;

@@ -1,16 +1,12 @@
 //! `Alone`.
 ghost use Rattle.std.specs.Prelude.{◌≡◌, true, false, [], IfOk, IfErr, OnOk, OnErr, Err};
 ghost use Rattle.ncp_host.specs.Host.{new_host, are_peers};
-ghost use Rattle.ncp_transcript.specs.After.{after_note};
-ghost use Rattle.ncp_transcript.specs.Noting.{Noted};
 ghost use Rattle.ncp_transcript.specs.Runs.{IsTranscript};
 ghost use Rattle.ncp_transcript.specs.Alone.{IsStep};
 
-use crate::arrivals::hear;
-use crate::calls::perform;
 use crate::input::Input;
 use crate::note::HostNote;
-use crate::output::send;
+use crate::transcript::Transcript;
 use ncp_bits::BitStore;
 use ncp_host::{Host, HostFault};
 use std::alloc::{AllocError, Global};
@@ -19,12 +15,12 @@ use std::marker::Model;
 /// A host with its transcript: one note for each input, in order.
 ///
 /// A note takes at most [`crate::NOTE_BYTES`] bytes, and beside them those of its message, or of the
-/// ERRs that were read.
+/// ERRs that were read. Only [`Alone::new`] and [`Alone::step`] take memory: the readers are lent the host
+/// and the notes, and no allocator is in their reach.
 #[derive(Drop)]
 pub struct Alone<S: BitStore> {
-    alloc: Global,
     host: Host<S>,
-    notes: Vec<HostNote>,
+    notes: Transcript,
 }
 
 impl<S: BitStore> Model for Alone<S> {
@@ -38,42 +34,9 @@ impl<S: BitStore> Model for Alone<S> {
 
     ghost coded = { Prim.hlevel (codes, coded_ends, coded_slots) };
 
-    ghost view = { λ a. record { host = a.host; notes = a.notes.items } };
+    ghost view = { λ a. record { host = a.host; notes = a.notes } };
 
-    ghost invariant = { λ a. IsTranscript a.notes.items a.host };
-}
-
-// An input is done to a host.
-fn note_of<S: BitStore>(
-    alloc: Global,
-    host: &mut Host<S>,
-    input: &Input,
-) -> Result<HostNote, AllocError>
-    ensures note { IfOk result (λ note. Noted input.now note host.old) }
-    ensures host { IfOk result (λ note. host.new ≡ after_note note host.old) }
-    ensures err { OnErr result (host.new ≡ host.old) }
-{
-    match input {
-        Input::Call(call) => perform(alloc, host, call),
-        Input::In(bits) => hear(alloc, host, bits),
-        Input::Out => send(alloc, host),
-    }
-}
-
-// An input is done to a host and noted behind notes, which grow first.
-fn grow<S: BitStore>(
-    alloc: Global,
-    host: &mut Host<S>,
-    notes: &mut Vec<HostNote>,
-    input: &Input,
-) -> Result<(), AllocError>
-    ensures step { OnOk result (IsStep input.now (record { host = host.old; notes = notes.old.items }) (record { host = host.new; notes = notes.new.items })) }
-    ensures err { OnErr result ((notes.new.items ≡ notes.old.items) × (host.new ≡ host.old)) }
-{
-    notes.reserve(1)?;
-    let note = note_of(alloc, host, input)?;
-    notes.push_reserved(note);
-    Ok(())
+    ghost invariant = { λ a. IsTranscript a.notes a.host };
 }
 
 impl<S: BitStore> Alone<S> {
@@ -83,15 +46,15 @@ impl<S: BitStore> Alone<S> {
     pub fn new(alloc: Global, me: u8, peers: &[u8]) -> Result<Alone<S>, HostFault>
         ensures host { IfOk result (λ alone. alone.host ≡ new_host me peers.now) }
         ensures notes { IfOk result (λ alone. alone.notes ≡ []) }
+        ensures run { IfOk result (λ alone. IsTranscript alone.notes alone.host) }
         ensures ok { IfOk result (λ alone. are_peers me peers.now ≡ true) }
         ensures bad { are_peers me peers.now ≡ false → result ≡ Err HostFault.BadPeers }
         ensures full { are_peers me peers.now ≡ true → IfErr result (λ fault. fault ≡ HostFault.OutOfMemory) }
     {
         let host = Host::new(alloc, me, peers)?;
         Ok(Alone {
-            alloc,
             host,
-            notes: Vec::new(alloc),
+            notes: Transcript::new(alloc),
         })
     }
 
@@ -99,11 +62,14 @@ impl<S: BitStore> Alone<S> {
     ///
     /// The transcript grows first: after an `AllocError` nothing has happened, and the same input may
     /// be given again. It takes amortised constant time beside what the host does.
+    ///
+    /// Either way the notes are a transcript of the host (`run`).
     pub fn step(&mut self, input: &Input) -> Result<(), AllocError>
         ensures step { OnOk result (IsStep input.now self.old self.new) }
         ensures err { OnErr result (self.new ≡ self.old) }
+        ensures run { IsTranscript self.new.notes self.new.host }
     {
-        grow(self.alloc, &mut self.host, &mut self.notes, input)
+        self.notes.note(&mut self.host, input)
     }
 
     /// The notes of all inputs, the first input's first.

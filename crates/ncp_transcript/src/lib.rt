@@ -15,6 +15,7 @@ mod note;
 mod output;
 mod readings;
 mod room;
+mod transcript;
 
 pub use alone::Alone;
 pub use arrivals::{hear, hear_in_room};

@@ -2,3 +2,5 @@ pub mod Delivering
 pub mod Sums
 pub mod Ledgers
 pub mod Books
+pub mod Noting
+pub mod Numbers

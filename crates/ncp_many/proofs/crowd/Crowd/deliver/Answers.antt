@@ -1,3 +1,4 @@
+use Rattle.std.specs.Box.{boxed_slice_items}
 use Rattle.std.proofs.Common.{◌≡◌, Option, IfOk, sym, ap, ◌∙◌, subst}
 use Rattle.std.specs.Vec.{with_items}
 use Rattle.std.proofs.lemmas.List.{with_items_is}
@@ -16,7 +17,7 @@ use Rattle.ncp_many.proofs.crowd.Crowd.deliver.Goals as goal
 pub returns-clause-note : goal.returns-clause-note
 returns-clause-note g c =
     let was : Crowd = record { hosts = c.deref_mut.result.now; subnet = c.self.inside.subnet } in
-    let same : was ≡ c.args.self.now = lent c.deref_mut.result.now c.self.inside.members.items c.self.inside.subnet c.args.self.now c.deref_mut.ensures.value c.self.view_is in
+    let same : was ≡ c.args.self.now = lent c.deref_mut.result.now (boxed_slice_items c.self.inside.members) c.self.inside.subnet c.args.self.now c.deref_mut.ensures.value c.self.view_is in
     let there = ap (are_two c.args.from c.args.to) same ∙ c.requires in
     subst (λ (m : Crowd). IfOk c.match-branch-2.result (λ note. ManyNoted (events.Deliver c.args.from c.args.to c.args.link) note m)) same (elim c.match-branch-2.branch [
       | in-Some w ↦ rw w.result-is (noted-came was c.args.from c.args.to c.args.link there w.in-Some.note (sym w.in-Some.is ∙ c.in_ok-note.ensures.note))
@@ -26,19 +27,19 @@ returns-clause-note g c =
 pub returns-clause-crowd : goal.returns-clause-crowd
 returns-clause-crowd g c =
     let was : Crowd = record { hosts = c.deref_mut.result.now; subnet = c.self.inside.subnet } in
-    let same : was ≡ c.args.self.now = lent c.deref_mut.result.now c.self.inside.members.items c.self.inside.subnet c.args.self.now c.deref_mut.ensures.value c.self.view_is in
+    let same : was ≡ c.args.self.now = lent c.deref_mut.result.now (boxed_slice_items c.self.inside.members) c.self.inside.subnet c.args.self.now c.deref_mut.ensures.value c.self.view_is in
     let it = c.in_ok-note in
-    let hosts = with_items_is c.self.inside.members c.came.new.members (c.came.auto.members ∙ c.deref_mut.ensures.len) in
+    let hosts = with_items_is c.self.inside.members.items c.came.new.members (c.came.auto.members ∙ c.deref_mut.ensures.len) in
     elim c.match-branch-2.branch [
       | in-Some w ↦ rw w.result-is (
           let note = many.Came c.args.from c.args.to c.args.link w.in-Some.note in
-          crowd-is (with_items c.self.inside.members c.came.new.members).items c.came.new.subnet (after_many note was)
+          crowd-is (with_items c.self.inside.members.items c.came.new.members).items c.came.new.subnet (after_many note was)
           (hosts ∙ it.ensures.hosts ∙ ap (λ (o : Option HostNote). at_told c.args.to o was.hosts) w.in-Some.is)
           (it.ensures.subnet ∙ ap (λ (o : Option HostNote). put_told o c.args.from c.args.to c.args.link Transit.Delivered was.subnet) w.in-Some.is)
           ∙ ap (after_many note) same
           )
       | in-None w ↦ rw w.result-is (
-          crowd-is (with_items c.self.inside.members c.came.new.members).items c.came.new.subnet was
+          crowd-is (with_items c.self.inside.members.items c.came.new.members).items c.came.new.subnet was
           (hosts ∙ it.ensures.hosts ∙ ap (λ (o : Option HostNote). at_told c.args.to o was.hosts) w.in-None.is)
           (it.ensures.subnet ∙ ap (λ (o : Option HostNote). put_told o c.args.from c.args.to c.args.link Transit.Delivered was.subnet) w.in-None.is)
           ∙ same
@@ -51,5 +52,5 @@ returns-clause-err g c = elim c.match-branch-2.branch [ in-Some w ↦ rw w.resul
 pub returns-in_err-note-clause-err : goal.returns-in_err-note-clause-err
 returns-in_err-note-clause-err g c =
     on-err c.from_residual.result
-    (crowd-is (with_items c.self.inside.members c.came.new.members).items c.came.new.subnet (record { hosts = c.self.inside.members.items; subnet = c.self.inside.subnet })
-    (with_items_is c.self.inside.members c.came.new.members (c.came.auto.members ∙ c.deref_mut.ensures.len) ∙ c.in_err-note.ensures.err ∙ c.deref_mut.ensures.value) c.in_err-note.ensures.kept ∙ c.self.view_is)
+    (crowd-is (with_items c.self.inside.members.items c.came.new.members).items c.came.new.subnet (record { hosts = (boxed_slice_items c.self.inside.members); subnet = c.self.inside.subnet })
+    (with_items_is c.self.inside.members.items c.came.new.members (c.came.auto.members ∙ c.deref_mut.ensures.len) ∙ c.in_err-note.ensures.err ∙ c.deref_mut.ensures.value) c.in_err-note.ensures.kept ∙ c.self.view_is)

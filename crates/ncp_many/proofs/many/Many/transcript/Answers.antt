@@ -3,4 +3,4 @@ use Rattle.ncp_pairs.specs.ManyTranscript.{Noted_many}
 use Rattle.ncp_many.proofs.many.Many.transcript.Goals as goal
 
 pub returns-clause-notes : goal.returns-clause-notes
-returns-clause-notes g c = c.as_slice.ensures.value ∙ ap (λ (m : Noted_many). m.notes) c.self.view_is
+returns-clause-notes g c = c.as_slice.ensures ∙ ap (λ (m : Noted_many). m.notes) c.self.view_is

@@ -8,7 +8,7 @@ use Rattle.ncp_transcript.proofs.alone.Alone.new.Goals as goal
 pub invariant_of-result : goal.invariant_of-result
 invariant_of-result g c =
     let small : (k : ℕ) → get_or c.args.peers.now k 0 < 256 = λ (k : ℕ). let fits = c.type_inv.peers k in omega arith in
-    rw c.new-2.ensures.items (transcript_new c.args.me c.args.peers.now c.in_ok-host.host c.in_ok-host.ensures.good (one_fits c.args.peers.now small) c.in_ok-host.ensures.new)
+    rw c.new-2.ensures (transcript_new c.args.me c.args.peers.now c.in_ok-host.host c.in_ok-host.ensures.good (one_fits c.args.peers.now small) c.in_ok-host.ensures.new)
 
 pub returns-in_err-host-clause-bad : goal.returns-in_err-host-clause-bad
 returns-in_err-host-clause-bad g c =
@@ -25,3 +25,8 @@ returns-clause-host g c = c.in_ok-host.ensures.new
 
 pub returns-clause-ok : goal.returns-clause-ok
 returns-clause-ok g c = c.in_ok-host.ensures.good
+
+pub returns-clause-run : goal.returns-clause-run
+returns-clause-run g c =
+    let small : (k : ℕ) → get_or c.args.peers.now k 0 < 256 = λ (k : ℕ). let fits = c.type_inv.peers k in omega arith in
+    rw c.new-2.ensures (transcript_new c.args.me c.args.peers.now c.in_ok-host.host c.in_ok-host.ensures.good (one_fits c.args.peers.now small) c.in_ok-host.ensures.new)

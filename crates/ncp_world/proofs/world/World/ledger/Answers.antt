@@ -8,16 +8,16 @@ use Rattle.ncp_world.proofs.world.World.ledger.Goals as goal
 
 pub returns-clause-ledger : goal.returns-clause-ledger
 returns-clause-ledger g c =
-    c.ledger.ensures ∙ ledger-is c.self.inside.notes.items c.self.inside.hosts c.self.invariant c.args.side c.args.pair
+    c.ledger.ensures ∙ ledger-is c.self.inside.notes c.self.inside.hosts c.self.invariant c.args.side c.args.pair
     ∙ ap (λ (x : Noted_world). ledger_of c.args.side c.args.pair x.hosts) c.self.view_is
 
 pub returns-clause-balanced : goal.returns-clause-balanced
 returns-clause-balanced g c = if-some IsBalanced c.ledger.result (λ l e.
-    ledger-balanced c.self.inside.notes.items c.self.inside.hosts c.self.invariant c.args.side c.args.pair l
-    (sym (c.ledger.ensures ∙ ledger-is c.self.inside.notes.items c.self.inside.hosts c.self.invariant c.args.side c.args.pair) ∙ e))
+    ledger-balanced c.self.inside.notes c.self.inside.hosts c.self.invariant c.args.side c.args.pair l
+    (sym (c.ledger.ensures ∙ ledger-is c.self.inside.notes c.self.inside.hosts c.self.invariant c.args.side c.args.pair) ∙ e))
 
 pub returns-clause-booked : goal.returns-clause-booked
 returns-clause-booked g c = subst (λ (x : Noted_world). IfSome c.ledger.result (IsBooked c.args.side c.args.pair x.notes x.hosts)) c.self.view_is
-    (if-some (IsBooked c.args.side c.args.pair c.self.inside.notes.items c.self.inside.hosts) c.ledger.result (λ l e.
-    ledger-booked c.self.inside.notes.items c.self.inside.hosts c.self.invariant c.args.side c.args.pair l
-    (sym (c.ledger.ensures ∙ ledger-is c.self.inside.notes.items c.self.inside.hosts c.self.invariant c.args.side c.args.pair) ∙ e)))
+    (if-some (IsBooked c.args.side c.args.pair c.self.inside.notes c.self.inside.hosts) c.ledger.result (λ l e.
+    ledger-booked c.self.inside.notes c.self.inside.hosts c.self.invariant c.args.side c.args.pair l
+    (sym (c.ledger.ensures ∙ ledger-is c.self.inside.notes c.self.inside.hosts c.self.invariant c.args.side c.args.pair) ∙ e)))

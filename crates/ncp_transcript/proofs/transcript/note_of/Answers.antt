@@ -2,7 +2,7 @@ use Rattle.std.proofs.Common.{sym, subst}
 use Rattle.std.specs.Result.{IfOk}
 use Rattle.ncp_transcript.specs.declared.input.Input.{Input}
 use Rattle.ncp_transcript.specs.Noting.{Noted}
-use Rattle.ncp_transcript.proofs.alone.note_of.Goals as goal
+use Rattle.ncp_transcript.proofs.transcript.note_of.Goals as goal
 
 pub returns-in-Call-clause-note : goal.returns-in-Call-clause-note
 returns-in-Call-clause-note g c = subst (λ (input : Input). IfOk c.perform.result (λ note. Noted input note c.args.host.now)) (sym c.in-Call.is) c.perform.ensures.note

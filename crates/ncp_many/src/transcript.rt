@@ -1,0 +1,62 @@
+//! `Transcript`.
+ghost use Rattle.std.specs.Prelude.{◌≡◌, [], OnOk, OnErr};
+ghost use Rattle.ncp_pairs.specs.ManyTranscript.{IsManyStep};
+
+use crate::crowd::Crowd;
+use ncp_bits::BitStore;
+use ncp_pairs::{ManyEvent, ManyNote};
+use std::alloc::{AllocError, Global};
+use std::marker::Model;
+
+/// The notes of all events, in order.
+///
+/// It has the one allocator that hosts with their transcript keep, out of reach outside this file, and lends its
+/// notes alone. So memory is taken where an event happens and is noted, and nowhere else.
+#[derive(Drop)]
+pub(crate) struct Transcript {
+    alloc: Global,
+    notes: Vec<ManyNote>,
+}
+
+impl Model for Transcript {
+    ghost use Rattle.std.specs.Prelude.{List};
+    ghost use Rattle.ncp_pairs.specs.declared.many_note.ManyNote.{ManyNote};
+
+    ghost Value = { List ManyNote };
+
+    ghost view = { λ transcript. transcript.notes.items };
+}
+
+impl Transcript {
+    /// No notes. They will grow with this allocator.
+    pub(crate) fn new(alloc: Global) -> Transcript
+        ensures { result ≡ [] }
+    {
+        Transcript {
+            alloc,
+            notes: Vec::new(alloc),
+        }
+    }
+
+    /// The notes, the first event's first.
+    pub(crate) fn as_slice(&self) -> &[ManyNote]
+        ensures { result.now ≡ self.now }
+    {
+        self.notes.as_slice()
+    }
+
+    /// Does what an event says, and notes it behind the notes, which grow first.
+    pub(crate) fn note<S: BitStore>(
+        &mut self,
+        crowd: &mut Crowd<S>,
+        event: &ManyEvent,
+    ) -> Result<(), AllocError>
+        ensures step { OnOk result (IsManyStep event.now (record { crowd = crowd.old; notes = self.old }) (record { crowd = crowd.new; notes = self.new })) }
+        ensures err { OnErr result ((self.new ≡ self.old) × (crowd.new ≡ crowd.old)) }
+    {
+        self.notes.reserve(1)?;
+        let note = crowd.happen(self.alloc, event)?;
+        self.notes.push_reserved(note);
+        Ok(())
+    }
+}

@@ -1,0 +1,15 @@
+pub mod Taking
+pub mod Giving
+pub mod Tallies
+pub mod Noted
+pub mod Receiving
+pub mod Sending
+pub mod Bridging
+pub mod Walking
+pub mod Walk
+pub mod Using
+pub mod GoingOn
+pub mod CommandsRead
+pub mod ErrFree
+pub mod Delivering
+pub mod Carrying

@@ -1,0 +1,20 @@
+use Rattle.std.proofs.Common.{List, ◌∷◌, ◌++◌, sym, subst}
+use Rattle.ncp_two.specs.declared.note.Note.{Note}
+use Rattle.ncp_two.specs.declared.note.Note.TheVariants as notes
+use Rattle.ncp_two.specs.Between.{after_notes}
+use Rattle.ncp_two.specs.Transcript.{began, IsTranscript}
+use Rattle.ncp_two.specs.Vain.{CannotBe}
+use Rattle.ncp_subnet.specs.Ways.{OnLink}
+use Rattle.ncp_promises.proofs.Beginnings.{begins}
+use Rattle.ncp_proof_statement.proofs.Carrying.{carried-is}
+use Rattle.ncp_proof_statement.proofs.headline.what_goes_out_is_taken.Goals as goal
+
+pub returns-clause-carried : goal.returns-clause-carried
+returns-clause-carried c ns w side on t = carried-is side on ns w t (c.what_goes_out_is_taken.ensures ns w t)
+
+pub returns-clause-vain : goal.returns-clause-vain
+returns-clause-vain c ns w t before after side link wanted e =
+    let at : IsTranscript (before ++ notes.Nothing side link wanted ∷ after) w = subst (λ (xs : List Note). IsTranscript xs w) e t in
+    let v = after_notes before (began w) in
+    let front = begins before (notes.Nothing side link wanted ∷ after) w at in
+    subst (λ (has : OnLink). CannotBe wanted has) (sym (carried-is side link before v front (c.what_goes_out_is_taken.ensures before v front))) (c.nothing_is_noted_only_where_nothing_can_be.ensures.moves before after w side link wanted at)

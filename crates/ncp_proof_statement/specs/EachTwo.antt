@@ -1,0 +1,10 @@
+-- The headline of each two of two to eight hosts.
+use Rattle.std.specs.Prelude.{◌≡◌, ◌≢◌, ℕ, true, List}
+use Rattle.ncp_pairs.specs.declared.many_note.ManyNote.{ManyNote}
+use Rattle.ncp_pairs.specs.Crowd.{Crowd, is_there}
+use Rattle.ncp_pairs.specs.Pairs.{notes_between}
+use Rattle.ncp_statement.specs.Statement.{Headline}
+
+-- it holds of the notes that name both
+abbrev pub HeadlineOfEachTwo : List ManyNote → Crowd → Type 0
+HeadlineOfEachTwo ns m = (a b : ℕ) → is_there a m ≡ true → is_there b m ≡ true → a ≢ b → Headline a b (notes_between a b ns)

@@ -1,0 +1,16 @@
+//! The headline as the page says it, of each two of two to eight hosts.
+ghost use Rattle.std.specs.Prelude.{List};
+ghost use Rattle.ncp_pairs.specs.declared.many_note.ManyNote.{ManyNote as Note};
+ghost use Rattle.ncp_pairs.specs.Crowd.{Crowd};
+ghost use Rattle.ncp_pairs.specs.ManyTranscript.{IsManyTranscript};
+ghost use Rattle.ncp_proof_statement.specs.EachTwo.{HeadlineOfEachTwo};
+
+use crate::headline::transcripts_keep_the_page;
+
+/// The headline holds of each two of the hosts, by the notes that name both, whatever happens at and between the
+/// others.
+pub fn each_pair_keeps_the_page()
+    ensures { (notes : List Note) (m : Crowd) → IsManyTranscript notes m → HeadlineOfEachTwo notes m }
+{
+    transcripts_keep_the_page();
+}

@@ -1,0 +1,96 @@
+//! The headline as the page says it, of every transcript of two hosts.
+ghost use Rattle.std.specs.Prelude.{◌≡◌, ℕ, Bool, false, true, List, ◌++◌};
+ghost use Rattle.std.specs.FinMap.{get};
+ghost use Rattle.ncp_model.specs.declared.pair.Pair.{Pair};
+ghost use Rattle.ncp_model.specs.Pairs.{receives, turned};
+ghost use Rattle.ncp_model.specs.End.{is_live, or_new};
+ghost use Rattle.ncp_two.specs.declared.note.Note.{Note};
+ghost use Rattle.ncp_two.specs.declared.side.Side.{Side};
+ghost use Rattle.ncp_two.specs.Between.{Hosts, other, number_of, host_of, transit_of};
+ghost use Rattle.ncp_two.specs.Seen.{had_for};
+ghost use Rattle.ncp_two.specs.Transcript.{IsTranscript};
+ghost use Rattle.ncp_statement.specs.Statement.{taken, given, TakesGoOn, WithinAllowance, Each, ReadsAll, HasNoComplaint, InOrder, Delivers, carried, TakesWhatGoesOut, Headline};
+ghost use Rattle.ncp_proof_statement.specs.Since.{ComesRight};
+
+use ncp_promises::promises::what_comes_acts_once_and_is_right;
+use ncp_promises::taking::what_goes_out_is_taken as each_out_is_taken;
+use ncp_two::transcripts::{
+    nothing_is_noted_only_where_nothing_can_be, transcripts_are_honest,
+    transcripts_keep_the_headline,
+};
+
+/// Whenever `take` answers, all that it answered since the ask is a beginning of what is given by then at the other
+/// host: of every pair, at either host, after any run.
+pub fn takes_go_on()
+    ensures { (notes : List Note) (w : Hosts) → IsTranscript notes w → TakesGoOn notes }
+{
+    transcripts_keep_the_headline();
+}
+
+/// After any run, where an end that receives has opened and is not left, what `take` answered since the ask and what is
+/// held there are a beginning of what was given at the other host: of every pair, at either host.
+pub fn what_is_taken_and_held_begins_what_is_given()
+    ensures { (notes : List Note) (w : Hosts) (side : Side) (pair : Pair) → IsTranscript notes w → receives pair ≡ true → let end = get (had_for (number_of (other side) w) (host_of side w)).peer.ends pair in is_live end ≡ true → (or_new end).left ≡ false → (rest : List Bool) × (given (other side) (turned pair) notes ≡ (taken side pair notes ++ (or_new end).stored) ++ rest) }
+{
+    transcripts_keep_the_headline();
+}
+
+/// What was taken since the ask is never more than what was allocated since the ask: of every pair, at either host, at
+/// every moment of any run.
+pub fn what_is_taken_is_within_the_allowance()
+    ensures { (notes : List Note) (w : Hosts) → IsTranscript notes w → WithinAllowance notes }
+{}
+
+/// Each message came once, whole, before its RFNM, or did not come and had none.
+pub fn messages_are_delivered()
+    ensures { (notes : List Note) (w : Hosts) → IsTranscript notes w → Delivers w.number_a w.number_b notes }
+{
+    transcripts_are_honest();
+}
+
+/// What came on a link is a beginning of what went out there, each once, in order, shorter by at most one message.
+pub fn messages_come_in_order()
+    ensures { (notes : List Note) (w : Hosts) → IsTranscript notes w → InOrder w.number_a w.number_b notes }
+{
+    transcripts_are_honest();
+}
+
+/// The subnet takes what goes out: by the notes alone it has on each link what it is noted to have, and that it has
+/// nothing to deliver, to lose or to answer is noted only where that is so.
+pub fn what_goes_out_is_taken()
+    ensures carried { (notes : List Note) (w : Hosts) (side : Side) (on : ℕ) → IsTranscript notes w → carried side on notes ≡ transit_of side on w }
+    ensures vain { (notes : List Note) (w : Hosts) → IsTranscript notes w → TakesWhatGoesOut notes }
+{
+    each_out_is_taken();
+    nothing_is_noted_only_where_nothing_can_be();
+}
+
+/// Each control message that comes is noted with as many commands as it has; and no text that comes is noted as
+/// beyond the allocation, of the wrong size, or not connected.
+pub fn each_command_is_read()
+    ensures read { (notes : List Note) (w : Hosts) → IsTranscript notes w → Each ReadsAll notes }
+    ensures right { (notes : List Note) (w : Hosts) → IsTranscript notes w → Each ComesRight notes }
+{
+    what_comes_acts_once_and_is_right();
+}
+
+/// No control message that goes out has an ERR; and no text that comes is noted as beyond the allocation, of the wrong
+/// size, or not connected.
+pub fn none_complains()
+    ensures { (notes : List Note) (w : Hosts) → IsTranscript notes w → Each HasNoComplaint notes }
+{
+    what_comes_acts_once_and_is_right();
+}
+
+/// The headline holds of every transcript of two hosts.
+pub fn transcripts_keep_the_page()
+    ensures { (notes : List Note) (w : Hosts) → IsTranscript notes w → Headline w.number_a w.number_b notes }
+{
+    takes_go_on();
+    what_is_taken_is_within_the_allowance();
+    messages_are_delivered();
+    messages_come_in_order();
+    what_goes_out_is_taken();
+    each_command_is_read();
+    none_complains();
+}

@@ -1,0 +1,62 @@
+//! `Transcript`.
+ghost use Rattle.std.specs.Prelude.{◌≡◌, [], OnOk, OnErr};
+ghost use Rattle.ncp_two.specs.Transcript.{IsStep};
+
+use crate::hosts::Hosts;
+use ncp_bits::BitStore;
+use ncp_two::{Event, Note};
+use std::alloc::{AllocError, Global};
+use std::marker::Model;
+
+/// The notes of all events, in order.
+///
+/// It has the one allocator that a world keeps, out of reach outside this file, and lends its notes alone. So
+/// memory is taken where an event happens and is noted, and nowhere else.
+#[derive(Drop)]
+pub(crate) struct Transcript {
+    alloc: Global,
+    notes: Vec<Note>,
+}
+
+impl Model for Transcript {
+    ghost use Rattle.std.specs.Prelude.{List};
+    ghost use Rattle.ncp_two.specs.declared.note.Note.{Note};
+
+    ghost Value = { List Note };
+
+    ghost view = { λ transcript. transcript.notes.items };
+}
+
+impl Transcript {
+    /// No notes. They will grow with this allocator.
+    pub(crate) fn new(alloc: Global) -> Transcript
+        ensures { result ≡ [] }
+    {
+        Transcript {
+            alloc,
+            notes: Vec::new(alloc),
+        }
+    }
+
+    /// The notes, the first event's first.
+    pub(crate) fn as_slice(&self) -> &[Note]
+        ensures { result.now ≡ self.now }
+    {
+        self.notes.as_slice()
+    }
+
+    /// Does what an event says, and notes it behind the notes, which grow first.
+    pub(crate) fn note<S: BitStore>(
+        &mut self,
+        hosts: &mut Hosts<S>,
+        event: &Event,
+    ) -> Result<(), AllocError>
+        ensures step { OnOk result (IsStep event.now (record { hosts = hosts.old; notes = self.old }) (record { hosts = hosts.new; notes = self.new })) }
+        ensures err { OnErr result ((self.new ≡ self.old) × (hosts.new ≡ hosts.old)) }
+    {
+        self.notes.reserve(1)?;
+        let note = hosts.happen(self.alloc, event)?;
+        self.notes.push_reserved(note);
+        Ok(())
+    }
+}
