@@ -21,12 +21,13 @@ use Rattle.ncp_sharing.specs.Finding.{link_out}
 use Rattle.ncp_resets.specs.Delivery.{Link, idle}
 use Rattle.ncp_resets.specs.Resets.{Host, is_up, on_line}
 use Rattle.ncp_resets.proofs.ResetKept.{Kept}
-use Rattle.ncp_hosts.specs.Hosts.{TextOut, World}
+use Rattle.ncp_hosts.specs.Hosts.{TextOut, World, peer_of}
 use Rattle.ncp_headline.proofs.Ties.{Owners, Carried, Owned, Texts}
 use Rattle.ncp_headline.proofs.TiesBase.{all-fit}
 use Rattle.ncp_headline.proofs.HostsJoined.{up_alive}
 use Rattle.ncp_headline.proofs.HostsHeld.{Ever, x, y}
 use Rattle.ncp_progress_idle.specs.Idle.{LeavingAt, IsIdle}
+use Rattle.ncp_progress_finished.proofs.Echoes.{Shut}
 use Rattle.ncp_progress_finished.specs.Finished.{EndRests, EndRestsAt, IsAtRest}
 
 pub false_or : (b : Bool) → (b ≡ true → ⊥) → b ≡ false
@@ -129,10 +130,11 @@ module _ (w : World) (t : Ever w) (i : IsIdle w.this) (j : IsIdle w.that) where
       sym (ap (λ (o : Watched). (or_new o.end).busy) (t.holds.joined.ties.there.sender pair s)) ∙ (sender-out pair g.receives (at pair g) k ∙ ap is_out (no-text pair)))
       (λ e. ap (λ (o : Option End). (or_new o).busy) (none-there w.this.ends pair (t.holds.joined.this.none e)))
 
-  pub at-rest : ((pair : Pair) → LeavingAt pair (get w.this.ends pair)) → IsAtRest w.this
-  at-rest l = record {
+  pub at-rest : Shut (peer_of w.this) → ((pair : Pair) → LeavingAt pair (get w.this.ends pair)) → IsAtRest w.this
+  at-rest f l = record {
     idle = i;
     wait = no-wait w.this.host w.that.host (x w) (y w) t.holds.joined.kept none-going none-coming j.owe;
     down = λ d. t.holds.joined.this.none (down-not-up w.this.host d);
+    echo = λ d. f (down-not-up w.this.host d);
     ends = λ pair. rests pair (get w.this.ends pair) (t.stand.0.good.sound pair) (l pair) (t.holds.joined.ties.there.proper pair) (not-busy pair);
   }

@@ -1,2 +1,4 @@
+mod Echoes
 pub mod AtRest
 pub mod PairsFinished
+mod Meaning

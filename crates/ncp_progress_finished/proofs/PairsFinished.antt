@@ -37,6 +37,7 @@ use Rattle.ncp_progress_idle.specs.Idle.{LeavingAt, IsSettled, IsIdle}
 use Rattle.ncp_progress_idle.proofs.LeavingEnds.{leaving-ever}
 use Rattle.ncp_progress_idle.proofs.Settled.{ever-idle}
 use Rattle.ncp_progress_finished.specs.Finished.{EndRestsAt, PairFinished, Nobody, Sender_asked, Receiver_asked, Both_open, Receiver_holds, PairIsFinished, IsFinished}
+use Rattle.ncp_progress_finished.proofs.Echoes.{ever-shut}
 use Rattle.ncp_progress_finished.proofs.AtRest.{false_or, none-going, none-coming, no-text, sends-live, at-rest}
 
 -- a text that may not go
@@ -112,7 +113,7 @@ module _ (p : Pair) (sp : sends p ≡ true) (rp : receives (turned p) ≡ true) 
       opened q h true t =
           let c : f.cls ≡ true = j.0.there.1 ∙ t in
           let g : f.leaving ≡ true = ff.cls c in
-          Receiver_holds e f refl refl (t, e-cls) (g, c, n.holds g rp)
+          Receiver_holds e f refl refl (t, e-cls, e-stays) (g, c, n.holds g rp)
       opened q h false t =
           let c : f.cls ≡ false = j.0.there.1 ∙ t in
           let g : f.leaving ≡ false = false_or f.leaving (λ g. both_ways f.cls c (n.shut g rp)) in
@@ -227,8 +228,8 @@ ever-finished es s =
     let t : Ever w = ever es in
     let r : Ever (swap w) = ever-swapped w t in
     let i = ever-idle es s in
-    let this = at-rest w t i.0 i.1 (λ pair. (leaving-ever es pair).0) in
-    let that = at-rest (swap w) r i.1 i.0 (λ pair. (leaving-ever es pair).1) in
+    let this = at-rest w t i.0 i.1 (ever-shut es).0 (λ pair. (leaving-ever es pair).0) in
+    let that = at-rest (swap w) r i.1 i.0 (ever-shut es).1 (λ pair. (leaving-ever es pair).1) in
     record {
       this = this;
       that = that;

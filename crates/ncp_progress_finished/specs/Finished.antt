@@ -24,12 +24,13 @@ EndRestsAt pair None = Unit {0}
 EndRestsAt pair (Some e) = EndRests pair e
 
 -- a host: no link has a message, no command waits, no text may go out, no flag is set but that it is down,
--- and then it has no ends; and each end rests
+-- and then it has no ends and awaits no echo; and each end rests
 abbrev pub IsAtRest : Node → Type 0
 IsAtRest n = record {
   idle : IsIdle n;
   wait : n.host.phase.wait ≡ false;
   down : n.host.phase.down ≡ true → n.ends ≡ no_ends;
+  echo : n.host.phase.down ≡ true → n.echoes.awaited ≡ false;
   ends : (pair : Pair) → EndRestsAt pair (get n.ends pair);
 }
 
@@ -77,7 +78,7 @@ pub data PairFinished (pair : Pair) (s r : Option End) (given got : List Bool) :
   Sender_asked : (e f : End) → s ≡ Some e → r ≡ Some f → AskedAlone e → HeardAlone f → f.size ≡ e.size → PairFinished pair s r given got
   Receiver_asked : (e f : End) → s ≡ Some e → r ≡ Some f → HeardAlone e → AskedAlone f → e.link ≡ f.link → PairFinished pair s r given got
   Both_open : (e f : End) → s ≡ Some e → r ≡ Some f → OpenAndAgreed pair e f given got → PairFinished pair s r given got
-  Receiver_holds : (e f : End) → s ≡ Some e → r ≡ Some f → (e.left ≡ true) × (e.cls ≡ false) → (f.leaving ≡ true) × (f.cls ≡ true) × (0 < length f.stored) → PairFinished pair s r given got
+  Receiver_holds : (e f : End) → s ≡ Some e → r ≡ Some f → (e.left ≡ true) × (e.cls ≡ false) × (e.leaving ≡ false) → (f.leaving ≡ true) × (f.cls ≡ true) × (0 < length f.stored) → PairFinished pair s r given got
 
 -- from this host to that one
 abbrev pub PairIsFinished : Pair → World → Type 0

@@ -20,4 +20,4 @@ pub returns-clause-waiting : goal.returns-clause-waiting
 returns-clause-waiting c = Both_open (storing (ones 8)) opened_end refl refl (record { sender = refl; receiver = refl; link = refl; size = refl; messages = refl; bits = refl; text = refl; waits = refl })
 
 pub returns-clause-held : goal.returns-clause-held
-returns-clause-held c = Receiver_holds (gone opened_end) (shut (due (storing (ones 8)))) refl refl (refl, refl) (refl, refl, omega arith)
+returns-clause-held c = Receiver_holds (gone opened_end) (shut (due (storing (ones 8)))) refl refl (refl, refl, refl) (refl, refl, omega arith)

@@ -1,0 +1,3 @@
+pub mod OfModel
+pub mod Finished
+mod Beginning
