@@ -230,6 +230,16 @@ local function owe(v, side, reply)
   list[#list + 1] = reply
 end
 
+-- An ERR of `side` about a text is possible. Between links the order is open, so these are kept by their data.
+local function may_err(v, side, data, n)
+  local texts = v.text_errs[side][data]
+  if not texts then
+    texts = {}
+    v.text_errs[side][data] = texts
+  end
+  texts[#texts + 1] = n
+end
+
 -- An ERR of the other side about this command of `side`.
 local function owe_err(step, side, item, codes, sure, place)
   local data
@@ -373,7 +383,7 @@ local function close(self, step, side, item, place, judged)
   if side == "H" and life.sender == "H" and life.link and busy(v, life.link) and judged and not v.resting_pairs[pair] then
     find(step, "text-out", side, string.format("%s link=%d", item.line, life.link), place)
     local slot = v.slots[life.link]
-    if slot.err then v.text_errs.K[slot.err] = step.n end
+    if slot.err then may_err(v, "K", slot.err, step.n) end
   end
   if life.sender == side then
     local list = {}
@@ -419,15 +429,26 @@ local function allow(self, step, life, item, judged, side, place)
   end
 end
 
+-- A RET of any numbers is possible: the sender may have an open end of which nothing was seen.
+local function owe_some_ret(step, side, item, place)
+  owe(step.view, OTHER[side], {
+    kind = "RET", key = item.link, link = item.link, messages = MOST_MESSAGES, bits = MOST_BITS, frame = step.n, item = place,
+    line = string.format("RET link=%d", item.link),
+  })
+end
+
 -- A GVB of `side` on a life whose sender is the other.
-local function call_back(step, life, item, judged, side, place)
+local function call_back(step, life, item, resting, judged, side, place)
   local v, sender = step.view, OTHER[side]
   if judged and life.gvb then
     find(step, "gvb-again", side, item.line, place)
     owe_err(step, side, item, REFUSED_WITH.GVB, false, place)
   end
   life.gvb = true
-  if life.cls[sender] then return end
+  if life.cls[sender] then
+    if resting then owe_some_ret(step, side, item, place) end
+    return
+  end
   local messages, bits = life.counter.messages, life.counter.bits
   if sender == "K" then messages, bits = left_of(life) end
   messages, bits = connections.back(math.max(0, messages), item.fm), connections.back(math.max(0, bits), item.fb)
@@ -440,8 +461,8 @@ local function call_back(step, life, item, judged, side, place)
   })
 end
 
-local function give_back(self, step, life, item, judged, side, place)
-  local due = strike(self, step, side, function(r) return r.kind == "RET" and r.link == item.link end, judged, place)
+-- A RET of `side`, which answers the GVB of `due`.
+local function give_back(step, life, item, due, judged, side, place)
   local messages, bits = left_of(life)
   local finding
   if judged then
@@ -480,24 +501,28 @@ local function on_link(self, step, side, item, place, judged)
   local life = v.users[receiver][item.link]
   local noted = step.note.items[place]
   if life then noted.stream, noted.life = life.stream, life end
-  if v.resting_links[receiver][item.link] or life and v.resting_pairs[life.pair] then
+  local resting = v.resting_links[receiver][item.link] or life and v.resting_pairs[life.pair]
+  if resting then
     owe_err(step, side, item, REFUSED_WITH[item.name], false, place)
     judged = false
   end
+  local due = item.name == "RET"
+    and strike(self, step, side, function(r) return r.kind == "RET" and r.link == item.link end, judged, place) or nil
   local why = not_open(life, side)
   if why then
+    if item.name == "GVB" and (resting or why == "not-asked") then owe_some_ret(step, side, item, place) end
     local sure = judged and receiver == side and not v.named[side][item.link]
     if judged then
       find(step, "not-open", side, item.line .. " " .. why, place)
       if not life then rest_link(v, receiver, item.link)
       elseif not life.asked[OTHER[side]] then rest_pair(v, life.pair) end
     end
-    owe_err(step, side, item, REFUSED_WITH[item.name], sure, place)
+    if not resting then owe_err(step, side, item, REFUSED_WITH[item.name], sure, place) end
     return
   end
   if item.name == "ALL" then allow(self, step, life, item, judged, side, place)
-  elseif item.name == "GVB" then call_back(step, life, item, judged, side, place)
-  elseif item.name == "RET" then give_back(self, step, life, item, judged, side, place) end
+  elseif item.name == "GVB" then call_back(step, life, item, resting, judged, side, place)
+  elseif item.name == "RET" then give_back(step, life, item, due, judged, side, place) end
 end
 
 -- ---------------------------------------------------------------- echo and errors
@@ -522,8 +547,9 @@ local function echoed(self, step, side, item, place, judged)
     end
     find(step, "erp-unasked", side, item.line .. (asked and string.format(" data=%d", asked) or ""), place)
   end
+  -- It may be less than none: an ERP may come while the ECO that it ends still waits.
   local other = OTHER[side]
-  v.echoes[other] = math.max(0, v.echoes[other] - 1)
+  v.echoes[other] = v.echoes[other] - 1
 end
 
 local function complain(self, step, side, item, place, judged)
@@ -535,10 +561,9 @@ local function complain(self, step, side, item, place, judged)
     end
     return false
   end
-  local about = item.code == 5 and v.text_errs[side][item.data]
-  if about then
-    v.text_errs[side][item.data] = nil
-    tie(self, step, place, about)
+  local texts = item.code == 5 and v.text_errs[side][item.data]
+  if texts and texts[1] then
+    tie(self, step, place, table.remove(texts, 1))
     return
   end
   if not strike(self, step, side, fits, judged, place) and judged then find(step, "err-unjust", side, item.line, place) end
@@ -690,9 +715,10 @@ local function take_text(self, step, side)
   local note, data = step.note, err_data(step, side)
   if life then note.stream, note.life = life.stream, life end
   if side == "H" then v.slots[m.link].err = data end
-  if v.resting_links[receiver][m.link] or life and v.resting_pairs[life.pair] then
+  local resting = v.resting_links[receiver][m.link] or life and v.resting_pairs[life.pair]
+  if resting then
     judged = false
-    v.text_errs[OTHER[side]][data] = step.n
+    may_err(v, OTHER[side], data, step.n)
   end
   local why = not_open(life, side) or side == "H" and life.cls.K and "closed" or nil
   if why then
@@ -701,7 +727,7 @@ local function take_text(self, step, side)
       if not life then rest_link(v, receiver, m.link)
       elseif not life.asked[receiver] then rest_pair(v, life.pair) end
     end
-    v.text_errs[OTHER[side]][data] = step.n
+    if not resting then may_err(v, OTHER[side], data, step.n) end
     if life then life.late, life.came = life.late + 1, life.came + m.text_bits end
     return
   end
@@ -713,7 +739,7 @@ local function take_text(self, step, side)
   if judged and over then
     find(step, "text-over", side, string.format("link=%d messages=1 of=%d bits=%d of=%d", m.link, messages, m.text_bits, bits))
   end
-  if wrong_size or over then v.text_errs[OTHER[side]][data] = step.n end
+  if (wrong_size or over) and not resting then may_err(v, OTHER[side], data, step.n) end
   local admitted = life.opened and not wrong_size and not over and not life.cls.H
   note.admitted, note.life = admitted, life
   note.allowed_in = use_grants(self, step, life, m.text_bits)

@@ -208,3 +208,155 @@ def watched(seed):
             lines.append("b call-back 2 3 %d %d" % (dice.randrange(130), dice.randrange(130)))
         carry(0.15)
     return ("\n".join(lines) + "\n").encode()
+
+
+def hostile(seed, me, peer):
+    """A script of one host whose peer sends what it likes: requests, closes, allocations and texts of few sockets and links,
+    with and without the resets that are due, and answers of each kind."""
+    dice = random.Random(seed)
+    lines = ["host %d %d" % (me, peer)]
+    pairs = [(3, 2), (2, 3), (3, 2), (2, 3), (5, 4), (4, 5), (5, 2)][: dice.choice([2, 4, 7])]
+    wild = dice.choice([0.0, 0.02, 0.1, 0.3])
+
+    def comes(bits, data):
+        lines.append("in %d %s" % (bits, data.hex()))
+
+    def control(*commands):
+        text = b"".join(commands)
+        comes(72 + 8 * len(text), bytes([0, peer, 0, 0, 0, 8]) + len(text).to_bytes(2, "big") + b"\0" + text)
+
+    def socket(number):
+        return number.to_bytes(4, "big")
+
+    def command():
+        mine, theirs = dice.choice(pairs)
+        link = bytes([dice.choice([2, 2, 2, 3, 3, 4] if dice.random() > wild else [1, 5, 71, 72])])
+        chance = dice.random()
+        if chance < wild / 4:
+            return a_command(dice)
+        if chance < 0.35:
+            # The peer's request: an STR to a receiver here, an RTS to a sender here.
+            if mine % 2 == 0:
+                return b"\2" + socket(theirs) + socket(mine) + bytes([dice.choice([8, 8, 8, 7])])
+            return b"\1" + socket(theirs) + socket(mine) + link
+        if chance < 0.50:
+            return b"\3" + socket(theirs) + socket(mine)
+        if chance < 0.68:
+            return b"\4" + link + dice.randrange(4).to_bytes(2, "big") + dice.randrange(60).to_bytes(4, "big")
+        if chance < 0.76:
+            return b"\5" + link + bytes([dice.randrange(140), dice.randrange(140)])
+        if chance < 0.82:
+            return b"\6" + link + dice.randrange(3).to_bytes(2, "big") + dice.randrange(30).to_bytes(4, "big")
+        if chance < 0.86:
+            return bytes([dice.choice([7, 8])]) + link
+        if chance < 0.92:
+            return bytes([dice.choice([9, 10]), dice.randrange(3)])
+        if chance < 0.96:
+            return b"\x0b" + bytes([dice.randrange(6)]) + dice.randbytes(10)
+        return b"\0"
+
+    def call():
+        local, remote = dice.choice(pairs)
+        which = dice.randrange(12)
+        if which == 0 and dice.random() < 0.3:
+            return "reset %d" % peer
+        if which in (1, 2, 3):
+            if local % 2:
+                return "ask-send %d %d %d 8 256" % (peer, local, remote)
+            return "ask-receive %d %d %d 256" % (peer, local, remote)
+        if which == 4:
+            return "close %d %d %d" % (peer, local, remote)
+        receiver, sender = dice.choice([(2, 3), (4, 5), (2, 5)]), dice.choice([(3, 2), (5, 4), (5, 2)])
+        if which in (5, 6):
+            local, remote = receiver
+        if which in (8, 9):
+            local, remote = sender
+        if which == 5:
+            return "allocate %d %d %d %d %d" % (peer, local, remote, dice.randrange(4), dice.randrange(60))
+        if which == 6:
+            return "call-back %d %d %d %d %d" % (peer, local, remote, dice.randrange(140), dice.randrange(140))
+        if which == 7:
+            return "interrupt %d %d %d" % (peer, local, remote)
+        if which in (8, 9):
+            count = dice.randrange(1, 4)
+            return "give %d %d %d %d %s" % (peer, local, remote, 8 * count, dice.randbytes(count).hex())
+        if which == 10:
+            return "take %d %d %d %d" % (peer, local, remote, dice.randrange(1, 9))
+        return dice.choice(["echo %d %d" % (peer, dice.randrange(3)), "wake %d" % peer])
+
+    def answer(link):
+        comes(32, bytes([dice.choice([5, 5, 5, 5, 5, 9, 7]), peer, link, 0]))
+
+    lines.append("reset %d" % peer)
+    if dice.random() < 0.8:
+        lines.append("out")
+        comes(32, bytes([5, peer, 0, 0]))
+        control(b"\x0d")
+    restless = dice.choice([0.0, 0.01, 0.05])
+    for _ in range(dice.randrange(40, 200)):
+        chance = dice.random()
+        if chance < 0.3:
+            lines.append("out")
+            for link in (0, 2, 3):
+                if dice.random() < 0.6:
+                    answer(link)
+        elif chance < 0.36:
+            answer(dice.choice([0, 2, 3, 4]))
+        elif chance < 0.36 + restless:
+            control(dice.choice([b"\x0c", b"\x0d", b"\x0d", b"\x0c\x0d"]))
+        elif chance < 0.65:
+            control(*[command() for _ in range(dice.choice([1, 1, 2, 3]))])
+        elif chance < 0.72:
+            size, count = dice.choice([(8, 1), (8, 2), (8, 3), (7, 1), (8, 0)])
+            link = dice.choice([2, 2, 3])
+            data = bytes([0, peer, link, 0, 0, size, 0, count, 0]) + dice.randbytes(count)
+            comes(*message(72 + size * count, data))
+        else:
+            lines.append(call())
+    return ("\n".join(lines) + "\n").encode()
+
+
+# The bytes of a command's fields, in the order of its words.
+WIDTHS = {"link": 1, "messages": 2, "bits": 4, "receive": 4, "send": 4, "my": 4, "your": 4, "size": 1, "fm": 1, "fb": 1, "code": 1}
+NAMES = ["NOP", "RTS", "STR", "CLS", "ALL", "GVB", "RET", "INR", "INS", "ECO", "ERP", "ERR", "RST", "RRP"]
+
+
+def spelled(line):
+    """The bytes of a command by its line."""
+    name, *words = line.split()
+    data = bytes([NAMES.index(name)])
+    for word in words:
+        key, value = word.split("=")
+        if key == "data":
+            data += bytes.fromhex(value) if name == "ERR" else bytes([int(value)])
+        else:
+            data += int(value).to_bytes(WIDTHS[key], "big")
+    return data
+
+
+def interface(script, lines):
+    """The records at the interface of the one host of a script, by the lines of what happened."""
+    me = int(script.split()[1])
+    came = [line.split()[1:] for line in script.decode().splitlines() if line.startswith("in ")]
+    made, i = [], 0
+    while i < len(lines):
+        words = lines[i].split()
+        i += 1
+        if words[1] == "in":
+            bits, *data = came.pop(0)
+            made.append(("I", me, int(bits), bytes.fromhex("".join(data))))
+        elif words[1] == "out" and words[2] != "nothing":
+            host, link, bits = (int(word.split("=")[1]) for word in words[2:5])
+            details = []
+            while i < len(lines) and lines[i].startswith("  "):
+                details.append(lines[i].strip())
+                i += 1
+            size, count = (int(word.split("=")[1]) for word in details[0].split())
+            text = b""
+            for line in details[1:]:
+                text += bytes.fromhex(line.split()[2] if len(line.split()) > 2 else "") if line.startswith("text ") else spelled(line)
+            made.append(("H", me, bits, bytes([0, host, link, 0, 0, size]) + count.to_bytes(2, "big") + b"\0" + text))
+        else:
+            while i < len(lines) and lines[i].startswith("  "):
+                i += 1
+    return made

@@ -208,7 +208,10 @@ def test_rules():
             got = alone(lua, "findings", data)
             if got != wanted:
                 wrong.append((wanted, got))
-        tell("the same by %s alone" % lua, wrong)
+        for name in sorted(os.listdir(os.path.join(TOP, "plugin"))):
+            done = subprocess.run([lua, "-e", "assert(loadfile(%r))" % os.path.join(TOP, "plugin", name)], capture_output=True, text=True)
+            wrong += [done.stderr] if done.returncode else []
+        tell("the same by %s alone, which reads all files of the plugin" % lua, wrong)
 
 
 def alone(lua, word, data):
@@ -286,6 +289,29 @@ def test_recordings(count):
         differ, _ = compare_fields(data, shark.path("recording.ncp", data))
         wrong += [(name, line) for line in differ]
     tell("fields and Info of 6 of them", wrong)
+
+
+def test_hostile(captures):
+    """One host whose peer sends what it likes: nothing is found against the host. A capture has the interfaces of many such hosts."""
+    wrong, total, against_peer = [], 0, set()
+    for capture in range(captures):
+        data = b"NCPJ"
+        for me in range(1, 200):
+            script = records.hostile(capture * 200 + me, me, 250)
+            lines = ncp("host", script)[0].decode().splitlines()
+            for direction, host, bits, message in records.interface(script, lines):
+                data += records.record("j", bits, message, direction, host)
+                total += 1
+        stdout = shark.run("-r", shark.path("hostile.ncp", data), "-Y", "ahhp.finding", "-T", "fields", "-E", "aggregator=;", "-e", "frame.number", "-e", "ahhp.finding")[0]
+        for line in stdout.splitlines():
+            number, found = line.split("\t")
+            for finding in found.split(";"):
+                at, who, rule = finding.split()[:3]
+                if who == "host=" + at.split("=")[1]:
+                    wrong.append((capture, number, finding))
+                against_peer.add(rule)
+    tell("%d hosts with a peer that sends what it likes, %d messages: no finding against the host (against peer and IMP %d rules)"
+        % (199 * captures, total, len(against_peer)), wrong)
 
 
 def test_middle(count):
@@ -437,6 +463,7 @@ def main():
     test_torn()
     test_left(20 if chosen.long else 6)
     test_recordings(300 if chosen.long else 40)
+    test_hostile(20 if chosen.long else 1)
     test_middle(100 if chosen.long else 10)
     test_generated(20000 if chosen.long else 7000)
     test_truncated(recorded, chosen.long)
