@@ -1,0 +1,16 @@
+-- arpanet.lua: Wireshark and tshark read messages of the ARPANET of 1972: message files, the Host/IMP interface (BBN
+-- Report 1822), the Host/Host Protocol (NIC 8246), and the datagrams of a simulated host interface.
+--
+-- This file loads the others, which stand beside it. Each of them gives a table and does nothing by itself, so it does
+-- no harm that Wireshark loads all files of its plugin folder, in any order.
+
+local here = debug.getinfo(1, "S").source:match("^@?(.*[/\\])") or "./"
+package.path = here .. "?.lua;" .. package.path
+
+local messages = require("arpanet_messages")
+local connections = require("arpanet_connections")
+local dissector = require("arpanet_dissector")
+dissector.register(messages, connections)
+require("arpanet_files").register(messages)
+require("arpanet_datagrams").register(dissector)
+require("arpanet_windows").register(connections, dissector.hhp)

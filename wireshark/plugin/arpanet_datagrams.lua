@@ -1,0 +1,171 @@
+-- arpanet_datagrams.lua: datagrams (UDP) between the host interfaces of a simulated IMP and its host, joined to messages.
+--
+-- A datagram, numbers most significant byte first:
+--     magic      4 bytes   "H316"
+--     sequence   4 bytes   one more with each datagram of its sender
+--     count      2 bytes   the number of words that follow
+--     flags      2 bytes   1: the last words of a message; 2: the sender is ready
+--     words      2 bytes each
+-- A message is the words of the datagrams up to one whose flag 1 is set. So its bits are a multiple of 16.
+--
+-- A datagram does not say who is the host. The preference "Ports of hosts" does: 20011=1 20021=2, or with an address in
+-- front 10.0.0.1:20011=1, names the ports of the hosts' side. Without it the first answer of an IMP tells which side that
+-- is, and the host's number stays unknown.
+
+local datagrams = {}
+
+local HEAD, MAGIC = 12, "H316"
+local FINAL, READY = 1, 2
+local MOST_BYTES = 1024                                   -- 8,192 bits, the most of a message that is read
+local H, I, h, i = 0x48, 0x49, 0x68, 0x69                 -- directions of a packet
+
+local proto, f, e = nil, {}, {}
+local hosts = {}                                          -- by "PORT" or "ADDRESS:PORT" the number of a host
+local flows, done, imps                                   -- what is known of senders, of datagrams, and of who is an IMP
+
+local function forget() flows, done, imps = {}, {}, {} end
+
+local function declare()
+  proto = Proto("h316", "H316 Host Interface over UDP")
+  f.magic = ProtoField.string("h316.magic", "Magic", base.ASCII)
+  f.sequence = ProtoField.uint32("h316.sequence", "Sequence", base.DEC)
+  f.count = ProtoField.uint16("h316.count", "Words", base.DEC)
+  f.flags = ProtoField.uint16("h316.flags", "Flags", base.HEX)
+  f.final = ProtoField.bool("h316.flags.final", "Last words of a message", 16, nil, FINAL)
+  f.ready = ProtoField.bool("h316.flags.ready", "Ready", 16, nil, READY)
+  f.words = ProtoField.bytes("h316.words", "Words")
+  f.message_in = ProtoField.framenum("h316.message_in", "Message ends in", base.NONE)
+  f.part = ProtoField.framenum("h316.part", "Part of the message", base.NONE)
+  proto.fields = f
+  e.gap = ProtoExpert.new("h316.gap", "Datagrams are missing before this one", expert.group.SEQUENCE, expert.severity.WARN)
+  e.again = ProtoExpert.new("h316.again", "An earlier sequence number: not joined to a message", expert.group.SEQUENCE, expert.severity.WARN)
+  e.count = ProtoExpert.new("h316.wrong_count", "The count is not that of the words that follow", expert.group.MALFORMED, expert.severity.WARN)
+  e.long = ProtoExpert.new("h316.too_long", "A message of more than 8,192 bits", expert.group.MALFORMED, expert.severity.WARN)
+  e.side = ProtoExpert.new("h316.side", "Which side is the host is not known: taken to go to the IMP. The preference `Ports of hosts` says it",
+    expert.group.UNDECODED, expert.severity.NOTE)
+  proto.experts = e
+  proto.prefs.hosts = Pref.string("Ports of hosts", "", "PORT=HOST or ADDRESS:PORT=HOST, spaces between: at which port which host is")
+  proto.prefs.ports = Pref.range("Ports", "", "Ports whose datagrams are taken, beside those that begin with H316", 65535)
+end
+
+local ports
+
+local function read_preferences()
+  hosts = {}
+  for place, host in tostring(proto.prefs.hosts):gmatch("([%d%.:]+)=(%d+)") do hosts[place] = tonumber(host) end
+  local udp = DissectorTable.get("udp.port")
+  if ports and ports ~= "" then udp:remove(ports, proto) end
+  ports = tostring(proto.prefs.ports)
+  if ports ~= "" then udp:add(ports, proto) end
+end
+
+local function place(address, port) return string.format("%s:%d", tostring(address), port) end
+
+local function host_at(address, port) return hosts[place(address, port)] or hosts[string.format("%d", port)] end
+
+-- Direction and host of a message whose first byte is this.
+local function side(pinfo, first)
+  local from, to = host_at(pinfo.src, pinfo.src_port), host_at(pinfo.dst, pinfo.dst_port)
+  if from then return H, from, true end
+  if to then return I, to, true end
+  local source, sink = place(pinfo.src, pinfo.src_port), place(pinfo.dst, pinfo.dst_port)
+  local kind = first and first % 16
+  if not imps[source] and not imps[sink] and (kind == 5 or kind == 7 or kind == 9) then imps[source] = true end
+  if imps[source] then return i, 0, true end
+  return h, 0, imps[sink] or false
+end
+
+-- What becomes of a datagram, found once, in the order of the capture.
+local function take(pinfo, sequence, flags, words)
+  local key = place(pinfo.src, pinfo.src_port) .. ">" .. place(pinfo.dst, pinfo.dst_port)
+  local flow = flows[key]
+  if not flow then
+    flow = { parts = {}, frames = {}, bytes = 0, next = sequence }
+    flows[key] = flow
+  end
+  local told = {}
+  if sequence < flow.next and flow.next - sequence < 2 ^ 31 then
+    told.again = true
+    return told
+  end
+  if sequence ~= flow.next then
+    told.gap = true
+    flow.parts, flow.frames, flow.bytes, flow.torn = {}, {}, 0, #flow.parts > 0
+  end
+  flow.next = (sequence + 1) % 2 ^ 32
+  flow.parts[#flow.parts + 1], flow.frames[#flow.frames + 1] = words, pinfo.number
+  flow.bytes = flow.bytes + #words
+  if flags % 2 == FINAL then
+    local frames, bytes = flow.frames, table.concat(flow.parts)
+    flow.parts, flow.frames, flow.bytes = {}, {}, 0
+    for _, frame in ipairs(frames) do
+      if frame ~= pinfo.number then done[frame].message_in = pinfo.number end
+    end
+    if #bytes > MOST_BYTES then told.long = true
+    elseif #bytes > 0 then
+      local direction, host, known = side(pinfo, bytes:byte(1))
+      told.frames, told.unknown = frames, not known
+      told.packet = string.char(direction, host, math.floor(#bytes * 8 / 256), #bytes * 8 % 256) .. bytes
+    end
+  end
+  return told
+end
+
+local function dissect(tvb, pinfo, root)
+  local len = tvb:len()
+  if len < HEAD or tvb(0, 4):string() ~= MAGIC then return 0 end
+  pinfo.cols.protocol = "H316"
+  local sequence, count, flags = tvb(4, 4):uint(), tvb(8, 2):uint(), tvb(10, 2):uint()
+  local bytes = math.min(count * 2, len - HEAD)
+  local told = done[pinfo.number]
+  if not told then
+    told = take(pinfo, sequence, flags, tvb:raw(HEAD, bytes))
+    done[pinfo.number] = told
+  end
+  local tree = root:add(proto, tvb())
+  tree:append_text(string.format(", sequence=%d words=%d flags=%d", sequence, count, flags))
+  tree:add(f.magic, tvb(0, 4))
+  local item = tree:add(f.sequence, tvb(4, 4))
+  if told.gap then item:add_proto_expert_info(e.gap) end
+  if told.again then item:add_proto_expert_info(e.again) end
+  item = tree:add(f.count, tvb(8, 2))
+  if count * 2 ~= len - HEAD then item:add_proto_expert_info(e.count) end
+  local s = tree:add(f.flags, tvb(10, 2))
+  s:add(f.final, tvb(10, 2))
+  s:add(f.ready, tvb(10, 2))
+  if bytes > 0 then tree:add(f.words, tvb(HEAD, bytes)) end
+  if told.message_in then tree:add(f.message_in, told.message_in):set_generated() end
+  if told.long then tree:add_proto_expert_info(e.long) end
+  pinfo.cols.info = string.format("sequence=%d words=%d", sequence, count)
+    .. (flags % 2 == FINAL and " final" or "") .. (flags % 4 >= READY and " ready" or "")
+  if told.packet then
+    for _, frame in ipairs(told.frames) do
+      if frame ~= pinfo.number then tree:add(f.part, frame):set_generated() end
+    end
+    if told.unknown then tree:add_proto_expert_info(e.side) end
+    local packet = ByteArray.new(told.packet, true):tvb("ARPANET message")
+    datagrams.of_words(function() Dissector.get("ncp1822"):call(packet, pinfo, root) end)
+  end
+  return len
+end
+
+-- `of_words` runs a function while messages may end with a whole word, and nothing is said of what stands behind the text.
+function datagrams.register(dissector)
+  function datagrams.of_words(run)
+    dissector.slack = 15
+    run()
+    dissector.slack = 0
+  end
+  forget()
+  declare()
+  function proto.init() forget() end
+  proto.prefs_changed = read_preferences
+  proto.dissector = dissect
+  proto:register_heuristic("udp", function(tvb, pinfo, root)
+    if tvb:len() < HEAD or tvb(0, 4):string() ~= MAGIC then return false end
+    dissect(tvb, pinfo, root)
+    return true
+  end)
+end
+
+return datagrams

@@ -1,0 +1,475 @@
+#!/usr/bin/env python3
+"""The tests of the dissector. `wireshark/test` calls it, with the program's path; `--long` tries more of each."""
+import argparse
+import os
+import re
+import subprocess
+import sys
+import time
+
+import records
+from shark import TOP, Shark, by_record, info_of, lines_of
+
+EXAMPLES = os.path.join(os.path.dirname(TOP), "examples")
+FAULTS = ("BadHeader", "Truncated", "TooLong", "SpareNotZero", "BadDirection")
+LUAS = ("lua5.1", "lua5.2", "lua5.3", "lua5.4", "lua", "luajit")
+
+NCP = None  # the program
+shark = None
+failures = []
+began = time.time()
+
+
+def tell(what, wrong):
+    """A line on what was compared; `wrong` is a list of what differs."""
+    print("%6.1f s  %s %s" % (time.time() - began, "DIFFERS" if wrong else "same   ", what), flush=True)
+    for line in wrong[:5]:
+        print("          " + str(line)[:400])
+    if wrong:
+        failures.append(what)
+
+
+def ncp(word, data):
+    done = subprocess.run([NCP, word], input=data, capture_output=True)
+    fault = done.stderr.decode().strip().removeprefix("ncp: ") or None
+    return done.stdout, fault
+
+
+def show(data):
+    stdout, fault = ncp("show", data)
+    return by_record(stdout.decode().splitlines()), fault
+
+
+def differences(wanted, got):
+    wrong = ["wanted %r, got %r" % pair for pair in zip(wanted, got) if pair[0] != pair[1]]
+    if len(wanted) != len(got):
+        wrong.append("wanted %d records, got %d" % (len(wanted), len(got)))
+    return wrong
+
+
+def compare_fields(data, path, *words):
+    """Each record's lines from the fields, and its Info column, with the lines of `ncp show`."""
+    wanted, _ = show(data)
+    frames, _ = shark.frames(path, *words)
+    wrong = differences(wanted, [lines_of(frame) for frame in frames])
+    wrong += differences([info_of(lines) for lines in wanted], [frame["_ws.col.Info"] for frame in frames])
+    # The fields that name a link or a socket of any command.
+    for lines, frame in zip(wanted, frames):
+        commands = [line for line in lines[1:] if re.match("  [A-Z]{3}", line)]
+        links = [link for line in commands for link in re.findall(r" link=(\d+)", line)]
+        sockets = [number for line in commands for number in re.findall(r" (?:my|your|send|receive)=(\d+)", line)]
+        if links != frame["ahhp.link"].split(",") and (links or frame["ahhp.link"]):
+            wrong.append((lines, frame["ahhp.link"]))
+        if sockets != frame["ahhp.socket"].split(",") and (sockets or frame["ahhp.socket"]):
+            wrong.append((lines, frame["ahhp.socket"]))
+    return wrong, len(wanted)
+
+
+def test_examples(recorded):
+    for name in sorted(os.listdir(EXAMPLES)):
+        if name.endswith(".ncp"):
+            path = os.path.join(EXAMPLES, name)
+            wrong, count = compare_fields(read(path), path)
+            tell("examples/%s: fields and Info of %d records" % (name, count), wrong)
+    for name, data, _ in recorded:
+        wrong, count = compare_fields(data, shark.path("recorded.ncp", data))
+        tell("the recording of examples/%s: fields and Info of %d records" % (name, count), wrong)
+
+
+def test_labels():
+    """The labels of the tree are the lines of `ncp show`."""
+    path = os.path.join(EXAMPLES, "capture.ncp")
+    stdout, _, _ = shark.run("-r", path, "-V")
+    got = []
+    for line in stdout.splitlines():
+        found = re.match(r"    ((NOP|RTS|STR|CLS|ALL|GVB|RET|INR|INS|ECO|ERP|ERR|RST|RRP)( .*)?|bad code=.*)$", line)
+        if found:
+            got.append("  " + found.group(1))
+        found = re.match(r"ARPANET Host/(?:IMP Interface \(BBN 1822\)|Host Protocol \(NIC 8246\)), (.*)$", line)
+        if found:
+            got.append(("  " if "Host Protocol" in line else "") + found.group(1))
+    wanted = []
+    for lines in show(read(path))[0]:
+        wanted += [lines[0].split(" ", 1)[1]] + [line for line in lines[1:] if not line.startswith("  text")]
+    tell("labels of capture.ncp", differences(wanted, got))
+
+
+def read(path):
+    with open(path, "rb") as file:
+        return file.read()
+
+
+def test_generated(count):
+    for version in "hij":
+        data = records.a_file(version, count, ord(version))
+        wrong, seen = compare_fields(data, shark.path("generated.ncp", data))
+        tell("%d generated records, header %s: fields and Info" % (seen, data[:4].decode()), wrong)
+
+
+def test_truncated(recorded, long):
+    """Every beginning of ten files: the same records, and the same fault."""
+    files = [(name, read(os.path.join(EXAMPLES, name))) for name in ("answers.ncp", "first.ncp", "reset.ncp")]
+    files += [("generated %s, %d" % (version, seed), records.a_file(version, 2, seed)) for version, seed in (("h", 1), ("h", 2), ("i", 3), ("i", 4), ("j", 5), ("j", 6), ("j", 7))]
+    if long:
+        files = [("capture.ncp", read(os.path.join(EXAMPLES, "capture.ncp")))] + [(name, data) for name, data, _ in recorded[:3]] + files
+    wrong, total = [], 0
+    for name, data in files:
+        cuts = [data[:length] for length in range(len(data) + 1)]
+        paths = [shark.path("cut%d.ncp" % i, cut) for i, cut in enumerate(cuts)]
+        for cut, (infos, fault) in zip(cuts, shark.infos(paths)):
+            wanted, wanted_fault = show(cut)
+            # A beginning of fewer than four bytes is no file of ours.
+            if wanted_fault == "BadHeader":
+                fine = fault is None and len(cut) < 4
+            else:
+                fine = [info_of(lines) for lines in wanted] == infos and fault == (wanted_fault and "ncp: " + wanted_fault)
+            if not fine:
+                wrong.append((name, len(cut), wanted_fault, fault, len(wanted), len(infos)))
+        total += len(cuts)
+        for path in paths:
+            os.remove(path)
+    tell("%d beginnings of %d files: the same records and the same fault" % (total, len(files)), wrong)
+
+
+def test_malformed():
+    """Each fault by its name; a file with another header is none of ours."""
+    whole = read(os.path.join(EXAMPLES, "reset.ncp"))
+    cases = [
+        whole[:-1], whole[:5], whole[:6], whole[:7],
+        whole + b"\x48\x01\x20\x01", whole + b"\x48\x01\xff\xff",
+        whole + b"\x48\x01\x00\x21\0\0\0\0\x40",
+        whole + b"\x47", whole + b"\x47\x01\x00\x20\0\0\0\0",
+        b"NCPH\x20\x01", b"NCPI\0\x21\0\0\0\0\x01", b"NCPI\0",
+        b"", b"NCP", b"NCPK", b"NCPKJ", b"ncpj" + whole[4:],
+    ]
+    wrong = []
+    for data in cases:
+        wanted, fault = show(data)
+        stdout, complaints, status = shark.run("-r", shark.path("malformed.ncp", data))
+        said = " ".join(complaints)
+        named = [name for name in FAULTS if "ncp: " + name in said]
+        if fault == "BadHeader":
+            # It is none of ours; a short one may look like a file of another kind.
+            fine = not named and "1822" not in stdout and "AHHP" not in stdout
+        else:
+            fine = named == [fault] and len(stdout.splitlines()) == len(wanted) and status != 0
+        if not fine:
+            wrong.append((data, fault, complaints, status))
+    tell("%d malformed files: refused, by the names of the program" % len(cases), wrong)
+
+
+def test_round_trips(recorded):
+    files = [read(os.path.join(EXAMPLES, name)) for name in sorted(os.listdir(EXAMPLES)) if name.endswith(".ncp")]
+    files += [data for _, data, _ in recorded] + [records.a_file(version, 300, 9) for version in "hij"] + [b"NCPJ"]
+    wrong = []
+    by_pcapng = 0
+    for data in files:
+        path = shark.path("there.ncp", data)
+        back, pcap, again = shark.path("back.ncp"), shark.path("back.pcapng"), shark.path("again.ncp")
+        shark.run("-r", path, "-F", "ncp", "-w", back)
+        if read(back) != data:
+            wrong.append((len(data), len(read(back))))
+        if len(data) > 1000 or len(data) == 40:
+            by_pcapng += 1
+            shark.run("-r", path, "-F", "pcapng", "-w", pcap)
+            shark.run("-r", pcap, "-F", "ncp", "-w", again)
+            if read(again) != data:
+                wrong.append((len(data), len(read(again)), "by way of pcapng"))
+    tell("%d files written by tshark, %d of them by way of pcapng too: the same bytes" % (len(files), by_pcapng), wrong)
+
+
+def test_rules():
+    """Captures that break each rule, with the findings that are wanted."""
+    cases, seen = [], set()
+    for part in read(os.path.join(TOP, "testing", "rules.txt")).decode().split("\n\n"):
+        lines = [line for line in part.splitlines() if line and not line.startswith("#")]
+        if lines:
+            cases.append((bytes.fromhex(lines[0]), lines[1:]))
+    wrong = []
+    for data, wanted in cases:
+        frames, _ = shark.frames(shark.path("rules.ncp", data))
+        got = []
+        for frame in frames:
+            # The findings of one message stand in its tree in the order of the commands.
+            got += ["%s %s" % (frame["frame.number"], line) for line in frame["ahhp.finding"].split(",at=") if line]
+        got = [re.sub(r"^(\d+) (?!at=)", r"\1 at=", line) for line in got]
+        if sorted(got) != sorted(wanted):
+            wrong.append((wanted, got))
+        seen.update(line.split()[3] for line in wanted)
+    with open(os.path.join(TOP, "plugin", "arpanet_connections.lua")) as file:
+        names = re.findall(r'^  \{ "([a-z-]+)", "[SP]"', file.read(), re.M)
+    wrong += ["no capture breaks " + name for name in names if name not in seen]
+    tell("%d captures that break the %d rules: their findings" % (len(cases), len(names)), wrong)
+    for lua in LUAS:
+        if subprocess.run(["sh", "-c", "command -v " + lua], capture_output=True).returncode:
+            continue
+        wrong = []
+        for data, wanted in cases:
+            got = alone(lua, "findings", data)
+            if got != wanted:
+                wrong.append((wanted, got))
+        for name in sorted(os.listdir(os.path.join(TOP, "plugin"))):
+            done = subprocess.run([lua, "-e", "assert(loadfile(%r))" % os.path.join(TOP, "plugin", name)], capture_output=True, text=True)
+            wrong += [done.stderr] if done.returncode else []
+        tell("the same by %s alone, which reads all files of the plugin" % lua, wrong)
+
+
+def alone(lua, word, data):
+    path = shark.path("alone.ncp", data)
+    done = subprocess.run([lua, os.path.join(TOP, "testing", "alone.lua"), os.path.join(TOP, "plugin"), word, path], capture_output=True, text=True)
+    return done.stdout.splitlines() + done.stderr.splitlines()
+
+
+def recordings(scripts):
+    """Name, recording and lines of each script."""
+    made = []
+    for name, script in scripts:
+        made.append((name, ncp("record", script)[0], ncp("world", script)[0].decode().splitlines()))
+    return made
+
+
+def judge(data, lines):
+    """What is wrong with what the dissector says of a recording, by the lines of what happened."""
+    path = shark.path("recording.ncp", data)
+    frames, complaints = shark.frames(path, "-2")
+    wrong = list(complaints)
+    wrong += ["%s %s" % (frame["frame.number"], frame["ahhp.finding"]) for frame in frames if frame["ahhp.finding"]]
+    # Every answer belongs to a message; what comes went out; an Out that goes out again is the one before.
+    outs = {}
+    for frame in frames:
+        number, to_imp = frame["frame.number"], frame["ncp1822.direction"].strip("'") == "H"
+        key = (frame["ncp1822.at"], frame["ncp1822.host"], frame["ncp1822.link"])
+        if to_imp:
+            before = outs.get(key)
+            again = before and before[2]
+            if bool(frame["ncp1822.again"]) != bool(again) or again and frame["ncp1822.again"] != before[1]:
+                wrong.append(("again", number, frame["ncp1822.again"], before))
+            outs[key] = [number, before[1] if again else number, False]
+        elif frame["ncp1822.type"] == "0":
+            there = outs[(key[1], key[0], key[2])]
+            if frame["ncp1822.sent_in"] != there[0]:
+                wrong.append(("sent in", number, frame["ncp1822.sent_in"], there))
+        elif frame["ncp1822.type"] in ("5", "7", "9"):
+            if frame["ncp1822.response_to"] != outs[key][0]:
+                wrong.append(("response to", number, frame["ncp1822.response_to"], outs[key]))
+            outs[key][2] = frame["ncp1822.type"] != "5"
+    # Each connection's text at the receiver is a beginning of its text at the sender; and a text names one connection.
+    texts = {}
+    for frame in frames:
+        if frame["ahhp.text.bits"] and frame["ncp1822.link"] != "0" and not frame["ncp1822.again"]:
+            if not frame["ahhp.connection"] and frame["ncp1822.direction"].strip("'") == "H":
+                wrong.append(("no connection", frame["frame.number"]))
+            if frame["ahhp.connection"] and not frame["ahhp.text.late"]:
+                side = texts.setdefault(frame["ahhp.stream"], {}).setdefault(frame["ncp1822.direction"], [])
+                side.append((frame["ahhp.text.bits"], frame["ahhp.text"]))
+    for stream, sides in texts.items():
+        sent, got = sides.get("'H'", []), sides.get("'I'", [])
+        if got != sent[: len(got)]:
+            wrong.append(("beginning", stream, sent, got))
+    # As many texts are of a connection as were admitted, or a few more that came behind a `close` of the user.
+    admitted = sum(" text admitted" in line for line in lines)
+    late = sum(" text late" in line for line in lines)
+    counted = sum(len(sides.get("'I'", [])) for sides in texts.values())
+    if not admitted <= counted <= admitted + late:
+        wrong.append(("admitted", admitted, late, counted))
+    return wrong, len(frames), counted
+
+
+def test_recordings(count):
+    total = texts = 0
+    wrong = []
+    made = recordings([("script %d" % seed, bytes(records.Script(seed))) for seed in range(count)])
+    for name, data, lines in made:
+        judged, frames, counted = judge(data, lines)
+        wrong += [(name, line) for line in judged]
+        total, texts = total + frames, texts + counted
+    tell("%d scripts of two to eight hosts, %d messages, %d texts that came: no finding, and each message in its place" % (count, total, texts), wrong)
+    wrong = []
+    for name, data, _ in made[:6]:
+        differ, _ = compare_fields(data, shark.path("recording.ncp", data))
+        wrong += [(name, line) for line in differ]
+    tell("fields and Info of 6 of them", wrong)
+
+
+def test_hostile(captures):
+    """One host whose peer sends what it likes: nothing is found against the host. A capture has the interfaces of many such hosts."""
+    wrong, total, against_peer = [], 0, set()
+    for capture in range(captures):
+        data = b"NCPJ"
+        for me in range(1, 200):
+            script = records.hostile(capture * 200 + me, me, 250)
+            lines = ncp("host", script)[0].decode().splitlines()
+            for direction, host, bits, message in records.interface(script, lines):
+                data += records.record("j", bits, message, direction, host)
+                total += 1
+        stdout = shark.run("-r", shark.path("hostile.ncp", data), "-Y", "ahhp.finding", "-T", "fields", "-E", "aggregator=;", "-e", "frame.number", "-e", "ahhp.finding")[0]
+        for line in stdout.splitlines():
+            number, found = line.split("\t")
+            for finding in found.split(";"):
+                at, who, rule = finding.split()[:3]
+                if who == "host=" + at.split("=")[1]:
+                    wrong.append((capture, number, finding))
+                against_peer.add(rule)
+    tell("%d hosts with a peer that sends what it likes, %d messages: no finding against the host (against peer and IMP %d rules)"
+        % (199 * captures, total, len(against_peer)), wrong)
+
+
+def test_middle(count):
+    """Recordings whose first messages are missing: by the preference that says so nothing is found."""
+    found = []
+    for seed in range(count):
+        data = ncp("record", bytes(records.Script(seed)))[0]
+        whole = records.split(data)
+        for part in (7, 3, 2):
+            cut = b"NCPJ" + b"".join(records.record("j", bits, message, direction, host) for direction, host, bits, message in whole[len(whole) // part :])
+            stdout = shark.run("-r", shark.path("middle.ncp", cut), "-o", "ahhp.part:TRUE", "-Y", "ahhp.finding", "-T", "fields", "-e", "frame.number", "-e", "ahhp.finding")[0]
+            found += ["script %d from %d on: %s" % (seed, len(whole) // part, line) for line in stdout.splitlines()]
+    tell("%d recordings that begin in the middle: no finding" % (3 * count), found)
+
+
+def test_left(count):
+    """What is left of the allocation at each text is the sender's counters, and no more than the receiver has outstanding."""
+    wrong, seen = [], 0
+    for seed in range(count):
+        script = records.watched(seed)
+        lines = ncp("world", script)[0].decode().splitlines()
+        frames, _ = shark.frames(shark.path("left.ncp", ncp("record", script)[0]))
+        left = [(frame["ahhp.left.messages"], frame["ahhp.left.bits"], frame["ncp1822.direction"].strip("'")) for frame in frames]
+        number = -1
+        for i, line in enumerate(lines):
+            if not re.match(r"\d+ [ab] (out host=|(deliver|answer) \d+ [^n\d])", line):
+                continue
+            number += 1
+            ledger = next(later for later in lines[i + 1 :] if later.startswith("  ledger"))
+            known = re.match(r"  ledger out=(\d+)/(\d+) counters=(\d+)/(\d+)", ledger)
+            if not known or not left[number][0]:
+                continue
+            seen += 1
+            messages, bits, direction = left[number]
+            if direction == "H" and (messages, bits) != known.groups()[2:]:
+                wrong.append((seed, number + 1, left[number], ledger))
+            if direction == "I" and (int(messages) > int(known[1]) or int(bits) > int(known[2])):
+                wrong.append((seed, number + 1, left[number], ledger))
+    tell("%d watched scripts, %d texts: what is left of the allocation, by the ledger" % (count, seen), wrong + ([] if seen else ["none"]))
+
+
+def test_datagrams(recorded):
+    """The messages of recordings as datagrams: the same fields, of messages that are filled up to whole words; with times."""
+    wrong, total = [], 0
+    for name, data, _ in recorded:
+        padded = b"NCPJ"
+        for direction, host, bits, message in records.split(data):
+            bits = (bits + 15) // 16 * 16
+            padded += records.record("j", *records.message(bits, message), direction, host)
+        for words in (30, 4):
+            done = subprocess.run([os.path.join(TOP, "datagrams.py"), "--words", str(words)], input=data, capture_output=True)
+            hosts = done.stderr.decode().strip().split("'")[1]
+            path = shark.path("datagrams.pcapng", done.stdout)
+            frames, complaints = shark.frames(path, "-2", "-o", hosts)
+            wrong += complaints
+            times = [float(frame["frame.time_epoch"]) for frame in frames]
+            if not frames or times[0] != 89245800 or any(abs(b - a - 0.01) > 1e-5 for a, b in zip(times, times[1:])):
+                wrong.append((name, "times", times[:3]))
+            whole = [frame for frame in frames if frame["ncp1822.bits"]]
+            for i, frame in enumerate(whole):
+                frame["frame.number"] = str(i + 1)
+            wanted = show(padded)[0]
+            wrong += [(name, words, line) for line in differences(wanted, [lines_of(frame) for frame in whole])]
+            wrong += [(name, words, frame["ahhp.finding"]) for frame in whole if frame["ahhp.finding"]]
+            parts = len(frames) - len(whole)
+            if words == 4 and (not parts or any(not frame["h316.message_in"] for frame in frames if not frame["ncp1822.bits"])):
+                wrong.append((name, "parts", parts))
+            total += len(frames)
+    tell("%d recordings as datagrams, %d of these: joined to messages, with times" % (len(recorded), total), wrong)
+
+
+def test_torn():
+    """Datagrams that are missing, come twice or say a wrong count, and a capture without ports of hosts."""
+    data = read(os.path.join(EXAMPLES, "reset.ncp"))
+    sys.path.insert(0, TOP)
+    import datagrams
+
+    made = list(datagrams.datagrams(data, 2, 20000))
+    wrong = []
+
+    def seen(chosen, *words):
+        path = shark.path("torn.pcapng", datagrams.pcapng([datagrams.packet(*datagram) for datagram in chosen], datagrams.BEGIN))
+        return shark.run("-r", path, *words, "-T", "fields", "-e", "ncp1822.name", "-e", "_ws.expert.message", "-E", "separator=|")[0].splitlines()
+
+    hosts = ("-o", "h316.hosts:20002=1 20004=2")
+    if [line.split("|")[0] for line in seen(made, *hosts)] != ["", "", "regular", "", "", "regular", "rfnm"]:
+        wrong.append(seen(made, *hosts))
+    gap = seen(made[:1] + made[2:], *hosts)
+    if "missing" not in gap[1]:
+        wrong.append(gap)
+    twice = seen(made[:1] + made, *hosts)
+    if "earlier sequence" not in twice[1] or twice[3].split("|")[0] != "regular":
+        wrong.append(twice)
+    unknown = seen(made)
+    if "not known" not in unknown[2] or unknown[-1].split("|")[0] != "rfnm":
+        wrong.append(unknown)
+    source, sink, payload = made[0]
+    count = seen([(source, sink, payload[:9] + b"\x07" + payload[10:])] + made[1:], *hosts)
+    if "count" not in count[0]:
+        wrong.append(count)
+    tell("datagrams missing, twice, with a wrong count, and without ports of hosts", wrong)
+
+
+def test_words_of_tshark(recorded):
+    """The list of connections and the text of one; filters and columns of the profiles; the other half of each pair."""
+    data = {name: recording for name, recording, _ in recorded}["three_hosts.script"]
+    path = shark.path("three.ncp", data)
+    wrong = []
+    stdout = shark.run("-r", path, "-o", "ahhp.list:TRUE", "-o", "ahhp.follow:0")[0]
+    for wanted in (" send local=3 remote=2 link=2 size=8 ", " receive local=2 remote=3 link=2 size=8 ", "  text bits=16 6162\n", "Connection 0: 1:3 > 2:2\n", "61 62"):
+        if wanted not in stdout:
+            wrong.append((wanted, stdout[-900:]))
+    filters = re.findall(r"^@[^@]+@([^@]+)@", read(os.path.join(TOP, "profiles", "colorfilters")).decode(), re.M)
+    rules = len(filters)
+    for profile in ("ARPANET", "ARPANET-connections", "ARPANET-datagrams"):
+        filters += re.findall(r"%Cus:([a-z0-9_.]+):", read(os.path.join(TOP, "profiles", profile, "preferences")).decode())
+    page = read(os.path.join(os.path.dirname(TOP), "docs", "WIRESHARK.md")).decode()
+    on_page = re.findall(r"^\| `([^`]*(?:ahhp|ncp1822|h316)[^`]*)` \|", page, re.M)
+    # All at once; and where tshark does not take them, each by itself.
+    if shark.run("-r", path, "-Y", " || ".join("(%s)" % text for text in filters + on_page))[2]:
+        wrong += [text for text in filters + on_page if shark.run("-r", path, "-Y", text)[2]]
+    tell("lists and texts by tshark; %d colour rules, the columns of three profiles, %d filters of the page" % (rules, len(on_page)), wrong)
+    wrong = []
+    stdout = shark.run("-r", path, "-2", "-Y", "ahhp.text && (ncp1822.again || ncp1822.again_in)", "-T", "fields", "-e", "frame.number", "-e", "ahhp.text.ascii")[0]
+    if [line.split("\t")[1] for line in stdout.splitlines()] != ["ab", "ab"]:
+        wrong.append(stdout)
+    tell("the text that was lost and sent again, by filters alone", wrong)
+
+
+def main():
+    global NCP, shark
+    words = argparse.ArgumentParser(description=__doc__)
+    words.add_argument("program", help="the path of ncp")
+    words.add_argument("--long", action="store_true")
+    chosen = words.parse_args()
+    NCP, shark = chosen.program, Shark()
+    scripts = []
+    for name in sorted(os.listdir(EXAMPLES)):
+        if name.endswith(".script") and name != "host.script":
+            scripts.append((name, read(os.path.join(EXAMPLES, name))))
+    recorded = recordings(scripts)
+    test_rules()
+    test_examples(recorded)
+    test_labels()
+    test_malformed()
+    test_words_of_tshark(recorded)
+    test_round_trips(recorded)
+    test_datagrams(recorded)
+    test_torn()
+    test_left(20 if chosen.long else 6)
+    test_recordings(300 if chosen.long else 40)
+    test_hostile(20 if chosen.long else 1)
+    test_middle(100 if chosen.long else 10)
+    test_generated(20000 if chosen.long else 7000)
+    test_truncated(recorded, chosen.long)
+    print("%d of what was compared differ" % len(failures) if failures else "all is the same")
+    return 1 if failures else 0
+
+
+if __name__ == "__main__":
+    sys.exit(main())
