@@ -4,7 +4,7 @@
 -- This file loads the others, which stand beside it. Each of them gives a table and does nothing by itself, so it does
 -- no harm that Wireshark loads all files of its plugin folder, in any order.
 
-local here = debug.getinfo(1, "S").source:match("^@?(.*[/\\])") or "./"
+local here = debug.getinfo(1, "S").source:match("^@?(.*[/\\])") or __DIR__ and __DIR__ .. "/" or "./"
 package.path = here .. "?.lua;" .. package.path
 
 local messages = require("arpanet_messages")

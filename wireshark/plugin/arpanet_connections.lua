@@ -100,7 +100,7 @@ local function new_view(self, at, host)
     began = { H = false, K = false }, wait = { H = 0, K = 0 }, asked = { H = 0, K = 0 }, resets = { H = {}, K = {} },
     slots = {}, lives = {}, users = { H = {}, K = {} }, named = { H = {}, K = {} },
     resting_pairs = {}, resting_links = { H = {}, K = {} },
-    due = { H = {}, K = {} }, text_errs = { H = {}, K = {} }, echoes = { H = 0, K = 0 }, last_eco = {},
+    due = { H = {}, K = {} }, text_errs = { H = {}, K = {} }, echoes = { H = 0, K = 0 },
     loose = { H = { messages = 0, bits = 0 }, K = { messages = 0, bits = 0 } },
   }
 end
@@ -205,7 +205,7 @@ local function clear(v, n, why)
   for _, life in pairs(v.lives) do life.ended, life.why = n, why end
   v.lives, v.users, v.named = {}, { H = {}, K = {} }, { H = {}, K = {} }
   v.resting_pairs, v.resting_links = {}, { H = {}, K = {} }
-  v.due, v.text_errs, v.echoes, v.last_eco = { H = {}, K = {} }, { H = {}, K = {} }, { H = 0, K = 0 }, {}
+  v.due, v.text_errs, v.echoes = { H = {}, K = {} }, { H = {}, K = {} }, { H = 0, K = 0 }
 end
 
 -- ---------------------------------------------------------------- rest
@@ -856,7 +856,6 @@ local function put_out(self, step)
   local fresh, first = true, n
   if slot and slot.out then
     find(step, "occupied", "H", string.format("link=%d", m.link))
-    step.note.occupied = slot.frame
   elseif slot and slot.message and slot.message.bits == m.bits and slot.message.bytes == m.bytes then
     fresh, first = false, slot.first
     step.note.again = first

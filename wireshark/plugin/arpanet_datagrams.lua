@@ -37,7 +37,7 @@ local function declare()
   f.message_in = ProtoField.framenum("h316.message_in", "Message ends in", base.NONE)
   f.part = ProtoField.framenum("h316.part", "Part of the message", base.NONE)
   proto.fields = f
-  e.gap = ProtoExpert.new("h316.gap", "Datagrams are missing before this one", expert.group.SEQUENCE, expert.severity.WARN)
+  e.gap = ProtoExpert.new("h316.gap", "Datagrams are missing before this one: nothing is joined up to the end of its message", expert.group.SEQUENCE, expert.severity.WARN)
   e.again = ProtoExpert.new("h316.again", "An earlier sequence number: not joined to a message", expert.group.SEQUENCE, expert.severity.WARN)
   e.count = ProtoExpert.new("h316.wrong_count", "The count is not that of the words that follow", expert.group.MALFORMED, expert.severity.WARN)
   e.long = ProtoExpert.new("h316.too_long", "A message of more than 8,192 bits", expert.group.MALFORMED, expert.severity.WARN)
@@ -80,24 +80,27 @@ local function take(pinfo, sequence, flags, words)
   local key = place(pinfo.src, pinfo.src_port) .. ">" .. place(pinfo.dst, pinfo.dst_port)
   local flow = flows[key]
   if not flow then
-    flow = { parts = {}, frames = {}, bytes = 0, next = sequence }
+    flow = { parts = {}, frames = {}, next = sequence }
     flows[key] = flow
   end
   local told = {}
+  if sequence == 0 and flow.next > 1 then                -- the sender began anew
+    flow.parts, flow.frames, flow.next, flow.torn = {}, {}, 0, false
+  end
   if sequence < flow.next and flow.next - sequence < 2 ^ 31 then
     told.again = true
     return told
   end
   if sequence ~= flow.next then
     told.gap = true
-    flow.parts, flow.frames, flow.bytes, flow.torn = {}, {}, 0, #flow.parts > 0
+    flow.parts, flow.frames, flow.torn = {}, {}, true     -- where a message began is not known up to its end
   end
   flow.next = (sequence + 1) % 2 ^ 32
   flow.parts[#flow.parts + 1], flow.frames[#flow.frames + 1] = words, pinfo.number
-  flow.bytes = flow.bytes + #words
   if flags % 2 == FINAL then
-    local frames, bytes = flow.frames, table.concat(flow.parts)
-    flow.parts, flow.frames, flow.bytes = {}, {}, 0
+    local frames, bytes, torn = flow.frames, table.concat(flow.parts), flow.torn
+    flow.parts, flow.frames, flow.torn = {}, {}, false
+    if torn then return told end
     for _, frame in ipairs(frames) do
       if frame ~= pinfo.number then done[frame].message_in = pinfo.number end
     end

@@ -8,8 +8,9 @@ import sys
 import time
 
 import records
-from shark import TOP, Shark, by_record, info_of, lines_of
+from shark import FROM_IMP, TO_IMP, TOP, Shark, by_record, info_of, lines_of
 
+sys.path.insert(0, TOP)
 EXAMPLES = os.path.join(os.path.dirname(TOP), "examples")
 FAULTS = ("BadHeader", "Truncated", "TooLong", "SpareNotZero", "BadDirection")
 LUAS = ("lua5.1", "lua5.2", "lua5.3", "lua5.4", "lua", "luajit")
@@ -53,6 +54,7 @@ def compare_fields(data, path, *words):
     frames, _ = shark.frames(path, *words)
     wrong = differences(wanted, [lines_of(frame) for frame in frames])
     wrong += differences([info_of(lines) for lines in wanted], [frame["_ws.col.Info"] for frame in frames])
+    wrong += compare_bytes(data, frames)
     # The fields that name a link or a socket of any command.
     for lines, frame in zip(wanted, frames):
         commands = [line for line in lines[1:] if re.match("  [A-Z]{3}", line)]
@@ -63,6 +65,35 @@ def compare_fields(data, path, *words):
         if sockets != frame["ahhp.socket"].split(",") and (sockets or frame["ahhp.socket"]):
             wrong.append((lines, frame["ahhp.socket"]))
     return wrong, len(wanted)
+
+
+def compare_bytes(data, frames):
+    """The fields that no line of `ncp show` has, with the bytes of the records."""
+    wrong = []
+    for (direction, host, bits, message), frame in zip(records.split(data), frames):
+        to_imp = direction == "H" or direction is None and data[3:4] == b"H"
+        wanted = dict.fromkeys(("ncp1822.name", "ncp1822.src", "ncp1822.dst", "ncp1822.rest", "ncp1822.short", "ahhp.m1", "ahhp.m2", "ahhp.text.ascii"), "")
+        if bits < 32:
+            wanted["ncp1822.short"] = message.hex()
+        else:
+            kind = message[0] & 15
+            wanted["ncp1822.name"] = (TO_IMP if to_imp else FROM_IMP).get(kind, "type-%d" % kind)
+            if kind:
+                wanted["ncp1822.rest"] = message[4:].hex()
+            else:
+                hosts = ["" if host is None else str(host), str(message[1])]
+                wanted["ncp1822.src"], wanted["ncp1822.dst"] = hosts if to_imp else hosts[::-1]
+                if bits >= 72:
+                    wanted["ahhp.m1"], wanted["ahhp.m2"] = str(message[4]), str(message[8])
+                    size, count = message[5], int.from_bytes(message[6:8], "big")
+                    if size == 8 and message[2] and not frame["ahhp.fault"]:
+                        text = message[9 : 9 + count].decode("latin-1")
+                        wanted["ahhp.text.ascii"] = re.sub("[^ -~]", ".", text)
+        for field, value in wanted.items():
+            got = frame[field].replace(":", "") if field in ("ncp1822.rest", "ncp1822.short") else frame[field]
+            if got.replace("\\\\", "\\") != value:
+                wrong.append((field, frame["frame.number"], value, got))
+    return wrong
 
 
 def test_examples(recorded):
@@ -383,10 +414,31 @@ def test_datagrams(recorded):
     tell("%d recordings as datagrams, %d of these: joined to messages, with times" % (len(recorded), total), wrong)
 
 
+def test_joined(count):
+    """The texts that tshark lists are those of the messages of each connection, joined bit by bit."""
+    wrong, seen = [], 0
+    for seed in range(count):
+        path = shark.path("joined.ncp", ncp("record", bytes(records.Script(seed)))[0])
+        frames, _ = shark.frames(path)
+        texts = {}
+        for frame in frames:
+            if frame["ahhp.text"] and frame["ahhp.stream"] and not frame["ncp1822.again"] and not frame["ahhp.text.late"]:
+                bits, data = int(frame["ahhp.text.bits"]), bytes.fromhex(frame["ahhp.text"].replace(":", ""))
+                spelled = "".join("{:08b}".format(byte) for byte in data)[:bits]
+                key = (frame["ncp1822.at"], frame["ahhp.stream"])
+                texts[key] = texts.get(key, "") + spelled
+        wanted = sorted((at, len(text), "%0*x" % (-(-len(text) // 8) * 2, int(text.ljust(-(-len(text) // 8) * 8, "0"), 2))) for (at, _), text in texts.items())
+        listed = shark.run("-r", path, "-o", "ahhp.list:TRUE", "-Y", "frame.number == 0")[0]
+        got = sorted((at, int(bits), data) for at, bits, data in re.findall(r"^\d+ at=(\d+) .*\n  text bits=(\d+) ([0-9a-f]+)$", listed, re.M))
+        seen += len(wanted)
+        if wanted != got:
+            wrong.append((seed, wanted, got))
+    tell("%d scripts, %d texts of connections: as tshark lists them" % (count, seen), wrong + ([] if seen else ["none"]))
+
+
 def test_torn():
     """Datagrams that are missing, come twice or say a wrong count, and a capture without ports of hosts."""
     data = read(os.path.join(EXAMPLES, "reset.ncp"))
-    sys.path.insert(0, TOP)
     import datagrams
 
     made = list(datagrams.datagrams(data, 2, 20000))
@@ -400,8 +452,11 @@ def test_torn():
     if [line.split("|")[0] for line in seen(made, *hosts)] != ["", "", "regular", "", "", "regular", "rfnm"]:
         wrong.append(seen(made, *hosts))
     gap = seen(made[:1] + made[2:], *hosts)
-    if "missing" not in gap[1]:
+    if "missing" not in gap[1] or [line.split("|")[0] for line in gap] != ["", "", "", "", "regular", "rfnm"]:
         wrong.append(gap)
+    anew = seen(made[:3] + made[:3], *hosts)
+    if [line.split("|")[0] for line in anew] != ["", "", "regular", "", "", "regular"]:
+        wrong.append(anew)
     twice = seen(made[:1] + made, *hosts)
     if "earlier sequence" not in twice[1] or twice[3].split("|")[0] != "regular":
         wrong.append(twice)
@@ -413,6 +468,29 @@ def test_torn():
     if "count" not in count[0]:
         wrong.append(count)
     tell("datagrams missing, twice, with a wrong count, and without ports of hosts", wrong)
+
+
+def test_garbage(count):
+    """Packets of any bytes, as records and as datagrams: none stops the dissector."""
+    import random
+
+    import datagrams
+
+    dice = random.Random(count)
+    wrong = []
+    packets = []
+    for _ in range(count):
+        bits = dice.choice([0, 31, 32, 40, 71, 72, 80, 200, 8192, 9000])
+        data = dice.randbytes(dice.choice([0, 1, 3, 4, (bits + 7) // 8, dice.randrange(60)]))
+        front = dice.choice([b"H", b"I", b"h", b"i", b"J"]) + bytes([dice.randrange(3)]) + bits.to_bytes(2, "big")
+        packets.append((front + dice.choice([b"\0\1\0\0\0\x08", b""]) + data)[: dice.choice([2, 9999])])
+    stdout, complaints, status = shark.run("-r", shark.path("garbage.pcapng", datagrams.pcapng(packets, 0, 147)), "-V")
+    wrong += complaints + ([] if status == 0 else [status]) + re.findall(".*Lua Error.*", stdout)
+    shown = stdout.count("ARPANET Host/IMP Interface")
+    packets = [datagrams.packet(20002, 20003, b"H316"[: dice.choice([3, 4, 4, 4])] + dice.randbytes(dice.choice([0, 3, 7, 8, 9, 40]))) for _ in range(count)]
+    stdout, complaints, status = shark.run("-r", shark.path("garbage.pcapng", datagrams.pcapng(packets, 0)), "-V")
+    wrong += complaints + ([] if status == 0 else [status]) + re.findall(".*Lua Error.*", stdout)
+    tell("%d packets of any bytes, %d of them taken as records, and %d datagrams: none stops the dissector" % (count, shown, count), wrong)
 
 
 def test_words_of_tshark(recorded):
@@ -461,6 +539,8 @@ def main():
     test_round_trips(recorded)
     test_datagrams(recorded)
     test_torn()
+    test_garbage(2000)
+    test_joined(20 if chosen.long else 4)
     test_left(20 if chosen.long else 6)
     test_recordings(300 if chosen.long else 40)
     test_hostile(20 if chosen.long else 1)

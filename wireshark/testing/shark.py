@@ -27,9 +27,9 @@ COMMANDS = [
 ]
 
 FIELDS = ["frame.number", "frame.time_epoch", "_ws.col.Info"]
-FIELDS += ["ncp1822." + name for name in "direction at bits type name host link flags low response_to sent_in again again_in".split()]
+FIELDS += ["ncp1822." + name for name in "direction at bits type name host link flags low src dst rest short response_to sent_in again again_in".split()]
 FIELDS += ["ahhp." + name for name in (
-    "fault size count text text.bits text.ascii padding command bad.code bad.data link socket connection stream left.messages left.bits"
+    "m1 m2 fault size count text text.bits text.ascii padding command bad.code bad.data link socket connection stream left.messages left.bits"
     " text.allowed_in reply_to reply_in finding rule").split()]
 FIELDS += ["ahhp.text.late", "h316.sequence", "h316.message_in"]
 for command, words in COMMANDS:
