@@ -1,10 +1,12 @@
 -- A program with one more subcommand, of what clap says of adding it.
-use Rattle.std.proofs.Common.{◌≡◌, false, Result, ap, ◌∙◌}
+use Rattle.std.proofs.Common.{◌≡◌, ◌||◌, false, Result, ap, ◌∙◌}
 use Rattle.std.specs.Prelude.{IfOk}
 use Rattle.std.specs.declared.alloc.AllocError.{AllocError}
 use Rattle.std.proofs.lemmas.Result.{IfOk-weaker}
-use Rattle.clap.specs.Built.{AddsSubcommand}
-use Rattle.clap.specs.Simple.{App, Shape, app_of, shape_of, with_subcommand}
+use Rattle.clap.specs.Built.{AddsArg, AddsSubcommand}
+use Rattle.clap.specs.Simple.{App, Shape, app_of, shape_of, with_rule, with_subcommand}
+use Rattle.clap.specs.Walk.{Rule, rule_of}
+use Rattle.clap.specs.declared.builder.arg.Arg.{Arg}
 use Rattle.clap.specs.declared.builder.command.Command.{Command}
 use Rattle.clap.specs.declared.builder.command.Command.TheViews.{out-Command}
 
@@ -19,3 +21,14 @@ pub is_with : (result : Result Command AllocError) (program : Command) (app : Ap
     → IfOk result (λ command. app_of command ≡ with_subcommand (app_of program) shape) → IfOk result (λ command. app_of command ≡ with_subcommand app shape)
 is_with result program app shape is told =
     IfOk-weaker result (λ command. app_of command ≡ with_subcommand (app_of program) shape) (λ command. app_of command ≡ with_subcommand app shape) (λ command e. e ∙ ap (λ a. with_subcommand a shape) is) told
+
+-- a command with one more argument, which is not global
+pub has_argument : (result : Result Command AllocError) (command : Command) (arg : Arg) (app : App) (rule : Rule) → arg.global ≡ false → rule_of arg ≡ rule → app_of command ≡ app → IfOk result (AddsArg command arg)
+    → IfOk result (λ new. shape_of new ≡ (with_rule app rule).top)
+has_argument result command arg app rule local is known told =
+    IfOk-weaker result (AddsArg command arg) (λ new. shape_of new ≡ (with_rule app rule).top) (λ new adds. ap (λ (a : App). a.top) (adds.shape local ∙ ap (with_rule (app_of command)) is ∙ ap (λ a. with_rule a rule) known)) told
+
+-- and it has no global argument then
+pub stays_local : (result : Result Command AllocError) (command : Command) (arg : Arg) → arg.global ≡ false → (out-Command command).has_globals ≡ false → IfOk result (AddsArg command arg) → IfOk result (λ new. (out-Command new).has_globals ≡ false)
+stays_local result command arg local none told =
+    IfOk-weaker result (AddsArg command arg) (λ new. (out-Command new).has_globals ≡ false) (λ new adds. adds.globals ∙ ap (λ b. b || arg.global) none ∙ local) told

@@ -1,14 +1,17 @@
 //! The command line of the program `ncp`.
-ghost use Rattle.std.specs.Prelude.{◌≡◌, IfOk, map, false};
-ghost use Rattle.ncp_command_line.specs.CommandLine.{bare_program, converting, named, number_in, of_files, of_players, order_in, order_of, program};
+ghost use Rattle.std.specs.Prelude.{◌≡◌, IfOk, map, option_map, false};
+ghost use Rattle.ncp_command_line.specs.CommandLine.{bare_program, converting, explaining, named, number_in, of_files, of_players, of_recorders, order_in, order_of, program, reading, file_named, word_in, word_of};
 ghost use Rattle.clap.specs.Faults.{fault_of};
 ghost use Rattle.clap.specs.Kinds.{FailsBy};
-ghost use Rattle.clap.specs.Simple.{app_of, new_shape, shape_of, subcommand_rows_of, with_subcommand};
+ghost use Rattle.clap.specs.Simple.{app_of, shape_of, subcommand_rows_of, with_subcommand};
 ghost use Rattle.clap.specs.Matches.{found_of};
 ghost use Rattle.clap.specs.declared.builder.command.Command.TheViews.{out-Command as fields_of};
-ghost use Rattle.clap.specs.Walk.{rows_of};
+ghost use Rattle.clap.specs.Walk.{first_of, rows_of, rule_of};
 
-use crate::orders::Order;
+use crate::help::{
+    CHECKED, CONVERTED, EXPLAINED, PLAYED, PLAYED_HOST, PROGRAM_HELP, RECORDED, SHOWN,
+};
+use crate::orders::{Order, Request};
 use clap::{Arg, ArgMatches, Command, Error};
 use std::alloc::{AllocError, Global};
 use std::convert::AsStr;
@@ -16,9 +19,9 @@ use std::convert::AsStr;
 // The program's name, and what `--version` says of it.
 const PROGRAM: &str = "ncp";
 
-const VERSION: &str = "1.0.0";
+const VERSION: &str = "1.1.0";
 
-// The names of its subcommands, and of the argument of `convert`.
+// The names of its subcommands, of the argument of `convert`, and of the word behind a subcommand.
 const SHOW: &str = "show";
 
 const CHECK: &str = "check";
@@ -31,7 +34,11 @@ const WORLD: &str = "world";
 
 const RECORD: &str = "record";
 
+const EXPLAIN: &str = "explain";
+
 const AT: &str = "at";
+
+const WORD: &str = "word";
 
 // The number of `--at`. clap wants one, so it is never the 0 that stands for none.
 fn number_in(given: &ArgMatches) -> u8
@@ -50,18 +57,59 @@ fn order_named(name: &str, given: &ArgMatches) -> Order
         _ if name == HOST => Order::Host,
         _ if name == WORLD => Order::World,
         _ if name == RECORD => Order::Record,
+        _ if name == EXPLAIN => Order::Explain,
         _ => Order::Show,
     }
 }
 
-// The order that clap found: `show` where there is no subcommand.
-fn order_of(matches: &ArgMatches) -> Order
-    ensures { result ≡ order_of (subcommand_rows_of matches.now) }
+// The word behind a subcommand with these arguments.
+fn word_in<'a>(given: &ArgMatches<'a>) -> Option<&'a str>
+    ensures { option_map (λ word. word.now) result ≡ first_of WORD.now (rows_of (found_of given.now)) }
+{
+    given.get_str(WORD)
+}
+
+// What clap found: `show` and no word where there is no subcommand.
+fn request_of<'a>(matches: &ArgMatches<'a>) -> Request<'a>
+    ensures order { result.order ≡ order_of (subcommand_rows_of matches.now) }
+    ensures word { option_map (λ word. word.now) result.word ≡ word_of (subcommand_rows_of matches.now) }
 {
     match matches.subcommand() {
-        Some((name, given)) => order_named(name, given),
-        None => Order::Show,
+        Some((name, given)) => Request {
+            order: order_named(name, given),
+            word: word_in(given),
+        },
+        None => Request {
+            order: Order::Show,
+            word: None,
+        },
     }
+}
+
+// A file that may be named behind a subcommand.
+fn file<'a>(alloc: Global) -> Arg<'a>
+    ensures rule { rule_of result ≡ file_named }
+    ensures local { result.global ≡ false }
+{
+    Arg::new(alloc, WORD).value_name("FILE").help(
+        "What is read: standard input where no file is named, or where it is -",
+    )
+}
+
+// A subcommand that reads a file.
+fn reading<'a>(
+    alloc: Global,
+    name: &'static str,
+    about: &'static str,
+    more: &'static str,
+) -> Result<Command<'a>, AllocError>
+    ensures shape { IfOk result (λ command. shape_of command ≡ reading name.now) }
+    ensures local { IfOk result (λ command. (fields_of command).has_globals ≡ false) }
+{
+    Command::new(alloc, name)
+        .about(about)
+        .after_help(more)
+        .arg(file(alloc))
 }
 
 // `convert`, with the number of a host that it wants.
@@ -76,8 +124,24 @@ fn converting<'a>(alloc: Global) -> Result<Command<'a>, AllocError>
         .value_parser(clap::value_parser!(u8))
         .help("The number of the host at whose interface the messages stand");
     Command::new(alloc, CONVERT)
-        .about("Turns a message file of one version into the other, from standard input")
-        .arg(at)
+        .about("Turns a message file of one version into the other")
+        .after_help(CONVERTED)
+        .arg(at)?
+        .arg(file(alloc))
+}
+
+// `explain`, with the name that it wants.
+fn explaining<'a>(alloc: Global) -> Result<Command<'a>, AllocError>
+    ensures shape { IfOk result (λ command. shape_of command ≡ explaining) }
+    ensures local { IfOk result (λ command. (fields_of command).has_globals ≡ false) }
+{
+    let name = Arg::new(alloc, WORD).value_name("NAME").required(true).help(
+        "The name of a fault or of a refusal, as the program prints it",
+    );
+    Command::new(alloc, EXPLAIN)
+        .about("Says what the name of a fault or of a refusal means")
+        .after_help(EXPLAINED)
+        .arg(name)
 }
 
 // The program as clap knows it, with no subcommand yet.
@@ -87,18 +151,20 @@ fn bare_program<'a>(alloc: Global) -> Command<'a>
     Command::new(alloc, PROGRAM)
         .version(VERSION)
         .about("Reads the messages of an ARPANET host, and plays hosts")
+        .after_help(PROGRAM_HELP)
 }
 
-// The program with one more subcommand, which has no arguments.
-fn and_plain<'a>(
+// The program with one more subcommand that reads a file.
+fn and_reading<'a>(
     program: Command<'a>,
     alloc: Global,
     name: &'static str,
     about: &'static str,
+    more: &'static str,
 ) -> Result<Command<'a>, AllocError>
-    ensures { IfOk result (λ command. app_of command ≡ with_subcommand (app_of program.entry) (new_shape name.now)) }
+    ensures { IfOk result (λ command. app_of command ≡ with_subcommand (app_of program.entry) (reading name.now)) }
 {
-    program.subcommand(Command::new(alloc, name).about(about))
+    program.subcommand(reading(alloc, name, about, more)?)
 }
 
 // The program with `convert` too.
@@ -108,14 +174,21 @@ fn and_convert<'a>(program: Command<'a>, alloc: Global) -> Result<Command<'a>, A
     program.subcommand(converting(alloc)?)
 }
 
+// The program with `explain` too.
+fn and_explain<'a>(program: Command<'a>, alloc: Global) -> Result<Command<'a>, AllocError>
+    ensures { IfOk result (λ command. app_of command ≡ with_subcommand (app_of program.entry) explaining) }
+{
+    program.subcommand(explaining(alloc)?)
+}
+
 // The program with the subcommands that read message files.
 fn with_files<'a>(alloc: Global) -> Result<Command<'a>, AllocError>
     ensures { IfOk result (λ command. app_of command ≡ of_files) }
 {
-    let show = "Shows each message of a message file, read from standard input";
-    let check = "Counts the messages of a message file, and says whether all are sound";
-    let program = and_plain(bare_program(alloc), alloc, SHOW, show)?;
-    let program = and_plain(program, alloc, CHECK, check)?;
+    let show = "Shows each message of a message file";
+    let check = "Counts the messages of a message file, and says whether all are well formed";
+    let program = and_reading(bare_program(alloc), alloc, SHOW, show, SHOWN)?;
+    let program = and_reading(program, alloc, CHECK, check, CHECKED)?;
     and_convert(program, alloc)
 }
 
@@ -123,27 +196,34 @@ fn with_files<'a>(alloc: Global) -> Result<Command<'a>, AllocError>
 fn with_players<'a>(alloc: Global) -> Result<Command<'a>, AllocError>
     ensures { IfOk result (λ command. app_of command ≡ of_players) }
 {
-    let host = "Plays a script of one host, read from standard input";
-    let world =
-        "Plays a script of two to eight hosts and the subnet between them, read from standard input";
-    let program = and_plain(with_files(alloc)?, alloc, HOST, host)?;
-    and_plain(program, alloc, WORLD, world)
+    let host = "Plays a script of one host";
+    let world = "Plays a script of two to eight hosts and the subnet between them";
+    let program = and_reading(with_files(alloc)?, alloc, HOST, host, PLAYED_HOST)?;
+    and_reading(program, alloc, WORLD, world, PLAYED)
 }
 
-// The program with all its subcommands: the one that records too.
+// The program with the subcommand that records too.
+fn with_recorders<'a>(alloc: Global) -> Result<Command<'a>, AllocError>
+    ensures { IfOk result (λ command. app_of command ≡ of_recorders) }
+{
+    let record = "Plays a script of two to eight hosts, and writes its messages as a message file";
+    and_reading(with_players(alloc)?, alloc, RECORD, record, RECORDED)
+}
+
+// The program with all its subcommands: the one that explains too.
 fn command_line<'a>(alloc: Global) -> Result<Command<'a>, AllocError>
     ensures { IfOk result (λ command. app_of command ≡ program) }
 {
-    let record =
-        "Plays a script of two to eight hosts, read from standard input, and writes its messages as a message file";
-    and_plain(with_players(alloc)?, alloc, RECORD, record)
+    and_explain(with_recorders(alloc)?, alloc)
 }
 
-/// Reads the words of a command line, the program's name first. Without a subcommand it is `show`.
+/// Reads the words of a command line, the program's name first: the order, and the word behind the subcommand, which
+/// names a file or what is to be explained. Without a subcommand it is `show`.
 ///
 /// The error is clap's: a command-line fault, help that was asked for, or want of memory.
-pub fn order<'a, S: AsStr>(alloc: Global, words: &'a [S]) -> Result<Order, Error>
-    ensures named { IfOk result (λ order. order ≡ order_in (map S.text words.entry.now)) }
+pub fn request<'a, S: AsStr>(alloc: Global, words: &'a [S]) -> Result<Request<'a>, Error>
+    ensures named { IfOk result (λ request. request.order ≡ order_in (map S.text words.entry.now)) }
+    ensures word { IfOk result (λ request. option_map (λ word. word.now) request.word ≡ word_in (map S.text words.entry.now)) }
 
     // Ok comes only where clap finds no fault in the words, and an error is one of those that it
     // finds, or want of memory.
@@ -151,5 +231,16 @@ pub fn order<'a, S: AsStr>(alloc: Global, words: &'a [S]) -> Result<Order, Error
 {
     let program = command_line(alloc)?;
     let matches = program.try_get_matches_from(words)?;
-    Ok(order_of(&matches))
+    Ok(request_of(&matches))
+}
+
+/// The order of a command line ([`request`]).
+pub fn order<'a, S: AsStr>(alloc: Global, words: &'a [S]) -> Result<Order, Error>
+    ensures named { IfOk result (λ order. order ≡ order_in (map S.text words.entry.now)) }
+    ensures kinds { FailsBy (fault_of program (map S.text words.entry.now)) result }
+{
+    match request(alloc, words) {
+        Ok(request) => Ok(request.order),
+        Err(error) => Err(error),
+    }
 }

@@ -1,10 +1,10 @@
 //! Laws about orders and the command line: the contracts of functions.
-ghost use Rattle.std.specs.Prelude.{◌≡◌, ◌↔◌, ◌∷◌, [], IsTrue, codes};
+ghost use Rattle.std.specs.Prelude.{◌≡◌, ◌↔◌, ◌∷◌, [], None, Some, IsTrue, codes};
 ghost use Rattle.clap.specs.Faults.{fault_of};
 ghost use Rattle.clap.specs.declared.error.kind.ErrorKind.TheVariants as kind;
-ghost use Rattle.ncp_command_line.specs.CommandLine.{order_in, program};
+ghost use Rattle.ncp_command_line.specs.CommandLine.{order_in, program, word_in};
 ghost use Rattle.ncp_command_line.specs.Examples.{after_convert, after_ncp};
-ghost use Rattle.ncp_command_line.specs.declared.orders.Order.TheVariants.{Convert, Record, Show, World};
+ghost use Rattle.ncp_command_line.specs.declared.orders.Order.TheVariants.{Convert, Explain, Record, Show, World};
 
 use crate::orders::Order;
 
@@ -34,4 +34,18 @@ pub fn numbers_are_read_so()
     ensures great { fault_of program (after_convert (codes "--at=256" ∷ [])) ≡ kind.ValueValidation ∷ [] }
     ensures negative { fault_of program (after_convert (codes "--at=-1" ∷ [])) ≡ kind.ValueValidation ∷ [] }
     ensures twice { fault_of program (after_convert (codes "--at=7" ∷ codes "--at=7" ∷ [])) ≡ kind.ArgumentConflict ∷ [] }
+{}
+
+/// Worked words behind a subcommand: a file leaves the order as it is, `-` is a word as any other, there is one at most,
+/// and of `explain` there has to be one.
+pub fn files_are_read_so()
+    ensures order { order_in (after_ncp (codes "world" ∷ codes "first.script" ∷ [])) ≡ World }
+    ensures file { word_in (after_ncp (codes "world" ∷ codes "first.script" ∷ [])) ≡ Some (codes "first.script") }
+    ensures standard { word_in (after_ncp (codes "show" ∷ codes "-" ∷ [])) ≡ Some (codes "-") }
+    ensures none { word_in (after_ncp (codes "show" ∷ [])) ≡ None }
+    ensures converted { order_in (after_convert (codes "--at" ∷ codes "7" ∷ codes "first.ncp" ∷ [])) ≡ Convert 7 }
+    ensures behind { word_in (after_convert (codes "--at" ∷ codes "7" ∷ codes "first.ncp" ∷ [])) ≡ Some (codes "first.ncp") }
+    ensures more { fault_of program (after_ncp (codes "show" ∷ codes "a" ∷ codes "b" ∷ [])) ≡ kind.UnknownArgument ∷ [] }
+    ensures explained { order_in (after_ncp (codes "explain" ∷ codes "BadLine" ∷ [])) ≡ Explain }
+    ensures unnamed { fault_of program (after_ncp (codes "explain" ∷ [])) ≡ kind.MissingRequiredArgument ∷ [] }
 {}

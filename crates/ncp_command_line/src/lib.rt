@@ -3,8 +3,9 @@
 #![tactic(auto)]
 
 mod command_line;
+mod help;
 pub mod laws;
 mod orders;
 
-pub use command_line::order;
-pub use orders::Order;
+pub use command_line::{order, request};
+pub use orders::{Order, Request};

@@ -15,4 +15,16 @@ pub enum Order {
     World,
     /// Play a script of two to eight hosts, and write its messages as a message file.
     Record,
+    /// Say what the name of a fault or of a refusal means.
+    Explain,
+}
+
+/// What a command line asks for.
+#[derive(Clone, Copy, Debug, Drop)]
+pub struct Request<'a> {
+    /// The order.
+    pub order: Order,
+    /// The word behind the subcommand, if there is one: the file that is to be read, where `-` is standard input;
+    /// of [`Order::Explain`] the name.
+    pub word: Option<&'a str>,
 }

@@ -44,6 +44,21 @@ status_of_kind DisplayHelp = 0
 status_of_kind DisplayVersion = 0
 status_of_kind other = status_of (Err tt)
 
+module _ (words : List Text) (before : Streams) (status : ℕ) (now : Streams) where
+  -- clap finds no fault in the words; the order that it reads in them was carried out, and the status is that of its
+  -- answer
+  abbrev pub EndsCarried : Type 0
+  EndsCarried = (fault_of program words ≡ []) × (answer : Result Bool PlayFault) × Does before answer now (order_in words) × (status ≡ status_after answer)
+
+  -- the status is that of a fault that clap finds in the words, or of want of memory for them, and nothing was read or
+  -- written
+  abbrev pub EndsDeclined : Type 0
+  EndsDeclined = (error : Error) × HasKind (fault_of program words) error × (status ≡ status_of_kind (kind_of error)) × (now ≡ before)
+
+  -- with which status the words end, whatever is told of a fault
+  abbrev pub Ends : Type 0
+  Ends = EndsCarried ⊎ EndsDeclined
+
 module _ (words : List Text) (before : Streams) (told : Telling) (status : ℕ) (now : Streams) (told_now : Telling) where
   -- clap finds no fault in the words; the order that it reads in them was carried out, its answer told, and the status
   -- is that of the answer

@@ -2,7 +2,7 @@
 -- writes, by its answer (this profile).
 use Rattle.std.specs.Prelude.{◌≡◌, ℕ, Bool, true, false, ◌||◌, List, Option, Some, Result, Ok, Err}
 use Rattle.ncp_command_line.specs.declared.orders.Order.{Order}
-use Rattle.ncp_command_line.specs.declared.orders.Order.TheVariants.{Show, Check, Convert, Host, World, Record}
+use Rattle.ncp_command_line.specs.declared.orders.Order.TheVariants.{Show, Check, Convert, Host, World, Record, Explain}
 use Rattle.ncp_files.specs.declared.file.FileFault.{FileFault}
 use Rattle.ncp_files.specs.Results as files
 use Rattle.ncp_files.specs.Shown.{Shown}
@@ -64,6 +64,10 @@ module _ (before : Streams) (answer : Result Bool PlayFault) (now : Streams) whe
   abbrev pub Plays : (List ℕ → List ℕ → Type 0) → Type 0
   Plays P = Blames (is_read_failed answer) (is_write_failed answer) now × OfBytes before P
 
+  -- nothing was read, and a write is blamed exactly where it failed
+  abbrev pub DoesExplain : Type 0
+  DoesExplain = Blames false (is_write_failed answer) now × (now.left ≡ before.left) × (now.read_failed ≡ before.read_failed)
+
   -- what was done of an order, by the answer
   abbrev pub Does : Order → Type 0
   Does Show = DoesFile (λ done bytes was. Shown bytes was now.left now.written done)
@@ -74,3 +78,4 @@ module _ (before : Streams) (answer : Result Bool PlayFault) (now : Streams) whe
       × (is_many_script bytes ≡ true → PlaysMany lines_of_many bytes was answer now.left now.written))
   Does Record = Plays (λ bytes was. (is_many_script bytes ≡ false → PlaysWorld recording_of bytes was answer now.left now.written)
       × (is_many_script bytes ≡ true → PlaysMany recording_of_many bytes was answer now.left now.written))
+  Does Explain = DoesExplain

@@ -3,7 +3,16 @@
 //! each is a crate with a thin `main`.
 #![tactic(auto)]
 
+mod kept;
+mod origin;
+mod output;
 mod program;
+mod put;
+mod running;
+mod telling;
+mod watched;
 
 pub use ncp_command_line::{Order, order};
-pub use program::{obey, run, status};
+pub use output::Output;
+pub use program::{obey, status};
+pub use running::run;

@@ -1,31 +1,42 @@
 //! What the program does with the words of its command line.
-ghost use Rattle.std.specs.Prelude.{◌≡◌, ◌≤◌, map, true, false, IsErr};
-ghost use Rattle.std.specs.Process.{exit_status};
+ghost use Rattle.std.specs.Prelude.{◌≡◌, map, true, false, IsErr};
+ghost use Rattle.ncp_play.specs.Faults.{is_read_failed, is_write_failed};
 ghost use Rattle.ncp_program.specs.Orders.{seen, Does};
 ghost use Rattle.ncp_program.specs.Obeying.{heard, Tells, status_of, status_after, Obeys};
 
-use anyhow::Result;
+use crate::put::put;
+use crate::telling::explanation;
 use ncp_bits::PackedStore;
-use ncp_command_line::{Order, order};
+use ncp_command_line::{Order, request};
 use ncp_files::{check, convert, show};
 use ncp_host_player::play_host;
 use ncp_play::PlayFault;
-use ncp_stream::{FromRead, Sink, Source, ToWrite};
+use ncp_stream::{Sink, Source};
 use ncp_world_player::{play_world, record_world};
 use std::alloc::{AllocGlobal, Global};
 use std::convert::AsStr;
-use std::env::{self, Env};
-use std::io::{Read, Write};
-use std::process::ExitCode;
 
-// The status where the words of the command line cannot be had.
-const FAULT: u8 = 2;
+// Says what a name means, and answers whether it is the name of a fault or a refusal.
+fn explain<W: Sink>(alloc: Global, name: &str, sink: &mut W) -> Result<bool, PlayFault>
+    requires sink_clean { W.has_failed sink.old ≡ false }
+    ensures read { is_read_failed result ≡ false }
+    ensures mark { W.has_failed sink.new ≡ is_write_failed result }
+{
+    let Ok((text, known)) = explanation(alloc, name) else {
+        return Err(PlayFault::OutOfMemory);
+    };
+    match put(sink, text.as_bytes()) {
+        Ok(()) => Ok(known),
+        Err(_) => Err(PlayFault::WriteFailed),
+    }
+}
 
-// Carries out an order, and answers whether all was good. A fault of a message file is told as one of a
-// feed is.
-fn carry_out<S: Source, W: Sink>(
+/// Carries out an order with the word behind the subcommand, and answers whether all was good. A fault of a message
+/// file is told as one of a feed is.
+pub(crate) fn carry_out<S: Source, W: Sink>(
     alloc: Global,
     order: Order,
+    word: Option<&str>,
     source: &mut S,
     sink: &mut W,
 ) -> Result<bool, PlayFault>
@@ -53,6 +64,7 @@ fn carry_out<S: Source, W: Sink>(
         Order::Host => play_host::<PackedStore, _, _>(alloc, source, sink),
         Order::World => play_world::<PackedStore, _, _>(alloc, source, sink),
         Order::Record => record_world::<PackedStore, _, _>(alloc, source, sink),
+        Order::Explain => explain(alloc, word.unwrap_or(""), sink),
     }
 }
 
@@ -68,8 +80,18 @@ pub fn status(outcome: Result<bool, ()>) -> u8
     }
 }
 
-// Tells the fault of an answer, if it has one, and gives the status after it.
-fn conclude<E: Sink>(answer: Result<bool, PlayFault>, errors: &mut E) -> u8
+/// The status after an answer.
+pub(crate) fn status_after(answer: &Result<bool, PlayFault>) -> u8
+    ensures { result ≡ status_after answer.now }
+{
+    match answer {
+        Ok(good) => status(Ok(*good)),
+        Err(_) => status(Err(())),
+    }
+}
+
+/// Tells the fault of an answer, if it has one, and gives the status after it.
+pub(crate) fn conclude<E: Sink>(answer: Result<bool, PlayFault>, errors: &mut E) -> u8
     ensures told { Tells answer (heard (E.written errors.old) (E.has_failed errors.old)) (heard (E.written errors.new) (E.has_failed errors.new)) }
     ensures status { result ≡ status_after answer }
 {
@@ -111,41 +133,13 @@ where
     ensures write_failed { W.has_failed sink.new ≡ true → result ≡ 2 }
 {
     let alloc = rt.alloc();
-    let order = match order(alloc, words) {
-        Ok(order) => order,
+    let request = match request(alloc, words) {
+        Ok(request) => request,
         Err(error) => {
             let _untold = error.print(rt);
             return error.exit_code() as u8;
         }
     };
-    let answer = carry_out(alloc, order, source, sink);
+    let answer = carry_out(alloc, request.order, request.word, source, sink);
     conclude(answer, errors)
-}
-
-// The words of the command line, which are text.
-fn words_in<R: Env + AllocGlobal>(rt: &R) -> Result<Vec<String>> {
-    Ok(env::args(rt)?.collect(rt.alloc())?)
-}
-
-/// Does what the words of the command line say ([`obey`]) with what is read, and answers the status with
-/// which the program ends.
-pub fn run<R, I, O, E>(rt: &R, input: I, output: O, errors: E) -> ExitCode
-where
-    R: Env + AllocGlobal + Print + Eprint,
-    I: Read + Drop,
-    O: Write + Drop,
-    E: Write + Drop,
-    ensures { exit_status result ≤ 2 }
-{
-    let words = match words_in(rt) {
-        Ok(words) => words,
-        Err(error) => {
-            let _untold = eprintln!(rt; "ncp: {error}");
-            return ExitCode::from(FAULT);
-        }
-    };
-    let mut source = FromRead::new(input);
-    let mut sink = ToWrite::new(output);
-    let mut errors = ToWrite::new(errors);
-    ExitCode::from(obey(rt, words.as_slice(), &mut source, &mut sink, &mut errors))
 }

@@ -1,17 +1,64 @@
 //! The command line: its orders, its faults, and its help.
 
-use ncp_command_line::{Order, order};
+use ncp_command_line::{Order, order, request};
 use std::alloc::Global;
 use std::process::Abort;
 use std::test::Fail;
 
 // What `--help` writes.
-const HELP: &str =
-    "Reads the messages of an ARPANET host, and plays hosts\n\nUsage: ncp [COMMAND]\n\nCommands:\n  show     Shows each message of a message file, read from standard input\n  check    Counts the messages of a message file, and says whether all are sound\n  convert  Turns a message file of one version into the other, from standard input\n  host     Plays a script of one host, read from standard input\n  world    Plays a script of two to eight hosts and the subnet between them, read from standard input\n  record   Plays a script of two to eight hosts, read from standard input, and writes its messages as a message file\n  help     Print this message or the help of the given subcommand(s)\n\nOptions:\n  -h, --help     Print help\n  -V, --version  Print version\n";
+const HELP: &str = "Reads the messages of an ARPANET host, and plays hosts
+
+Usage: ncp [COMMAND]
+
+Commands:
+  show     Shows each message of a message file
+  check    Counts the messages of a message file, and says whether all are well formed
+  convert  Turns a message file of one version into the other
+  host     Plays a script of one host
+  world    Plays a script of two to eight hosts and the subnet between them
+  record   Plays a script of two to eight hosts, and writes its messages as a message file
+  explain  Says what the name of a fault or of a refusal means
+  help     Print this message or the help of the given subcommand(s)
+
+Options:
+  -h, --help     Print help
+  -V, --version  Print version
+
+Without a command it is 'ncp show'.
+
+Example:
+  ncp world examples/one_connection.script
+
+Statuses:
+  0  all is good
+  1  'check' says no, or a call of a script was refused, or 'explain' does not know a name
+  2  a fault, which is told on standard error
+
+The formats of files, scripts and lines stand in docs/FORMATS.md and in ncp(1).
+'ncp explain NAME' says what a fault or a refusal means.
+";
 
 // What `convert --help` writes.
-const CONVERT_HELP: &str =
-    "Turns a message file of one version into the other, from standard input\n\nUsage: ncp convert --at <H>\n\nOptions:\n      --at <H>  The number of the host at whose interface the messages stand\n  -h, --help    Print help\n";
+const CONVERT_HELP: &str = "Turns a message file of one version into the other
+
+Usage: ncp convert --at <H> [FILE]
+
+Arguments:
+  [FILE]  What is read: standard input where no file is named, or where it is -
+
+Options:
+      --at <H>  The number of the host at whose interface the messages stand
+  -h, --help    Print help
+
+Example:
+  ncp convert --at 7 examples/first.ncp > placed.ncp
+
+Statuses:
+  0  the whole file is written
+  2  the file has a fault, or a record of another direction or host, or it could not be read or written
+
+A message file begins with the letters NCPH, NCPI or NCPJ: docs/FORMATS.md, and ncp(1).
+";
 
 // How the text of a fault ends.
 const USAGE: &str = "Usage: ncp [COMMAND]\n\nFor more information, try '--help'.\n";
@@ -52,6 +99,7 @@ fn name_of(alloc: Global, words: &[&str]) -> Option<&'static str> {
         Ok(Order::Host) => Some("host"),
         Ok(Order::World) => Some("world"),
         Ok(Order::Record) => Some("record"),
+        Ok(Order::Explain) => Some("explain"),
         Err(_) => None,
     }
 }
@@ -65,10 +113,37 @@ fn reads_orders(rt: HostRuntime) {
         (&["ncp", "host"], "host"),
         (&["ncp", "world"], "world"),
         (&["ncp", "record"], "record"),
+        (&["ncp", "explain", "BadLine"], "explain"),
+        (&["ncp", "show", "first.ncp"], "show"),
+        (&["ncp", "world", "-"], "world"),
     ];
     for (words, name) in ROWS {
         assert!(rt; name_of(rt.alloc(), words) == Some(*name));
     }
+}
+
+#[test]
+fn reads_the_word_behind_a_subcommand(rt: HostRuntime) -> Result<(), Fail> {
+    const ROWS: &[(&[&str], Option<&str>)] = &[
+        (&["ncp"], None),
+        (&["ncp", "show"], None),
+        (&["ncp", "show", "-"], Some("-")),
+        (&["ncp", "world", "first.script"], Some("first.script")),
+        (
+            &["ncp", "convert", "--at", "7", "first.ncp"],
+            Some("first.ncp"),
+        ),
+        (
+            &["ncp", "convert", "first.ncp", "--at=7"],
+            Some("first.ncp"),
+        ),
+        (&["ncp", "explain", "Busy"], Some("Busy")),
+        (&["ncp", "show", "--", "--at"], Some("--at")),
+    ];
+    for (words, word) in ROWS {
+        assert!(rt; request(rt.alloc(), words)?.word == *word);
+    }
+    Ok(())
 }
 
 // The host of a conversion.
@@ -144,8 +219,8 @@ fn refuses_a_host_twice_and_elsewhere(rt: HostRuntime) -> Result<(), Fail> {
             "error: unexpected argument '--at' found",
         ),
         (
-            &["ncp", "convert", "--at", "7", "capture.ncp"],
-            "error: unexpected argument 'capture.ncp' found",
+            &["ncp", "convert", "--at", "7", "capture.ncp", "more.ncp"],
+            "error: unexpected argument 'more.ncp' found",
         ),
     ];
     expect_refused(&rt, rt.alloc(), ROWS)
@@ -155,8 +230,8 @@ fn refuses_a_host_twice_and_elsewhere(rt: HostRuntime) -> Result<(), Fail> {
 fn tells_the_version_and_the_help_of_convert(rt: HostRuntime) -> Result<(), Fail> {
     let alloc = rt.alloc();
     for word in ["--version", "-V"] {
-        let told = expect_told(&rt, alloc, &["ncp", word], 0, "ncp ")?;
-        assert!(rt; told.as_str().ends_with("\n"));
+        let told = expect_told(&rt, alloc, &["ncp", word], 0, "ncp 1.1.0\n")?;
+        assert!(rt; told.len() == 10);
     }
     let help = expect_told(&rt, alloc, &["ncp", "convert", "--help"], 0, CONVERT_HELP)?;
     assert!(rt; help.len() == CONVERT_HELP.len());
@@ -210,7 +285,7 @@ fn has_memory_for_many_words(rt: HostRuntime) -> Result<(), Fail> {
         rt.alloc(),
         &["ncp", "check", "a", "b", "c"],
         2,
-        "error: unexpected argument 'a' found",
+        "error: unexpected argument 'b' found",
     )?;
     Ok(())
 }

@@ -170,6 +170,16 @@ pub(crate) const RUNS: &[Row] = &[
     (&["ncp", "record"], NO_ENTRY),
     (&["ncp", "record"], ONE_HOST),
     (&["ncp", "convert"], FIRST),
+    (&["ncp", "--version"], b""),
+    (&["ncp", "--help"], b""),
+    (&["ncp", "help", "world"], b""),
+    (&["ncp", "convert", "--help"], b""),
+    (&["ncp", "play"], b""),
+    (&["ncp", "show", "first.ncp", "more.ncp"], b""),
+    (&["ncp", "check", "first.ncp"], FAULTY),
+    (&["ncp", "explain", "BadLine"], b""),
+    (&["ncp", "explain", "BadLin"], b""),
+    (&["ncp", "explain"], b""),
 ];
 
 /// Each subcommand once.

@@ -1,7 +1,7 @@
 use Rattle.std.proofs.Common.{◌≡◌, codes, ap, ◌∙◌}
 use Rattle.std.proofs.lemmas.Result.{IfOk-from_err}
-use Rattle.clap.specs.Simple.{App, app_of, new_shape, with_subcommand}
-use Rattle.ncp_command_line.specs.CommandLine.{bare_program, converting, of_files}
+use Rattle.clap.specs.Simple.{App, app_of, with_subcommand}
+use Rattle.ncp_command_line.specs.CommandLine.{bare_program, converting, of_files, reading}
 use Rattle.ncp_command_line.proofs.Subcommands.{is_with}
 use Rattle.ncp_command_line.proofs.command_line.with_files.Goals as goal
 
@@ -13,7 +13,7 @@ returns-in_err-program-2 c = IfOk-from_err c.from_residual-in_err-program-2.resu
 
 pub returns : goal.returns
 returns c =
-    let show = new_shape (codes "show") in let check = new_shape (codes "check") in
+    let show = reading (codes "show") in let check = reading (codes "check") in
     is_with c.and_convert.result c.in_ok-program-2.program (with_subcommand (with_subcommand bare_program show) check) converting
     (c.in_ok-program-2.ensures ∙ ap (λ (app : App). with_subcommand app check) (c.in_ok-program.ensures ∙ ap (λ (app : App). with_subcommand app show) c.bare_program.ensures))
     c.and_convert.ensures

@@ -1,0 +1,91 @@
+//! What help says behind its lists: an example, the statuses, and where the formats stand.
+
+/// Of the program.
+pub(crate) const PROGRAM_HELP: &str = "Without a command it is 'ncp show'.
+
+Example:
+  ncp world examples/one_connection.script
+
+Statuses:
+  0  all is good
+  1  'check' says no, or a call of a script was refused, or 'explain' does not know a name
+  2  a fault, which is told on standard error
+
+The formats of files, scripts and lines stand in docs/FORMATS.md and in ncp(1).
+'ncp explain NAME' says what a fault or a refusal means.";
+
+/// Of `show`.
+pub(crate) const SHOWN: &str = "Example:
+  ncp show examples/first.ncp
+
+Statuses:
+  0  all messages are shown
+  2  the file has a fault, or could not be read or written
+
+A message file begins with the letters NCPH, NCPI or NCPJ: docs/FORMATS.md, and ncp(1).";
+
+/// Of `check`.
+pub(crate) const CHECKED: &str =
+    "Each message is judged by itself: its leader, its prefix, and its commands.
+
+Example:
+  ncp check examples/first.ncp
+
+Statuses:
+  0  all messages are well formed
+  1  one is not
+  2  the file has a fault, or could not be read or written
+
+A message file begins with the letters NCPH, NCPI or NCPJ: docs/FORMATS.md, and ncp(1).";
+
+/// Of `convert`.
+pub(crate) const CONVERTED: &str = "Example:
+  ncp convert --at 7 examples/first.ncp > placed.ncp
+
+Statuses:
+  0  the whole file is written
+  2  the file has a fault, or a record of another direction or host, or it could not be read or written
+
+A message file begins with the letters NCPH, NCPI or NCPJ: docs/FORMATS.md, and ncp(1).";
+
+/// Of `host`.
+pub(crate) const PLAYED_HOST: &str = "Example:
+  printf 'host 1 2\\nreset 2\\nout\\n' | ncp host
+
+Statuses:
+  0  the script was played
+  1  it was played, and a call was refused
+  2  the script has a fault, or could not be read, or its lines not written
+
+The first line is 'host ME PEER ..', and each line behind it is played: docs/FORMATS.md, and ncp(1).";
+
+/// Of `world`.
+pub(crate) const PLAYED: &str = "Example:
+  printf 'hosts 1 2\\na reset\\na out\\na deliver 0\\n' | ncp world
+
+Statuses:
+  0  the script was played
+  1  it was played, and a call was refused
+  2  the script has a fault, or could not be read, or its lines not written
+
+The first line is 'hosts A B' or 'many N1 N2 ..', and each line behind it is played: docs/FORMATS.md, and ncp(1).";
+
+/// Of `record`.
+pub(crate) const RECORDED: &str = "Example:
+  ncp record examples/one_connection.script | ncp show
+
+Statuses:
+  0  the script was played
+  1  it was played, and a call was refused
+  2  the script has a fault, or could not be read, or its messages not written
+
+The scripts are those of 'ncp world'; the file is one of version 2: docs/FORMATS.md, and ncp(1).";
+
+/// Of `explain`.
+pub(crate) const EXPLAINED: &str = "Example:
+  ncp explain BadLine
+
+Statuses:
+  0  the name is explained
+  1  it is the name of nothing
+  2  it could not be written";

@@ -1,0 +1,152 @@
+//! `Kept`: what is kept of bytes that are read, for a fault to be explained.
+
+use std::alloc::{AllocError, Global};
+
+// How many bytes are kept at the front of what is no script.
+const HEAD: usize = 64;
+
+// How many bytes are kept of a line.
+const LINE: usize = 4096;
+
+// How many bytes of a script are kept at least, once so many were read: more than the program reads ahead, with a line.
+const HALF: usize = 65536;
+
+/// What is kept of bytes that are read: their number and their beginning; of a script its first line that is played, and
+/// the last lines.
+#[derive(Drop)]
+pub(crate) struct Kept {
+    alloc: Global,
+    is_script: bool,
+    bytes: u64,
+    first: Vec<u8>,
+    found: bool,
+    // How many lines ended before the older of the two halves that are kept.
+    ended: u32,
+    older: Vec<u8>,
+    newer: Vec<u8>,
+}
+
+// How many lines end in these bytes.
+fn ends_in(bytes: &[u8]) -> usize {
+    bytes.iter().filter(|byte| **byte == b'\n').count()
+}
+
+// A line without the one CR that may stand at its end.
+fn without_return(line: &[u8]) -> &[u8] {
+    line.strip_suffix(b"\r").unwrap_or(line)
+}
+
+// Whether a line is skipped.
+fn is_skipped(line: &[u8]) -> bool {
+    without_return(line).is_empty() || line.starts_with(b"#")
+}
+
+impl Kept {
+    /// Nothing is read yet.
+    pub(crate) fn new(alloc: Global, is_script: bool) -> Self {
+        Kept {
+            alloc,
+            is_script,
+            bytes: 0,
+            first: Vec::new(alloc),
+            found: false,
+            ended: 0,
+            older: Vec::new(alloc),
+            newer: Vec::new(alloc),
+        }
+    }
+
+    // A byte comes while the first line that is played is not yet whole.
+    fn look(&mut self, byte: u8) -> Result<(), AllocError> {
+        if byte != b'\n' {
+            if self.first.len() < LINE {
+                self.first.push(byte)?;
+            }
+            return Ok(());
+        }
+        if is_skipped(self.first.as_slice()) {
+            self.first.clear();
+        } else {
+            self.found = true;
+        }
+        Ok(())
+    }
+
+    // Bytes of a script come.
+    fn add_script(&mut self, piece: &[u8]) -> Result<(), AllocError> {
+        for byte in piece {
+            if self.found {
+                break;
+            }
+            self.look(*byte)?;
+        }
+        if self.newer.len() > HALF {
+            let ended = ends_in(self.older.as_slice()).min(u32::MAX as usize) as u32;
+            self.ended = self.ended.saturating_add(ended);
+            std::mem::swap(&mut self.older, &mut self.newer);
+            self.newer.clear();
+        }
+        self.newer.extend_from_slice(piece)?;
+        Ok(())
+    }
+
+    // Bytes of a message file come.
+    fn add_file(&mut self, piece: &[u8]) -> Result<(), AllocError> {
+        for byte in piece {
+            if self.first.len() >= HEAD {
+                break;
+            }
+            self.first.push(*byte)?;
+        }
+        Ok(())
+    }
+
+    /// Bytes come. Where there is no memory to keep them, less can be explained.
+    pub(crate) fn add(&mut self, piece: &[u8]) {
+        self.bytes = self.bytes.saturating_add(piece.len() as u64);
+        let _kept = if self.is_script {
+            self.add_script(piece)
+        } else {
+            self.add_file(piece)
+        };
+    }
+
+    /// How many bytes came.
+    pub(crate) fn bytes(&self) -> u64 {
+        self.bytes
+    }
+
+    /// Of a message file its first bytes; of a script its first line that is played, empty where there is none.
+    pub(crate) fn first(&self) -> &[u8] {
+        let first = self.first.as_slice();
+        if !self.is_script {
+            return first;
+        }
+        if !self.found && is_skipped(first) {
+            return &[];
+        }
+        without_return(first)
+    }
+
+    /// The line of this number, as far as it is kept.
+    pub(crate) fn line(&self, number: u32) -> Result<Vec<u8>, AllocError> {
+        let mut line = Vec::new(self.alloc);
+        let mut at = self.ended.saturating_add(1);
+        let mut was_ended = false;
+        for byte in self.older.iter().chain(self.newer.iter()) {
+            if *byte == b'\n' {
+                if at == number {
+                    was_ended = true;
+                    break;
+                }
+                at = at.saturating_add(1);
+            } else if at == number && line.len() <= LINE {
+                line.push(*byte)?;
+            }
+        }
+        if was_ended && line.as_slice().ends_with(b"\r") {
+            let _return = line.pop();
+        }
+        Ok(line)
+    }
+}
