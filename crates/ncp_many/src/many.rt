@@ -5,7 +5,10 @@ ghost use Rattle.ncp_promises.specs.Taking.{IsTaken};
 ghost use Rattle.ncp_pairs.specs.Numbered.{thing_in};
 ghost use Rattle.ncp_pairs.specs.Crowd.{is_there, are_hosts, new_crowd, after_many_notes};
 ghost use Rattle.ncp_pairs.specs.ManyTranscript.{new_many, IsManyStep, AreManyNotes, IsManyTranscript};
+ghost use Rattle.ncp_pairs.specs.Pairs.{ForEachTwo};
 ghost use Rattle.ncp_pairs.specs.NotesOfTwo.{ForEachNoteOfTwo};
+ghost use Rattle.ncp_progress_notes.specs.NotesWork.{MovesArePaidFor};
+ghost use Rattle.ncp_progress_settled.specs.Settled.{EndsFinished};
 ghost use Rattle.ncp_proof_statement.specs.EachTwo.{HeadlineOfEachTwo};
 
 use crate::crowd::{Crowd, are_hosts};
@@ -15,6 +18,7 @@ use ncp_bits::BitStore;
 use ncp_host::Host;
 use ncp_pairs::taking::what_goes_out_of_each_of_many_is_taken;
 use ncp_pairs::{ManyEvent, ManyNote};
+use ncp_progress_many::many::what_moves_between_two_of_many_is_paid_for;
 use ncp_proof_statement::each_pair::each_pair_keeps_the_page;
 use std::alloc::{AllocError, Global};
 use std::marker::Model;
@@ -83,11 +87,14 @@ impl<S: BitStore> Many<S> {
     fn keeps(&self)
         ensures headline { HeadlineOfEachTwo self.now.notes self.now.crowd }
         ensures taken { ForEachNoteOfTwo IsTaken self.now.notes self.now.crowd }
+        ensures paid { ForEachTwo MovesArePaidFor self.now.notes self.now.crowd }
+        ensures finished { ForEachTwo EndsFinished self.now.notes self.now.crowd }
         ensures run { IsManyTranscript self.now.notes self.now.crowd }
     {
         let _notes = self.transcript();
         each_pair_keeps_the_page();
         what_goes_out_of_each_of_many_is_taken();
+        what_moves_between_two_of_many_is_paid_for();
     }
 
     /// Does what an event says, and notes it with what came of it. One whose host, sender or destination is
@@ -97,8 +104,10 @@ impl<S: BitStore> Many<S> {
     /// given again. It takes amortised constant time beside what the host does.
     ///
     /// Behind `step` and `err`, which say what happens, stands the headline of each two of the hosts, by the
-    /// notes that name both alone (`headline`). And the subnet took each message that went out (`taken`), and the
-    /// notes are a transcript of the hosts (`run`), of which all that is proved of transcripts of many holds: those
+    /// notes that name both alone (`headline`). And the subnet took each message that went out (`taken`); what moves
+    /// between each two, and what they can still bring about, is paid for by their own users, by losses and by deaths
+    /// between them (`paid`); where nothing can happen between them any more but a call they are finished
+    /// (`finished`); and the notes are a transcript of the hosts (`run`), of which all that is proved of transcripts of many holds: those
     /// that name two are a transcript of two, the phrases of the headline hold of the two as they are among all
     /// (`each_pair` of `ncp_pairs`), and each host is by itself (`transcripts` there).
     pub fn step(&mut self, event: &ManyEvent) -> Result<(), AllocError>
@@ -106,6 +115,8 @@ impl<S: BitStore> Many<S> {
         ensures err { OnErr result (self.new ≡ self.old) }
         ensures headline { HeadlineOfEachTwo self.new.notes self.new.crowd }
         ensures taken { ForEachNoteOfTwo IsTaken self.new.notes self.new.crowd }
+        ensures paid { ForEachTwo MovesArePaidFor self.new.notes self.new.crowd }
+        ensures finished { ForEachTwo EndsFinished self.new.notes self.new.crowd }
         ensures run { IsManyTranscript self.new.notes self.new.crowd }
     {
         let noted = self.happen(event);
@@ -142,6 +153,8 @@ impl<S: BitStore> Many<S> {
         ensures hosts { IfOk result (λ many. many.crowd ≡ after_many_notes many.notes (new_crowd hosts.now)) }
         ensures headline { IfOk result (λ many. HeadlineOfEachTwo many.notes many.crowd) }
         ensures taken { IfOk result (λ many. ForEachNoteOfTwo IsTaken many.notes many.crowd) }
+        ensures paid { IfOk result (λ many. ForEachTwo MovesArePaidFor many.notes many.crowd) }
+        ensures finished { IfOk result (λ many. ForEachTwo EndsFinished many.notes many.crowd) }
         ensures run { IfOk result (λ many. IsManyTranscript many.notes many.crowd) }
     {
         let mut many = Many::new(alloc, hosts)?;

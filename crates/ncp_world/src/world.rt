@@ -5,12 +5,16 @@ ghost use Rattle.ncp_two.specs.Ledgers.{ledger_of, IsBalanced};
 ghost use Rattle.ncp_two.specs.Transcript.{new_world, IsStep, AreNotes, IsTranscript};
 ghost use Rattle.ncp_promises.specs.Taking.{EachOutTaken};
 ghost use Rattle.ncp_statement.specs.Statement.{Headline};
+ghost use Rattle.ncp_progress_notes.specs.NotesWork.{MovesArePaidFor};
+ghost use Rattle.ncp_progress_settled.specs.Settled.{EndsFinished};
 ghost use Rattle.ncp_world.specs.Booked.{IsBooked};
 
 use crate::hosts::Hosts;
 use crate::transcript::Transcript;
 use ncp_bits::BitStore;
 use ncp_host::{Host, Pair};
+use ncp_progress_notes::notes::moves_are_paid_for;
+use ncp_progress_settled::settled::where_nothing_can_happen_two_are_finished;
 use ncp_promises::taking::what_goes_out_is_taken;
 use ncp_proof_statement::headline::transcripts_keep_the_page;
 use ncp_two::{Event, Ledger, Note, Side};
@@ -73,11 +77,15 @@ impl<S: BitStore> World<S> {
     fn keeps(&self)
         ensures headline { Headline self.now.hosts.number_a self.now.hosts.number_b self.now.notes }
         ensures taken { EachOutTaken self.now.notes self.now.hosts }
+        ensures paid { MovesArePaidFor self.now.notes self.now.hosts }
+        ensures finished { EndsFinished self.now.notes self.now.hosts }
         ensures run { IsTranscript self.now.notes self.now.hosts }
     {
         let _notes = self.transcript();
         transcripts_keep_the_page();
         what_goes_out_is_taken();
+        moves_are_paid_for();
+        where_nothing_can_happen_two_are_finished();
     }
 
     /// Does what an event says, and notes it with what came of it.
@@ -86,7 +94,9 @@ impl<S: BitStore> World<S> {
     /// be given again. It takes amortised constant time beside what the host does.
     ///
     /// Behind `step` and `err`, which say what happens, stands the headline, of the notes alone, at either
-    /// host, for each pair (`headline`); that the subnet took each message that went out (`taken`); and that
+    /// host, for each pair (`headline`); that the subnet took each message that went out (`taken`); that the moves
+    /// so far, and what the hosts can still bring about, are paid for by what the users asked, by losses and by
+    /// deaths (`paid`); that where nothing can happen any more but a call all is finished (`finished`); and that
     /// the notes are a transcript of the hosts (`run`), of which all that is proved of transcripts holds: each
     /// phrase of the headline by the hosts too (`the_headline` of `ncp_promises`), and its parts (`promises` there).
     pub fn step(&mut self, event: &Event) -> Result<(), AllocError>
@@ -94,6 +104,8 @@ impl<S: BitStore> World<S> {
         ensures err { OnErr result (self.new ≡ self.old) }
         ensures headline { Headline self.new.hosts.number_a self.new.hosts.number_b self.new.notes }
         ensures taken { EachOutTaken self.new.notes self.new.hosts }
+        ensures paid { MovesArePaidFor self.new.notes self.new.hosts }
+        ensures finished { EndsFinished self.new.notes self.new.hosts }
         ensures run { IsTranscript self.new.notes self.new.hosts }
     {
         let noted = self.happen(event);
@@ -130,6 +142,7 @@ impl<S: BitStore> World<S> {
 
 /// A new world of two hosts of these numbers, which differ, after these events; and the headline, of its notes
 /// alone, at either host, for each pair (`headline`); that the subnet took each message that went out (`taken`);
+/// that the moves are paid for (`paid`), and that where nothing can happen any more all is finished (`finished`);
 /// and that its notes are a transcript of its hosts (`run`), of which all that is proved of transcripts holds.
 pub fn run<S: BitStore>(
     alloc: Global,
@@ -142,6 +155,8 @@ pub fn run<S: BitStore>(
     ensures hosts { IfOk result (λ world. world.hosts ≡ after_notes world.notes (new_hosts a b)) }
     ensures headline { IfOk result (λ world. Headline a b world.notes) }
     ensures taken { IfOk result (λ world. EachOutTaken world.notes world.hosts) }
+    ensures paid { IfOk result (λ world. MovesArePaidFor world.notes world.hosts) }
+    ensures finished { IfOk result (λ world. EndsFinished world.notes world.hosts) }
     ensures run { IfOk result (λ world. IsTranscript world.notes world.hosts) }
 {
     let mut world = World::new(alloc, a, b)?;
