@@ -91,7 +91,7 @@ def compare_bytes(data, frames):
                         wanted["ahhp.text.ascii"] = re.sub("[^ -~]", ".", text)
         for field, value in wanted.items():
             got = frame[field].replace(":", "") if field in ("ncp1822.rest", "ncp1822.short") else frame[field]
-            if got.replace("\\\\", "\\") != value:
+            if got != value:
                 wrong.append((field, frame["frame.number"], value, got))
     return wrong
 
@@ -325,7 +325,7 @@ def test_recordings(count):
 def test_hostile(captures):
     """One host whose peer sends what it likes: nothing is found against the host. A capture has the interfaces of many such hosts."""
     wrong, total, against_peer = [], 0, set()
-    for capture in range(captures):
+    for capture in captures:
         data = b"NCPJ"
         for me in range(1, 200):
             script = records.hostile(capture * 200 + me, me, 250)
@@ -342,7 +342,7 @@ def test_hostile(captures):
                     wrong.append((capture, number, finding))
                 against_peer.add(rule)
     tell("%d hosts with a peer that sends what it likes, %d messages: no finding against the host (against peer and IMP %d rules)"
-        % (199 * captures, total, len(against_peer)), wrong)
+        % (199 * len(captures), total, len(against_peer)), wrong)
 
 
 def test_middle(count):
@@ -542,9 +542,10 @@ def main():
     test_garbage(2000)
     test_joined(20 if chosen.long else 4)
     test_left(20 if chosen.long else 6)
-    test_recordings(300 if chosen.long else 40)
-    test_hostile(20 if chosen.long else 1)
-    test_middle(100 if chosen.long else 10)
+    test_recordings(300 if chosen.long else 25)
+    # Some of these showed wrong findings once.
+    test_hostile(range(20) if chosen.long else (0, 4, 7))
+    test_middle(100 if chosen.long else 6)
     test_generated(20000 if chosen.long else 7000)
     test_truncated(recorded, chosen.long)
     print("%d of what was compared differ" % len(failures) if failures else "all is the same")
