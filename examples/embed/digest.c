@@ -249,9 +249,9 @@ static void step(void)
 
 int main(int argc, char **argv)
 {
-    static const uint8_t peers_of_a[] = {B, C}, peers_of_b[] = {A};
+    static const uint8_t peers_of_a[] = {B, C, 4, 5, 6, 7, 8, 9}, peers_of_b[] = {A}; /* as many as can be, and one */
     unsigned long count = argc > 1 ? strtoul(argv[1], NULL, 10) : 0;
-    if (ncp_new(&hosts[0], A, peers_of_a, 2) != NCP_DONE || ncp_new(&hosts[1], B, peers_of_b, 1) != NCP_DONE) return 1;
+    if (ncp_new(&hosts[0], A, peers_of_a, sizeof peers_of_a) != NCP_DONE || ncp_new(&hosts[1], B, peers_of_b, 1) != NCP_DONE) return 1;
     for (unsigned long made = 0; made < count; made++) step();
     if (count > 0) printf("%016llx\n", (unsigned long long)digest);
     ncp_free(&hosts[0]);

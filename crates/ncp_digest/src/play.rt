@@ -4,7 +4,7 @@ use crate::digest::Digest;
 use crate::numbers::{NOTHING, of_bits, of_call, of_received};
 use crate::reading::{counts, echoed, error, ignored, kept, mix_bits, phase, state, waiting};
 use ncp_bits::{Bits, PackedStore};
-use ncp_host::{Host, HostFault};
+use ncp_host::{Host, HostFault, MAX_PEERS};
 use ncp_model::Pair;
 use std::alloc::Global;
 
@@ -13,6 +13,9 @@ const A: u8 = 1;
 const B: u8 = 2;
 
 const C: u8 = 3;
+
+// As many peers as a host can have.
+const PEERS_OF_A: [u8; MAX_PEERS] = [B, C, 4, 5, 6, 7, 8, 9];
 
 // A buffer of messages.
 const LONGEST: usize = 1024;
@@ -257,7 +260,7 @@ fn step_at(
 impl Play {
     pub fn new(alloc: Global) -> Result<Self, HostFault> {
         Ok(Play {
-            first: Host::new(alloc, A, &[B, C])?,
+            first: Host::new(alloc, A, &PEERS_OF_A)?,
             second: Host::new(alloc, B, &[A])?,
             dice: Dice::new(),
             digest: Digest::new(),
