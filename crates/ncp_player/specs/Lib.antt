@@ -1,0 +1,14 @@
+pub use Rattle.ncp_stream.specs.Pieces
+pub use Rattle.ncp_stream.specs.Memory
+pub use Rattle.ncp_files.specs.File
+pub use Rattle.ncp_files.specs.Results
+pub use Rattle.ncp_files.specs.Shown
+pub use Rattle.ncp_files.specs.Checked
+pub use Rattle.ncp_files.specs.Converted
+pub use Rattle.ncp_play.specs.Faults
+pub use Rattle.ncp_host_player.specs.Played
+pub use Rattle.ncp_world_player.specs.ManyRules
+pub use Rattle.ncp_world_player.specs.Players
+pub use Rattle.ncp_world_player.specs.Tales
+pub use Rattle.ncp_command_line.specs.CommandLine
+pub use Rattle.ncp_program.specs.Obeying
