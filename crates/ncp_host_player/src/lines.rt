@@ -3,7 +3,7 @@ ghost use Rattle.std.specs.Prelude.{◌≡◌, ℕ, List, ◌<◌, ◌||◌, Non
 ghost use Rattle.ncp_stream.specs.Streams.{Ahead};
 ghost use Rattle.ncp_page.specs.Windows.{effort};
 ghost use Rattle.ncp_play.specs.Faults.{is_read_failed, is_write_failed};
-ghost use Rattle.ncp_play.specs.Playing.{Tells, TellsAs};
+ghost use Rattle.ncp_play.specs.Playing.{Does, Tells, TellsAs};
 ghost use Rattle.ncp_play.specs.declared.heading.Heading.{Heading as Beginning};
 ghost use Rattle.ncp_host_player.specs.Doing.{NextDoes, LinesDo};
 
@@ -11,9 +11,9 @@ use crate::asking::{NextAsked, next_asked};
 use ncp_bits::BitStore;
 use ncp_page::Page;
 use ncp_play::{Heading, PlayFault, play_input};
-use ncp_reader::Lines;
+use ncp_reader::{Lines, let_out};
 use ncp_stream::{Sink, Source};
-use ncp_transcript::Alone;
+use ncp_transcript::{Alone, Input};
 use std::alloc::Global;
 
 /// How lines end that were all played.
@@ -23,6 +23,28 @@ pub(crate) enum LinesEnd {
     Over,
     /// The bytes behind the last line are a message file.
     FeedBehind,
+}
+
+// Plays an input. Where the next line has still to be read, all lines that were said are written.
+fn play_on<S: BitStore, W: Sink>(
+    alone: &mut Alone<S>,
+    input: &Input,
+    heading: &mut Heading,
+    lines: &Lines,
+    page: &mut Page,
+    sink: &mut W,
+) -> Result<(), PlayFault>
+    ensures events { Does input.now alone.old result alone.new }
+    ensures told { (was : List ℕ) (first : Beginning) → Tells was first alone.old.notes heading.old page.old (W.written sink.old) → TellsAs was first alone.new.notes result heading.new page.new (W.written sink.new) }
+    ensures mark { W.has_failed sink.new ≡ (W.has_failed sink.old || is_write_failed result) }
+{
+    match play_input(alone, input, heading, page, sink) {
+        Ok(()) => match let_out(lines, page, sink) {
+            Ok(()) => Ok(()),
+            Err(_) => Err(PlayFault::WriteFailed),
+        },
+        Err(fault) => Err(fault),
+    }
 }
 
 // Plays the next line. It answers how the lines end, where they do.
@@ -45,7 +67,7 @@ fn play_next<S: BitStore, R: Source, W: Sink>(
         NextAsked::Over => Ok(Some(LinesEnd::Over)),
         NextAsked::FeedBehind => Ok(Some(LinesEnd::FeedBehind)),
         NextAsked::Does { input, ended } => {
-            play_input(alone, &input, heading, page, sink)?;
+            play_on(alone, &input, heading, lines, page, sink)?;
             Ok(if ended { None } else { Some(LinesEnd::Over) })
         }
     }

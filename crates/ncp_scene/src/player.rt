@@ -10,7 +10,7 @@ ghost use Rattle.ncp_scene.specs.Playing.{Tells, TellsAs};
 ghost use Rattle.ncp_scene.specs.Players.{PlaysNext, PlaysLines, WritesAs, AnswersGood, PlaysBehind, PlaysScript};
 
 use crate::next_event::next_event;
-use crate::playing::play_event;
+use crate::playing::play_on;
 use crate::scene::Scene;
 use crate::teller::Teller;
 use ncp_page::Page;
@@ -46,11 +46,12 @@ fn play_next<C: Scene, T: Teller<C>, R: Source, W: Sink>(
     let Some((event, ended)) = next_event::<C, R>(alloc, first, lines, source)? else {
         return Ok(false);
     };
-    play_event::<C, T, W>(
+    play_on::<C, T, W>(
         first,
         &mut player.hosts,
         &event,
         &mut player.number,
+        lines,
         &mut player.page,
         sink,
     )?;

@@ -8,6 +8,7 @@ use crate::scene::Scene;
 use crate::teller::Teller;
 use ncp_page::Page;
 use ncp_play::PlayFault;
+use ncp_reader::{Lines, let_out};
 use ncp_stream::Sink;
 
 /// Does what an event says in a script of this first line, and says what is told of its note, which has
@@ -38,5 +39,28 @@ pub fn play_event<C: Scene, T: Teller<C>, W: Sink>(
             Ok(())
         }
         Err(_) => Err(PlayFault::WriteFailed),
+    }
+}
+
+/// Plays an event as [`play_event`] does. Where the next line has still to be read, all that is told is written.
+pub(crate) fn play_on<C: Scene, T: Teller<C>, W: Sink>(
+    first: &C::First,
+    hosts: &mut C::Hosts,
+    event: &C::Event,
+    number: &mut u32,
+    lines: &Lines,
+    page: &mut Page,
+    sink: &mut W,
+) -> Result<(), PlayFault>
+    ensures event { DoesEvent C.rules event.now hosts.old result hosts.new }
+    ensures told { (began : C.Hosts) (was : List ℕ) → Tells C.rules (T.tale first.now) began was hosts.old number.old page.old (W.written sink.old) → TellsAs C.rules (T.tale first.now) began was hosts.new result number.new page.new (W.written sink.new) }
+    ensures mark { W.has_failed sink.new ≡ (W.has_failed sink.old || is_write_failed result) }
+{
+    match play_event::<C, T, W>(first, hosts, event, number, page, sink) {
+        Ok(()) => match let_out(lines, page, sink) {
+            Ok(()) => Ok(()),
+            Err(_) => Err(PlayFault::WriteFailed),
+        },
+        Err(fault) => Err(fault),
     }
 }
