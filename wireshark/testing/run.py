@@ -297,9 +297,10 @@ def judge(data, lines):
         sent, got = sides.get("'H'", []), sides.get("'I'", [])
         if got != sent[: len(got)]:
             wrong.append(("beginning", stream, sent, got))
-    # As many texts are of a connection as were admitted, or a few more that came behind a `close` of the user.
+    # As many texts are of a connection as were admitted, or a few more: the wire does not tell that a text came behind a
+    # `close` or a `reset` of the user whose CLS or RST had not gone out.
     admitted = sum(" text admitted" in line for line in lines)
-    late = sum(" text late" in line for line in lines)
+    late = sum(" text late" in line or " text not-up" in line for line in lines)
     counted = sum(len(sides.get("'I'", [])) for sides in texts.values())
     if not admitted <= counted <= admitted + late:
         wrong.append(("admitted", admitted, late, counted))
