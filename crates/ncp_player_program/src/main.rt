@@ -2,6 +2,7 @@
 //! of two hosts as a message file, tells its lines, shows and counts the messages of the file, and turns it into version 1.
 //! Then it plays the script of one host that stands on standard input, and leaves with its status.
 #![tactic(auto)]
+
 ghost use Rattle.std.specs.Prelude.{◌≡◌, ℕ, List, Option, Some, false, IfOk};
 ghost use Rattle.ncp_player.specs.Shown.{Shown};
 ghost use Rattle.ncp_player.specs.Checked.{Checked};
@@ -9,8 +10,8 @@ ghost use Rattle.ncp_player.specs.Checked.{Checked};
 use anyhow::Result;
 use ncp_bits::PackedStore;
 use ncp_player::{
-    FileFault, FromRead, MemorySink, MemorySource, Order, PlayFault, ToWrite, check, convert, order,
-    play_host, play_world, record_world, show, status,
+    FileFault, FromRead, MemorySink, MemorySource, Order, PlayFault, ToWrite, check, convert,
+    order, play_host, play_world, record_world, show, status,
 };
 use std::alloc::AllocError;
 use std::process::ExitCode;
