@@ -3,10 +3,10 @@
 -- with the field of `Headline` that says it behind each phrase:
 --
 -- If the subnet delivers each message whole and once and answers RFNM, or delivers nothing and answers Incomplete
--- Transmission (delivers), then over every list of calls, deliveries, losses, answers and orders between links, what a
--- receiver got on a live connection is a beginning of what was given, each byte once (takes_go_on), never beyond its
--- allocation (within_allowance); each command acts once, in order (in_order, each_command_read); and no peer's bits make a host fault
--- (the contract of `Host::receive`).
+-- Transmission or Destination Dead (delivers), then over every list of calls, deliveries, losses, answers and orders
+-- between links, what a receiver got on a live connection is a beginning of what was given, each byte once
+-- (takes_go_on), never beyond its allocation (within_allowance); each command acts once, in order (in_order,
+-- each_command_read); and no peer's bits make a host fault (the contract of `Host::receive`).
 --
 -- And the subnet takes what goes out (taken_by_subnet), and neither host complains of the other (no_complaint).
 use Rattle.std.specs.Prelude.{◌≡◌, ◌≤◌, ℕ, ◌+◌, ◌==◌, Bool, true, false, ◌&&◌, if◌then◌else◌, List, [], ◌∷◌, ◌++◌, length}
