@@ -27,33 +27,45 @@ const HEARD_ONE: Want<'static> = Want::In(Received::Control(1));
 
 const HEARD_TWO: Want<'static> = Want::In(Received::Control(2));
 
-/// A new host with one peer goes through the first steps and then the others, over one store. Whether a step was
+/// A new host with this peer goes through the first steps and then the others, over one store. Whether a step was
 /// refused memory.
 fn goes_over<S: BitStore>(
     rt: &impl Abort,
     alloc: Global,
+    peer: u8,
     first: &[Step<'_>],
     steps: &[Step<'_>],
 ) -> Result<bool, HostFault> {
-    let mut host = Tried::<S>::new(alloc, ME, PEER)?;
+    let mut host = Tried::<S>::new(alloc, ME, peer)?;
     host.goes(rt, alloc, first);
     host.goes(rt, alloc, steps);
     Ok(host.was_refused())
 }
 
 /// So does one over each store.
+fn goes_with(
+    rt: &(impl Abort + Print),
+    alloc: Global,
+    peer: u8,
+    first: &[Step<'_>],
+    steps: &[Step<'_>],
+) -> Result<(), Fail> {
+    let plain = goes_over::<PlainStore>(rt, alloc, peer, first, steps)?;
+    let packed = goes_over::<PackedStore>(rt, alloc, peer, first, steps)?;
+    if plain || packed {
+        println!(rt; "refused: nothing happened but that a call's refusal is noted")?;
+    }
+    Ok(())
+}
+
+/// So does a host with the peer of the examples.
 fn goes_on(
     rt: &(impl Abort + Print),
     alloc: Global,
     first: &[Step<'_>],
     steps: &[Step<'_>],
 ) -> Result<(), Fail> {
-    let plain = goes_over::<PlainStore>(rt, alloc, first, steps)?;
-    let packed = goes_over::<PackedStore>(rt, alloc, first, steps)?;
-    if plain || packed {
-        println!(rt; "refused: nothing happened but that a call's refusal is noted")?;
-    }
-    Ok(())
+    goes_with(rt, alloc, PEER, first, steps)
 }
 
 const NO_STEPS: &[Step<'static>] = &[];
@@ -194,4 +206,24 @@ fn what_is_read_is_noted(rt: HostRuntime) -> Result<(), Fail> {
         (Act::Ignored, Want::Ignored(IGNORED)),
     ];
     goes_on(&rt, rt.alloc(), OPENS, STEPS)
+}
+
+// Errors of the peer of the greatest number.
+#[test]
+fn errors_of_peer_255_are_noted(rt: HostRuntime) -> Result<(), Fail> {
+    const STEPS: &[Step<'static>] = &[
+        (Act::Reset, Want::Done),
+        (
+            Act::Comes(&[0, 255, 0, 0, 0, 8, 0, 2, 0, 12, 13]),
+            HEARD_TWO,
+        ),
+        (
+            Act::Comes(&[
+                0, 255, 0, 0, 0, 8, 0, 12, 0, 11, 1, 14, 0, 0, 0, 0, 0, 0, 0, 0, 0,
+            ]),
+            HEARD_ONE,
+        ),
+        (Act::Errors, Want::Errors(1)),
+    ];
+    goes_with(&rt, rt.alloc(), 255, NO_STEPS, STEPS)
 }

@@ -2,11 +2,13 @@
 //! examples mean. An example is a list of steps, and runs over both stores.
 mod arrivals;
 mod calls;
+mod clearings;
 mod endings;
 mod faults;
 mod peers;
 mod queue;
 mod refusals;
+mod rooms;
 mod steps;
 mod tried;
 

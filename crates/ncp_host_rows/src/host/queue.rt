@@ -101,6 +101,18 @@ fn the_last_16_errors_are_kept(rt: HostRuntime) -> Result<(), Fail> {
     goes_up(&rt, rt.alloc(), STEPS)
 }
 
+// So are those of the peer of the greatest number.
+#[test]
+fn the_last_16_errors_of_peer_255_are_kept(rt: HostRuntime) -> Result<(), Fail> {
+    const STEPS: &[Step<'static>] = &[
+        Step::Of(255),
+        Step::ComesUp,
+        Step::HearsErrors(17),
+        Step::HasErrors(1, 16),
+    ];
+    goes(&rt, rt.alloc(), &[PEER, 255], STEPS)
+}
+
 // NOP, ECO 41 and a bad opcode: ERP 41 and then ERR 1, in the order in which they were made. A command
 // that ends early: ERR 2. An RFNM that answers nothing is counted, and nothing else changes.
 #[test]

@@ -142,7 +142,7 @@ fn requests_are_refused_where_no_entry_is_left(rt: HostRuntime) -> Result<(), Fa
     };
     const STEPS: &[Step<'static>] = &[
         Step::OpensReceiver,
-        Step::AsksOften(63),
+        Step::AsksToSend(63, 1),
         Step::Refuses(Call::AskSend(NEW_SENDER, 8, 1), FULL),
         Step::Repeats(Call::Interrupt(INWARD), MAX_CALLED - 63),
         Step::Refuses(Call::Interrupt(INWARD), CallFault::QueueFull),

@@ -45,8 +45,12 @@ pub(super) enum Step<'a> {
     Does(Call<'a>),
     /// A call is accepted so many times.
     Repeats(Call<'a>, usize),
-    /// Requests to send from the sockets 5, 7 and so on to socket 2: so many are accepted.
-    AsksOften(u8),
+    /// Requests to send from the sockets 5, 7 and so on to socket 2: so many are accepted, each with this
+    /// room.
+    AsksToSend(u8, u32),
+    /// Requests to receive at the sockets 4, 6 and so on from socket 3: so many are accepted, each with
+    /// this room.
+    AsksToReceive(u8, u32),
     /// A call is refused.
     Refuses(Call<'a>, CallFault),
     /// Each of these calls is refused.

@@ -90,7 +90,8 @@ impl<S: BitStore> Tried<S> {
             Step::OpensSender => self.opens_sender(rt),
             Step::Does(call) => self.call(rt, call).is_ok(),
             Step::Repeats(call, times) => self.repeats(rt, call, *times),
-            Step::AsksOften(times) => self.asks_often(*times),
+            Step::AsksToSend(times, room) => self.asks_to_send(*times, *room),
+            Step::AsksToReceive(times, room) => self.asks_to_receive(*times, *room),
             Step::Refuses(call, fault) => self.refuses(rt, call, *fault),
             Step::RefusesEach(calls, fault) => self.refuses_each(rt, calls, *fault),
             Step::Takes(pair, bytes, want) => self.takes(rt, *pair, *bytes, want),
@@ -215,13 +216,26 @@ impl<S: BitStore> Tried<S> {
         true
     }
 
-    fn asks_often(&mut self, times: u8) -> bool {
+    fn asks_to_send(&mut self, times: u8, room: u32) -> bool {
         for place in 0..times {
             let pair = Pair {
                 local: 5 + 2 * u32::from(place),
                 remote: 2,
             };
-            if self.host.ask_send(self.peer, pair, 8, 1).is_err() {
+            if self.host.ask_send(self.peer, pair, 8, room).is_err() {
+                return false;
+            }
+        }
+        true
+    }
+
+    fn asks_to_receive(&mut self, times: u8, room: u32) -> bool {
+        for place in 0..times {
+            let pair = Pair {
+                local: 4 + 2 * u32::from(place),
+                remote: 3,
+            };
+            if self.host.ask_receive(self.peer, pair, room).is_err() {
                 return false;
             }
         }
