@@ -1,4 +1,4 @@
-//! The program `ncp`: message files and scripts of an ARPANET host, read from standard input.
+//! The program `ncp`: message files and scripts of an ARPANET host, read from the file that is named, or from standard input.
 #![tactic(auto)]
 
 use ncp_program::run;

@@ -11,7 +11,7 @@ pub const NAMES: &[Meaning] = &[
     ),
     (
         "Truncated",
-        "The message file ends inside a record: the length of the record says more bytes than there are.",
+        "The message file ends inside a record.",
     ),
     (
         "TooLong",
@@ -56,7 +56,7 @@ pub const NAMES: &[Meaning] = &[
     ("UnknownPeer", "The host has no such peer."),
     (
         "NotUp",
-        "The host is not up with the peer: a reset has to go out and to be answered first. 'phase' says how far it is.",
+        "The host is not up with the peer: a reset of either has to be answered first. 'phase' says how far it is.",
     ),
     (
         "BadSex",

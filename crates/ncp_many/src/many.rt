@@ -106,7 +106,7 @@ impl<S: BitStore> Many<S> {
     /// Behind `step` and `err`, which say what happens, stands the headline of each two of the hosts, by the
     /// notes that name both alone (`headline`). And the subnet took each message that went out (`taken`); what moves
     /// between each two, and what they can still bring about, is paid for by their own users, by losses and by deaths
-    /// between them (`paid`); where nothing can happen between them any more but a call they are finished
+    /// between them (`paid`); where no message between them is ready, in transit or held they are finished
     /// (`finished`); and the notes are a transcript of the hosts (`run`), of which all that is proved of transcripts of many holds: those
     /// that name two are a transcript of two, the phrases of the headline hold of the two as they are among all
     /// (`each_pair` of `ncp_pairs`), and each host is by itself (`transcripts` there).

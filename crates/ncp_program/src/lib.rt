@@ -1,5 +1,5 @@
 //! The program `ncp`: what it does with the words of its command line, and with message files and scripts of ARPANET
-//! hosts, read from standard input. It stands in a library so that more than one run of the program can be stored:
+//! hosts, read from the file that is named, or from standard input. It stands in a library so that more than one run of the program can be stored:
 //! each is a crate with a thin `main`.
 #![tactic(auto)]
 

@@ -68,8 +68,8 @@ pub(crate) fn carry_out<S: Source, W: Sink>(
     }
 }
 
-/// The program's exit status: 0 where all is good, 1 where a check or a player answered false, 2
-/// where a fault was answered.
+/// The program's exit status: 0 where all is good, 1 where a check or a player answered false, or a name that is to be
+/// explained is none, 2 where a fault was answered.
 pub fn status(outcome: Result<bool, ()>) -> u8
     ensures { result ≡ status_of outcome }
 {
@@ -106,8 +106,8 @@ pub(crate) fn conclude<E: Sink>(answer: Result<bool, PlayFault>, errors: &mut E)
 }
 
 /// Does what the words of a command line say, the program's name first, and answers the status with which
-/// the program ends: 0 where all is good, 1 where a check or a player answered that it is not, 2 after a
-/// fault, which is told on `errors`.
+/// the program ends: 0 where all is good, 1 where a check or a player answered that it is not, or a name that is to be
+/// explained is none, 2 after a fault, which is told on `errors`. It opens no file: what is read is `source`.
 ///
 /// What `clap` says of the words goes where the runtime prints; after help the status is 0.
 pub fn obey<R, T, S, W, E>(rt: &R, words: &[T], source: &mut S, sink: &mut W, errors: &mut E) -> u8

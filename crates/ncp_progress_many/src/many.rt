@@ -14,7 +14,7 @@ use ncp_progress_settled::settled::where_nothing_can_happen_two_are_finished;
 /// In every transcript of two to eight hosts, what moves between each two is paid for by the calls of their users
 /// for each other, and by the losses and deaths between them; and so is what the two can still bring about. So no
 /// other host can make the two go on, or pay for them. What is left at either for the other waits for something
-/// (`waits`); and where nothing can happen between the two but a call, they are finished, whatever happens at and
+/// (`waits`); and where no message between the two is ready, in transit or held, they are finished, whatever happens at and
 /// between the others (`finished`).
 pub fn what_moves_between_two_of_many_is_paid_for()
     ensures work { (notes : List Noted) (m : Crowd) → IsManyTranscript notes m → ForEachTwo MovesArePaidFor notes m }

@@ -8,8 +8,8 @@ ghost use Rattle.ncp_progress_notes.specs.NotesWork.{notes_move, notes_allow, Mo
 
 /// In every transcript of two hosts, what moves is paid for. Each message that goes out, comes, is lost, finds
 /// its destination dead, or is answered counts one. A call that was done allows three for each message of its
-/// credit, a loss three, and a death four; a call that was refused and a wake allow none. So between calls
-/// nothing goes on for ever, in whatever order it happens.
+/// credit, a loss three, and a death four; a call that was refused and a wake allow none. So between calls,
+/// losses and deaths nothing goes on for ever, in whatever order it happens.
 pub fn moves_are_paid_for()
     ensures within { (notes : List Note) (w : Hosts) → IsTranscript notes w → notes_move notes ≤ notes_allow notes (began w) }
     ensures work { (notes : List Note) (w : Hosts) → IsTranscript notes w → MovesArePaidFor notes w }

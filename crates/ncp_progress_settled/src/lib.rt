@@ -1,4 +1,4 @@
-//! Progress in transcripts of two hosts: where nothing can happen but a call, all is finished.
+//! Progress in transcripts of two hosts: where no message is ready, in transit or held, all is finished.
 #![tactic(auto)]
 
 pub mod settled;

@@ -1,4 +1,4 @@
-//! Where nothing can happen but a call, all is finished.
+//! Where no message is ready, in transit or held, all is finished.
 ghost use Rattle.std.specs.Prelude.{◌≡◌, ◌≢◌, ◌<◌, ◌^◌, ℕ, false, List, Ok};
 ghost use Rattle.ncp_model.specs.Phase.{reset_answer};
 ghost use Rattle.ncp_model.specs.Sending.{is_full};
@@ -8,8 +8,8 @@ ghost use Rattle.ncp_two.specs.Transcript.{IsTranscript};
 ghost use Rattle.ncp_two.specs.Seen.{seen};
 ghost use Rattle.ncp_progress_settled.specs.Settled.{IsSettled, EndsFinished};
 
-/// After every transcript of two hosts after which nothing can happen but a call, since no message is ready to go out,
-/// none is in transit and none is held, they are finished. No command waits, nothing is owed or awaited, no text is
+/// After every transcript of two hosts after which nothing can happen but a call that asks for something, since no message
+/// is ready to go out, none is in transit and none is held, they are finished. No command waits, nothing is owed or awaited, no text is
 /// out, no sender is on its way out, and a receiver is only where it holds text whose sender has closed. Where both are
 /// up, each pair of ends is in one of five states, each of which waits for a user: so what may go has come, a close
 /// has closed, two requests have opened, and all that was given was got, but for what waits for allocation.

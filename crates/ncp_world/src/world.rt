@@ -96,7 +96,7 @@ impl<S: BitStore> World<S> {
     /// Behind `step` and `err`, which say what happens, stands the headline, of the notes alone, at either
     /// host, for each pair (`headline`); that the subnet took each message that went out (`taken`); that the moves
     /// so far, and what the hosts can still bring about, are paid for by what the users asked, by losses and by
-    /// deaths (`paid`); that where nothing can happen any more but a call all is finished (`finished`); and that
+    /// deaths (`paid`); that where no message is ready, in transit or held all is finished (`finished`); and that
     /// the notes are a transcript of the hosts (`run`), of which all that is proved of transcripts holds: each
     /// phrase of the headline by the hosts too (`the_headline` of `ncp_promises`), and its parts (`promises` there).
     pub fn step(&mut self, event: &Event) -> Result<(), AllocError>
@@ -142,7 +142,7 @@ impl<S: BitStore> World<S> {
 
 /// A new world of two hosts of these numbers, which differ, after these events; and the headline, of its notes
 /// alone, at either host, for each pair (`headline`); that the subnet took each message that went out (`taken`);
-/// that the moves are paid for (`paid`), and that where nothing can happen any more all is finished (`finished`);
+/// that the moves are paid for (`paid`), and that where no message is ready, in transit or held all is finished (`finished`);
 /// and that its notes are a transcript of its hosts (`run`), of which all that is proved of transcripts holds.
 pub fn run<S: BitStore>(
     alloc: Global,
