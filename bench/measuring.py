@@ -15,7 +15,7 @@ sys.path.insert(0, os.path.join(TOP, "tools"))
 from build import below, uses_of_crates  # noqa: E402
 
 DATA = os.path.join(HERE, "data")
-LAUNCHER = os.path.join(TOP, "ncp")
+PROVE = os.path.join(TOP, "tools", "prove")
 NCP = os.path.join(TOP, "crates", "ncp", "out", "ncp")
 RUNS = 5
 
@@ -26,7 +26,7 @@ Row = namedtuple("Row", "what of amount unit seconds peak")
 @functools.cache
 def build_ncp():
     """Builds the program where it is not built. It is measured without its launcher."""
-    if subprocess.run([LAUNCHER, "--help"], stdout=subprocess.DEVNULL).returncode:
+    if subprocess.run([PROVE, "--unless-built", "ncp"]).returncode:
         sys.exit("the program was not built")
 
 

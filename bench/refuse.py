@@ -45,11 +45,11 @@ CALLS = [
 TOLD = "refused: "  # in front of what a test prints
 PASSED = "test result: ok"
 
-NO_MEMORY = b"ncp: OutOfMemory\n"
+NO_MEMORY = b"ncp: OutOfMemory"
 REFUSED = b"refused OutOfMemory\n"
 HEADER = b"NCPJ"  # of a file that `record` writes
 # Which of the program's streams is no use to it, how the shell makes it so, and what the program then tells.
-SHUT = [("output closed", 'exec "$0" "$@" >&-', b"ncp: WriteFailed\n"), ("output full", 'exec "$0" "$@" >/dev/full', b"ncp: WriteFailed\n"), ("input closed", 'exec "$0" "$@" <&-', b"ncp: ReadFailed\n")]
+SHUT = [("output closed", 'exec "$0" "$@" >&-', b"ncp: WriteFailed"), ("output full", 'exec "$0" "$@" >/dev/full', b"ncp: WriteFailed"), ("input closed", 'exec "$0" "$@" <&-', b"ncp: ReadFailed")]
 
 
 class Refuser:
@@ -143,12 +143,20 @@ def is_noted(word, told, lines):
     return same >= len(HEADER) if word == "record" else told[same:].startswith(REFUSED) and lines[same:].startswith(b"ok\n")
 
 
+def is_named(error, name):
+    """Whether what was told begins with the line of a fault; what explains it is indented."""
+    line, *more = error.splitlines() or [b""]
+    return line == name and all(it.startswith(b"  ") for it in more)
+
+
 def stands(word, wanted, got):
     """What a refused request did, if it did what it may."""
     status, told, error = got
     if got == wanted:
         return "nothing"
-    if status == 2 and error == NO_MEMORY and is_front(word, told, wanted[1]):
+    if got[:2] == wanted[:2] and error.splitlines()[:1] == wanted[2].splitlines()[:1]:
+        return "less explained"
+    if status == 2 and is_named(error, NO_MEMORY) and is_front(word, told, wanted[1]):
         return "fault"
     if status == 1 and error == b"" and is_noted(word, told, wanted[1]):
         return "noted"
@@ -174,7 +182,7 @@ def is_told(words, example):
     for name, command, error in SHUT:
         with open(example, "rb") as file:
             ran = subprocess.run(["sh", "-c", command, *words], stdin=file, capture_output=True)
-        if (ran.returncode, ran.stdout, ran.stderr) != (2, b"", error):
+        if (ran.returncode, ran.stdout) != (2, b"") or not is_named(ran.stderr, error):
             sys.exit(f"{words[1:]} {example}, {name}: {ran}")
     return len(SHUT)
 
@@ -190,7 +198,7 @@ def works():
 
 
 def program(refuser):
-    if subprocess.run([os.path.join(TOP, "ncp"), "--help"], stdout=subprocess.DEVNULL).returncode:
+    if subprocess.run([os.path.join(TOP, "tools", "prove"), "--unless-built", "ncp"]).returncode:
         sys.exit("the program was not built")
     file = os.path.join(TOP, "crates", "ncp", "out", "ncp")
     all_found = {}
@@ -200,8 +208,8 @@ def program(refuser):
         for what, count in run_refused(refuser, [file, *words], example).items():
             found[what] = found.get(what, 0) + count
         found["streams"] += is_told([file, *words], example)
-    kinds = ["command line not read", "fault", "noted", "nothing"]
-    print(f"\n| subcommand | runs | requests refused | {' | '.join(kinds)} | streams of no use told |\n|{'---|' * 8}")
+    kinds = ["command line not read", "fault", "noted", "less explained", "nothing"]
+    print(f"\n| subcommand | runs | requests refused | {' | '.join(kinds)} | streams of no use told |\n|{'---|' * 9}")
     for word, found in all_found.items():
         counts = [found.get(kind, 0) for kind in kinds]
         row = [found["runs"], sum(counts), *counts, found["streams"]]
