@@ -1,4 +1,5 @@
 use Rattle.std.proofs.Common.{◌++◌, ◌∙◌, Bool, not, ap}
+use Rattle.std.proofs.Math.Bool.{or-false}
 use Rattle.std.proofs.lemmas.Result.{err_from_is_err_and}
 use Rattle.ncp_stream.specs.Streams.{Ahead}
 use Rattle.ncp_transcript.specs.Alone.{Alone}
@@ -28,6 +29,11 @@ returns-in_err-played-clause-told g c = λ bytes was e said.
       rw (p.1, p.2) (behind_does bytes c.in_ok-alone.alone c.in_ok-alone.ended c.begin.new.lines (g.R.Source.left c.begin.new.source) begun c.in_err-played.field-0.0 now left c.in_err-played.ensures.whole c.transcript.ensures.run does),
       tells_end (Unit {0}) Bool was first_heading now.notes result p.0 tells.0 c.play_behind-played.new.page (g.W.Sink.written c.play_behind-played.new.sink) p.1 (rw p.2 tells.1),
     )
+
+pub returns-in_err-played-clause-source_mark : goal.returns-in_err-played-clause-source_mark
+returns-in_err-played-clause-source_mark g c =
+    let p = err_from_is_err_and c.from_residual-in_err-played.result c.from_residual-in_err-played.ensures.1 in
+    rw (p.1, p.2) (rw (c.in_ok-alone.ensures.mark ∙ or-false _) at c.in_err-played.ensures.source_mark)
 
 pub returns-clause-told : goal.returns-clause-told
 returns-clause-told g c = λ bytes was e said.
