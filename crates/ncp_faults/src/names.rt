@@ -9,10 +9,7 @@ pub const NAMES: &[Meaning] = &[
         "BadHeader",
         "The bytes are no message file: such a file begins with the four letters NCPH, NCPI or NCPJ. Behind 'feed' it has to be NCPI.",
     ),
-    (
-        "Truncated",
-        "The message file ends inside a record.",
-    ),
+    ("Truncated", "The message file ends inside a record."),
     (
         "TooLong",
         "The length of a record is over 8,192 bits, and no message has more.",
