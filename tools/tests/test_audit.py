@@ -63,7 +63,8 @@ class TestAudit(unittest.TestCase):
         self.assertFalse(os.path.getsize(f"{self.top}/audit/PASSED"))
 
         os.remove(f"{self.top}/audit/sample/quarters.edit")
-        self.assertEqual(self.audit("--changed")[1][-1], "1 refused, 0 proved")
+        self.assertEqual(self.audit("--changed")[1][0], "audit: never passed: sample: run `tools/audit` for these, and commit audit/PASSED")
+        self.assertEqual(self.audit("sample")[1][-1], "1 refused, 0 proved")
         self.assertEqual(self.audit("--changed"), (0, ["audit: nothing that the audits of audit/PASSED rest on has changed"]))
 
         self.write("crates/sample/src/lib.rt", SOURCE.replace("result ≡ x", "result ≡ result"))
@@ -84,6 +85,7 @@ class TestAudit(unittest.TestCase):
         for name in names:
             self.write(f"crates/{name}/src/lib.rt", SOURCE)
             self.write(f"audit/{name}/halves.edit", REFUSED)
+        self.write("audit/PASSED", "".join(f"{name} 0 1\n" for name in names))
 
         status, lines = self.audit("--changed")
 
