@@ -53,8 +53,8 @@ fn check_bytes(file: &[u8], line: &mut MemorySink) -> Result<bool, FileFault>
 }
 
 // The name of a fault, or of none.
-fn name_of<T>(result: &Result<T, FileFault>) -> &'static str {
-    match result {
+fn name_of<T>(answer: &Result<T, FileFault>) -> &'static str {
+    match answer {
         Ok(_) => "none",
         Err(fault) => fault.name(),
     }
