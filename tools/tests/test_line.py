@@ -107,7 +107,7 @@ class Line(unittest.TestCase):
         os.write(ours, b"a reset\n")
         self.assertEqual(comes(run.stdout.fileno()), b"1 a reset ok\n")
         os.write(ours, b"a phase\n")
-        self.assertEqual(comes(run.stdout.fileno()), b"2 a phase ok want\n")
+        self.assertEqual(comes(run.stdout.fileno()), b"2 a phase ok wait\n")
         os.write(ours, b"\x04")
         self.assertEqual(run.wait(timeout=60), 0)
         run.stdout.close()

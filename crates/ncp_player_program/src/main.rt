@@ -106,7 +106,7 @@ fn tell(rt: &HostRuntime, file: &[u8]) -> Result<()> {
 // Turns a file into version 1, as far as it goes: that version has messages at one interface, one way.
 fn turn(rt: &HostRuntime, file: &[u8]) -> Result<()> {
     let mut turned = sink(rt)?;
-    let ended = convert(&mut MemorySource::new(file, None), &mut turned, 0);
+    let ended = convert(&mut MemorySource::new(file, None), &mut turned, 1);
     println!(rt; "turned, and the fault is {}", name_of(&ended))?;
     tell(rt, turned.bytes())
 }

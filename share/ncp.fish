@@ -1,0 +1,12 @@
+# Completions of ncp for fish.
+complete -c ncp -n __fish_use_subcommand -f -a show -d 'Shows each message of a message file'
+complete -c ncp -n __fish_use_subcommand -f -a check -d 'Counts the messages of a message file, and says whether all are well formed'
+complete -c ncp -n __fish_use_subcommand -f -a convert -d 'Turns a message file of one version into the other'
+complete -c ncp -n __fish_use_subcommand -f -a host -d 'Plays a script of one host'
+complete -c ncp -n __fish_use_subcommand -f -a world -d 'Plays a script of two to eight hosts and the subnet between them'
+complete -c ncp -n __fish_use_subcommand -f -a record -d 'Plays a script of two to eight hosts, and writes its messages as a message file'
+complete -c ncp -n __fish_use_subcommand -f -a explain -d 'Says what the name of a fault or of a refusal means'
+complete -c ncp -n __fish_use_subcommand -f -a help -d 'Says more of a command'
+complete -c ncp -n '__fish_seen_subcommand_from convert' -l at -x -d 'The number of a host'
+complete -c ncp -n '__fish_seen_subcommand_from explain' -f -a 'BadHeader Truncated TooLong SpareNotZero ReadFailed WriteFailed BadDirection Mixed BadLine LineTooLong BadHosts OutOfMemory UnknownPeer NotUp BadSex BadSize BadRoom NoEntry AlreadyAsked Closing NotOpen WrongEnd NotWhole Busy NoRoom TooMuch TableFull QueueFull ShortPrefix M1NotZero SizeZero M2NotZero TextMissing'
+complete -c ncp -n '__fish_seen_subcommand_from help' -f -a 'show check convert host world record explain'
