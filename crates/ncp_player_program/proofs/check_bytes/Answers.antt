@@ -1,6 +1,0 @@
-use Rattle.std.proofs.Common.{Some, refl, ap}
-use Rattle.ncp_player.specs.Memory.{Reading}
-use Rattle.ncp_player_program.proofs.check_bytes.Goals as goal
-
-pub returns-clause-checked : goal.returns-clause-checked
-returns-clause-checked c = (Some c.check.new.source.left, c.check.ensures.told c.args.file.now c.args.line.now.written (ap (λ (s : Reading). Some s.left) c.new.ensures) refl)

@@ -1,6 +1,0 @@
-use Rattle.std.proofs.Common.{Some, refl, ap}
-use Rattle.ncp_player.specs.Memory.{Reading}
-use Rattle.ncp_player_program.proofs.show_bytes.Goals as goal
-
-pub returns-clause-shown : goal.returns-clause-shown
-returns-clause-shown c = (Some c.show.new.source.left, c.show.ensures.told c.args.file.now c.args.lines.now.written (ap (λ (s : Reading). Some s.left) c.new.ensures) refl)
