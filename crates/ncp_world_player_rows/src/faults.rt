@@ -100,7 +100,8 @@ fn a_long_line(rt: HostRuntime) -> Result<(), Fail> {
 /// A script with a line that an LF ends and one that none does.
 const SHORT: &[u8] = b"hosts 1 2\na out\nb out";
 
-// What is answered and written where a read and a write fail, each by its number, with so much room.
+// What is answered and written where a read and a write fail, each by its number, with so much room. The first line is
+// written before the rest of the second is waited for.
 fn expect_broken(
     rt: &impl Abort,
     alloc: Global,
@@ -129,7 +130,8 @@ fn reads_and_writes_that_fail(rt: HostRuntime) -> Result<(), Fail> {
     expect_broken(&rt, alloc, Some(2), None, 100, read, one)?;
     expect_broken(&rt, alloc, Some(3), None, 100, Ok(true), both)?;
     expect_broken(&rt, alloc, None, Some(1), 100, write, b"")?;
-    expect_broken(&rt, alloc, None, Some(2), 100, Ok(true), both)?;
+    expect_broken(&rt, alloc, None, Some(2), 100, write, one)?;
+    expect_broken(&rt, alloc, None, Some(3), 100, Ok(true), both)?;
     expect_broken(&rt, alloc, None, None, 20, write, &both[..20])?;
     expect_broken(&rt, alloc, Some(2), Some(1), 100, write, b"")
 }
