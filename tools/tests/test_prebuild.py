@@ -87,6 +87,15 @@ class Prebuilding(unittest.TestCase):
         self.assertEqual(status, 1)
         self.assertIn("is other bytes than", said)
 
+    def test_a_comparison_builds_nothing(self):
+        self.prebuild()
+        os.remove(f"{self.top}/crates/ncp/out/ncp")
+        write(f"{self.top}/tools/prove", "#!/bin/sh\ntouch built\n", 0o755)
+        status, said = self.prebuild("--compare")
+        self.assertEqual(status, 1)
+        self.assertIn("run tools/prove ncp", said)
+        self.assertFalse(os.path.exists("built") or os.path.exists(f"{self.top}/built"))
+
     def test_a_file_that_sums_do_not_know(self):
         self.prebuild()
         write(f"{self.top}/prebuilt/ncp", "something else", 0o755)

@@ -54,7 +54,7 @@ text_fine pair head n bits (Some e) = λ v. grind arith
 
 module _ (pair : Pair) (sd : sends pair ≡ true) (n : ℕ) (few : nat_lt n MAX_BY_PEER ≡ true) where
   pub sender_in_order : (c : Command) (rest : List Command) (w : Connection) → Inv pair (record w { to_sender = c ∷ rest }) → ComesInOrder pair (command_comes n c) w.sender.end
-  sender_in_order c rest w k = go c k (comes_to_sender_keeps pair sd n (c ∷ rest) w few k.local k.core)
+  sender_in_order c rest w k = go c k (comes_to_sender_keeps pair sd n (c ∷ rest) w few k.local k.moment k.core)
     where
       go : (c : Command) → Inv pair (record w { to_sender = c ∷ rest }) → Inv pair (comes_to_sender pair n (c ∷ rest) (record w { to_sender = c ∷ rest })) → ComesInOrder pair (command_comes n c) w.sender.end
       go (Rts i j on) k m = rts_fine pair on n w.sender.end few (or_parts w.violated _ m.local.safe).1
@@ -73,7 +73,7 @@ module _ (pair : Pair) (sd : sends pair ≡ true) (n : ℕ) (few : nat_lt n MAX_
       go Command.Rrp k m = absurd (alien_to_sender pair sd Command.Rrp rest w refl k.core)
 
   pub receiver_in_order : (c : Command) (rest : List Command) (w : Connection) → Inv pair (record w { to_receiver = c ∷ rest }) → ComesInOrder (turned pair) (command_comes n c) w.receiver.end
-  receiver_in_order c rest w k = go c k (comes_to_receiver_keeps pair sd n (c ∷ rest) w few k.local k.core)
+  receiver_in_order c rest w k = go c k (comes_to_receiver_keeps pair sd n (c ∷ rest) w few k.local k.moment k.core)
     where
       go : (c : Command) → Inv pair (record w { to_receiver = c ∷ rest }) → Inv pair (comes_to_receiver pair n (c ∷ rest) (record w { to_receiver = c ∷ rest })) → ComesInOrder (turned pair) (command_comes n c) w.receiver.end
       go (Str i j z) k m = str_fine (turned pair) z n w.receiver.end few (or_parts w.violated _ m.local.safe).1
@@ -92,4 +92,4 @@ module _ (pair : Pair) (sd : sends pair ≡ true) (n : ℕ) (few : nat_lt n MAX_
       go Command.Rrp k m = absurd (alien_to_receiver pair sd Command.Rrp rest w refl k.core)
 
 pub text_in_order : (pair : Pair) (sd : sends pair ≡ true) (head : List Bool) (li n : ℕ) (bits : List Bool) (w : Connection) → Inv pair (record w { text = Away li n bits }) → is_in_order (happens (turned pair) (all.Text_comes head n bits) w.receiver.end).outcome ≡ true
-text_in_order pair sd head li n bits w k = text_fine (turned pair) head n bits w.receiver.end (or_parts w.violated _ (text_comes_keeps pair sd head (Away li n bits) w k.local k.core).local.safe).1
+text_in_order pair sd head li n bits w k = text_fine (turned pair) head n bits w.receiver.end (or_parts w.violated _ (text_comes_keeps pair sd head (Away li n bits) w k.local k.moment k.core).local.safe).1

@@ -6,6 +6,7 @@ pub mod Receivers
 mod Standing
 mod SenderActs
 mod ReceiverActs
+pub mod Moments
 pub mod Whole
 pub mod Outliving
 pub mod Calm

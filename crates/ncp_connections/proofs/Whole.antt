@@ -27,7 +27,8 @@ use Rattle.ncp_connections.proofs.Standing.{stands, stands-after, firm_of}
 use Rattle.ncp_connections.proofs.SenderActs.{sk-ask_send, sk-ask_receive, sk-close, sk-give, sk-take, sk-allocate, sk-call_back, sk-interrupt, sk-rts, sk-cls, sk-all, sk-gvb, sk-inr, sk-cut, sk-taken, sk-not_delivered}
 use Rattle.ncp_connections.proofs.ReceiverActs.{rk-ask_send, rk-ask_receive, rk-close, rk-give, rk-take, rk-allocate, rk-call_back, rk-interrupt, rk-str, rk-cls, rk-ret, rk-ins, rk-text}
 use Rattle.ncp_connections.proofs.ReceiverActs as R
-use Rattle.ncp_watch.specs.Histories.{IsBeginning}
+use Rattle.ncp_connections.proofs.Moments.{NoneYet, Front, none-kept, front-kept, receiver-begins, sender-begins, opens-by-request, none-where-heard, none-where-requested, ask-opens, request-opens}
+use Rattle.ncp_watch.specs.Histories.{Past, opens, IsBeginning}
 
 -- each end by itself
 abbrev pub Local : Pair → Connection → Type 0
@@ -44,9 +45,22 @@ Local pair w = record {
 abbrev pub Whole : Connection → Type 0
 Whole w = Core (or_new w.sender.end) w.sender.past.given (or_new w.receiver.end) (live_got w.receiver.end w.receiver.past) w.to_receiver w.to_sender w.text
 
+-- and what was taken since the ask
+abbrev pub Moment : Connection → Type 0
+Moment w = record {
+  none : NoneYet w.receiver.end w.receiver.past;
+  front : Front w.receiver.end w.receiver.past;
+  begins : IsBeginning w.receiver.past.taken w.sender.past.given;
+}
+
 pub record Inv (pair : Pair) (w : Connection) : Type 0 where
   pub local : Local pair w
   pub core : Whole w
+  pub moment : Moment w
+
+-- what a live receiver got
+pub live-begins : (o : Option End) (past : Past) (g : List Bool) → IsBeginning (live_got o past) g → is_live o ≡ true → IsBeginning past.got g
+live-begins o past g k e = subst (λ (b : Bool). IsBeginning (cond b past.got []) g) e k
 
 pub turned_receives : (pair : Pair) → sends pair ≡ true → receives (turned pair) ≡ true
 turned_receives pair e = grind arith
@@ -61,8 +75,9 @@ module _ (pair : Pair) (sd : sends pair ≡ true) where
   pub r_firm : (w : Connection) → Local pair w → Firm (or_new w.receiver.end)
   r_firm w l = firm_of (turned pair) w.receiver.end l.r_sound l.r_stands
 
-  s_step : (what : Happening) (w : Connection) → Local pair w → is_violation (happens pair what w.sender.end).outcome ≡ false → Whole (sender_does pair what w) → Inv pair (sender_does pair what w)
-  s_step what w l f k = record {
+  s_step : (what : Happening) (w : Connection) → Local pair w → Moment w → (opens w.sender.end (happens pair what w.sender.end).after ≡ true → w.receiver.past.taken ≡ []) → is_violation (happens pair what w.sender.end).outcome ≡ false → Whole (sender_does pair what w)
+      → Inv pair (sender_does pair what w)
+  s_step what w l m o f k = record {
     local = record {
       safe = or_from w.violated (is_violation (happens pair what w.sender.end).outcome) l.safe f;
       s_sound = sound-after pair what w.sender.end l.s_sound;
@@ -72,10 +87,11 @@ module _ (pair : Pair) (sd : sends pair ≡ true) where
       books = l.books;
     };
     core = k;
+    moment = record { none = m.none; front = m.front; begins = sender-begins pair what w.sender.end w.sender.past w.receiver.past.taken o m.begins };
   }
 
-  r_step : (what : Happening) (w : Connection) → suits (turned pair) what ≡ true → Local pair w → is_violation (happens (turned pair) what w.receiver.end).outcome ≡ false → Whole (receiver_does pair what w) → Inv pair (receiver_does pair what w)
-  r_step what w d l f k = record {
+  r_step : (what : Happening) (w : Connection) → suits (turned pair) what ≡ true → Local pair w → Moment w → IsBeginning (live_got w.receiver.end w.receiver.past) w.sender.past.given → is_violation (happens (turned pair) what w.receiver.end).outcome ≡ false → Whole (receiver_does pair what w) → Inv pair (receiver_does pair what w)
+  r_step what w d l m b f k = record {
     local = record {
       safe = or_from w.violated (is_violation (happens (turned pair) what w.receiver.end).outcome) l.safe f;
       s_sound = l.s_sound;
@@ -85,7 +101,17 @@ module _ (pair : Pair) (sd : sends pair ≡ true) where
       books = books-kept (turned pair) what w.receiver.end w.receiver.past (one_way (turned pair) rd) d l.r_sound l.books;
     };
     core = k;
+    moment = record {
+      none = none-kept (turned pair) what w.receiver.end w.receiver.past (one_way (turned pair) rd) d l.r_sound m.none;
+      front = front-kept (turned pair) what w.receiver.end w.receiver.past l.books m.front;
+      begins = receiver-begins (turned pair) what w.receiver.end w.receiver.past w.sender.past.given l.books (live-begins w.receiver.end w.receiver.past w.sender.past.given b) m.begins;
+    };
   }
+
+  -- a sender opens by no other happening
+  shut : (what : Happening) (w : Connection) → ((of_size with_room own : ℕ) (full : Bool) → what ≡ all.Asks_to_send of_size with_room own full → ⊥) → ((on by_peer : ℕ) (taken : Bool) → what ≡ all.Rts_comes on taken by_peer → ⊥)
+      → opens w.sender.end (happens pair what w.sender.end).after ≡ true → w.receiver.past.taken ≡ []
+  shut what w f g e = absurd (both_ways (opens w.sender.end (happens pair what w.sender.end).after) (opens-by-request pair what w.sender.end sd f g) e)
 
   -- The users call.
 
@@ -111,14 +137,14 @@ module _ (pair : Pair) (sd : sends pair ≡ true) where
       fr = r_firm w k.local
 
       go : (what : Happening) → is_call what ≡ true → Inv pair (sender_does pair what w)
-      go (all.Asks_to_send n room own full) c = (let m = sk-ask_send pair sd w.sender.past r h p q w.text fr n room own full w.sender.end fs k.core in s_step (all.Asks_to_send n room own full) w k.local m.fine m.core)
-      go (all.Asks_to_receive room on own full) c = (let m = sk-ask_receive pair sd w.sender.past r h p q w.text fr room on own full w.sender.end k.core in s_step (all.Asks_to_receive room on own full) w k.local m.fine m.core)
-      go (all.Closes full) c = (let m = sk-close pair sd w.sender.past r h p q w.text fr full w.sender.end fs k.local.s_stands k.core in s_step (all.Closes full) w k.local m.fine m.core)
-      go (all.Gives text) c = (let m = sk-give pair sd w.sender.past r h p q w.text fr text w.sender.end fs k.core in s_step (all.Gives text) w k.local m.fine m.core)
-      go (all.Takes bytes) c = (let m = sk-take pair sd w.sender.past r h p q w.text fr bytes w.sender.end k.core in s_step (all.Takes bytes) w k.local m.fine m.core)
-      go (all.Allocates a b full) c = (let m = sk-allocate pair sd w.sender.past r h p q w.text fr a b full w.sender.end k.core in s_step (all.Allocates a b full) w k.local m.fine m.core)
-      go (all.Calls_back a b full) c = (let m = sk-call_back pair sd w.sender.past r h p q w.text fr a b full w.sender.end k.core in s_step (all.Calls_back a b full) w k.local m.fine m.core)
-      go (all.Interrupts full) c = (let m = sk-interrupt pair sd w.sender.past r h p q w.text fr full w.sender.end fs k.core in s_step (all.Interrupts full) w k.local m.fine m.core)
+      go (all.Asks_to_send n room own full) c = (let m = sk-ask_send pair sd w.sender.past r h p q w.text fr n room own full w.sender.end fs k.core in s_step (all.Asks_to_send n room own full) w k.local k.moment (λ e. let y = ask-opens pair n room own full w.sender.end e in none-where-heard (or_new w.sender.end) w.sender.past.given w.receiver.end w.receiver.past p q w.text k.moment.none k.moment.front y.0 y.1 y.2 k.core) m.fine m.core)
+      go (all.Asks_to_receive room on own full) c = (let m = sk-ask_receive pair sd w.sender.past r h p q w.text fr room on own full w.sender.end k.core in s_step (all.Asks_to_receive room on own full) w k.local k.moment (shut (all.Asks_to_receive room on own full) w (λ z x y u e. cc e) (λ x y z e. cc e)) m.fine m.core)
+      go (all.Closes full) c = (let m = sk-close pair sd w.sender.past r h p q w.text fr full w.sender.end fs k.local.s_stands k.core in s_step (all.Closes full) w k.local k.moment (shut (all.Closes full) w (λ z x y u e. cc e) (λ x y z e. cc e)) m.fine m.core)
+      go (all.Gives text) c = (let m = sk-give pair sd w.sender.past r h p q w.text fr text w.sender.end fs k.core in s_step (all.Gives text) w k.local k.moment (shut (all.Gives text) w (λ z x y u e. cc e) (λ x y z e. cc e)) m.fine m.core)
+      go (all.Takes bytes) c = (let m = sk-take pair sd w.sender.past r h p q w.text fr bytes w.sender.end k.core in s_step (all.Takes bytes) w k.local k.moment (shut (all.Takes bytes) w (λ z x y u e. cc e) (λ x y z e. cc e)) m.fine m.core)
+      go (all.Allocates a b full) c = (let m = sk-allocate pair sd w.sender.past r h p q w.text fr a b full w.sender.end k.core in s_step (all.Allocates a b full) w k.local k.moment (shut (all.Allocates a b full) w (λ z x y u e. cc e) (λ x y z e. cc e)) m.fine m.core)
+      go (all.Calls_back a b full) c = (let m = sk-call_back pair sd w.sender.past r h p q w.text fr a b full w.sender.end k.core in s_step (all.Calls_back a b full) w k.local k.moment (shut (all.Calls_back a b full) w (λ z x y u e. cc e) (λ x y z e. cc e)) m.fine m.core)
+      go (all.Interrupts full) c = (let m = sk-interrupt pair sd w.sender.past r h p q w.text fr full w.sender.end fs k.core in s_step (all.Interrupts full) w k.local k.moment (shut (all.Interrupts full) w (λ z x y u e. cc e) (λ x y z e. cc e)) m.fine m.core)
       go (all.Rts_comes on taken by_peer) c = absurd (both_ways false refl c)
       go (all.Str_comes n by_peer) c = absurd (both_ways false refl c)
       go all.Cls_comes c = absurd (both_ways false refl c)
@@ -154,14 +180,14 @@ module _ (pair : Pair) (sd : sends pair ≡ true) where
       fr = r_firm w k.local
 
       go : (what : Happening) → is_call what ≡ true → Inv pair (receiver_does pair what w)
-      go (all.Asks_to_send n room own full) c = (let m = rk-ask_send (turned pair) rd w.receiver.past s g p q w.text fs n room own full w.receiver.end k.core in r_step (all.Asks_to_send n room own full) w refl k.local m.fine m.core)
-      go (all.Asks_to_receive room on own full) c = (let m = rk-ask_receive (turned pair) rd w.receiver.past s g p q w.text fs room on own full w.receiver.end c fr k.core in r_step (all.Asks_to_receive room on own full) w refl k.local m.fine m.core)
-      go (all.Closes full) c = (let m = rk-close (turned pair) rd w.receiver.past s g p q w.text fs full w.receiver.end fr k.local.r_stands k.core in r_step (all.Closes full) w refl k.local m.fine m.core)
-      go (all.Gives text) c = (let m = rk-give (turned pair) rd w.receiver.past s g p q w.text fs text w.receiver.end k.core in r_step (all.Gives text) w refl k.local m.fine m.core)
-      go (all.Takes bytes) c = (let m = rk-take (turned pair) rd w.receiver.past s g p q w.text fs bytes w.receiver.end fr k.core in r_step (all.Takes bytes) w refl k.local m.fine m.core)
-      go (all.Allocates a b full) c = (let m = rk-allocate (turned pair) rd w.receiver.past s g p q w.text fs a b full w.receiver.end fr k.core in r_step (all.Allocates a b full) w refl k.local m.fine m.core)
-      go (all.Calls_back a b full) c = (let m = rk-call_back (turned pair) rd w.receiver.past s g p q w.text fs a b full w.receiver.end fr k.core in r_step (all.Calls_back a b full) w refl k.local m.fine m.core)
-      go (all.Interrupts full) c = (let m = rk-interrupt (turned pair) rd w.receiver.past s g p q w.text fs full w.receiver.end fr k.core in r_step (all.Interrupts full) w refl k.local m.fine m.core)
+      go (all.Asks_to_send n room own full) c = (let m = rk-ask_send (turned pair) rd w.receiver.past s g p q w.text fs n room own full w.receiver.end k.core in r_step (all.Asks_to_send n room own full) w refl k.local k.moment k.core.begun m.fine m.core)
+      go (all.Asks_to_receive room on own full) c = (let m = rk-ask_receive (turned pair) rd w.receiver.past s g p q w.text fs room on own full w.receiver.end c fr k.core in r_step (all.Asks_to_receive room on own full) w refl k.local k.moment k.core.begun m.fine m.core)
+      go (all.Closes full) c = (let m = rk-close (turned pair) rd w.receiver.past s g p q w.text fs full w.receiver.end fr k.local.r_stands k.core in r_step (all.Closes full) w refl k.local k.moment k.core.begun m.fine m.core)
+      go (all.Gives text) c = (let m = rk-give (turned pair) rd w.receiver.past s g p q w.text fs text w.receiver.end k.core in r_step (all.Gives text) w refl k.local k.moment k.core.begun m.fine m.core)
+      go (all.Takes bytes) c = (let m = rk-take (turned pair) rd w.receiver.past s g p q w.text fs bytes w.receiver.end fr k.core in r_step (all.Takes bytes) w refl k.local k.moment k.core.begun m.fine m.core)
+      go (all.Allocates a b full) c = (let m = rk-allocate (turned pair) rd w.receiver.past s g p q w.text fs a b full w.receiver.end fr k.core in r_step (all.Allocates a b full) w refl k.local k.moment k.core.begun m.fine m.core)
+      go (all.Calls_back a b full) c = (let m = rk-call_back (turned pair) rd w.receiver.past s g p q w.text fs a b full w.receiver.end fr k.core in r_step (all.Calls_back a b full) w refl k.local k.moment k.core.begun m.fine m.core)
+      go (all.Interrupts full) c = (let m = rk-interrupt (turned pair) rd w.receiver.past s g p q w.text fs full w.receiver.end fr k.core in r_step (all.Interrupts full) w refl k.local k.moment k.core.begun m.fine m.core)
       go (all.Rts_comes on taken by_peer) c = absurd (both_ways false refl c)
       go (all.Str_comes n by_peer) c = absurd (both_ways false refl c)
       go all.Cls_comes c = absurd (both_ways false refl c)
@@ -193,57 +219,57 @@ module _ (pair : Pair) (sd : sends pair ≡ true) where
       go Sender_ahead j = rw e at j.passes
       go Receiver_ahead j = absurd (cc (j.none))
 
-  pub comes_to_sender_keeps : (n : ℕ) (q : List Command) (w : Connection) → nat_lt n MAX_BY_PEER ≡ true → Local pair w → Whole (record w { to_sender = q }) → Inv pair (comes_to_sender pair n q (record w { to_sender = q }))
-  comes_to_sender_keeps n [] w few l k = record { local = l; core = k }
-  comes_to_sender_keeps n (Rts i j on ∷ q) w few l k = (let m = sk-rts pair sd w.sender.past (or_new w.receiver.end) (live_got w.receiver.end w.receiver.past) w.to_receiver q w.text (r_firm w l) i j on n w.sender.end few (s_firm w l) k in s_step (all.Rts_comes on false n) (record w { to_sender = q }) l m.fine m.core)
-  comes_to_sender_keeps n (Cls i j ∷ q) w few l k = (let m = sk-cls pair sd w.sender.past (or_new w.receiver.end) (live_got w.receiver.end w.receiver.past) w.to_receiver q w.text (r_firm w l) i j w.sender.end (s_firm w l) k in s_step all.Cls_comes (record w { to_sender = q }) l m.fine m.core)
-  comes_to_sender_keeps n (All on a b ∷ q) w few l k = (let m = sk-all pair sd w.sender.past (or_new w.receiver.end) (live_got w.receiver.end w.receiver.past) w.to_receiver q w.text (r_firm w l) on a b w.sender.end (s_firm w l) k in s_step (all.All_comes on a b) (record w { to_sender = q }) l m.fine m.core)
-  comes_to_sender_keeps n (Gvb on a b ∷ q) w few l k = (let m = sk-gvb pair sd w.sender.past (or_new w.receiver.end) (live_got w.receiver.end w.receiver.past) w.to_receiver q w.text (r_firm w l) on a b w.sender.end (s_firm w l) k in s_step (all.Gvb_comes on a b) (record w { to_sender = q }) l m.fine m.core)
-  comes_to_sender_keeps n (Inr on ∷ q) w few l k = (let m = sk-inr pair sd w.sender.past (or_new w.receiver.end) (live_got w.receiver.end w.receiver.past) w.to_receiver q w.text (r_firm w l) on w.sender.end (s_firm w l) k in s_step (all.Inr_comes on) (record w { to_sender = q }) l m.fine m.core)
-  comes_to_sender_keeps n (Command.Nop ∷ q) w few l k = absurd (alien_to_sender Command.Nop q w refl k)
-  comes_to_sender_keeps n (Str i j m ∷ q) w few l k = absurd (alien_to_sender (Str i j m) q w refl k)
-  comes_to_sender_keeps n (Ret on a b ∷ q) w few l k = absurd (alien_to_sender (Ret on a b) q w refl k)
-  comes_to_sender_keeps n (Ins on ∷ q) w few l k = absurd (alien_to_sender (Ins on) q w refl k)
-  comes_to_sender_keeps n (Command.Eco b ∷ q) w few l k = absurd (alien_to_sender (Command.Eco b) q w refl k)
-  comes_to_sender_keeps n (Command.Erp b ∷ q) w few l k = absurd (alien_to_sender (Command.Erp b) q w refl k)
-  comes_to_sender_keeps n (Command.Err b d ∷ q) w few l k = absurd (alien_to_sender (Command.Err b d) q w refl k)
-  comes_to_sender_keeps n (Command.Rst ∷ q) w few l k = absurd (alien_to_sender Command.Rst q w refl k)
-  comes_to_sender_keeps n (Command.Rrp ∷ q) w few l k = absurd (alien_to_sender Command.Rrp q w refl k)
+  pub comes_to_sender_keeps : (n : ℕ) (q : List Command) (w : Connection) → nat_lt n MAX_BY_PEER ≡ true → Local pair w → Moment w → Whole (record w { to_sender = q }) → Inv pair (comes_to_sender pair n q (record w { to_sender = q }))
+  comes_to_sender_keeps n [] w few l v k = record { local = l; core = k; moment = v }
+  comes_to_sender_keeps n (Rts i j on ∷ q) w few l v k = (let m = sk-rts pair sd w.sender.past (or_new w.receiver.end) (live_got w.receiver.end w.receiver.past) w.to_receiver q w.text (r_firm w l) i j on n w.sender.end few (s_firm w l) k in s_step (all.Rts_comes on false n) (record w { to_sender = q }) l v (λ e. let y = request-opens pair on n false w.sender.end e in none-where-requested (or_new w.sender.end) w.sender.past.given w.receiver.end w.receiver.past w.to_receiver q w.text v.none v.front i j on y.0 y.1 k) m.fine m.core)
+  comes_to_sender_keeps n (Cls i j ∷ q) w few l v k = (let m = sk-cls pair sd w.sender.past (or_new w.receiver.end) (live_got w.receiver.end w.receiver.past) w.to_receiver q w.text (r_firm w l) i j w.sender.end (s_firm w l) k in s_step all.Cls_comes (record w { to_sender = q }) l v (shut all.Cls_comes w (λ z x y u e. cc e) (λ x y z e. cc e)) m.fine m.core)
+  comes_to_sender_keeps n (All on a b ∷ q) w few l v k = (let m = sk-all pair sd w.sender.past (or_new w.receiver.end) (live_got w.receiver.end w.receiver.past) w.to_receiver q w.text (r_firm w l) on a b w.sender.end (s_firm w l) k in s_step (all.All_comes on a b) (record w { to_sender = q }) l v (shut (all.All_comes on a b) w (λ z x y u e. cc e) (λ x y z e. cc e)) m.fine m.core)
+  comes_to_sender_keeps n (Gvb on a b ∷ q) w few l v k = (let m = sk-gvb pair sd w.sender.past (or_new w.receiver.end) (live_got w.receiver.end w.receiver.past) w.to_receiver q w.text (r_firm w l) on a b w.sender.end (s_firm w l) k in s_step (all.Gvb_comes on a b) (record w { to_sender = q }) l v (shut (all.Gvb_comes on a b) w (λ z x y u e. cc e) (λ x y z e. cc e)) m.fine m.core)
+  comes_to_sender_keeps n (Inr on ∷ q) w few l v k = (let m = sk-inr pair sd w.sender.past (or_new w.receiver.end) (live_got w.receiver.end w.receiver.past) w.to_receiver q w.text (r_firm w l) on w.sender.end (s_firm w l) k in s_step (all.Inr_comes on) (record w { to_sender = q }) l v (shut (all.Inr_comes on) w (λ z x y u e. cc e) (λ x y z e. cc e)) m.fine m.core)
+  comes_to_sender_keeps n (Command.Nop ∷ q) w few l v k = absurd (alien_to_sender Command.Nop q w refl k)
+  comes_to_sender_keeps n (Str i j m ∷ q) w few l v k = absurd (alien_to_sender (Str i j m) q w refl k)
+  comes_to_sender_keeps n (Ret on a b ∷ q) w few l v k = absurd (alien_to_sender (Ret on a b) q w refl k)
+  comes_to_sender_keeps n (Ins on ∷ q) w few l v k = absurd (alien_to_sender (Ins on) q w refl k)
+  comes_to_sender_keeps n (Command.Eco b ∷ q) w few l v k = absurd (alien_to_sender (Command.Eco b) q w refl k)
+  comes_to_sender_keeps n (Command.Erp b ∷ q) w few l v k = absurd (alien_to_sender (Command.Erp b) q w refl k)
+  comes_to_sender_keeps n (Command.Err b d ∷ q) w few l v k = absurd (alien_to_sender (Command.Err b d) q w refl k)
+  comes_to_sender_keeps n (Command.Rst ∷ q) w few l v k = absurd (alien_to_sender Command.Rst q w refl k)
+  comes_to_sender_keeps n (Command.Rrp ∷ q) w few l v k = absurd (alien_to_sender Command.Rrp q w refl k)
 
-  pub comes_to_receiver_keeps : (n : ℕ) (p : List Command) (w : Connection) → nat_lt n MAX_BY_PEER ≡ true → Local pair w → Whole (record w { to_receiver = p }) → Inv pair (comes_to_receiver pair n p (record w { to_receiver = p }))
-  comes_to_receiver_keeps n [] w few l k = record { local = l; core = k }
-  comes_to_receiver_keeps n (Str i j z ∷ p) w few l k = (let m = rk-str (turned pair) rd w.receiver.past (or_new w.sender.end) w.sender.past.given p w.to_sender w.text (s_firm w l) i j z n w.receiver.end few (r_firm w l) k in r_step (all.Str_comes z n) (record w { to_receiver = p }) refl l m.fine m.core)
-  comes_to_receiver_keeps n (Cls i j ∷ p) w few l k = (let m = rk-cls (turned pair) rd w.receiver.past (or_new w.sender.end) w.sender.past.given p w.to_sender w.text (s_firm w l) i j w.receiver.end (r_firm w l) k in r_step all.Cls_comes (record w { to_receiver = p }) refl l m.fine m.core)
-  comes_to_receiver_keeps n (Ret on a b ∷ p) w few l k = (let m = rk-ret (turned pair) rd w.receiver.past (or_new w.sender.end) w.sender.past.given p w.to_sender w.text (s_firm w l) on a b w.receiver.end (r_firm w l) k in r_step (all.Ret_comes on a b) (record w { to_receiver = p }) rd l m.fine m.core)
-  comes_to_receiver_keeps n (Ins on ∷ p) w few l k = (let m = rk-ins (turned pair) rd w.receiver.past (or_new w.sender.end) w.sender.past.given p w.to_sender w.text (s_firm w l) on w.receiver.end (r_firm w l) k in r_step (all.Ins_comes on) (record w { to_receiver = p }) rd l m.fine m.core)
-  comes_to_receiver_keeps n (Command.Nop ∷ p) w few l k = absurd (alien_to_receiver Command.Nop p w refl k)
-  comes_to_receiver_keeps n (Rts i j m ∷ p) w few l k = absurd (alien_to_receiver (Rts i j m) p w refl k)
-  comes_to_receiver_keeps n (All on a b ∷ p) w few l k = absurd (alien_to_receiver (All on a b) p w refl k)
-  comes_to_receiver_keeps n (Gvb on a b ∷ p) w few l k = absurd (alien_to_receiver (Gvb on a b) p w refl k)
-  comes_to_receiver_keeps n (Inr on ∷ p) w few l k = absurd (alien_to_receiver (Inr on) p w refl k)
-  comes_to_receiver_keeps n (Command.Eco b ∷ p) w few l k = absurd (alien_to_receiver (Command.Eco b) p w refl k)
-  comes_to_receiver_keeps n (Command.Erp b ∷ p) w few l k = absurd (alien_to_receiver (Command.Erp b) p w refl k)
-  comes_to_receiver_keeps n (Command.Err b d ∷ p) w few l k = absurd (alien_to_receiver (Command.Err b d) p w refl k)
-  comes_to_receiver_keeps n (Command.Rst ∷ p) w few l k = absurd (alien_to_receiver Command.Rst p w refl k)
-  comes_to_receiver_keeps n (Command.Rrp ∷ p) w few l k = absurd (alien_to_receiver Command.Rrp p w refl k)
+  pub comes_to_receiver_keeps : (n : ℕ) (p : List Command) (w : Connection) → nat_lt n MAX_BY_PEER ≡ true → Local pair w → Moment w → Whole (record w { to_receiver = p }) → Inv pair (comes_to_receiver pair n p (record w { to_receiver = p }))
+  comes_to_receiver_keeps n [] w few l v k = record { local = l; core = k; moment = v }
+  comes_to_receiver_keeps n (Str i j z ∷ p) w few l v k = (let m = rk-str (turned pair) rd w.receiver.past (or_new w.sender.end) w.sender.past.given p w.to_sender w.text (s_firm w l) i j z n w.receiver.end few (r_firm w l) k in r_step (all.Str_comes z n) (record w { to_receiver = p }) refl l v k.begun m.fine m.core)
+  comes_to_receiver_keeps n (Cls i j ∷ p) w few l v k = (let m = rk-cls (turned pair) rd w.receiver.past (or_new w.sender.end) w.sender.past.given p w.to_sender w.text (s_firm w l) i j w.receiver.end (r_firm w l) k in r_step all.Cls_comes (record w { to_receiver = p }) refl l v k.begun m.fine m.core)
+  comes_to_receiver_keeps n (Ret on a b ∷ p) w few l v k = (let m = rk-ret (turned pair) rd w.receiver.past (or_new w.sender.end) w.sender.past.given p w.to_sender w.text (s_firm w l) on a b w.receiver.end (r_firm w l) k in r_step (all.Ret_comes on a b) (record w { to_receiver = p }) rd l v k.begun m.fine m.core)
+  comes_to_receiver_keeps n (Ins on ∷ p) w few l v k = (let m = rk-ins (turned pair) rd w.receiver.past (or_new w.sender.end) w.sender.past.given p w.to_sender w.text (s_firm w l) on w.receiver.end (r_firm w l) k in r_step (all.Ins_comes on) (record w { to_receiver = p }) rd l v k.begun m.fine m.core)
+  comes_to_receiver_keeps n (Command.Nop ∷ p) w few l v k = absurd (alien_to_receiver Command.Nop p w refl k)
+  comes_to_receiver_keeps n (Rts i j m ∷ p) w few l v k = absurd (alien_to_receiver (Rts i j m) p w refl k)
+  comes_to_receiver_keeps n (All on a b ∷ p) w few l v k = absurd (alien_to_receiver (All on a b) p w refl k)
+  comes_to_receiver_keeps n (Gvb on a b ∷ p) w few l v k = absurd (alien_to_receiver (Gvb on a b) p w refl k)
+  comes_to_receiver_keeps n (Inr on ∷ p) w few l v k = absurd (alien_to_receiver (Inr on) p w refl k)
+  comes_to_receiver_keeps n (Command.Eco b ∷ p) w few l v k = absurd (alien_to_receiver (Command.Eco b) p w refl k)
+  comes_to_receiver_keeps n (Command.Erp b ∷ p) w few l v k = absurd (alien_to_receiver (Command.Erp b) p w refl k)
+  comes_to_receiver_keeps n (Command.Err b d ∷ p) w few l v k = absurd (alien_to_receiver (Command.Err b d) p w refl k)
+  comes_to_receiver_keeps n (Command.Rst ∷ p) w few l v k = absurd (alien_to_receiver Command.Rst p w refl k)
+  comes_to_receiver_keeps n (Command.Rrp ∷ p) w few l v k = absurd (alien_to_receiver Command.Rrp p w refl k)
 
   -- Texts.
 
-  pub text_comes_keeps : (head : List Bool) (t : Text) (w : Connection) → Local pair w → Whole (record w { text = t }) → Inv pair (text_comes pair head t (record w { text = t }))
-  text_comes_keeps head No_text w l k = record { local = l; core = k }
-  text_comes_keeps head (Away li n bits) w l k = (let m = rk-text (turned pair) rd w.receiver.past (or_new w.sender.end) w.sender.past.given w.to_receiver w.to_sender (s_firm w l) head li n bits w.receiver.end (r_firm w l) k in r_step (all.Text_comes head n bits) (record w { text = Here li }) rd l m.fine m.core)
-  text_comes_keeps head (Here li) w l k = record { local = l; core = k }
+  pub text_comes_keeps : (head : List Bool) (t : Text) (w : Connection) → Local pair w → Moment w → Whole (record w { text = t }) → Inv pair (text_comes pair head t (record w { text = t }))
+  text_comes_keeps head No_text w l v k = record { local = l; core = k; moment = v }
+  text_comes_keeps head (Away li n bits) w l v k = (let m = rk-text (turned pair) rd w.receiver.past (or_new w.sender.end) w.sender.past.given w.to_receiver w.to_sender (s_firm w l) head li n bits w.receiver.end (r_firm w l) k in r_step (all.Text_comes head n bits) (record w { text = Here li }) rd l v k.begun m.fine m.core)
+  text_comes_keeps head (Here li) w l v k = record { local = l; core = k; moment = v }
 
-  pub text_is_answered_keeps : (how : Answer) (t : Text) (w : Connection) → Local pair w → Whole (record w { text = t }) → Inv pair (text_is_answered pair how t (record w { text = t }))
-  text_is_answered_keeps Rfnm No_text w l k = record { local = l; core = k }
-  text_is_answered_keeps Rfnm (Away li n bits) w l k = record { local = l; core = k }
-  text_is_answered_keeps Rfnm (Here li) w l k = (let m = sk-taken pair w.sender.past (or_new w.receiver.end) (live_got w.receiver.end w.receiver.past) w.to_receiver w.to_sender li (r_firm w l) sd w.sender.end (s_firm w l) k in s_step (all.Is_answered Rfnm) (record w { text = No_text }) l m.fine m.core)
-  text_is_answered_keeps Incomplete No_text w l k = record { local = l; core = k }
-  text_is_answered_keeps Incomplete (Away li n bits) w l k = (let m = sk-not_delivered pair w.sender.past (or_new w.receiver.end) (live_got w.receiver.end w.receiver.past) w.to_receiver w.to_sender li (r_firm w l) Incomplete w.sender.end (Away li n bits) refl k in s_step (all.Is_answered Incomplete) (record w { text = Away li n bits }) l m.fine m.core)
-  text_is_answered_keeps Incomplete (Here li) w l k = record { local = l; core = k }
-  text_is_answered_keeps Dead No_text w l k = record { local = l; core = k }
-  text_is_answered_keeps Dead (Away li n bits) w l k = (let m = sk-not_delivered pair w.sender.past (or_new w.receiver.end) (live_got w.receiver.end w.receiver.past) w.to_receiver w.to_sender li (r_firm w l) Dead w.sender.end (Away li n bits) refl k in s_step (all.Is_answered Dead) (record w { text = Away li n bits }) l m.fine m.core)
-  text_is_answered_keeps Dead (Here li) w l k = record { local = l; core = k }
+  pub text_is_answered_keeps : (how : Answer) (t : Text) (w : Connection) → Local pair w → Moment w → Whole (record w { text = t }) → Inv pair (text_is_answered pair how t (record w { text = t }))
+  text_is_answered_keeps Rfnm No_text w l v k = record { local = l; core = k; moment = v }
+  text_is_answered_keeps Rfnm (Away li n bits) w l v k = record { local = l; core = k; moment = v }
+  text_is_answered_keeps Rfnm (Here li) w l v k = (let m = sk-taken pair w.sender.past (or_new w.receiver.end) (live_got w.receiver.end w.receiver.past) w.to_receiver w.to_sender li (r_firm w l) sd w.sender.end (s_firm w l) k in s_step (all.Is_answered Rfnm) (record w { text = No_text }) l v (shut (all.Is_answered Rfnm) w (λ z x y u e. cc e) (λ x y z e. cc e)) m.fine m.core)
+  text_is_answered_keeps Incomplete No_text w l v k = record { local = l; core = k; moment = v }
+  text_is_answered_keeps Incomplete (Away li n bits) w l v k = (let m = sk-not_delivered pair w.sender.past (or_new w.receiver.end) (live_got w.receiver.end w.receiver.past) w.to_receiver w.to_sender li (r_firm w l) Incomplete w.sender.end (Away li n bits) refl k in s_step (all.Is_answered Incomplete) (record w { text = Away li n bits }) l v (shut (all.Is_answered Incomplete) w (λ z x y u e. cc e) (λ x y z e. cc e)) m.fine m.core)
+  text_is_answered_keeps Incomplete (Here li) w l v k = record { local = l; core = k; moment = v }
+  text_is_answered_keeps Dead No_text w l v k = record { local = l; core = k; moment = v }
+  text_is_answered_keeps Dead (Away li n bits) w l v k = (let m = sk-not_delivered pair w.sender.past (or_new w.receiver.end) (live_got w.receiver.end w.receiver.past) w.to_receiver w.to_sender li (r_firm w l) Dead w.sender.end (Away li n bits) refl k in s_step (all.Is_answered Dead) (record w { text = Away li n bits }) l v (shut (all.Is_answered Dead) w (λ z x y u e. cc e) (λ x y z e. cc e)) m.fine m.core)
+  text_is_answered_keeps Dead (Here li) w l v k = record { local = l; core = k; moment = v }
 
   split : (b : Bool) (x y : Connection) → (b ≡ true → Inv pair x) → (b ≡ false → Inv pair y) → Inv pair (cond b x y)
   split true x y f g = f refl
@@ -252,11 +278,11 @@ module _ (pair : Pair) (sd : sends pair ≡ true) where
   pub keeps : (e : Event) (w : Connection) → Inv pair w → Inv pair (occurs pair e w)
   keeps (Sender_calls what) w k = split (is_call what) _ _ (λ c. sender_calls_keep what w c k) (λ _. k)
   keeps (Receiver_calls what) w k = split (is_call what) _ _ (λ c. receiver_calls_keep what w c k) (λ _. k)
-  keeps (Comes_to_sender n) w k = split (nat_lt n MAX_BY_PEER) _ _ (λ few. comes_to_sender_keeps n w.to_sender w few k.local k.core) (λ _. k)
-  keeps (Comes_to_receiver n) w k = split (nat_lt n MAX_BY_PEER) _ _ (λ few. comes_to_receiver_keeps n w.to_receiver w few k.local k.core) (λ _. k)
-  keeps Text_goes_out w k = (let m = sk-cut pair sd w.sender.past (or_new w.receiver.end) (live_got w.receiver.end w.receiver.past) w.to_receiver w.to_sender w.text (r_firm w k.local) w.sender.end (s_firm w k.local) k.core in s_step all.Text_goes_out w k.local m.fine m.core)
-  keeps (Text_comes head) w k = text_comes_keeps head w.text w k.local k.core
-  keeps (Text_is_answered how) w k = text_is_answered_keeps how w.text w k.local k.core
+  keeps (Comes_to_sender n) w k = split (nat_lt n MAX_BY_PEER) _ _ (λ few. comes_to_sender_keeps n w.to_sender w few k.local k.moment k.core) (λ _. k)
+  keeps (Comes_to_receiver n) w k = split (nat_lt n MAX_BY_PEER) _ _ (λ few. comes_to_receiver_keeps n w.to_receiver w few k.local k.moment k.core) (λ _. k)
+  keeps Text_goes_out w k = (let m = sk-cut pair sd w.sender.past (or_new w.receiver.end) (live_got w.receiver.end w.receiver.past) w.to_receiver w.to_sender w.text (r_firm w k.local) w.sender.end (s_firm w k.local) k.core in s_step all.Text_goes_out w k.local k.moment (shut all.Text_goes_out w (λ z x y u e. cc e) (λ x y z e. cc e)) m.fine m.core)
+  keeps (Text_comes head) w k = text_comes_keeps head w.text w k.local k.moment k.core
+  keeps (Text_is_answered how) w k = text_is_answered_keeps how w.text w k.local k.moment k.core
 
   keeps_from : (es : List Event) (w : Connection) → Inv pair w → Inv pair (occur_from pair es w)
   keeps_from [] w k = k
@@ -279,6 +305,7 @@ module _ (pair : Pair) (sd : sends pair ≡ true) where
   ever es = keeps_from es new_connection (record {
     local = record { safe = refl; s_sound = tt; r_sound = tt; s_stands = refl; r_stands = refl; books = tt };
     core = new_core [];
+    moment = record { none = tt; front = λ e. absurd (both_ways false refl e); begins = begun_empty [] };
   })
 
   -- What the law says follows.

@@ -63,6 +63,11 @@ Held w = is_live w.receiver.end ≡ true → (receiving w).left ≡ false → w.
 abbrev pub Begins : Connection → Type 0
 Begins w = is_live w.receiver.end ≡ true → IsBeginning w.receiver.past.got w.sender.past.given
 
+-- what the receiver's user took since the last ask begins what was given since the sender last opened: whatever has
+-- become of either end
+abbrev pub TakenBegins : Connection → Type 0
+TakenBegins w = IsBeginning w.receiver.past.taken w.sender.past.given
+
 -- while a text is out both ends have opened
 abbrev pub OutIsOpened : Connection → Type 0
 OutIsOpened w = is_out w.text ≡ true → (is_live w.sender.end ≡ true) × (is_live w.receiver.end ≡ true)

@@ -5,7 +5,7 @@ ghost use Rattle.ncp_model.specs.Pairs.{sends, turned};
 ghost use Rattle.ncp_model.specs.Happenings.{happens};
 ghost use Rattle.ncp_model.specs.Happenings as all;
 ghost use Rattle.ncp_connections.specs.Connections.{Text, Away, Event, occur, is_in_order, ComesInOrder, command_comes};
-ghost use Rattle.ncp_connections.specs.Ledger.{BothOpen, MessagesAgree, BitsAgree, Parted, Held, Begins, OutIsOpened};
+ghost use Rattle.ncp_connections.specs.Ledger.{BothOpen, MessagesAgree, BitsAgree, Parted, Held, Begins, TakenBegins, OutIsOpened};
 ghost use Rattle.ncp_connections.specs.Clearings.{Change, change, OutStaysOpened};
 
 use ncp_model::{MAX_BY_PEER, Pair};
@@ -34,7 +34,8 @@ pub fn what_comes_is_in_order()
 /// The same where either host may be cleared at any moment, and where a connection starts anew once
 /// both were cleared: no end at a host that was not cleared ever answers its peer with an ERR or as
 /// against the protocol, the ledger agrees while both ends are open, and what a live receiver got is
-/// a beginning of what was given, whatever became of the sender since.
+/// a beginning of what was given, whatever became of the sender since. And what was taken since the receiver asked is
+/// one at every moment, also where neither end is there any more, or one of them asked anew.
 pub fn clearings_lose_and_make_nothing()
     ensures safe { (pair : Pair) (cs : List Change) → sends pair ≡ true → (change pair cs).connection.violated ≡ false }
     ensures messages { (pair : Pair) (cs : List Change) → sends pair ≡ true → BothOpen (change pair cs).connection → MessagesAgree (change pair cs).connection }
@@ -42,5 +43,6 @@ pub fn clearings_lose_and_make_nothing()
     ensures parted { (pair : Pair) (cs : List Change) → sends pair ≡ true → BothOpen (change pair cs).connection → Parted (change pair cs).connection }
     ensures held { (pair : Pair) (cs : List Change) → sends pair ≡ true → Held (change pair cs).connection }
     ensures beginning { (pair : Pair) (cs : List Change) → sends pair ≡ true → Begins (change pair cs).connection }
+    ensures taken { (pair : Pair) (cs : List Change) → sends pair ≡ true → TakenBegins (change pair cs).connection }
     ensures opened { (pair : Pair) (cs : List Change) → sends pair ≡ true → OutStaysOpened (change pair cs) }
 {}

@@ -4,16 +4,13 @@ use Rattle.std.specs.Prelude.{◌≡◌, ℕ, true, List}
 use Rattle.ncp_model.specs.declared.pair.Pair.{Pair}
 use Rattle.ncp_model.specs.Pairs.{sends}
 use Rattle.ncp_resets.specs.Resets.{Side}
-use Rattle.ncp_transcript.specs.Runs as runs
 use Rattle.ncp_two.specs.World.{World, swap}
 use Rattle.ncp_two.specs.Honest.{IsHonest, IsBeginning, number_of_side, sent, came}
 use Rattle.ncp_two.specs.Watch.{Both, turn}
 use Rattle.ncp_two.specs.Streams.{GotIsBeginning, GotIsTakenOrHeld, NeverBeyondAllocation}
 use Rattle.ncp_two.specs.Underway.{MessagesAgree, BitsAgree, Parted}
 use Rattle.ncp_two.specs.declared.note.Note.{Note}
-use Rattle.ncp_two.specs.declared.side.Side as sides
-use Rattle.ncp_two.specs.Between.{Hosts, host_of}
-use Rattle.ncp_two.specs.Sides.{notes_at}
+use Rattle.ncp_two.specs.Between.{Hosts}
 use Rattle.ncp_two.specs.Transcript.{began}
 use Rattle.ncp_two.specs.Seen.{seen, told}
 use Rattle.ncp_two.specs.OfRules.{histories_of}
@@ -101,7 +98,3 @@ OnlyResetsActed notes w = OfEachNote OnlyResetsAct notes (began w)
 -- and a host that waits for an RRP has no connection, and lets nothing wait but RST and RRP
 abbrev pub WaitsAlone : List Note → Hosts → Type 0
 WaitsAlone notes w = (Waits (seen w).this → StillWaits (seen w).this) × (Waits (seen w).that → StillWaits (seen w).that)
-
--- Each host is one by itself: its own notes are a run of one host, and it is what they leave.
-abbrev pub EachByItself : List Note → Hosts → Type 0
-EachByItself notes w = (side : sides.Side) → runs.IsTranscript (notes_at side notes) (host_of side w)

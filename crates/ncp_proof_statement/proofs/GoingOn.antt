@@ -55,12 +55,12 @@ live-taken : (q : Pair) (s noted : PeerState) (past : Past) (x : Takings) → no
 live-taken q s noted past x is live k = of-live (get noted.peer.ends q) past x (ap (λ (y : PeerState). is_live (get y.peer.ends q)) is ∙ live) k
 
 module _ (ns : List Note) (w : Hosts) (t : IsTranscript ns w) where
-  agree : (side : Side) (pair : Pair) → past_here (mine side (histories_of ns w)) pair ≡ past_of pair (notes_of (number_of (other side) w) (notes_at side ns))
+  pub agree : (side : Side) (pair : Pair) → past_here (mine side (histories_of ns w)) pair ≡ past_of pair (notes_of (number_of (other side) w) (notes_at side ns))
   agree A pair = here ns w t pair
   agree B pair = there ns w t pair
 
   -- the notes of the host of a side for the other, and the uses that they tell
-  abbrev Own : Side → List HostNote
+  abbrev pub Own : Side → List HostNote
   Own side = notes_of (number_of (other side) w) (notes_at side ns)
 
   told-uses : (side : Side) (q : Pair) → uses_by q (Own side) ≡ did_run q (Own side) new_state
@@ -68,7 +68,7 @@ module _ (ns : List Note) (w : Hosts) (t : IsTranscript ns w) where
       let h : Host = host_of side w in
       noted-from h.me (numbers_of h.peers) (number_of (other side) w) q [] (notes_at side ns) (is_run (notes_at side ns) h (by_itself ns w side t))
 
-  taken-told : (side : Side) (q : Pair) → taken side q ns ≡ (tallied takings_with no_takings (did_run q (Own side) new_state)).taken
+  pub taken-told : (side : Side) (q : Pair) → taken side q ns ≡ (tallied takings_with no_takings (did_run q (Own side) new_state)).taken
   taken-told side q = taken-by q side ns w t ∙ taken-tallied (uses_by q (Own side)) no_takings ∙ ap (λ (us : List Use). (tallied takings_with no_takings us).taken) (told-uses side q)
 
   allowed-told : (side : Side) (q : Pair) → allowed side q ns ≡ (tallied takings_with no_takings (did_run q (Own side) new_state)).allowed
@@ -105,7 +105,7 @@ module _ (ns : List Note) (w : Hosts) (t : IsTranscript ns w) where
 
 -- The text that is taken goes on what was taken.
 
-none-before : (xs ys : List Bool) → xs ++ ys ≡ [] → xs ≡ []
+pub none-before : (xs ys : List Bool) → xs ++ ys ≡ [] → xs ≡ []
 none-before [] ys e = refl
 none-before (x ∷ xs) ys e = absurd (cc)
 

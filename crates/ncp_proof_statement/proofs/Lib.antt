@@ -13,3 +13,5 @@ pub mod CommandsRead
 pub mod ErrFree
 pub mod Delivering
 pub mod Carrying
+pub mod AllTaken
+pub mod EachMoment

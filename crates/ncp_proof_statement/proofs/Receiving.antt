@@ -93,7 +93,7 @@ let-with false bits x = ap (λ (n : ℕ). (let y : Takings = record { taken = x.
     plus-none : (n : ℕ) → n ≡ n + 0
     plus-none n = grind arith
 
-as-then : (what : Happening) (o : Outcome) (x : Takings) → takings_with (use_then what o) x ≡ takings_then what o x
+pub as-then : (what : Happening) (o : Outcome) (x : Takings) → takings_with (use_then what o) x ≡ takings_then what o x
 as-then (all.Asks_to_send of_size with_room own full) o x = asked-with (is_accepted o) x
 as-then (all.Asks_to_receive with_room on own full) o x = asked-with (is_accepted o) x
 as-then (all.Gives text) o x = gave-with (is_accepted o) text x
@@ -170,7 +170,7 @@ takes-step pair what o past x fit s k =
       λ r. (books-kept pair what o past (one_way pair r) fit s (k.1 r).0, taken-kept pair what o past x (one_way pair r) fit s (k.1 r).1),
     )
 
-no-sender : (pair : Pair) → sends pair ≡ true → receives pair ≡ true → ⊥
+pub no-sender : (pair : Pair) → sends pair ≡ true → receives pair ≡ true → ⊥
 no-sender pair s r = let no : sends pair ≡ false = one_way pair r in absurd (cc (s, no))
 
 takes-ties : Ties Takings takings_with Takes

@@ -5,4 +5,5 @@
 pub mod each_pair;
 pub mod headline;
 pub mod histories;
+pub mod moments;
 pub mod since;

@@ -1,7 +1,7 @@
 //! Many connections over the same two lists of commands.
 ghost use Rattle.std.specs.Prelude.{◌≡◌, List, true, false};
 ghost use Rattle.ncp_model.specs.Pairs.{sends};
-ghost use Rattle.ncp_connections.specs.Ledger.{BothOpen, MessagesAgree, BitsAgree, Parted, Held, Begins};
+ghost use Rattle.ncp_connections.specs.Ledger.{BothOpen, MessagesAgree, BitsAgree, Parted, Held, Begins, TakenBegins};
 ghost use Rattle.ncp_connections.specs.Clearings.{OutStaysOpened};
 ghost use Rattle.ncp_sharing.specs.Finding.{SocketsFindSender, SocketsFindReceiver, GrantFinds, ReturnFinds, RequestFits, SenderHoldsLink, ReceiverHoldsLink, NoSenderOpens, NoReceiverOpens};
 ghost use Rattle.ncp_sharing.specs.Sharing.{Shared_event, MayHappen, AllMayHappen, new_shared, shared, shared_occurs, at, hosted_at, hears_at, uses_at};
@@ -19,6 +19,7 @@ pub fn each_loses_and_makes_nothing()
     ensures parted { (events : List Shared_event) (p : Pair) → AllMayHappen events new_shared → sends p ≡ true → BothOpen (at p (shared events)) → Parted (at p (shared events)) }
     ensures held { (events : List Shared_event) (p : Pair) → AllMayHappen events new_shared → sends p ≡ true → Held (at p (shared events)) }
     ensures beginning { (events : List Shared_event) (p : Pair) → AllMayHappen events new_shared → sends p ≡ true → Begins (at p (shared events)) }
+    ensures taken { (events : List Shared_event) (p : Pair) → AllMayHappen events new_shared → sends p ≡ true → TakenBegins (at p (shared events)) }
     ensures opened { (events : List Shared_event) (p : Pair) → AllMayHappen events new_shared → sends p ≡ true → OutStaysOpened (hosted_at p (shared events)) }
 {}
 

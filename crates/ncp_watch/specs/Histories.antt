@@ -6,11 +6,12 @@ use Rattle.ncp_model.specs.End.{End, is_live}
 use Rattle.ncp_model.specs.Happenings.{Happening, Outcome, Happened, happens}
 use Rattle.ncp_model.specs.Happenings as all
 
--- each since the last opening, which it outlives: a clearing or an end leaves it as it is
+-- each since the last opening, which it outlives: a clearing or an end leaves it as it is. What was taken begins anew
+-- where a receiver asks too, so that nothing was before its connection opens
 pub record Past : Type 0 where
   pub given : List Bool  -- by the sender's user
   pub got : List Bool  -- from the peer, and admitted
-  pub taken : List Bool  -- by the receiver's user
+  pub taken : List Bool  -- by the receiver's user, since the last ask
   pub granted_messages : ℕ  -- by ALL
   pub granted_bits : ℕ
   pub returned_messages : ℕ  -- by RET
@@ -34,6 +35,7 @@ taken_out outcome = []
 
 -- what a happening with its outcome adds
 abbrev pub adds : Happening → Outcome → Past → Past
+adds (all.Asks_to_receive with_room on own full) o past = record past { taken = if is_accepted o then [] else past.taken }
 adds (all.Gives text) o past = record past { given = past.given ++ (if is_accepted o then text else []) }
 adds (all.Takes bytes) o past = record past { taken = past.taken ++ taken_out o }
 adds (all.Allocates m b full) o past =

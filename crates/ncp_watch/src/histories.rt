@@ -42,7 +42,7 @@ pub fn receivers_keep_their_books()
 {}
 
 /// One connection at both ends, to show that these laws speak of something: two bytes of three go
-/// out and are taken.
+/// out and are taken. What was taken outlives a refused ask and a clearing, and an ask that is accepted begins it anew.
 pub fn one_connection()
     ensures sender { watch outward (all.Asks_to_send 8 64 0 false ∷ all.Rts_comes 2 false 0 ∷ all.All_comes 2 2 16 ∷ all.Gives (ones 16 ++ noughts 8) ∷ all.Text_goes_out ∷ []) ≡ record { end = Some (sent_one (record (counting 1 0) { stored = noughts 8 })); past = record no_past { given = ones 16 ++ noughts 8 } } }
     ensures receiver { watch inward (all.Asks_to_receive 64 2 0 false ∷ all.Str_comes 8 0 ∷ all.Allocates 2 16 false ∷ all.Text_comes (noughts 72) 8 (ones 16) ∷ all.Takes 100 ∷ []) ≡ record { end = Some (counting 1 0); past = record no_past { got = ones 16; taken = ones 16; granted_messages = 2; granted_bits = 16; used_messages = 1 } } }
@@ -50,6 +50,8 @@ pub fn one_connection()
     ensures outlives { (watch outward (all.Str_comes 8 0 ∷ all.Asks_to_send 8 64 0 false ∷ all.Rts_comes 2 false 0 ∷ all.Gives (ones 8) ∷ all.Is_cleared ∷ [])).past ≡ record no_past { given = ones 8 } }
     ensures in_order { (watch outward (all.Asks_to_send 8 64 0 false ∷ all.Rts_comes 2 false 0 ∷ all.Gives (ones 8) ∷ all.Gives (noughts 8) ∷ [])).past ≡ record no_past { given = ones 8 ++ noughts 8 } }
     ensures anew { watch outward (all.Asks_to_send 8 64 0 false ∷ all.Rts_comes 2 false 0 ∷ all.Gives (ones 8) ∷ all.Is_cleared ∷ all.Asks_to_send 8 64 0 false ∷ all.Rts_comes 2 false 0 ∷ []) ≡ record { end = Some opened_end; past = no_past } }
+    ensures asked { (watch inward (all.Asks_to_receive 64 2 0 false ∷ all.Str_comes 8 0 ∷ all.Allocates 2 16 false ∷ all.Text_comes (noughts 72) 8 (ones 16) ∷ all.Takes 100 ∷ all.Asks_to_receive 64 2 0 false ∷ all.Is_cleared ∷ [])).past.taken ≡ ones 16 }
+    ensures asked_anew { (watch inward (all.Asks_to_receive 64 2 0 false ∷ all.Str_comes 8 0 ∷ all.Allocates 2 16 false ∷ all.Text_comes (noughts 72) 8 (ones 16) ∷ all.Takes 100 ∷ all.Is_cleared ∷ all.Asks_to_receive 64 2 0 false ∷ [])).past ≡ record no_past { got = ones 16; granted_messages = 2; granted_bits = 16; used_messages = 1 } }
     ensures suits { Suit outward (all.Asks_to_send 8 64 0 false ∷ all.Rts_comes 2 false 0 ∷ all.All_comes 2 2 16 ∷ all.Gives (ones 16 ++ noughts 8) ∷ all.Text_goes_out ∷ []) × Suit inward (all.Asks_to_receive 64 2 0 false ∷ all.Str_comes 8 0 ∷ all.Allocates 2 16 false ∷ all.Text_comes (noughts 72) 8 (ones 16) ∷ all.Ret_comes 2 1 0 ∷ all.Takes 100 ∷ []) }
     ensures suits_not { Suit outward (all.Asks_to_send 8 64 0 false ∷ all.Ret_comes 2 1 0 ∷ []) → ⊥ }
     ensures refused { (watch inward (all.Asks_to_receive 64 2 0 false ∷ all.Str_comes 8 0 ∷ all.Allocates 2 65 false ∷ all.Ret_comes 2 1 0 ∷ all.Text_comes (noughts 72) 8 (ones 16) ∷ all.Gives (ones 8) ∷ [])).past ≡ no_past }

@@ -1,5 +1,5 @@
 use Rattle.ncp_connections.specs.Clearings.{change}
-use Rattle.ncp_connections.proofs.Outliving.{fit_ever, fit_safe, fit_open, fit_held, fit_begins, fit_opened}
+use Rattle.ncp_connections.proofs.Outliving.{fit_ever, fit_safe, fit_open, fit_held, fit_begins, fit_taken, fit_opened}
 use Rattle.ncp_connections.proofs.connections.clearings_lose_and_make_nothing.Goals as goal
 
 pub returns-clause-safe : goal.returns-clause-safe
@@ -19,6 +19,9 @@ returns-clause-held c = λ pair cs sd. (let h = change pair cs in fit_held pair 
 
 pub returns-clause-beginning : goal.returns-clause-beginning
 returns-clause-beginning c = λ pair cs sd. (let h = change pair cs in fit_begins pair sd h.sends h.receives h.connection (fit_ever pair sd cs))
+
+pub returns-clause-taken : goal.returns-clause-taken
+returns-clause-taken c = λ pair cs sd. (let h = change pair cs in fit_taken pair sd h.sends h.receives h.connection (fit_ever pair sd cs))
 
 pub returns-clause-opened : goal.returns-clause-opened
 returns-clause-opened c = λ pair cs sd. (let h = change pair cs in fit_opened pair sd h.sends h.receives h.connection (fit_ever pair sd cs))

@@ -1,5 +1,5 @@
 use Rattle.ncp_sharing.specs.Sharing.{shared, at}
-use Rattle.ncp_connections.proofs.Outliving.{fit_safe, fit_open, fit_held, fit_begins, fit_opened}
+use Rattle.ncp_connections.proofs.Outliving.{fit_safe, fit_open, fit_held, fit_begins, fit_taken, fit_opened}
 use Rattle.ncp_sharing.proofs.Projecting.{fits_ever}
 use Rattle.ncp_sharing.proofs.sharing.each_loses_and_makes_nothing.Goals as goal
 
@@ -20,6 +20,9 @@ returns-clause-held c = λ events p m sd. (let s = shared events in (fit_held p 
 
 pub returns-clause-beginning : goal.returns-clause-beginning
 returns-clause-beginning c = λ events p m sd. (let s = shared events in (fit_begins p sd s.sends s.receives (at p s) (fits_ever events m p sd)))
+
+pub returns-clause-taken : goal.returns-clause-taken
+returns-clause-taken c = λ events p m sd. (let s = shared events in (fit_taken p sd s.sends s.receives (at p s) (fits_ever events m p sd)))
 
 pub returns-clause-opened : goal.returns-clause-opened
 returns-clause-opened c = λ events p m sd. (let s = shared events in (fit_opened p sd s.sends s.receives (at p s) (fits_ever events m p sd)))
