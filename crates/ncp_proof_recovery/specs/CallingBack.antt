@@ -1,0 +1,38 @@
+-- A GVB is answered (NIC 8246, GVB and RET): where nothing can happen but a call, and both hosts are up, no receiver
+-- waits for a RET, as long as neither end of its connection is on its way out.
+use Rattle.std.specs.Prelude.{◌≡◌, true, false, List, Option, Some}
+use Rattle.std.specs.FinMap.{get}
+use Rattle.ncp_model.specs.declared.pair.Pair.{Pair}
+use Rattle.ncp_model.specs.Pairs.{sends, turned}
+use Rattle.ncp_model.specs.End.{End, is_going}
+use Rattle.ncp_model.specs.Phase.{up}
+use Rattle.ncp_resets.specs.Resets.{is_up}
+use Rattle.ncp_hosts.specs.Hosts as hosts
+use Rattle.ncp_two.specs.World.{World, swap}
+use Rattle.ncp_two.specs.declared.note.Note.{Note}
+use Rattle.ncp_two.specs.Between.{Hosts}
+use Rattle.ncp_two.specs.Seen.{seen}
+use Rattle.ncp_progress_settled.specs.Settled.{IsSettled}
+
+-- the sender's end and the receiver's: a receiver's GVB is unanswered while recall is set. An end on its way
+-- out takes a GVB as late, and no RET comes: this profile's rule.
+abbrev pub NoneIsCalledBack : Option End → Option End → Type 0
+NoneIsCalledBack s r = (e f : End) → s ≡ Some e → r ≡ Some f → is_going e ≡ false → is_going f ≡ false → f.recall ≡ false
+
+-- of each pair, from this host to that one
+abbrev pub NoneCallsBack : hosts.World → Type 0
+NoneCallsBack w = (pair : Pair) → sends pair ≡ true → NoneIsCalledBack (get w.this.ends pair) (get w.that.ends (turned pair))
+
+-- either way, between two of the model that are up
+abbrev pub AllReturned : hosts.World → Type 0
+AllReturned w = is_up w.this.host ≡ true → is_up w.that.host ≡ true → NoneCallsBack w × NoneCallsBack (hosts.swap w)
+
+-- and of a transcript
+abbrev pub NoneCallsBackThen : World → Type 0
+NoneCallsBackThen v = (pair : Pair) → sends pair ≡ true → NoneIsCalledBack (get v.this.peer.ends pair) (get v.that.peer.ends (turned pair))
+
+abbrev pub AllReturnedThen : World → Type 0
+AllReturnedThen v = up v.this.peer.phase ≡ true → up v.that.peer.phase ≡ true → NoneCallsBackThen v × NoneCallsBackThen (swap v)
+
+abbrev pub GvbsAreAnswered : List Note → Hosts → Type 0
+GvbsAreAnswered ns w = IsSettled (seen w) → AllReturnedThen (seen w)

@@ -1,0 +1,4 @@
+pub mod Recovery
+pub mod Notes
+pub mod Echoes
+pub mod CallingBack

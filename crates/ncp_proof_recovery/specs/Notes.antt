@@ -1,0 +1,49 @@
+-- The same of a transcript of two hosts: a reset that was done, and what is noted after it.
+use Rattle.std.specs.Prelude.{◌≡◌, ℕ, Bool, true, false, List, [], ◌∷◌, ◌++◌, Option, None, Some}
+use Rattle.ncp_model.specs.Ends.{no_ends}
+use Rattle.ncp_model.specs.Phase.{up}
+use Rattle.ncp_host.specs.PeerState.{PeerState}
+use Rattle.ncp_transcript.specs.declared.call.Call.TheVariants as calls
+use Rattle.ncp_transcript.specs.declared.note.HostNote.TheVariants as of_host
+use Rattle.ncp_two.specs.World.{World, Asks, Asks_echo, Asks_reset, Told, Called}
+use Rattle.ncp_two.specs.declared.side.Side.{Side}
+use Rattle.ncp_two.specs.declared.note.Note.{Note}
+use Rattle.ncp_two.specs.declared.note.Note.TheVariants as notes
+use Rattle.ncp_two.specs.Between.{Hosts}
+use Rattle.ncp_two.specs.Seen.{seen, told_of}
+use Rattle.ncp_progress_settled.specs.Settled.{IsSettled}
+
+-- a call that was done, other than one for what is held; a call that was refused tells nothing
+abbrev pub is_call : Told → Bool
+is_call (Called (Asks pair call) reply) = true
+is_call (Called (Asks_echo byte) reply) = true
+is_call (Called Asks_reset reply) = true
+is_call told = false
+
+abbrev pub tells_call : Option Told → Bool
+tells_call None = false
+tells_call (Some told) = is_call told
+
+-- no user asked for anything but what is held
+abbrev pub NothingIsAsked : List Note → Type 0
+NothingIsAsked [] = Unit {0}
+NothingIsAsked (note ∷ rest) = (tells_call (told_of note) ≡ false) × NothingIsAsked rest
+
+-- the note of a reset that was accepted
+abbrev pub reset_done : Side → ℕ → Note
+reset_done side peer = notes.Called side (of_host.Done (calls.Reset peer))
+
+-- what a host has of its peer: they are up, there are no ends, and no echo is awaited
+pub record IsNew (s : PeerState) : Type 0 where
+  pub up : up s.peer.phase ≡ true
+  pub ends : s.peer.ends ≡ no_ends
+  pub echo : s.peer.echoes.awaited ≡ false
+
+abbrev pub AreNew : World → Type 0
+AreNew v = IsNew v.this × IsNew v.that
+
+-- after a reset that was done nothing was asked for, and nothing can happen now: so whatever was noted before, both
+-- hosts are as new
+abbrev pub ResetRecovers : List Note → Hosts → Type 0
+ResetRecovers ns w =
+    (before quiet : List Note) (side : Side) (peer : ℕ) → ns ≡ before ++ reset_done side peer ∷ quiet → NothingIsAsked quiet → IsSettled (seen w) → AreNew (seen w)

@@ -1,0 +1,21 @@
+//! A GVB is answered.
+ghost use Rattle.std.specs.Prelude.{List};
+ghost use Rattle.ncp_hosts.specs.Hosts.{Event, run};
+ghost use Rattle.ncp_progress_idle.specs.Idle.{IsSettled};
+ghost use Rattle.ncp_two.specs.declared.note.Note.{Note};
+ghost use Rattle.ncp_two.specs.Between.{Hosts};
+ghost use Rattle.ncp_two.specs.Transcript.{IsTranscript};
+ghost use Rattle.ncp_pairs.specs.declared.many_note.ManyNote.{ManyNote as Noted};
+ghost use Rattle.ncp_pairs.specs.Crowd.{Crowd};
+ghost use Rattle.ncp_pairs.specs.ManyTranscript.{IsManyTranscript};
+ghost use Rattle.ncp_pairs.specs.Pairs.{ForEachTwo};
+ghost use Rattle.ncp_proof_recovery.specs.CallingBack.{AllReturned, GvbsAreAnswered};
+
+/// A GVB is answered: where nothing moves any more and both hosts are up, no receiver waits for a RET, as long as neither end
+/// of its connection is on its way out. So it is after every schedule of the model's two hosts (`ever`), after every
+/// transcript of two (`two`), and of each two of two to eight (`many`).
+pub fn calls_back_are_answered()
+    ensures ever { (events : List Event) → IsSettled (run events) → AllReturned (run events) }
+    ensures two { (notes : List Note) (w : Hosts) → IsTranscript notes w → GvbsAreAnswered notes w }
+    ensures many { (notes : List Noted) (m : Crowd) → IsManyTranscript notes m → ForEachTwo GvbsAreAnswered notes m }
+{}

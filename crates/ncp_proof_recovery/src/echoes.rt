@@ -1,0 +1,23 @@
+//! An echo is answered.
+ghost use Rattle.std.specs.Prelude.{◌≡◌, true, List};
+ghost use Rattle.ncp_hosts.specs.Hosts.{Event, run};
+ghost use Rattle.ncp_hosts.specs.HostRuns.{echo_asks};
+ghost use Rattle.ncp_progress_idle.specs.Idle.{IsSettled};
+ghost use Rattle.ncp_two.specs.declared.note.Note.{Note};
+ghost use Rattle.ncp_two.specs.Between.{Hosts};
+ghost use Rattle.ncp_two.specs.Transcript.{IsTranscript};
+ghost use Rattle.ncp_pairs.specs.declared.many_note.ManyNote.{ManyNote as Noted};
+ghost use Rattle.ncp_pairs.specs.Crowd.{Crowd};
+ghost use Rattle.ncp_pairs.specs.ManyTranscript.{IsManyTranscript};
+ghost use Rattle.ncp_pairs.specs.Pairs.{ForEachTwo};
+ghost use Rattle.ncp_proof_recovery.specs.Echoes.{NoneAwaits, EchoesAreAnswered};
+
+/// An echo is answered: where nothing moves any more and both hosts are up, neither awaits one. So it is after every
+/// schedule of the model's two hosts (`ever`), after every transcript of two (`two`), and of each two of two to eight
+/// (`many`). Where an ECO has just been made one is awaited (`asked`).
+pub fn echoes_are_answered()
+    ensures ever { (events : List Event) → IsSettled (run events) → NoneAwaits (run events) }
+    ensures asked { NoneAwaits (run echo_asks) → ⊥ }
+    ensures two { (notes : List Note) (w : Hosts) → IsTranscript notes w → EchoesAreAnswered notes w }
+    ensures many { (notes : List Noted) (m : Crowd) → IsManyTranscript notes m → ForEachTwo EchoesAreAnswered notes m }
+{}

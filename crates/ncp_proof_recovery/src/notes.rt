@@ -1,0 +1,19 @@
+//! What is noted of two hosts, or of two to eight, shows that a reset recovers.
+ghost use Rattle.std.specs.Prelude.{List};
+ghost use Rattle.ncp_two.specs.declared.note.Note.{Note};
+ghost use Rattle.ncp_two.specs.Between.{Hosts};
+ghost use Rattle.ncp_two.specs.Transcript.{IsTranscript};
+ghost use Rattle.ncp_pairs.specs.declared.many_note.ManyNote.{ManyNote as Noted};
+ghost use Rattle.ncp_pairs.specs.Crowd.{Crowd};
+ghost use Rattle.ncp_pairs.specs.ManyTranscript.{IsManyTranscript};
+ghost use Rattle.ncp_pairs.specs.Pairs.{ForEachTwo};
+ghost use Rattle.ncp_proof_recovery.specs.Notes.{ResetRecovers};
+
+/// In every transcript of two hosts in which a reset was done, and after it no user asked for anything but for what is
+/// held: where no message is ready, in transit or held, both hosts are up with each other, neither has an end for the
+/// other or awaits an echo from it. Whatever was noted before the reset, a host that had gone down too. Among two to eight
+/// hosts it is so of each two (`many`), whatever happens at and between the others.
+pub fn resets_recover()
+    ensures two { (notes : List Note) (w : Hosts) → IsTranscript notes w → ResetRecovers notes w }
+    ensures many { (notes : List Noted) (m : Crowd) → IsManyTranscript notes m → ForEachTwo ResetRecovers notes m }
+{}

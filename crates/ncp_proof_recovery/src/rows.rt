@@ -1,0 +1,52 @@
+//! What a user asks for, and what comes about without him; hosts that are as new, and such as are not.
+ghost use Rattle.std.specs.Prelude.{true, List, [], ◌∷◌, Some};
+ghost use Rattle.ncp_model.specs.declared.call_fault.CallFault.{CallFault};
+ghost use Rattle.ncp_model.specs.Peers.{Interrupt};
+ghost use Rattle.ncp_model.specs.Phase.{up_phase};
+ghost use Rattle.ncp_model.specs.Rows.{outward, opened_end, gone};
+ghost use Rattle.ncp_resets.specs.Resets.{This, That, anew};
+ghost use Rattle.ncp_hosts.specs.Hosts.{Calls, Falls, Sends, Hears, Wakes, new_node};
+ghost use Rattle.ncp_hosts.specs.HostRuns.{by, comes_up};
+ghost use Rattle.ncp_host.specs.PeerState.{new_state};
+ghost use Rattle.ncp_transcript.specs.declared.call.Call.{Call};
+ghost use Rattle.ncp_transcript.specs.declared.note.HostNote.{HostNote};
+ghost use Rattle.ncp_two.specs.declared.side.Side.{Side};
+ghost use Rattle.ncp_two.specs.declared.note.Note.{Note};
+ghost use Rattle.ncp_proof_recovery.specs.CallingBack.{NoneIsCalledBack};
+ghost use Rattle.ncp_proof_recovery.specs.Notes.{NothingIsAsked, reset_done, IsNew};
+ghost use Rattle.ncp_proof_recovery.specs.Recovery.{IsQuiet, IsFresh};
+
+/// Messages that go out and come, and what is held and woken, come about without a user; a call does not, nor does a
+/// reset, nor a host that goes down of itself.
+pub fn what_is_quiet()
+    ensures moves { IsQuiet (by This (Sends 0) ∷ by That Hears ∷ by This Wakes ∷ []) }
+    ensures call { IsQuiet (by That (Calls outward Interrupt) ∷ []) → ⊥ }
+    ensures reset { IsQuiet (comes_up This) → ⊥ }
+    ensures falls { IsQuiet (by This (Sends 0) ∷ by That Falls ∷ []) → ⊥ }
+{}
+
+/// A note of a call that was done tells that something was asked for; one that was refused, one for what is held, and what the
+/// subnet did do not.
+pub fn what_is_asked()
+    ensures reset { NothingIsAsked (reset_done Side.A 2 ∷ []) → ⊥ }
+    ensures echo { NothingIsAsked (Note.Lost Side.A 2 ∷ Note.Called Side.B (HostNote.Done (Call.Echo 1 65)) ∷ []) → ⊥ }
+    ensures refused { NothingIsAsked (Note.Called Side.B (HostNote.Refused (Call.Echo 1 65) CallFault.NotUp) ∷ []) }
+    ensures wake { NothingIsAsked (Note.Called Side.A (HostNote.Done (Call.Wake 2)) ∷ Note.Lost Side.A 2 ∷ Note.FoundDead Side.B 0 ∷ []) }
+{}
+
+/// Not as new: a host that is down, and one that awaits an echo.
+pub fn what_is_not_as_new()
+    ensures down { IsFresh new_node → ⊥ }
+    ensures fresh { IsFresh (record new_node { host = anew up_phase }) }
+    ensures echo { IsFresh (record new_node { host = anew up_phase; echoes = record new_node.echoes { awaited = true } }) → ⊥ }
+    ensures down_too { IsNew new_state → ⊥ }
+    ensures new { IsNew (record new_state { peer = record new_state.peer { phase = up_phase } }) }
+    ensures echo_too { IsNew (record new_state { peer = record new_state.peer { phase = up_phase; echoes = record new_state.peer.echoes { awaited = true } } }) → ⊥ }
+{}
+
+/// A GVB is unanswered between two open ends where recall is set at the receiver's; one whose sender has closed stays so
+/// while its receiver holds text.
+pub fn what_is_called_back()
+    ensures unanswered { NoneIsCalledBack (Some opened_end) (Some (record opened_end { recall = true })) → ⊥ }
+    ensures late { NoneIsCalledBack (Some (gone opened_end)) (Some (record opened_end { recall = true })) }
+{}
