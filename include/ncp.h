@@ -1,8 +1,9 @@
 /* A host of the ARPANET with its one to eight peers, as an emulator links it: C99 and C++.
  *
- * Link `libncp.a`, which `include/library` makes. docs/EMBEDDING.md says how a host is driven.
+ * Link libncp.a or libncp.so, which stand in prebuilt/, or are made by include/library and put in place by
+ * include/install. docs/EMBEDDING.md says how a host is driven, examples/embed has whole programs.
  *
- * Every function but ncp_free and ncp_is_made answers a number: 0 where it was done, else why not.
+ * Every function whose result is a `uint32_t` answers a number: 0 where it was done, else why not.
  * What is refused changes nothing, neither the host nor a buffer. Refusals are judged in the order
  * in which they are listed, and first of all: NCP_NO_HOST (`host` is null, or has no host),
  * NCP_NO_POINTER (another pointer is null, also one to no bytes), then what is said of buffers and
@@ -14,8 +15,8 @@
  * What the caller has to uphold, and nothing checks:
  * - A `struct ncp_host` is NCP_EMPTY before its first use. Later its content is what these functions
  *   left there: it may be moved to another place, but of two copies only one is used.
- * - One call at a time for each host, also of those that only read, and each host on the thread that
- *   made it.
+ * - One call at a time for each host, also of those that only read. A host may move to another thread
+ *   where what orders the calls, as a lock or a join, stands between them.
  * - A pointer that is not null leads to as much memory as the length beside it says, or to one of its
  *   type; no two of one call overlap, and each is aligned as its type asks.
  * - malloc, realloc and free are one allocator, which aligns a block to each power of two up to 16 that
@@ -29,11 +30,14 @@
 #include <stddef.h>
 #include <stdint.h>
 
+/* The version of this header; ncp_version tells that of the library. */
+#define NCP_VERSION "1.1.0"
+
 #ifdef __cplusplus
 extern "C" {
 #endif
 
-/* What is answered. */
+/* What is answered. No two of these are one number. */
 enum {
     NCP_DONE = 0,
 
@@ -56,10 +60,6 @@ enum {
     NCP_QUEUE_FULL = 16,
     NCP_OUT_OF_MEMORY = 17,
 
-    /* By ncp_new alone, in place of these. */
-    NCP_NEW_BAD_PEERS = 1,
-    NCP_NEW_OUT_OF_MEMORY = 2,
-
     NCP_NO_HOST = 32,
     NCP_NO_POINTER = 33,
     NCP_SHORT_BUFFER = 34, /* less room than the longest answer takes */
@@ -68,7 +68,11 @@ enum {
     /* By ncp_receive and ncp_give: 40 and the number of the fault of bits. */
     NCP_TOO_LONG = 41,       /* more than 8192 bits */
     NCP_SHORT_BYTES = 42,    /* fewer bytes than the bits take */
-    NCP_SPARE_NOT_ZERO = 43  /* a spare bit of the last byte used is set */
+    NCP_SPARE_NOT_ZERO = 43, /* a spare bit of the last byte used is set */
+
+    /* By ncp_new: 64 and the number of the refusal. */
+    NCP_NEW_BAD_PEERS = 65,
+    NCP_NEW_OUT_OF_MEMORY = 66
 };
 
 /* Lengths in bytes: of the longest message or text, command, and name. */
@@ -85,7 +89,8 @@ enum {
     NCP_ARRIVED_OTHER = 2,      /* `detail`: a type that says nothing to a host */
     NCP_ARRIVED_UNKNOWN = 3,    /* from a host that is no peer */
     NCP_ARRIVED_STRAY = 4,      /* an answer where none is waited for */
-    NCP_ARRIVED_ANSWERED = 5,   /* the answer to the message that went out on its link */
+    NCP_ARRIVED_ANSWERED = 5,   /* the answer to the message that went out on its link; `detail`: its type, 5
+                                 * for RFNM, 7 for Destination Dead, 9 for Incomplete Transmission */
     NCP_ARRIVED_FAULT = 6,      /* `detail`: why it is no regular message, in this order: 1 shorter than
                                  * leader and prefix, 2 the eight bits before the byte size are not zero,
                                  * 3 the byte size is zero, 4 the eight bits after the byte count are not
@@ -97,7 +102,8 @@ enum {
     NCP_ARRIVED_NOT_UP = 11     /* a text while the host is not up with the peer */
 };
 
-/* A host, or none. NCP_EMPTY only initializes one, as in `struct ncp_host host = NCP_EMPTY;`. */
+/* A host, or none. NCP_EMPTY only initializes one, as in `struct ncp_host host = NCP_EMPTY;`; a static one, and one
+ * that is all zeros, is empty too. */
 struct ncp_host {
     void *at;
 };
@@ -106,6 +112,8 @@ struct ncp_host {
 struct ncp_arrived {
     uint32_t what;
     uint32_t detail;
+    uint8_t peer; /* the host that the leader names; 0 where there is none */
+    uint8_t link; /* and its link */
 };
 
 /* The flags for a peer: the host is up with it where none is set. Each peer starts with `down` alone. */
@@ -162,278 +170,152 @@ struct ncp_connection {
     bool recall;         /* a receiver's GVB is unanswered */
 };
 
-/* The functions of the library. No pointer of theirs may be null: call those below, which see to it.
- * A `host` whose `at` is null has no host, and is answered NCP_NO_HOST by these too, behind what they
- * say of bits and buffers. */
-uint32_t ncp_embed_new(struct ncp_host *handle, uint8_t me, const uint8_t *peers, size_t peers_len);
-void ncp_embed_free(struct ncp_host *handle);
-uint32_t ncp_embed_receive(struct ncp_host *handle, const uint8_t *bytes, size_t bytes_len, size_t bits, struct ncp_arrived *arrived);
-uint32_t ncp_embed_next_output(struct ncp_host *handle, uint8_t *out, size_t out_len, size_t *bits);
-uint32_t ncp_embed_reset(struct ncp_host *handle, uint8_t peer);
-uint32_t ncp_embed_ask_send(struct ncp_host *handle, uint8_t peer, uint32_t local, uint32_t remote, uint8_t size, uint32_t room);
-uint32_t ncp_embed_ask_receive(struct ncp_host *handle, uint8_t peer, uint32_t local, uint32_t remote, uint32_t room);
-uint32_t ncp_embed_give(struct ncp_host *handle, uint8_t peer, uint32_t local, uint32_t remote, const uint8_t *bytes, size_t bytes_len, size_t bits);
-uint32_t ncp_embed_take(struct ncp_host *handle, uint8_t peer, uint32_t local, uint32_t remote, uint32_t bytes, uint8_t *out, size_t out_len, size_t *bits);
-uint32_t ncp_embed_allocate(struct ncp_host *handle, uint8_t peer, uint32_t local, uint32_t remote, uint16_t messages, uint32_t bits);
-uint32_t ncp_embed_call_back(struct ncp_host *handle, uint8_t peer, uint32_t local, uint32_t remote, uint8_t fm, uint8_t fb);
-uint32_t ncp_embed_interrupt(struct ncp_host *handle, uint8_t peer, uint32_t local, uint32_t remote);
-uint32_t ncp_embed_close(struct ncp_host *handle, uint8_t peer, uint32_t local, uint32_t remote);
-uint32_t ncp_embed_echo(struct ncp_host *handle, uint8_t peer, uint8_t byte);
-uint32_t ncp_embed_wake(struct ncp_host *handle, uint8_t peer);
-uint32_t ncp_embed_state(struct ncp_host *handle, uint8_t peer, uint32_t local, uint32_t remote, struct ncp_connection *out);
-uint32_t ncp_embed_phase(struct ncp_host *handle, uint8_t peer, struct ncp_flags *out);
-uint32_t ncp_embed_echoed(struct ncp_host *handle, uint8_t peer, uint8_t *byte);
-uint32_t ncp_embed_error(struct ncp_host *handle, uint8_t peer, uint32_t place, struct ncp_noted *out);
-uint32_t ncp_embed_counts(struct ncp_host *handle, uint8_t peer, struct ncp_counted *out);
-uint32_t ncp_embed_ignored(struct ncp_host *handle, struct ncp_discarded *out);
-uint32_t ncp_embed_waiting(struct ncp_host *handle, uint8_t peer, uint32_t place, uint8_t *out, size_t out_len, size_t *bytes);
-uint32_t ncp_embed_kept(struct ncp_host *handle, uint8_t peer, uint8_t link, uint8_t *out, size_t out_len, size_t *bits);
-uint32_t ncp_embed_name(uint32_t code, uint8_t *out, size_t out_len, size_t *bytes);
-uint32_t ncp_embed_new_name(uint32_t code, uint8_t *out, size_t out_len, size_t *bytes);
-
-#ifdef __cplusplus
-}
-#endif
-
 /* Whether there is a host. */
-static inline bool ncp_is_made(const struct ncp_host *host)
-{
-    return host != NULL && host->at != NULL;
-}
+bool ncp_is_made(const struct ncp_host *host);
 
 /* Makes a host of the number `me` with these peers, in this order. It is down with each. A host that
  * was there before is freed where NCP_DONE is answered. `host` need not have one, but may not be null.
  * Refused, in this order: NCP_NEW_BAD_PEERS (not one to eight, not distinct, or one is `me`),
  * NCP_NEW_OUT_OF_MEMORY. */
-static inline uint32_t ncp_new(struct ncp_host *host, uint8_t me, const uint8_t *peers, size_t count)
-{
-    if (host == NULL) return NCP_NO_HOST;
-    if (peers == NULL) return NCP_NO_POINTER;
-    return ncp_embed_new(host, me, peers, count);
-}
+uint32_t ncp_new(struct ncp_host *host, uint8_t me, const uint8_t *peers, size_t count);
 
 /* Frees the host, if there is one. `host` is then NCP_EMPTY. */
-static inline void ncp_free(struct ncp_host *host)
-{
-    if (ncp_is_made(host)) ncp_embed_free(host);
-}
+void ncp_free(struct ncp_host *host);
 
 /* Gives the host a message that came from its IMP, with its leader, of so many bits in `len` bytes.
  * Takes no memory. What became of it stands in `arrived`.
  * Refused, in this order: NCP_TOO_LONG, NCP_SHORT_BYTES, NCP_SPARE_NOT_ZERO. */
-static inline uint32_t ncp_receive(struct ncp_host *host, const uint8_t *bytes, size_t len, size_t bits, struct ncp_arrived *arrived)
-{
-    if (!ncp_is_made(host)) return NCP_NO_HOST;
-    if (bytes == NULL || arrived == NULL) return NCP_NO_POINTER;
-    return ncp_embed_receive(host, bytes, len, bits, arrived);
-}
+uint32_t ncp_receive(struct ncp_host *host, const uint8_t *bytes, size_t len, size_t bits, struct ncp_arrived *arrived);
 
 /* Takes the message that is to go to the IMP next, with its leader: `*bits` bits in the first bytes of
  * `out`, which has `len` bytes. Takes no memory.
  * Refused, in this order: NCP_SHORT_BUFFER (fewer than NCP_LONGEST_MESSAGE), NCP_NOTHING (none is
  * ready; what is called or received next may make one ready). */
-static inline uint32_t ncp_next_output(struct ncp_host *host, uint8_t *out, size_t len, size_t *bits)
-{
-    if (!ncp_is_made(host)) return NCP_NO_HOST;
-    if (out == NULL || bits == NULL) return NCP_NO_POINTER;
-    return ncp_embed_next_output(host, out, len, bits);
-}
+uint32_t ncp_next_output(struct ncp_host *host, uint8_t *out, size_t len, size_t *bits);
 
 /* Resets with a peer: all connections with it end, and once the data links to it are quiet an RST
  * waits. Refused, in this order: NCP_UNKNOWN_PEER, NCP_BUSY (a reset is under way). */
-static inline uint32_t ncp_reset(struct ncp_host *host, uint8_t peer)
-{
-    if (!ncp_is_made(host)) return NCP_NO_HOST;
-    return ncp_embed_reset(host, peer);
-}
+uint32_t ncp_reset(struct ncp_host *host, uint8_t peer);
 
 /* Asks to send from the socket `local` here to the socket `remote` of the peer, with `size` bits a byte
  * and room for `room` bits that wait. An STR waits then. Takes memory for the room.
- * Refused, in this order: NCP_UNKNOWN_PEER, NCP_NOT_UP, NCP_BAD_SEX (`local` is odd, `remote` even),
+ * Refused, in this order: NCP_UNKNOWN_PEER, NCP_NOT_UP, NCP_BAD_SEX (`local` has to be odd, `remote` even),
  * NCP_BAD_SIZE (0), NCP_BAD_ROOM (outside 1 to 65536 bits), NCP_ALREADY_ASKED, NCP_CLOSING,
  * NCP_TABLE_FULL (64 connections with the peer have an own request), NCP_QUEUE_FULL (256 or more
  * commands wait), NCP_OUT_OF_MEMORY. */
-static inline uint32_t ncp_ask_send(struct ncp_host *host, uint8_t peer, uint32_t local, uint32_t remote, uint8_t size, uint32_t room)
-{
-    if (!ncp_is_made(host)) return NCP_NO_HOST;
-    return ncp_embed_ask_send(host, peer, local, remote, size, room);
-}
+uint32_t ncp_ask_send(struct ncp_host *host, uint8_t peer, uint32_t local, uint32_t remote, uint8_t size, uint32_t room);
 
 /* Asks to receive at the socket `local` here from the socket `remote` of the peer, with room for `room`
  * bits that are held, on the lowest link that is free. An RTS waits then. Takes memory for the room.
- * Refused, in this order: NCP_UNKNOWN_PEER, NCP_NOT_UP, NCP_BAD_SEX (`local` is even, `remote` odd),
+ * Refused, in this order: NCP_UNKNOWN_PEER, NCP_NOT_UP, NCP_BAD_SEX (`local` has to be even, `remote` odd),
  * NCP_BAD_ROOM, NCP_ALREADY_ASKED, NCP_CLOSING, NCP_TABLE_FULL, NCP_QUEUE_FULL, NCP_OUT_OF_MEMORY,
  * each as in ncp_ask_send. */
-static inline uint32_t ncp_ask_receive(struct ncp_host *host, uint8_t peer, uint32_t local, uint32_t remote, uint32_t room)
-{
-    if (!ncp_is_made(host)) return NCP_NO_HOST;
-    return ncp_embed_ask_receive(host, peer, local, remote, room);
-}
+uint32_t ncp_ask_receive(struct ncp_host *host, uint8_t peer, uint32_t local, uint32_t remote, uint32_t room);
 
 /* Gives text to send, of so many bits in `len` bytes: it joins the bits that wait, at their end.
  * Refused, in this order: NCP_TOO_LONG, NCP_SHORT_BYTES, NCP_SPARE_NOT_ZERO, NCP_UNKNOWN_PEER,
  * NCP_NOT_UP, NCP_NO_ENTRY, NCP_CLOSING, NCP_NOT_OPEN, NCP_WRONG_END (a receiver), NCP_NOT_WHOLE (no
  * multiple of the byte size), NCP_NO_ROOM. */
-static inline uint32_t ncp_give(struct ncp_host *host, uint8_t peer, uint32_t local, uint32_t remote, const uint8_t *bytes, size_t len, size_t bits)
-{
-    if (!ncp_is_made(host)) return NCP_NO_HOST;
-    if (bytes == NULL) return NCP_NO_POINTER;
-    return ncp_embed_give(host, peer, local, remote, bytes, len, bits);
-}
+uint32_t ncp_give(struct ncp_host *host, uint8_t peer, uint32_t local, uint32_t remote, const uint8_t *bytes, size_t len, size_t bits);
 
 /* Takes held text from its front: `*bits` bits in the first bytes of `out`, which has `len` bytes. They
- * are as many whole bytes of the connection as `bytes` asks for, are held, and fit one message. A
+ * are as many whole bytes of the connection as `bytes` asks for, are held, and fit one message: with
+ * UINT32_MAX all that fit. A
  * receiver that closes and is emptied makes its CLS: where that is the 513th command that waits, the
  * host goes down with the peer, and the bits are answered all the same.
  * Refused, in this order: NCP_SHORT_BUFFER (fewer than NCP_LONGEST_MESSAGE), NCP_UNKNOWN_PEER,
  * NCP_NOT_UP, NCP_NO_ENTRY, NCP_CLOSING (left), NCP_NOT_OPEN (never opened), NCP_WRONG_END (a
  * sender). */
-static inline uint32_t ncp_take(struct ncp_host *host, uint8_t peer, uint32_t local, uint32_t remote, uint32_t bytes, uint8_t *out, size_t len, size_t *bits)
-{
-    if (!ncp_is_made(host)) return NCP_NO_HOST;
-    if (out == NULL || bits == NULL) return NCP_NO_POINTER;
-    return ncp_embed_take(host, peer, local, remote, bytes, out, len, bits);
-}
+uint32_t ncp_take(struct ncp_host *host, uint8_t peer, uint32_t local, uint32_t remote, uint32_t bytes, uint8_t *out, size_t len, size_t *bits);
 
 /* Allows the sender so many messages and bits more. An ALL waits then.
  * Refused, in this order: NCP_UNKNOWN_PEER, NCP_NOT_UP, NCP_NO_ENTRY, NCP_CLOSING, NCP_NOT_OPEN,
  * NCP_WRONG_END (a sender), NCP_TOO_MUCH (for the room, or for a counter), NCP_QUEUE_FULL. */
-static inline uint32_t ncp_allocate(struct ncp_host *host, uint8_t peer, uint32_t local, uint32_t remote, uint16_t messages, uint32_t bits)
-{
-    if (!ncp_is_made(host)) return NCP_NO_HOST;
-    return ncp_embed_allocate(host, peer, local, remote, messages, bits);
-}
+uint32_t ncp_allocate(struct ncp_host *host, uint8_t peer, uint32_t local, uint32_t remote, uint16_t messages, uint32_t bits);
 
 /* Asks the sender to give back `fm` 128ths of its messages and `fb` 128ths of its bits. A GVB waits
  * then. Refused, in this order: NCP_UNKNOWN_PEER, NCP_NOT_UP, NCP_NO_ENTRY, NCP_CLOSING, NCP_NOT_OPEN,
  * NCP_WRONG_END (a sender), NCP_BUSY (the last one has had no RET), NCP_QUEUE_FULL. */
-static inline uint32_t ncp_call_back(struct ncp_host *host, uint8_t peer, uint32_t local, uint32_t remote, uint8_t fm, uint8_t fb)
-{
-    if (!ncp_is_made(host)) return NCP_NO_HOST;
-    return ncp_embed_call_back(host, peer, local, remote, fm, fb);
-}
+uint32_t ncp_call_back(struct ncp_host *host, uint8_t peer, uint32_t local, uint32_t remote, uint8_t fm, uint8_t fb);
 
 /* Interrupts the other side. An INS waits then where this side sends, else an INR.
  * Refused, in this order: NCP_UNKNOWN_PEER, NCP_NOT_UP, NCP_NO_ENTRY, NCP_CLOSING, NCP_NOT_OPEN,
  * NCP_QUEUE_FULL. */
-static inline uint32_t ncp_interrupt(struct ncp_host *host, uint8_t peer, uint32_t local, uint32_t remote)
-{
-    if (!ncp_is_made(host)) return NCP_NO_HOST;
-    return ncp_embed_interrupt(host, peer, local, remote);
-}
+uint32_t ncp_interrupt(struct ncp_host *host, uint8_t peer, uint32_t local, uint32_t remote);
 
 /* Closes this side of a connection: what is stored is dropped, and a CLS waits then, or while a text is
  * out it is due. Refused, in this order: NCP_UNKNOWN_PEER, NCP_NOT_UP, NCP_NO_ENTRY, NCP_CLOSING (left,
  * or leaving at a sending end), NCP_QUEUE_FULL (also where no command would wait). */
-static inline uint32_t ncp_close(struct ncp_host *host, uint8_t peer, uint32_t local, uint32_t remote)
-{
-    if (!ncp_is_made(host)) return NCP_NO_HOST;
-    return ncp_embed_close(host, peer, local, remote);
-}
+uint32_t ncp_close(struct ncp_host *host, uint8_t peer, uint32_t local, uint32_t remote);
 
 /* Asks for an echo of a byte. An ECO waits then.
  * Refused, in this order: NCP_UNKNOWN_PEER, NCP_NOT_UP, NCP_BUSY (the last one has had no ERP),
  * NCP_QUEUE_FULL. */
-static inline uint32_t ncp_echo(struct ncp_host *host, uint8_t peer, uint8_t byte)
-{
-    if (!ncp_is_made(host)) return NCP_NO_HOST;
-    return ncp_embed_echo(host, peer, byte);
-}
+uint32_t ncp_echo(struct ncp_host *host, uint8_t peer, uint8_t byte);
 
 /* Asks for the messages to a peer that are held since their destination was dead: they are to go out
  * again. Refused: NCP_UNKNOWN_PEER. */
-static inline uint32_t ncp_wake(struct ncp_host *host, uint8_t peer)
-{
-    if (!ncp_is_made(host)) return NCP_NO_HOST;
-    return ncp_embed_wake(host, peer);
-}
+uint32_t ncp_wake(struct ncp_host *host, uint8_t peer);
 
 /* What is known of a connection. Refused, in this order: NCP_UNKNOWN_PEER, NCP_NO_ENTRY. */
-static inline uint32_t ncp_state(struct ncp_host *host, uint8_t peer, uint32_t local, uint32_t remote, struct ncp_connection *out)
-{
-    if (!ncp_is_made(host)) return NCP_NO_HOST;
-    if (out == NULL) return NCP_NO_POINTER;
-    return ncp_embed_state(host, peer, local, remote, out);
-}
+uint32_t ncp_state(struct ncp_host *host, uint8_t peer, uint32_t local, uint32_t remote, struct ncp_connection *out);
+
+/* Whether a connection is open: both requests were made, and this side is not closing. Not where there is no host, or no such
+ * connection. */
+bool ncp_is_open(struct ncp_host *host, uint8_t peer, uint32_t local, uint32_t remote);
 
 /* The flags for a peer. Refused: NCP_UNKNOWN_PEER. */
-static inline uint32_t ncp_phase(struct ncp_host *host, uint8_t peer, struct ncp_flags *out)
-{
-    if (!ncp_is_made(host)) return NCP_NO_HOST;
-    if (out == NULL) return NCP_NO_POINTER;
-    return ncp_embed_phase(host, peer, out);
-}
+uint32_t ncp_phase(struct ncp_host *host, uint8_t peer, struct ncp_flags *out);
+
+/* Whether the host is up with a peer: no flag is set. Not where there is no host, or no such peer. */
+bool ncp_is_up(struct ncp_host *host, uint8_t peer);
 
 /* The byte of the last ERP that answered an echo.
  * Refused, in this order: NCP_UNKNOWN_PEER, NCP_NOTHING (none did). */
-static inline uint32_t ncp_echoed(struct ncp_host *host, uint8_t peer, uint8_t *byte)
-{
-    if (!ncp_is_made(host)) return NCP_NO_HOST;
-    if (byte == NULL) return NCP_NO_POINTER;
-    return ncp_embed_echoed(host, peer, byte);
-}
+uint32_t ncp_echoed(struct ncp_host *host, uint8_t peer, uint8_t *byte);
 
 /* The ERR that came from a peer at a place behind the oldest of the last sixteen, which is at 0.
  * Refused, in this order: NCP_UNKNOWN_PEER, NCP_NOTHING (fewer are kept). */
-static inline uint32_t ncp_error(struct ncp_host *host, uint8_t peer, uint32_t place, struct ncp_noted *out)
-{
-    if (!ncp_is_made(host)) return NCP_NO_HOST;
-    if (out == NULL) return NCP_NO_POINTER;
-    return ncp_embed_error(host, peer, place, out);
-}
+uint32_t ncp_error(struct ncp_host *host, uint8_t peer, uint32_t place, struct ncp_noted *out);
 
 /* What was counted of what came from a peer. Refused: NCP_UNKNOWN_PEER. */
-static inline uint32_t ncp_counts(struct ncp_host *host, uint8_t peer, struct ncp_counted *out)
-{
-    if (!ncp_is_made(host)) return NCP_NO_HOST;
-    if (out == NULL) return NCP_NO_POINTER;
-    return ncp_embed_counts(host, peer, out);
-}
+uint32_t ncp_counts(struct ncp_host *host, uint8_t peer, struct ncp_counted *out);
 
 /* What was counted of messages that are of no peer. */
-static inline uint32_t ncp_ignored(struct ncp_host *host, struct ncp_discarded *out)
-{
-    if (!ncp_is_made(host)) return NCP_NO_HOST;
-    if (out == NULL) return NCP_NO_POINTER;
-    return ncp_embed_ignored(host, out);
-}
+uint32_t ncp_ignored(struct ncp_host *host, struct ncp_discarded *out);
 
 /* The command that waits for a peer at a place behind the first, which is at 0: `*bytes` bytes at the
  * front of `out`, which has `len` bytes. Refused, in this order: NCP_SHORT_BUFFER (fewer than
  * NCP_LONGEST_COMMAND), NCP_NOTHING (fewer wait, or no such peer). */
-static inline uint32_t ncp_waiting(struct ncp_host *host, uint8_t peer, uint32_t place, uint8_t *out, size_t len, size_t *bytes)
-{
-    if (!ncp_is_made(host)) return NCP_NO_HOST;
-    if (out == NULL || bytes == NULL) return NCP_NO_POINTER;
-    return ncp_embed_waiting(host, peer, place, out, len, bytes);
-}
+uint32_t ncp_waiting(struct ncp_host *host, uint8_t peer, uint32_t place, uint8_t *out, size_t len, size_t *bytes);
 
 /* The message to a peer on a link that is not taken yet: one that is to go out again, is out, or is held
  * since its destination was dead: `*bits` bits in the first bytes of `out`, which has `len` bytes.
  * Refused, in this order: NCP_SHORT_BUFFER (fewer than NCP_LONGEST_MESSAGE), NCP_NOTHING (none, or no
  * such peer). */
-static inline uint32_t ncp_kept(struct ncp_host *host, uint8_t peer, uint8_t link, uint8_t *out, size_t len, size_t *bits)
-{
-    if (!ncp_is_made(host)) return NCP_NO_HOST;
-    if (out == NULL || bits == NULL) return NCP_NO_POINTER;
-    return ncp_embed_kept(host, peer, link, out, len, bits);
-}
+uint32_t ncp_kept(struct ncp_host *host, uint8_t peer, uint8_t link, uint8_t *out, size_t len, size_t *bits);
 
-/* The name of what a function but ncp_new answered, as "NoEntry": `*bytes` letters at the front of
- * `out`, which has `len` bytes, and no zero behind them.
- * Refused, in this order: NCP_NO_POINTER, NCP_NOTHING (none answers this), NCP_SHORT_BUFFER (fewer
+/* The command at a place behind the first, which is at 0, of a control message that came, of so many bits in `len` bytes: its
+ * `*size` bytes at the front of `out`, which has `room` bytes. So a server reads who asks: of an RTS (the first byte is 1) and
+ * of an STR (2) bytes 1 to 4 are the socket of the peer and 5 to 8 the one here, the most significant byte first, and byte 9
+ * is the link, of an STR the byte size; docs/PROTOCOL.md has the others. It reads bits alone, and asks no host.
+ * Refused, in this order: NCP_NO_POINTER, NCP_TOO_LONG, NCP_SHORT_BYTES, NCP_SPARE_NOT_ZERO, NCP_SHORT_BUFFER (fewer than
+ * NCP_LONGEST_COMMAND), NCP_NOTHING (fewer commands, or no control message). */
+uint32_t ncp_command(const uint8_t *bytes, size_t len, size_t bits, uint32_t place, uint8_t *out, size_t room, size_t *size);
+
+/* The name of what was answered, as "NoEntry": `*bytes` letters at the front of `out`, which has `len` bytes, and no
+ * zero behind them. Refused, in this order: NCP_NO_POINTER, NCP_NOTHING (none answers this), NCP_SHORT_BUFFER (fewer
  * than the name has; NCP_LONGEST_NAME are enough). */
-static inline uint32_t ncp_name(uint32_t code, char *out, size_t len, size_t *bytes)
-{
-    if (out == NULL || bytes == NULL) return NCP_NO_POINTER;
-    return ncp_embed_name(code, (uint8_t *)out, len, bytes);
-}
+uint32_t ncp_name(uint32_t code, char *out, size_t len, size_t *bytes);
 
-/* The same of what ncp_new answered. */
-static inline uint32_t ncp_new_name(uint32_t code, char *out, size_t len, size_t *bytes)
-{
-    if (out == NULL || bytes == NULL) return NCP_NO_POINTER;
-    return ncp_embed_new_name(code, (uint8_t *)out, len, bytes);
+/* The same name as a string that stays: "" where none answers this. */
+const char *ncp_word(uint32_t code);
+
+/* The version of the library, as NCP_VERSION was when it was made. */
+const char *ncp_version(void);
+
+#ifdef __cplusplus
 }
+#endif
 
 #endif

@@ -7,36 +7,15 @@
 #include <stdlib.h>
 #include <string.h>
 
-enum { REGULAR = 0, RFNM = 5, INCOMPLETE = 9, LEADER = 4 };
+/* Types of messages, and the bytes of a leader (BBN 1822, section 3). */
+enum { REGULAR = 0, RFNM = 5, DEAD = 7, INCOMPLETE = 9, LEADER = 4, LAST_LINK = 71 };
 
 /* Ends the program where a function answered another number than it should. */
 static inline void want(uint32_t wanted, uint32_t answered, const char *what)
 {
-    char name[NCP_LONGEST_NAME];
-    size_t bytes = 0;
     if (answered == wanted) return;
-    (void)ncp_name(answered, name, sizeof name, &bytes);
-    printf("%s answered %.*s\n", what, (int)bytes, name);
+    printf("%s answered %s in place of %s\n", what, ncp_word(answered), ncp_word(wanted));
     exit(1);
-}
-
-/* The same of ncp_new, whose numbers have names of their own. */
-static inline void want_new(uint32_t wanted, uint32_t answered, const char *what)
-{
-    char name[NCP_LONGEST_NAME];
-    size_t bytes = 0;
-    if (answered == wanted) return;
-    (void)ncp_new_name(answered, name, sizeof name, &bytes);
-    printf("%s answered %.*s\n", what, (int)bytes, name);
-    exit(1);
-}
-
-/* Whether a host is up with a peer. */
-static inline bool is_up(struct ncp_host *host, uint8_t peer)
-{
-    struct ncp_flags flags;
-    want(NCP_DONE, ncp_phase(host, peer, &flags), "phase");
-    return !(flags.down || flags.want || flags.owe || flags.wait);
 }
 
 /* A message as digits, behind words. */
@@ -60,9 +39,21 @@ static inline void answer_of(uint8_t type, const uint8_t *message, uint8_t answe
 /* Gives a host what came for it. */
 static inline struct ncp_arrived hand(struct ncp_host *host, const uint8_t *message, size_t len, size_t bits)
 {
-    struct ncp_arrived arrived = {0, 0};
+    struct ncp_arrived arrived = {0, 0, 0, 0};
     want(NCP_DONE, ncp_receive(host, message, len, bits, &arrived), "receive");
     return arrived;
+}
+
+/* Answers each message to a peer that is kept by Incomplete, so that it goes out again: what an IMP that was started anew
+ * has of them is lost. An answer for one that was not out is counted as stray, and does nothing else. */
+static inline void answer_all_incomplete(struct ncp_host *host, uint8_t peer)
+{
+    uint8_t message[NCP_LONGEST_MESSAGE];
+    size_t bits = 0;
+    for (uint8_t link = 0; link <= LAST_LINK; link++) {
+        const uint8_t answer[LEADER] = {INCOMPLETE, peer, link, 0};
+        if (ncp_kept(host, peer, link, message, sizeof message, &bits) == NCP_DONE) hand(host, answer, sizeof answer, 32);
+    }
 }
 
 #endif

@@ -53,7 +53,7 @@ static inline void begin(struct end *end, uint8_t me, uint8_t peer, const char *
     if (end->socket < 0) give_up("socket");
     if (bind(end->socket, (const struct sockaddr *)&at, sizeof at) != 0) give_up("bind");
     if (setsockopt(end->socket, SOL_SOCKET, SO_RCVTIMEO, &patience, sizeof patience) != 0) give_up("setsockopt");
-    want_new(NCP_DONE, ncp_new(&end->host, me, &peer, 1), "new");
+    want(NCP_DONE, ncp_new(&end->host, me, &peer, 1), "new");
 }
 
 /* Sends a message as a datagram. While the other program has no socket yet it waits a little. */
@@ -115,7 +115,7 @@ static inline void take_one(struct end *end)
 
 static inline bool end_is_up(struct end *end)
 {
-    return is_up(&end->host, end->peer);
+    return ncp_is_up(&end->host, end->peer);
 }
 
 /* Whether nothing of the control link is out or waits. */

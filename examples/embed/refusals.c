@@ -1,5 +1,5 @@
-/* Null handles and null pointers, short buffers, and a lack of memory at each place: what is answered, and that
- * nothing is touched. It prints nothing where all is as it should be. To be linked with -Wl,--wrap=malloc. */
+/* Null handles and null pointers, short buffers, names, commands, what arrived, and a lack of memory at each place: what is
+ * answered, and that nothing is touched. It prints nothing where all is as it should be. To be linked with -Wl,--wrap=malloc. */
 #include "ncp.h"
 #include <stdio.h>
 #include <stdlib.h>
@@ -73,6 +73,9 @@ static void no_host(struct ncp_host *host)
     IS(NCP_NO_HOST, ncp_ignored(host, &discarded));
     IS(NCP_NO_HOST, ncp_waiting(host, PEER, 0, out, sizeof out, &size));
     IS(NCP_NO_HOST, ncp_kept(host, PEER, 0, out, sizeof out, &size));
+    IS(false, ncp_is_made(host));
+    IS(false, ncp_is_up(host, PEER));
+    IS(false, ncp_is_open(host, PEER, EVEN, ODD));
     is_untouched(__LINE__);
 }
 
@@ -99,28 +102,93 @@ static void no_pointer(struct ncp_host *host)
     IS(NCP_NO_POINTER, ncp_waiting(host, PEER, 0, out, sizeof out, NULL));
     IS(NCP_NO_POINTER, ncp_kept(host, PEER, 0, NULL, sizeof out, &size));
     IS(NCP_NO_POINTER, ncp_kept(host, PEER, 0, out, sizeof out, NULL));
+    IS(NCP_NO_POINTER, ncp_command(NULL, 10, 80, 0, out, sizeof out, &size));
+    IS(NCP_NO_POINTER, ncp_command(out, 10, 80, 0, NULL, sizeof out, &size));
+    IS(NCP_NO_POINTER, ncp_command(out, 10, 80, 0, out, sizeof out, NULL));
     IS(NCP_NO_POINTER, ncp_name(0, NULL, 12, &size));
     IS(NCP_NO_POINTER, ncp_name(0, text, 12, NULL));
-    IS(NCP_NO_POINTER, ncp_new_name(0, NULL, 12, &size));
-    IS(NCP_NO_POINTER, ncp_new_name(0, text, 12, NULL));
     is_untouched(__LINE__);
 }
 
 static void short_buffers(struct ncp_host *host)
 {
-    struct ncp_arrived arrived = {MARK, MARK};
+    const uint8_t message[] = {0, PEER, 0, 0, 0, 8, 0, 3, 0, 12, 9, 65}; /* RST and ECO */
+    struct ncp_arrived arrived = {MARK, MARK, MARK, MARK};
     IS(NCP_SHORT_BUFFER, ncp_next_output(host, out, NCP_LONGEST_MESSAGE - 1, &size));
     IS(NCP_SHORT_BUFFER, ncp_take(host, PEER, EVEN, ODD, 1, out, 0, &size));
     IS(NCP_SHORT_BUFFER, ncp_kept(host, PEER, 0, out, NCP_LONGEST_MESSAGE - 1, &size));
     IS(NCP_SHORT_BUFFER, ncp_waiting(host, PEER, 0, out, NCP_LONGEST_COMMAND - 1, &size));
+    IS(NCP_SHORT_BUFFER, ncp_command(message, sizeof message, 8 * sizeof message, 0, out, NCP_LONGEST_COMMAND - 1, &size));
+    IS(NCP_SHORT_BYTES, ncp_command(message, sizeof message, 8 * sizeof message + 1, 0, out, 0, &size));
+    IS(NCP_NOTHING, ncp_command(message, sizeof message, 8 * sizeof message, 2, out, sizeof out, &size));
+    IS(NCP_NOTHING, ncp_command(message, sizeof message, 72, 0, out, sizeof out, &size));
     IS(NCP_SHORT_BUFFER, ncp_name(NCP_NO_ENTRY, (char *)out, 6, &size));
     IS(NCP_NOTHING, ncp_name(18, (char *)out, sizeof out, &size));
-    IS(NCP_NOTHING, ncp_new_name(3, (char *)out, sizeof out, &size));
     IS(NCP_TOO_LONG, ncp_receive(host, out, sizeof out, 8193, &arrived));
     IS(NCP_SHORT_BYTES, ncp_receive(host, out, 4, 33, &arrived));
     IS(NCP_SPARE_NOT_ZERO, ncp_receive(host, out, 4, 30, &arrived));
     is_untouched(__LINE__);
     IS(MARK, arrived.what);
+    IS(MARK, arrived.peer);
+}
+
+/* Each number has the name that the library writes of it, as a string too, and no two answers are one number. */
+static void names(void)
+{
+    for (uint32_t code = 0; code < 256; code++) {
+        char name[NCP_LONGEST_NAME + 1] = {0};
+        size_t bytes = 0;
+        uint32_t answered = ncp_name(code, name, NCP_LONGEST_NAME, &bytes);
+        IS(*ncp_word(code) == 0 ? NCP_NOTHING : NCP_DONE, answered);
+        IS(0, (uint32_t)strcmp(name, ncp_word(code)));
+        IS((uint32_t)strlen(name), (uint32_t)bytes);
+    }
+    IS(0, (uint32_t)strcmp("BadPeers", ncp_word(NCP_NEW_BAD_PEERS)));
+    IS(0, (uint32_t)strcmp("UnknownPeer", ncp_word(NCP_UNKNOWN_PEER)));
+    IS(0, (uint32_t)strcmp(NCP_VERSION, ncp_version()));
+}
+
+/* The commands of a message, of no other, and up to one that is none. */
+static void commands(void)
+{
+    uint8_t message[] = {0, PEER, 0, 0, 0, 8, 0, 4, 0, 12, 9, 65, 14}; /* RST, ECO, and an opcode of none */
+    const size_t len = sizeof message;
+    IS(NCP_DONE, ncp_command(message, len, 8 * len, 0, out, sizeof out, &size));
+    IS(1, (uint32_t)size);
+    IS(12, out[0]);
+    IS(MARK, out[1]);
+    IS(NCP_DONE, ncp_command(message, len, 8 * len, 1, out, sizeof out, &size));
+    IS(2, (uint32_t)size);
+    IS(65, out[1]);
+    IS(NCP_NOTHING, ncp_command(message, len, 8 * len, 2, out, sizeof out, &size));
+    message[2] = 2;
+    IS(NCP_NOTHING, ncp_command(message, len, 8 * len, 0, out, sizeof out, &size));
+    message[2] = 0, message[0] = 4;
+    IS(NCP_NOTHING, ncp_command(message, len, 8 * len, 0, out, sizeof out, &size));
+    message[0] = 0, message[5] = 4;
+    IS(NCP_NOTHING, ncp_command(message, len, 8 * len, 0, out, sizeof out, &size));
+}
+
+/* What arrived names its peer and its link, and of an answer its type. */
+static void arrivals(struct ncp_host *host)
+{
+    const uint8_t dead[] = {7, PEER, 0, 0}, nop[] = {4, 9, 3, 0};
+    struct ncp_arrived arrived;
+    IS(NCP_DONE, ncp_receive(host, dead, sizeof dead, 32, &arrived));
+    IS(NCP_ARRIVED_ANSWERED, arrived.what);
+    IS(7, arrived.detail);
+    IS(PEER, arrived.peer);
+    IS(0, arrived.link);
+    IS(NCP_DONE, ncp_wake(host, PEER));
+    IS(NCP_DONE, ncp_receive(host, nop, sizeof nop, 32, &arrived));
+    IS(NCP_ARRIVED_OTHER, arrived.what);
+    IS(4, arrived.detail);
+    IS(9, arrived.peer);
+    IS(3, arrived.link);
+    IS(NCP_DONE, ncp_receive(host, nop, sizeof nop, 24, &arrived));
+    IS(NCP_ARRIVED_SHORT, arrived.what);
+    IS(0, arrived.peer);
+    IS(0, arrived.link);
 }
 
 /* The first blocks of memory are had, and the next is not: there is no host then, or no connection. */
@@ -178,9 +246,14 @@ int main(void)
     IS(NCP_DONE, ncp_next_output(&host, out, sizeof out, &size));
     IS(80, (uint32_t)size);
     IS(NCP_UNKNOWN_PEER, ncp_reset(&host, 9));
+    arrivals(&host);
+    IS(NCP_DONE, ncp_next_output(&host, out, sizeof out, &size));
     no_room_for_text(&host);
     ncp_free(&host);
     ncp_free(&host);
     no_memory();
+    names();
+    memset(out, MARK, sizeof out);
+    commands();
     return 0;
 }

@@ -38,22 +38,19 @@ static void settle(struct ncp_host *a, struct ncp_host *b)
 
 static void say_up(struct ncp_host *host, uint8_t peer, const char *name)
 {
-    printf("%s is %s\n", name, is_up(host, peer) ? "up" : "not up");
+    printf("%s is %s\n", name, ncp_is_up(host, peer) ? "up" : "not up");
 }
 
 static void say_state(struct ncp_host *host, uint8_t peer, uint32_t local, uint32_t remote, const char *name)
 {
     struct ncp_connection it;
-    char text[NCP_LONGEST_NAME];
-    size_t bytes = 0;
     uint32_t code = ncp_state(host, peer, local, remote, &it);
     if (code == NCP_DONE) {
         printf("%s %s: opened=%d link=%d size=%d messages=%d bits=%u stored=%u\n", name,
                it.sends ? "sends" : "receives", it.opened, it.link, it.size, it.messages, (unsigned)it.bits,
                (unsigned)it.stored);
     } else {
-        want(NCP_DONE, ncp_name(code, text, sizeof text, &bytes), "name");
-        printf("%s: %.*s\n", name, (int)bytes, text);
+        printf("%s: %s\n", name, ncp_word(code));
     }
 }
 
@@ -70,9 +67,9 @@ int main(void)
     /* Without a host nothing is done. */
     want(NCP_NO_HOST, ncp_reset(&a, B), "reset of no host");
     want(NCP_NO_HOST, ncp_reset(NULL, B), "reset of a null handle");
-    want_new(NCP_NEW_BAD_PEERS, ncp_new(&a, A, peer_of_b, 1), "a host that is its own peer");
-    want_new(NCP_DONE, ncp_new(&a, A, peer_of_a, 1), "new");
-    want_new(NCP_DONE, ncp_new(&b, B, peer_of_b, 1), "new");
+    want(NCP_NEW_BAD_PEERS, ncp_new(&a, A, peer_of_b, 1), "a host that is its own peer");
+    want(NCP_DONE, ncp_new(&a, A, peer_of_a, 1), "new");
+    want(NCP_DONE, ncp_new(&b, B, peer_of_b, 1), "new");
     want(NCP_NO_POINTER, ncp_take(&b, A, EVEN, ODD, 5, NULL, sizeof text, &bits), "take into nothing");
     want(NCP_SHORT_BUFFER, ncp_take(&b, A, EVEN, ODD, 5, text, 5, &bits), "take into five bytes");
     want(NCP_NOT_UP, ncp_ask_send(&a, B, ODD, EVEN, 8, 1024), "ask_send before a reset");

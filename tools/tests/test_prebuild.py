@@ -12,7 +12,10 @@ RT = """#!/bin/sh
 [ "$1" = version ] && echo "$KIT"
 """
 LIBRARY = """#!/bin/sh
-cat "$(dirname "$0")/../crates/ncp_embed/src/lib.rt" >"$1/libncp.a"
+mkdir -p "$3"
+for name in libncp.a libncp.so.1; do
+    [ "$1" = --target ] && cat "$(dirname "$0")/../crates/ncp_embed/src/lib.rt" >"$3/$name" && echo "$name $2" >>"$3/$name"
+done
 """
 PROGRAM = """#!/bin/sh
 # {remark}
@@ -40,6 +43,8 @@ class Prebuilding(unittest.TestCase):
             shutil.copy(f"{TOP}/tools/{name}", f"{self.top}/tools")
         write(f"{self.room.name}/bin/rt", RT, 0o755)
         write(f"{self.top}/include/library", LIBRARY, 0o755)
+        for name in ("ncp.h", "ncp.c", "heap.c"):
+            write(f"{self.top}/include/{name}", f"/* {name} */\n")
         write(f"{self.top}/crates.txt", CRATES)
         write(f"{self.top}/crates/ncp/src/main.rt", "code\n")
         write(f"{self.top}/crates/ncp_embed/src/lib.rt", "code of the library\n")
@@ -79,6 +84,24 @@ class Prebuilding(unittest.TestCase):
         self.assertIn("prebuilt/ncp was built from other sources", said)
         self.assertIn("prebuilt/libncp.a is of these sources", said)
         self.assertIn("run tools/prebuild", said)
+
+    def test_what_the_archives_are_made_of(self):
+        self.prebuild()
+        write(f"{self.top}/include/heap.c", "other code\n")
+        status, said = self.prebuild("--compare")
+        self.assertEqual(status, 1)
+        self.assertIn("prebuilt/libncp.a is of these sources", said)
+        self.assertIn("prebuilt/aarch64/libncp.a was built from other sources", said)
+        self.assertEqual([self.prebuild("--has", name)[0] for name in ("ncp", "libncp.so.1", "aarch64/libncp.so.1")], [0, 0, 1])
+        write(f"{self.top}/include/ncp.h", "other code\n")
+        self.assertEqual([self.prebuild("--has", name)[0] for name in ("ncp", "libncp.a", "aarch64/libncp.a")], [0, 1, 1])
+
+    def test_each_target_has_its_archive(self):
+        self.prebuild()
+        for at, target in ("", "x86-64"), ("aarch64/", "aarch64"):
+            for name in "libncp.a", "libncp.so.1":
+                with open(f"{self.top}/prebuilt/{at}{name}", encoding="utf-8") as file:
+                    self.assertEqual(file.read(), f"code of the library\n{name} {target}\n")
 
     def test_other_bytes(self):
         self.prebuild()

@@ -1,4 +1,4 @@
--- The numbers that C is answered: what is refused keeps the number that it has everywhere.
+-- The numbers that C is answered: what a call refuses keeps the number that it has everywhere, and no two are one.
 use Rattle.std.specs.Prelude.{ℕ, ◌+◌, Result, Ok, Err}
 use Rattle.ncp_bits.specs.declared.bits.BitsFault.{BitsFault}
 use Rattle.ncp_bits.specs.declared.bits.BitsFault.TheVariants.{TooLong, ShortBytes, SpareNotZero}
@@ -6,7 +6,7 @@ use Rattle.ncp_host.specs.declared.fault.HostFault.{HostFault}
 use Rattle.ncp_host.specs.declared.fault.HostFault.TheVariants.{BadPeers, OutOfMemory}
 use Rattle.ncp_model.specs.declared.call_fault.CallFault.{CallFault}
 use Rattle.ncp_model.specs.Faults.{fault_number}
-use Rattle.ncp_embed.specs.declared.codes.TheConstants.{DONE, BITS}
+use Rattle.ncp_embed.specs.declared.codes.TheConstants.{DONE, BITS, NEW}
 
 -- of a call
 abbrev pub fault_code : CallFault → ℕ
@@ -18,8 +18,8 @@ code_of (Err fault) = fault_code fault
 
 -- of a new host
 abbrev pub host_code : HostFault → ℕ
-host_code BadPeers = 1
-host_code OutOfMemory = 2
+host_code BadPeers = NEW + 1
+host_code OutOfMemory = NEW + 2
 
 -- of bytes and the number of their bits
 abbrev pub bits_number : BitsFault → ℕ

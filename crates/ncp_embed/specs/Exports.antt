@@ -1,6 +1,6 @@
 -- What the functions for C do to the host of a handle, if it has one. `NO_HOST` is answered where it has none,
 -- and then nothing changes.
-use Rattle.std.specs.Prelude.{ℕ, ◌≡◌, ◌⊎◌, ◌++◌, Bool, nat_lt, if◌then◌else◌, List, length, drop, slice_get, Option, None, Some, Result, Ok, Err}
+use Rattle.std.specs.Prelude.{ℕ, ◌≡◌, ◌⊎◌, ◌++◌, Bool, false, nat_lt, if◌then◌else◌, List, length, drop, slice_get, Option, None, Some, Result, Ok, Err}
 use Rattle.ncp_bits.specs.declared.bits.BitsFault.{BitsFault}
 use Rattle.ncp_numbers.specs.Bytes.{bytes_for, bytes_of}
 use Rattle.ncp_leader.specs.Leader.{leader_in}
@@ -50,6 +50,16 @@ told_of form (Err fault) out = out
 abbrev pub told_in : {A B : Type 0} → (A → B) → (Host → Result A CallFault) → Option Held → B → B
 told_in form reply None out = out
 told_in form reply (Some at) out = told_of form (reply at.host) out
+
+-- Whether what is told passes a test: not where nothing is told.
+
+abbrev pub holds_of : {A : Type 0} → (A → Bool) → Result A CallFault → Bool
+holds_of test (Ok answer) = test answer
+holds_of test (Err fault) = false
+
+abbrev pub holds_in : {A : Type 0} → (A → Bool) → (Host → Result A CallFault) → Option Held → Bool
+holds_in test reply None = false
+holds_in test reply (Some at) = holds_of test (reply at.host)
 
 -- Of what may be nothing.
 
@@ -107,7 +117,7 @@ receive_code bits (Some at) = DONE
 
 abbrev pub arrived_in : List Bool → Option Held → Arrived → Arrived
 arrived_in bits None out = out
-arrived_in bits (Some at) out = arrived_of (received_in bits at.host)
+arrived_in bits (Some at) out = arrived_of (leader_in bits) (received_in bits at.host)
 
 -- a text that is taken, over the front of a buffer
 abbrev pub told_over_of : {A B : Type 0} → (A → B → B) → Result A CallFault → B → B

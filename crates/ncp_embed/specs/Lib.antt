@@ -3,3 +3,4 @@ pub mod Codes
 pub mod Told
 pub mod Exports
 pub mod Names
+pub mod Commands

@@ -41,16 +41,13 @@ name_of ShortBuffer = codes "ShortBuffer"
 name_of Nothing = codes "Nothing"
 name_of (Bits fault) = name_of_bits fault
 
--- what all calls but the making of a host answer
+-- all that is answered
 abbrev pub answers : List Answer
 answers =
     Done ∷ Call call.UnknownPeer ∷ Call call.NotUp ∷ Call call.BadSex ∷ Call call.BadSize ∷ Call call.BadRoom ∷ Call call.NoEntry ∷ Call call.AlreadyAsked ∷ Call call.Closing
     ∷ Call call.NotOpen ∷ Call call.WrongEnd ∷ Call call.NotWhole ∷ Call call.Busy ∷ Call call.NoRoom ∷ Call call.TooMuch ∷ Call call.TableFull ∷ Call call.QueueFull
-    ∷ Call call.OutOfMemory ∷ NoHost ∷ NoPointer ∷ ShortBuffer ∷ Nothing ∷ Bits TooLong ∷ Bits ShortBytes ∷ Bits SpareNotZero ∷ []
-
--- what the making of a host answers
-abbrev pub new_answers : List Answer
-new_answers = Done ∷ New new.BadPeers ∷ New new.OutOfMemory ∷ NoHost ∷ NoPointer ∷ []
+    ∷ Call call.OutOfMemory ∷ NoHost ∷ NoPointer ∷ ShortBuffer ∷ Nothing ∷ Bits TooLong ∷ Bits ShortBytes ∷ Bits SpareNotZero
+    ∷ New new.BadPeers ∷ New new.OutOfMemory ∷ []
 
 -- the one of a number
 abbrev pub answer_among : List Answer → ℕ → Option Answer

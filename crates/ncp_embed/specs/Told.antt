@@ -1,8 +1,10 @@
 -- What C is told, as records of numbers.
-use Rattle.std.specs.Prelude.{ℕ, Bool, true, false}
+use Rattle.std.specs.Prelude.{ℕ, Bool, true, false, not, ◌&&◌, ◌||◌, Result, Ok, Err}
 use Rattle.ncp_conn.specs.declared.record.End.{End}
 use Rattle.ncp_conn.specs.declared.record.End.TheVariants.{Send, Receive}
 use Rattle.ncp_conn.specs.declared.record.Record.{Record}
+use Rattle.ncp_leader.specs.declared.leader.Leader.{Leader}
+use Rattle.ncp_leader.specs.declared.leader.Short.{Short}
 use Rattle.ncp_leader.specs.declared.fault.MessageFault.{MessageFault}
 use Rattle.ncp_leader.specs.declared.fault.MessageFault.TheVariants.{ShortPrefix, M1NotZero, SizeZero, M2NotZero, TextMissing, TextTooLong, NotWhole}
 use Rattle.ncp_model.specs.declared.outcomes.Error.{Error}
@@ -37,25 +39,36 @@ number_of_took took.WrongSize = 3
 number_of_took took.Over = 4
 number_of_took took.NotOpen = 5
 
--- what became of bits, in the order in which it is judged, with what is told of it
-abbrev pub arrival : ℕ → ℕ → Arrived
-arrival what detail = record { what = what; detail = detail }
+-- what became of bits and what is told of it, with the host and the link that their leader names, if there is one
+abbrev pub arrival : Result Leader Short → ℕ → ℕ → Arrived
+arrival (Ok leader) what detail = record { what = what; detail = detail; peer = leader.host; link = leader.link }
+arrival (Err short) what detail = record { what = what; detail = detail; peer = 0; link = 0 }
 
-abbrev pub arrived_of : Received → Arrived
-arrived_of received.Short = arrival 1 0
-arrived_of (received.Other kind) = arrival 2 kind
-arrived_of received.Unknown = arrival 3 0
-arrived_of received.Stray = arrival 4 0
-arrived_of received.Answered = arrival 5 0
-arrived_of (received.Fault fault) = arrival 6 (number_of_message_fault fault)
-arrived_of received.WrongLink = arrival 7 0
-arrived_of received.WrongSize = arrival 8 0
-arrived_of (received.Control commands) = arrival 9 commands
-arrived_of (received.Text took) = arrival 10 (number_of_took took)
-arrived_of received.NotUp = arrival 11 0
+-- the type that a leader names (BBN 1822, section 3), which of an answer says what became of the message
+abbrev pub kind_of : Result Leader Short → ℕ
+kind_of (Ok leader) = leader.kind
+kind_of (Err short) = 0
+
+-- in the order in which it is judged
+abbrev pub arrived_of : Result Leader Short → Received → Arrived
+arrived_of leader received.Short = arrival leader 1 0
+arrived_of leader (received.Other kind) = arrival leader 2 kind
+arrived_of leader received.Unknown = arrival leader 3 0
+arrived_of leader received.Stray = arrival leader 4 0
+arrived_of leader received.Answered = arrival leader 5 (kind_of leader)
+arrived_of leader (received.Fault fault) = arrival leader 6 (number_of_message_fault fault)
+arrived_of leader received.WrongLink = arrival leader 7 0
+arrived_of leader received.WrongSize = arrival leader 8 0
+arrived_of leader (received.Control commands) = arrival leader 9 commands
+arrived_of leader (received.Text took) = arrival leader 10 (number_of_took took)
+arrived_of leader received.NotUp = arrival leader 11 0
 
 abbrev pub phase_of : Flags → Phase
 phase_of f = record { down = f.down; want = f.want; owe = f.owe; wait = f.wait }
+
+-- no flag is set (NIC 8246, reset: both sides are up once RST and RRP were exchanged)
+abbrev pub is_up : Flags → Bool
+is_up f = not (f.down || f.want || f.owe || f.wait)
 
 abbrev pub counted_of : Counts → Counted
 counted_of n = record { stray = n.stray; faults = n.faults; wrong_link = n.wrong_link; wrong_size = n.wrong_size; not_up = n.not_up; late = n.late; over = n.over }
@@ -69,6 +82,10 @@ noted_of e = record { code = e.code; bytes = e.bytes }
 abbrev pub is_sender : End → Bool
 is_sender Send = true
 is_sender Receive = false
+
+-- both requests are there, and it is not on its way out (NIC 8246, establishment)
+abbrev pub is_open : Record → Bool
+is_open r = r.asked && r.heard && not (r.leaving || r.left)
 
 abbrev pub connection_of : Record → Connection
 connection_of r = record {

@@ -17,6 +17,7 @@ use crate::handle::{Handle, put, take};
 use crate::told::{Arrived, arrived_of};
 use crate::writing::write_message;
 use ncp_bits::Bits;
+use ncp_leader::read_leader;
 use ncp_model::Pair;
 use std::alloc::Global;
 
@@ -46,7 +47,7 @@ pub extern "C" fn ncp_embed_receive(
     };
     let received = held.host.receive(&came);
     put(handle, held);
-    *arrived = arrived_of(received);
+    *arrived = arrived_of(read_leader(&came), received);
     DONE
 }
 

@@ -18,6 +18,8 @@ pub const SHORT_BUFFER: u32 = 34;
 pub const NOTHING: u32 = 35;
 /// To this the number of a fault of bits is added.
 pub const BITS: u32 = 40;
+/// To this the number of why there is no new host is added.
+pub const NEW: u32 = 64;
 
 /// How many bytes the longest message takes.
 pub const LONGEST_MESSAGE: usize = MAX_BITS / 8;
@@ -41,8 +43,8 @@ pub(crate) fn host_code(fault: HostFault) -> u32
     ensures { result ≡ host_code fault }
 {
     match fault {
-        HostFault::BadPeers => 1,
-        HostFault::OutOfMemory => 2,
+        HostFault::BadPeers => NEW + 1,
+        HostFault::OutOfMemory => NEW + 2,
     }
 }
 

@@ -1,17 +1,20 @@
 //! Laws about what C is told, each the contract of a function that does nothing: the numbers are those of
 //! `include/ncp.h`, and no field is told as another.
-ghost use Rattle.std.specs.Prelude.{◌≡◌, ℕ, true, false, Ok, Err, replicate};
+ghost use Rattle.std.specs.Prelude.{◌≡◌, ℕ, true, false, Result, Ok, Err, Some, List, replicate, map};
 ghost use Rattle.ncp_bits.specs.declared.bits.BitsFault.{BitsFault};
 ghost use Rattle.ncp_conn.specs.declared.record.End.{End};
 ghost use Rattle.ncp_conn.specs.declared.record.Record.{Record};
 ghost use Rattle.ncp_leader.specs.declared.fault.MessageFault.{MessageFault};
+ghost use Rattle.ncp_leader.specs.declared.leader.Leader.{Leader};
+ghost use Rattle.ncp_leader.specs.declared.leader.Short.{Short};
 ghost use Rattle.ncp_model.specs.declared.call_fault.CallFault.{CallFault};
 ghost use Rattle.ncp_model.specs.declared.outcomes.Took.{Took};
 ghost use Rattle.ncp_host.specs.declared.fault.HostFault.{HostFault};
 ghost use Rattle.ncp_host.specs.declared.flags.Flags.{Flags};
 ghost use Rattle.ncp_host.specs.declared.received.Received.{Received};
 ghost use Rattle.ncp_embed.specs.Codes.{code_of, host_code, bits_code};
-ghost use Rattle.ncp_embed.specs.Told.{arrived_of, arrival, phase_of, counted_of, discarded_of, noted_of, connection_of};
+ghost use Rattle.ncp_embed.specs.Names.{number_of, answers, answer_among};
+ghost use Rattle.ncp_embed.specs.Told.{is_up, is_open, arrived_of, arrival, phase_of, counted_of, discarded_of, noted_of, connection_of};
 
 use crate::codes::{BITS, DONE, LONGEST_MESSAGE, NO_HOST, NO_POINTER, NOTHING, SHORT_BUFFER};
 
@@ -26,28 +29,35 @@ pub fn codes_are_these()
     ensures longest { LONGEST_MESSAGE ≡ 1024 }
     ensures first { code_of {A = ℕ} (Err CallFault.UnknownPeer) ≡ 1 }
     ensures last { code_of {A = ℕ} (Err CallFault.OutOfMemory) ≡ 17 }
-    ensures made { (host_code HostFault.BadPeers ≡ 1) × (host_code HostFault.OutOfMemory ≡ 2) }
+    ensures made { (host_code HostFault.BadPeers ≡ 65) × (host_code HostFault.OutOfMemory ≡ 66) }
     ensures of_bits { (bits_code BitsFault.TooLong ≡ 41) × (bits_code BitsFault.ShortBytes ≡ 42) × (bits_code BitsFault.SpareNotZero ≡ 43) }
 {}
 
-/// What became of bits, and what is told of it.
+/// No two answers have one number: the one that is found by the number of an answer is that answer.
+pub fn each_answer_has_a_number_of_its_own()
+    ensures { map (λ answer. answer_among answers (number_of answer)) answers ≡ map Some answers }
+{}
+
+/// What became of bits, and what is told of it with what their leader names.
 pub fn arrivals_are_told_so()
-    ensures short { arrived_of Received.Short ≡ arrival 1 0 }
-    ensures other { arrived_of (Received.Other 4) ≡ arrival 2 4 }
-    ensures unknown { arrived_of Received.Unknown ≡ arrival 3 0 }
-    ensures stray { arrived_of Received.Stray ≡ arrival 4 0 }
-    ensures answered { arrived_of Received.Answered ≡ arrival 5 0 }
-    ensures faults { (arrived_of (Received.Fault MessageFault.ShortPrefix) ≡ arrival 6 1) × (arrived_of (Received.Fault MessageFault.M1NotZero) ≡ arrival 6 2) × (arrived_of (Received.Fault MessageFault.SizeZero) ≡ arrival 6 3) }
-    ensures more_faults { (arrived_of (Received.Fault MessageFault.M2NotZero) ≡ arrival 6 4) × (arrived_of (Received.Fault MessageFault.TextMissing) ≡ arrival 6 5) }
-    ensures wrong_link { arrived_of Received.WrongLink ≡ arrival 7 0 }
-    ensures wrong_size { arrived_of Received.WrongSize ≡ arrival 8 0 }
-    ensures control { arrived_of (Received.Control 3) ≡ arrival 9 3 }
-    ensures admitted { arrived_of (Received.Text Took.Admitted) ≡ arrival 10 1 }
-    ensures late { arrived_of (Received.Text Took.Late) ≡ arrival 10 2 }
-    ensures size { arrived_of (Received.Text Took.WrongSize) ≡ arrival 10 3 }
-    ensures over { arrived_of (Received.Text Took.Over) ≡ arrival 10 4 }
-    ensures not_open { arrived_of (Received.Text Took.NotOpen) ≡ arrival 10 5 }
-    ensures not_up { arrived_of Received.NotUp ≡ arrival 11 0 }
+    ensures short { (l : Result Leader Short) → arrived_of l Received.Short ≡ arrival l 1 0 }
+    ensures other { (l : Result Leader Short) → arrived_of l (Received.Other 4) ≡ arrival l 2 4 }
+    ensures unknown { (l : Result Leader Short) → arrived_of l Received.Unknown ≡ arrival l 3 0 }
+    ensures stray { (l : Result Leader Short) → arrived_of l Received.Stray ≡ arrival l 4 0 }
+    ensures answered { (l : Leader) → arrived_of (Ok l) Received.Answered ≡ arrival (Ok l) 5 l.kind }
+    ensures named { (l : Leader) → arrival (Ok l) 9 3 ≡ record { what = 9; detail = 3; peer = l.host; link = l.link } }
+    ensures none_named { arrival (Err (record {})) 1 0 ≡ record { what = 1; detail = 0; peer = 0; link = 0 } }
+    ensures faults { (l : Result Leader Short) → (arrived_of l (Received.Fault MessageFault.ShortPrefix) ≡ arrival l 6 1) × (arrived_of l (Received.Fault MessageFault.M1NotZero) ≡ arrival l 6 2) × (arrived_of l (Received.Fault MessageFault.SizeZero) ≡ arrival l 6 3) }
+    ensures more_faults { (l : Result Leader Short) → (arrived_of l (Received.Fault MessageFault.M2NotZero) ≡ arrival l 6 4) × (arrived_of l (Received.Fault MessageFault.TextMissing) ≡ arrival l 6 5) }
+    ensures wrong_link { (l : Result Leader Short) → arrived_of l Received.WrongLink ≡ arrival l 7 0 }
+    ensures wrong_size { (l : Result Leader Short) → arrived_of l Received.WrongSize ≡ arrival l 8 0 }
+    ensures control { (l : Result Leader Short) → arrived_of l (Received.Control 3) ≡ arrival l 9 3 }
+    ensures admitted { (l : Result Leader Short) → arrived_of l (Received.Text Took.Admitted) ≡ arrival l 10 1 }
+    ensures late { (l : Result Leader Short) → arrived_of l (Received.Text Took.Late) ≡ arrival l 10 2 }
+    ensures size { (l : Result Leader Short) → arrived_of l (Received.Text Took.WrongSize) ≡ arrival l 10 3 }
+    ensures over { (l : Result Leader Short) → arrived_of l (Received.Text Took.Over) ≡ arrival l 10 4 }
+    ensures not_open { (l : Result Leader Short) → arrived_of l (Received.Text Took.NotOpen) ≡ arrival l 10 5 }
+    ensures not_up { (l : Result Leader Short) → arrived_of l Received.NotUp ≡ arrival l 11 0 }
 {}
 
 /// What is counted, with all counts different, and an ERR.
@@ -63,6 +73,14 @@ pub fn flags_are_told_so()
     ensures want { (f : Flags) → (phase_of f).want ≡ f.want }
     ensures owe { (f : Flags) → (phase_of f).owe ≡ f.owe }
     ensures wait { (f : Flags) → (phase_of f).wait ≡ f.wait }
+{}
+
+/// A host is up where no flag is set, and a connection is open until this side begins to close it.
+pub fn up_and_open_mean_this()
+    ensures up { is_up (record { down = false; want = false; owe = false; wait = false }) ≡ true }
+    ensures not_up { (is_up (record { down = true; want = false; owe = false; wait = false }) ≡ false) × (is_up (record { down = false; want = true; owe = false; wait = false }) ≡ false) × (is_up (record { down = false; want = false; owe = true; wait = false }) ≡ false) × (is_up (record { down = false; want = false; owe = false; wait = true }) ≡ false) }
+    ensures asked { (r : Record) → is_open r ≡ true → (r.asked ≡ true) × (r.heard ≡ true) }
+    ensures stays { (r : Record) → is_open r ≡ true → (r.leaving ≡ false) × (r.left ≡ false) }
 {}
 
 /// A connection: its numbers, its end, and each flag as itself.

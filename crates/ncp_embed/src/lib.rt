@@ -10,6 +10,7 @@ mod asking;
 mod bits;
 mod calls;
 mod codes;
+mod commands;
 mod connection;
 mod handle;
 pub mod laws;
@@ -20,7 +21,7 @@ mod readers;
 mod told;
 mod writing;
 
-pub use codes::{BITS, DONE, LONGEST_MESSAGE, NO_HOST, NO_POINTER, NOTHING, SHORT_BUFFER};
+pub use codes::{BITS, DONE, LONGEST_MESSAGE, NEW, NO_HOST, NO_POINTER, NOTHING, SHORT_BUFFER};
 pub use connection::Connection;
 pub use handle::Handle;
 pub use names::Answer;

@@ -1,6 +1,6 @@
 //! The names of what the functions answer.
 ghost use Rattle.std.specs.Prelude.{◌≡◌, length};
-ghost use Rattle.ncp_embed.specs.Names.{number_of, name_of, name_of_new, name_of_bits, answer_among, answers, new_answers, name_code, name_over, size_of_name};
+ghost use Rattle.ncp_embed.specs.Names.{number_of, name_of, name_of_new, name_of_bits, answer_among, answers, name_code, name_over, size_of_name};
 
 use crate::codes::{DONE, NO_HOST, NO_POINTER, NOTHING, SHORT_BUFFER, bits_code, host_code};
 use ncp_bits::BitsFault;
@@ -20,8 +20,8 @@ pub enum Answer {
     Bits(BitsFault),
 }
 
-// What all calls but the making of a host answer.
-const ANSWERS: [Answer; 25] = [
+// All that is answered.
+const ANSWERS: [Answer; 27] = [
     Answer::Done,
     Answer::Call(CallFault::UnknownPeer),
     Answer::Call(CallFault::NotUp),
@@ -47,15 +47,8 @@ const ANSWERS: [Answer; 25] = [
     Answer::Bits(BitsFault::TooLong),
     Answer::Bits(BitsFault::ShortBytes),
     Answer::Bits(BitsFault::SpareNotZero),
-];
-
-// What the making of a host answers.
-const NEW_ANSWERS: [Answer; 5] = [
-    Answer::Done,
     Answer::New(HostFault::BadPeers),
     Answer::New(HostFault::OutOfMemory),
-    Answer::NoHost,
-    Answer::NoPointer,
 ];
 
 fn name_of_new(fault: HostFault) -> &'static str
@@ -142,8 +135,7 @@ fn write_name(answer: Option<Answer>, out: &mut [u8], bytes: &mut usize) -> u32
     DONE
 }
 
-/// The name of what a function answered, but for the making of a host. `NOTHING` where none answers
-/// that number.
+/// The name of what a function answered. `NOTHING` where none answers that number.
 #[unsafe(no_mangle)]
 pub extern "C" fn ncp_embed_name(code: u32, out: &mut [u8], bytes: &mut usize) -> u32
     ensures code { result ≡ name_code (answer_among answers code) out.old }
@@ -151,14 +143,4 @@ pub extern "C" fn ncp_embed_name(code: u32, out: &mut [u8], bytes: &mut usize) -
     ensures bytes { bytes.new ≡ size_of_name (answer_among answers code) out.old bytes.old }
 {
     write_name(answer_among(&ANSWERS, code), out, bytes)
-}
-
-/// The name of what the making of a host answered. `NOTHING` where it does not answer that number.
-#[unsafe(no_mangle)]
-pub extern "C" fn ncp_embed_new_name(code: u32, out: &mut [u8], bytes: &mut usize) -> u32
-    ensures code { result ≡ name_code (answer_among new_answers code) out.old }
-    ensures name { out.new ≡ name_over (answer_among new_answers code) out.old }
-    ensures bytes { bytes.new ≡ size_of_name (answer_among new_answers code) out.old bytes.old }
-{
-    write_name(answer_among(&NEW_ANSWERS, code), out, bytes)
 }

@@ -4,8 +4,8 @@ ghost use Rattle.std.specs.Prelude.{◌≡◌, Ok};
 ghost use Rattle.ncp_terms.specs.declared.command.TheConstants.{LONGEST_COMMAND};
 ghost use Rattle.ncp_host.specs.Host.{state_of};
 ghost use Rattle.ncp_host.specs.Calls.{record_told, flags_told, echoed_told, counts_told, waiting_at, kept_for};
-ghost use Rattle.ncp_embed.specs.Told.{connection_of, phase_of, counted_of, discarded_of, noted_of};
-ghost use Rattle.ncp_embed.specs.Exports.{pair_of, code_in, told_in, any_code_in, any_in, with_room, message_over, size_of_message, command_over, size_of_command, ignored_told, found_code_in, found_in, error_told};
+ghost use Rattle.ncp_embed.specs.Told.{connection_of, phase_of, is_open, is_up, counted_of, discarded_of, noted_of};
+ghost use Rattle.ncp_embed.specs.Exports.{pair_of, code_in, told_in, any_code_in, any_in, with_room, message_over, size_of_message, command_over, size_of_command, ignored_told, found_code_in, found_in, error_told, holds_in};
 
 use crate::codes::{DONE, LONGEST_MESSAGE, NO_HOST, NOTHING, SHORT_BUFFER, fault_code};
 use crate::connection::{Connection, connection_of};
@@ -68,6 +68,47 @@ pub extern "C" fn ncp_embed_phase(
             DONE
         }
         Err(fault) => fault_code(fault),
+    }
+}
+
+/// Whether a connection is open: both requests were made, and this side is not closing. Not where there
+/// is no host, or no such connection.
+#[unsafe(no_mangle)]
+pub extern "C" fn ncp_embed_is_open(
+    alloc: Global,
+    handle: &mut Handle,
+    peer: u8,
+    local: u32,
+    remote: u32,
+) -> bool
+    ensures host { handle.new.host ≡ handle.old.host }
+    ensures open { result ≡ holds_in is_open (record_told peer (pair_of local remote)) handle.old.host }
+{
+    let Some(held) = take(alloc, handle) else {
+        return false;
+    };
+    let answer = held.host.state(peer, Pair { local, remote });
+    put(handle, held);
+    match answer {
+        Ok(it) => it.asked && it.heard && !(it.leaving || it.left),
+        Err(_) => false,
+    }
+}
+
+/// Whether the host is up with a peer. Not where there is no host, or no such peer.
+#[unsafe(no_mangle)]
+pub extern "C" fn ncp_embed_is_up(alloc: Global, handle: &mut Handle, peer: u8) -> bool
+    ensures host { handle.new.host ≡ handle.old.host }
+    ensures up { result ≡ holds_in is_up (flags_told peer) handle.old.host }
+{
+    let Some(held) = take(alloc, handle) else {
+        return false;
+    };
+    let answer = held.host.phase(peer);
+    put(handle, held);
+    match answer {
+        Ok(flags) => flags.up(),
+        Err(_) => false,
     }
 }
 

@@ -1,9 +1,9 @@
 //! What C is told, as structs of numbers.
 ghost use Rattle.std.specs.Prelude.{◌≡◌};
-ghost use Rattle.ncp_embed.specs.Told.{arrived_of, number_of_took, number_of_message_fault, phase_of, counted_of, discarded_of, noted_of};
+ghost use Rattle.ncp_embed.specs.Told.{arrived_of, arrival, kind_of, number_of_took, number_of_message_fault, phase_of, counted_of, discarded_of, noted_of};
 
 use ncp_host::{Counts, Error, Flags, Ignored, Received};
-use ncp_leader::MessageFault;
+use ncp_leader::{Leader, MessageFault, Short};
 use ncp_model::Took;
 use ncp_terms::ERROR_DATA;
 
@@ -13,9 +13,13 @@ use ncp_terms::ERROR_DATA;
 pub struct Arrived {
     /// 1 to 11, in the order of `Received`.
     pub what: u32,
-    /// Of `Other` the type, of `Fault` the number of the fault, of `Control` how many commands were
-    /// read, of `Text` 1 to 5 in the order of `Took`; else 0.
+    /// Of `Other` and `Answered` the type, of `Fault` the number of the fault, of `Control` how many
+    /// commands were read, of `Text` 1 to 5 in the order of `Took`; else 0.
     pub detail: u32,
+    /// The host that the leader names; 0 where there is no leader.
+    pub peer: u8,
+    /// The link of the leader; 0 where there is none.
+    pub link: u8,
 }
 
 /// The flags for a peer.
@@ -84,28 +88,51 @@ fn number_of_took(took: Took) -> u32
     }
 }
 
-fn arrival(what: u32, detail: u32) -> Arrived
-    ensures what { result.what ≡ what }
-    ensures detail { result.detail ≡ detail }
+// What it is that became of bits, with what their leader names.
+fn arrival(leader: Result<Leader, Short>, what: u32, detail: u32) -> Arrived
+    ensures { result ≡ arrival leader what detail }
 {
-    Arrived { what, detail }
+    match leader {
+        Ok(leader) => Arrived {
+            what,
+            detail,
+            peer: leader.host,
+            link: leader.link,
+        },
+        Err(Short) => Arrived {
+            what,
+            detail,
+            peer: 0,
+            link: 0,
+        },
+    }
 }
 
-pub(crate) fn arrived_of(received: Received) -> Arrived
-    ensures { result ≡ arrived_of received }
+// The type that a leader names.
+fn kind_of(leader: Result<Leader, Short>) -> u32
+    ensures { result ≡ kind_of leader }
+{
+    match leader {
+        Ok(leader) => u32::from(leader.kind),
+        Err(Short) => 0,
+    }
+}
+
+pub(crate) fn arrived_of(leader: Result<Leader, Short>, received: Received) -> Arrived
+    ensures { result ≡ arrived_of leader received }
 {
     match received {
-        Received::Short => arrival(1, 0),
-        Received::Other(kind) => arrival(2, u32::from(kind)),
-        Received::Unknown => arrival(3, 0),
-        Received::Stray => arrival(4, 0),
-        Received::Answered => arrival(5, 0),
-        Received::Fault(fault) => arrival(6, number_of_message_fault(fault)),
-        Received::WrongLink => arrival(7, 0),
-        Received::WrongSize => arrival(8, 0),
-        Received::Control(commands) => arrival(9, commands),
-        Received::Text(took) => arrival(10, number_of_took(took)),
-        Received::NotUp => arrival(11, 0),
+        Received::Short => arrival(leader, 1, 0),
+        Received::Other(kind) => arrival(leader, 2, u32::from(kind)),
+        Received::Unknown => arrival(leader, 3, 0),
+        Received::Stray => arrival(leader, 4, 0),
+        Received::Answered => arrival(leader, 5, kind_of(leader)),
+        Received::Fault(fault) => arrival(leader, 6, number_of_message_fault(fault)),
+        Received::WrongLink => arrival(leader, 7, 0),
+        Received::WrongSize => arrival(leader, 8, 0),
+        Received::Control(commands) => arrival(leader, 9, commands),
+        Received::Text(took) => arrival(leader, 10, number_of_took(took)),
+        Received::NotUp => arrival(leader, 11, 0),
     }
 }
 

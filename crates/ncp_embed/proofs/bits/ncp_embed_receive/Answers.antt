@@ -1,10 +1,14 @@
 use Rattle.std.proofs.Common.{sym, ap, ◌∙◌}
+use Rattle.ncp_leader.specs.Leader.{leader_in}
+use Rattle.ncp_embed.specs.Told.{arrived_of}
 use Rattle.ncp_embed.specs.Exports.{arrived_in, after_bits}
 use Rattle.ncp_embed.proofs.Calling.{found}
 use Rattle.ncp_embed.proofs.bits.ncp_embed_receive.Goals as goal
 
 pub returns-clause-arrived : goal.returns-clause-arrived
 returns-clause-arrived c =
+    let named = ap (λ leader. arrived_of leader c.receive-received.result) c.read_leader.ensures.exact in
+    let became = ap (arrived_of (leader_in c.in-Ok.came)) c.receive-received.ensures.received in
     let there = ap (λ at. arrived_in c.in-Ok.came at c.args.arrived.now) (found c.take.result c.in-Some.held c.deref_mut.result.now c.args.handle.now.host c.in-Some.is c.take.ensures.held c.deref_mut.ensures.value) in
     let came = ap (λ came. after_bits came (λ bits. arrived_in bits c.args.handle.now.host c.args.arrived.now) c.args.arrived.now) (sym c.in-Ok.is ∙ c.from_bytes.ensures.read) in
-    cc
+    c.arrived_of.ensures ∙ named ∙ became ∙ there ∙ came

@@ -1,0 +1,388 @@
+"""A host of the ARPANET with its one to eight peers, over libncp: include/ncp.h says what each call does and refuses, and in
+which order, and docs/EMBEDDING.md how a host is driven.
+
+    host = Host(1, peers=[2])
+    host.reset(2)
+    for message in host.outputs():      # what goes out to the IMP
+        ...
+    host.receive(message)               # what came from it
+    for event in host.events():         # what changed since the last look
+        ...
+
+A refusal is an exception, a subclass of Refused that has its name: NotUp, NoEntry, BadPeers. It changes nothing. The library is
+that of NCP_LIBRARY, if this is set, of prebuilt/ where this file stands in the repository, or the one that is installed. No call
+gives up the lock of the interpreter, so threads may share a host.
+"""
+import ctypes
+import os
+import platform
+from ctypes import POINTER, byref, c_bool, c_char_p, c_size_t, c_uint8, c_uint16, c_uint32, c_void_p
+from pathlib import Path
+from typing import NamedTuple
+
+LONGEST_MESSAGE, LONGEST_COMMAND, LINKS = 1024, 12, 72
+DONE, NOTHING, NO_ENTRY = 0, 35, 6
+# Directions of a capture.
+TO_IMP, FROM_IMP = 0x48, 0x49
+
+
+class Bits(NamedTuple):
+    """A message or a text: so many bits, from the most significant bit of the first byte; spare bits are zero."""
+    data: bytes
+    count: int
+
+    @property
+    def host(self):
+        """The host that the leader names: that it goes to, or comes from."""
+        return self.data[1]
+
+    @property
+    def link(self):
+        return self.data[2]
+
+
+class Arrived(NamedTuple):
+    """What became of bits that came: NCP_ARRIVED_.. of ncp.h, with the peer and the link that the leader names."""
+    what: str
+    detail: int
+    peer: int
+    link: int
+
+
+class Event(NamedTuple):
+    """Something that changed: `up` and `down` of a peer; `opened`, `text` (bits that are held now), `allowed` (messages and bits),
+    `interrupted` and `ended` of a connection, `echoed` (the byte)."""
+    what: str
+    peer: int
+    local: int = None
+    remote: int = None
+    told: object = None
+
+
+ARRIVED = ("", "short", "other", "unknown", "stray", "answered", "fault", "wrong link", "wrong size", "control", "text", "not up")
+
+
+class _Struct(ctypes.Structure):
+    def __eq__(self, other):
+        return type(self) is type(other) and bytes(self) == bytes(other)
+
+    def __repr__(self):
+        return f"{type(self).__name__}({', '.join(f'{name}={getattr(self, name)!r}' for name, _ in self._fields_)})"
+
+
+class _Host(_Struct):
+    _fields_ = [("at", c_void_p)]
+
+
+class _Arrived(_Struct):
+    _fields_ = [("what", c_uint32), ("detail", c_uint32), ("peer", c_uint8), ("link", c_uint8)]
+
+
+class Flags(_Struct):
+    """The flags for a peer: the host is up with it where none is set."""
+    _fields_ = [(name, c_bool) for name in ("down", "want", "owe", "wait")]
+
+
+class Counted(_Struct):
+    """What was counted of what came from a peer."""
+    _fields_ = [(name, c_uint32) for name in ("stray", "faults", "wrong_link", "wrong_size", "not_up", "late", "over")]
+
+
+class Discarded(_Struct):
+    """What was counted of messages that are of no peer."""
+    _fields_ = [(name, c_uint32) for name in ("short_bits", "other", "unknown")]
+
+
+class Noted(_Struct):
+    """An ERR that came: its code, and the bytes that it is about."""
+    _fields_ = [("code", c_uint8), ("bytes", c_uint8 * 10)]
+
+
+class Connection(_Struct):
+    """What is known of a connection: the fields of `struct ncp_connection`."""
+    _fields_ = [*((name, c_uint32) for name in ("bits", "stored", "interrupts")), ("messages", c_uint16), ("link", c_uint8), ("size", c_uint8),
+                *((name, c_bool) for name in ("sends", "asked", "heard", "opened", "leaving", "left", "cls", "busy", "recall"))]
+
+
+def _library():
+    here = Path(__file__).resolve().parent.parent.parent / "prebuilt"
+    built = here / ("libncp.so.1" if platform.machine() == "x86_64" else f"{platform.machine()}/libncp.so.1")
+    return ctypes.PyDLL(os.environ.get("NCP_LIBRARY") or (str(built) if built.is_file() else "libncp.so.1"))
+
+
+_HOST, _BYTES, _SIZE, _BUFFER = POINTER(_Host), c_char_p, c_size_t, POINTER(c_uint8)
+_PEER, _AT = (c_uint8,), (c_uint8, c_uint32, c_uint32)
+# The functions by their parameters behind the host.
+_CALLS = {
+    "new": (c_uint8, _BYTES, _SIZE), "receive": (_BYTES, _SIZE, _SIZE, POINTER(_Arrived)), "next_output": (_BUFFER, _SIZE, POINTER(_SIZE)),
+    "reset": _PEER, "ask_send": (*_AT, c_uint8, c_uint32), "ask_receive": (*_AT, c_uint32), "give": (*_AT, _BYTES, _SIZE, _SIZE),
+    "take": (*_AT, c_uint32, _BUFFER, _SIZE, POINTER(_SIZE)), "allocate": (*_AT, c_uint16, c_uint32), "call_back": (*_AT, c_uint8, c_uint8),
+    "interrupt": _AT, "close": _AT, "echo": (*_PEER, c_uint8), "wake": _PEER, "state": (*_AT, POINTER(Connection)),
+    "phase": (*_PEER, POINTER(Flags)), "echoed": (*_PEER, POINTER(c_uint8)), "error": (*_PEER, c_uint32, POINTER(Noted)),
+    "counts": (*_PEER, POINTER(Counted)), "ignored": (POINTER(Discarded),), "waiting": (*_PEER, c_uint32, _BUFFER, _SIZE, POINTER(_SIZE)),
+    "kept": (*_PEER, c_uint8, _BUFFER, _SIZE, POINTER(_SIZE)),
+}
+_ncp = _library()
+for _name, _words in _CALLS.items():
+    getattr(_ncp, f"ncp_{_name}").argtypes = [_HOST, *_words]
+    getattr(_ncp, f"ncp_{_name}").restype = c_uint32
+_ncp.ncp_free.argtypes, _ncp.ncp_free.restype = [_HOST], None
+_ncp.ncp_command.argtypes, _ncp.ncp_command.restype = [_BYTES, _SIZE, _SIZE, c_uint32, _BUFFER, _SIZE, POINTER(_SIZE)], c_uint32
+_ncp.ncp_word.argtypes, _ncp.ncp_word.restype = [c_uint32], c_char_p
+_ncp.ncp_version.argtypes, _ncp.ncp_version.restype = [], c_char_p
+
+VERSION = _ncp.ncp_version().decode()
+
+
+class Refused(Exception):
+    """Why a call was refused, which then changed nothing: `number` is what the library answered."""
+    number = None
+
+
+def _refusals():
+    """A class for each name, and the class of each number: that of a new host and that of a call may have one name."""
+    classes, numbers = {}, {}
+    for number in range(1, 256):
+        name = _ncp.ncp_word(number).decode()
+        if name:
+            numbers[number] = classes.setdefault(name, type(name, (Refused,), {"__module__": __name__, "__doc__": f"ncp.h says when {name} is answered."}))
+    return classes, numbers
+
+
+_CLASSES, _NUMBERS = _refusals()
+globals().update(_CLASSES)
+
+
+def _judge(number):
+    if number != DONE:
+        refused = _NUMBERS.get(number, Refused)()
+        refused.number = number
+        raise refused
+
+
+def _bits(data, count):
+    """Bits as they are passed: bytes, a Bits, or bytes and a number of bits."""
+    if isinstance(data, Bits):
+        return data
+    return Bits(bytes(data), 8 * len(data) if count is None else count)
+
+
+def commands(data, count=None):
+    """The whole commands of a control message, as bytes, in their order; of another message there are none. So a server reads
+    who asks: of an RTS (1) and an STR (2) bytes 1 to 4 are the socket of the peer, and 5 to 8 the one here."""
+    bits, out, size = _bits(data, count), (c_uint8 * LONGEST_COMMAND)(), c_size_t()
+    found = []
+    while (number := _ncp.ncp_command(bits.data, len(bits.data), bits.count, len(found), out, LONGEST_COMMAND, byref(size))) == DONE:
+        found.append(bytes(out[:size.value]))
+    if number != NOTHING:
+        _judge(number)
+    return found
+
+
+class Host:
+    """A host of the number `me`, which is down with each of its peers at first."""
+
+    def __init__(self, me, peers):
+        self._host = _Host()
+        self.me, self.peers = me, tuple(peers)
+        self._seen, self._known = {}, {}
+        self._do("new", me, bytes(self.peers), len(self.peers))
+
+    def free(self):
+        """Gives back what the host has. A call behind that is refused: NoHost."""
+        _ncp.ncp_free(byref(self._host))
+
+    def __enter__(self):
+        return self
+
+    def __exit__(self, *_):
+        self.free()
+
+    def __del__(self):
+        if getattr(self, "_host", None) and _ncp:
+            self.free()
+
+    def _answer(self, name, *words):
+        """What a function answers; a number that has no place in its parameter is an OverflowError."""
+        for kind, word in zip(_CALLS[name], words):
+            if isinstance(word, int) and not 0 <= word < 1 << 8 * ctypes.sizeof(kind):
+                raise OverflowError(f"{name}: {word} has no place in {8 * ctypes.sizeof(kind)} bits")
+        return getattr(_ncp, f"ncp_{name}")(byref(self._host), *words)
+
+    def _do(self, name, *words):
+        _judge(self._answer(name, *words))
+
+    def _told(self, name, kind, *words):
+        """What a function writes, or None where there is nothing."""
+        out = kind()
+        number = self._answer(name, *words, byref(out))
+        if number == NOTHING:
+            return None
+        _judge(number)
+        return out
+
+    def _bytes(self, name, *words, room=LONGEST_MESSAGE):
+        """Bytes that a function writes with how many bits or bytes they are, or None where there are none."""
+        out, size = (c_uint8 * room)(), c_size_t()
+        number = self._answer(name, *words, out, room, byref(size))
+        if number == NOTHING:
+            return None
+        _judge(number)
+        return bytes(out), size.value
+
+    def _message(self, name, *words):
+        found = self._bytes(name, *words)
+        return found and Bits(found[0][:(found[1] + 7) // 8], found[1])
+
+    # Messages.
+
+    def receive(self, data, count=None):
+        """Gives the host a message that came: bytes, so many bits of bytes, or a Bits."""
+        bits, arrived = _bits(data, count), _Arrived()
+        self._do("receive", bits.data, len(bits.data), bits.count, byref(arrived))
+        return Arrived(ARRIVED[arrived.what], arrived.detail, arrived.peer, arrived.link)
+
+    def next_output(self):
+        """The message that goes out next, or None."""
+        return self._message("next_output")
+
+    def outputs(self):
+        """The messages that go out, until none is ready."""
+        while message := self.next_output():
+            yield message
+
+    # Calls of a user.
+
+    def reset(self, peer):
+        self._do("reset", peer)
+
+    def ask_send(self, peer, local, remote, size=8, room=65536):
+        self._do("ask_send", peer, local, remote, size, room)
+        self._watch(peer, local, remote)
+
+    def ask_receive(self, peer, local, remote, room=65536):
+        self._do("ask_receive", peer, local, remote, room)
+        self._watch(peer, local, remote)
+
+    def give(self, peer, local, remote, data, count=None):
+        bits = _bits(data, count)
+        self._do("give", peer, local, remote, bits.data, len(bits.data), bits.count)
+
+    def take(self, peer, local, remote, count=0xFFFFFFFF):
+        """As many held bytes of the connection as are asked for and fit one message, as a Bits."""
+        out, size = (c_uint8 * LONGEST_MESSAGE)(), c_size_t()
+        self._do("take", peer, local, remote, count, out, LONGEST_MESSAGE, byref(size))
+        return Bits(bytes(out[:(size.value + 7) // 8]), size.value)
+
+    def allocate(self, peer, local, remote, messages, bits):
+        self._do("allocate", peer, local, remote, messages, bits)
+
+    def call_back(self, peer, local, remote, messages_128ths, bits_128ths):
+        self._do("call_back", peer, local, remote, messages_128ths, bits_128ths)
+
+    def interrupt(self, peer, local, remote):
+        self._do("interrupt", peer, local, remote)
+
+    def close(self, peer, local, remote):
+        self._do("close", peer, local, remote)
+
+    def echo(self, peer, byte):
+        self._do("echo", peer, byte)
+
+    def wake(self, peer):
+        self._do("wake", peer)
+
+    # What is known.
+
+    def state(self, peer, local, remote):
+        return self._told("state", Connection, peer, local, remote)
+
+    def phase(self, peer):
+        return self._told("phase", Flags, peer)
+
+    def is_up(self, peer):
+        return not any(bytes(self.phase(peer)))
+
+    def is_open(self, peer, local, remote):
+        try:
+            it = self.state(peer, local, remote)
+        except _CLASSES["NoEntry"]:
+            return False
+        return it.asked and it.heard and not it.leaving and not it.left
+
+    def echoed(self, peer):
+        """The byte of the last ERP that answered an echo, or None."""
+        told = self._told("echoed", c_uint8, peer)
+        return told and told.value
+
+    def errors(self, peer):
+        """The last sixteen ERRs that came, the oldest first."""
+        found = (self._told("error", Noted, peer, place) for place in range(16))
+        return [it for it in found if it is not None]
+
+    def counts(self, peer):
+        return self._told("counts", Counted, peer)
+
+    def ignored(self):
+        return self._told("ignored", Discarded)
+
+    def waiting(self, peer):
+        """The commands that wait for a peer, as bytes, in their order."""
+        found = []
+        while command := self._bytes("waiting", peer, len(found), room=LONGEST_COMMAND):
+            found.append(command[0][:command[1]])
+        return found
+
+    def kept(self, peer, link):
+        """The message to a peer on a link that is not taken yet, or None."""
+        return self._message("kept", peer, link)
+
+    # What happened.
+
+    def _watch(self, peer, local, remote):
+        self._known.setdefault((peer, local, remote), None)
+
+    def events(self):
+        """What changed since the last look, by readings: of each peer, and of each connection that was asked for here. Of what
+        changed twice in between, only the end is seen: so look after each message that comes."""
+        for peer in self.peers:
+            now = self.is_up(peer), self.echoed(peer)
+            before = self._seen.get(peer, (False, None))
+            self._seen[peer] = now
+            if now[0] != before[0]:
+                yield Event("up" if now[0] else "down", peer)
+            if now[1] != before[1]:
+                yield Event("echoed", peer, told=now[1])
+        for (peer, local, remote), before in [*self._known.items()]:
+            yield from self._changes(Event("", peer, local, remote), before)
+
+    def _changes(self, at, before):
+        key = at.peer, at.local, at.remote
+        try:
+            now = self.state(*key)
+        except _CLASSES["NoEntry"]:
+            del self._known[key]
+            yield at._replace(what="ended")
+            return
+        self._known[key] = now
+        was = before or Connection()
+        if now.opened and not was.opened:
+            yield at._replace(what="opened")
+        if not now.sends and now.stored > was.stored:
+            yield at._replace(what="text", told=now.stored)
+        if now.sends and (now.messages > was.messages or now.bits > was.bits):
+            yield at._replace(what="allowed", told=(now.messages, now.bits))
+        if now.interrupts > was.interrupts:
+            yield at._replace(what="interrupted", told=now.interrupts)
+
+
+class Capture:
+    """A message file of version 2, which `ncp show` and Wireshark read: `Capture(open("mine.ncp", "wb"))`."""
+
+    def __init__(self, file):
+        self._file = file
+        file.write(b"NCPJ")
+
+    def message(self, direction, at, bits):
+        """Writes a message at the interface of the host `at`, TO_IMP or FROM_IMP."""
+        self._file.write(bytes([direction, at]) + bits.count.to_bytes(2, "big") + bits.data[:(bits.count + 7) // 8])

@@ -1,0 +1,135 @@
+"""The binding: refusals, what is told, captures and events; two_hosts.py prints what the example in C prints; and the examples
+of README.md are as they print."""
+import contextlib
+import doctest
+import io
+import unittest
+from pathlib import Path
+
+import ncp
+import two_hosts
+
+HERE = Path(__file__).resolve().parent
+RST, RRP, RFNM = "0002000000080001000c", "0002000000080001000d", "05020000"
+
+
+def up_with(peer):
+    """A host that is up with a peer, for which nothing waits."""
+    host = ncp.Host(1, [peer])
+    host.receive(bytes([0, peer]) + bytes.fromhex("000000080001000c"))
+    list(host.outputs())
+    host.receive(bytes([5, peer, 0, 0]))
+    return host
+
+
+class Binding(unittest.TestCase):
+    def test_two_hosts(self):
+        said = io.StringIO()
+        with contextlib.redirect_stdout(said):
+            two_hosts.main()
+        self.assertEqual(said.getvalue(), (HERE.parent.parent / "examples/embed/two_hosts.txt").read_text(encoding="utf-8"))
+
+    def test_refusals_have_their_names_and_numbers(self):
+        host = ncp.Host(1, [2])
+        for name, number, call in (
+            ("UnknownPeer", 1, lambda: host.reset(3)), ("NotUp", 2, lambda: host.ask_send(2, 3, 2)), ("BadPeers", 65, lambda: ncp.Host(1, [1])),
+            ("BadPeers", 65, lambda: ncp.Host(1, range(2, 11))), ("TooLong", 41, lambda: host.receive(bytes(1025))),
+            ("ShortBytes", 42, lambda: host.receive(b"\0", 9)), ("SpareNotZero", 43, lambda: host.receive(b"\1", 7)),
+            ("UnknownPeer", 1, lambda: host.state(3, 2, 3)), ("UnknownPeer", 1, lambda: host.errors(3)),
+        ):
+            with self.assertRaises(getattr(ncp, name)) as found:
+                call()
+            self.assertEqual(found.exception.number, number)
+            self.assertIsInstance(found.exception, ncp.Refused)
+
+    def test_numbers_that_have_no_place(self):
+        host = ncp.Host(1, [2])
+        for call in (lambda: host.reset(258), lambda: host.reset(-1), lambda: host.ask_send(2, 1 << 32, 2), lambda: host.allocate(2, 3, 2, 1 << 16, 8)):
+            with self.assertRaises(OverflowError):
+                call()
+
+    def test_no_host_once_it_is_free(self):
+        with ncp.Host(1, [2]) as host:
+            host.reset(2)
+        host.free()
+        with self.assertRaises(ncp.NoHost):
+            host.reset(2)
+
+    def test_what_arrived(self):
+        host = ncp.Host(1, [2])
+        host.reset(2)
+        self.assertEqual(host.next_output(), ncp.Bits(bytes.fromhex(RST), 80))
+        self.assertIsNone(host.next_output())
+        self.assertEqual(host.receive(bytes.fromhex("07020000")), ("answered", 7, 2, 0))
+        self.assertEqual(host.receive(b"\4\7\0\0"), ("other", 4, 7, 0))
+        self.assertEqual(host.receive(b"\0", 8), ("short", 0, 0, 0))
+        self.assertEqual(host.ignored(), ncp.Discarded(short_bits=1, other=1))
+        self.assertEqual(host.kept(2, 0).data, bytes.fromhex(RST))
+        self.assertEqual(host.phase(2), ncp.Flags(wait=True))
+
+    def test_what_waits_and_what_is_echoed(self):
+        host = up_with(2)
+        self.assertTrue(host.is_up(2))
+        host.echo(2, 65)
+        self.assertEqual(host.waiting(2), [b"\x09\x41"])
+        self.assertIsNone(host.echoed(2))
+        list(host.outputs())
+        host.receive(bytes.fromhex("0002000000080002000a41"))
+        self.assertEqual(host.echoed(2), 65)
+        self.assertEqual(host.counts(2), ncp.Counted())
+
+    def test_commands(self):
+        self.assertEqual(ncp.commands(bytes.fromhex("0002000000080004000c09410e")), [b"\x0c", b"\x09\x41"])
+        self.assertEqual(ncp.commands(bytes.fromhex("0002020000080004000c09410e")), [])
+        self.assertEqual(ncp.commands(b""), [])
+        with self.assertRaises(ncp.ShortBytes):
+            ncp.commands(b"", 1)
+
+    def test_events(self):
+        host = ncp.Host(1, [2])
+        self.assertEqual(list(host.events()), [])
+        host.reset(2)
+        list(host.outputs())
+        host.receive(bytes.fromhex(RFNM))
+        host.receive(bytes.fromhex(RRP))
+        self.assertEqual(list(host.events()), [("up", 2, None, None, None)])
+        # The peer asks to receive on link 2, and allows two messages and 64 bits.
+        host.ask_send(2, 3, 2)
+        host.receive(bytes.fromhex("000200000008000a00" "01" "00000002" "00000003" "02"))
+        host.receive(bytes.fromhex("000200000008000800" "04" "02" "0002" "00000040"))
+        self.assertEqual(list(host.events()), [("opened", 2, 3, 2, None), ("allowed", 2, 3, 2, (2, 64))])
+        self.assertEqual(list(host.events()), [])
+        # It resets: the RRP is made at once, since nothing is out on a data link, so the host is not down in between.
+        host.receive(bytes.fromhex("0002000000080001000c"))
+        self.assertEqual(list(host.events()), [("ended", 2, 3, 2, None)])
+
+    def test_a_text_is_an_event(self):
+        host = up_with(2)
+        list(host.events())
+        host.ask_receive(2, 2, 3, room=64)
+        host.receive(bytes.fromhex("000200000008000a00" "02" "00000003" "00000002" "08"))
+        host.allocate(2, 2, 3, 1, 64)
+        self.assertEqual([it.what for it in host.events()], ["opened"])
+        host.receive(bytes.fromhex("000202000008000200" "6869"))
+        self.assertEqual(list(host.events()), [("text", 2, 2, 3, 16)])
+        self.assertEqual(host.take(2, 2, 3), (b"hi", 16))
+
+    def test_a_capture(self):
+        file = io.BytesIO()
+        capture = ncp.Capture(file)
+        capture.message(ncp.TO_IMP, 1, ncp.Bits(bytes.fromhex("04000000"), 32))
+        capture.message(ncp.FROM_IMP, 1, ncp.Bits(b"\xf8", 5))
+        self.assertEqual(file.getvalue(), bytes.fromhex("4e43504a" "48010020" "04000000" "49010005" "f8"))
+
+    def test_the_version(self):
+        header = (HERE.parent.parent / "include/ncp.h").read_text(encoding="utf-8")
+        self.assertIn(f'#define NCP_VERSION "{ncp.VERSION}"\n', header)
+
+
+def load_tests(_loader, tests, _pattern):
+    tests.addTests(doctest.DocFileSuite("README.md"))
+    return tests
+
+
+if __name__ == "__main__":
+    unittest.main()

@@ -1,0 +1,318 @@
+//! A host of the ARPANET with its one to eight peers, over the proved library of `include/ncp.h`.
+//!
+//! That header says what each call does and refuses, and in which order; `docs/EMBEDDING.md` how a host is driven: what comes
+//! from the IMP goes into [`Host::receive`], what goes out comes from [`Host::next_output`], and the calls of a user are methods.
+//!
+//! ```
+//! use ncp::{Host, Refusal, BUFFER};
+//!
+//! let mut host = Host::new(1, &[2])?;
+//! host.reset(2)?;
+//! let mut buffer = BUFFER;
+//! let message = host.next_output(&mut buffer).unwrap();
+//! assert_eq!(message.bytes(), [0, 2, 0, 0, 0, 8, 0, 1, 0, 12]); // an RST for host 2
+//! assert_eq!(host.reset(2), Err(Refusal::Busy));
+//! # Ok::<(), Refusal>(())
+//! ```
+//!
+//! A host may go from one thread to another, and be read where it is lent; it is not shared by threads.
+#![no_std]
+
+mod refusal;
+
+use core::cell::UnsafeCell;
+use core::ffi::CStr;
+use ncp_sys as sys;
+pub use ncp_sys::{ncp_connection as Connection, ncp_counted as Counted, ncp_discarded as Discarded, ncp_flags as Flags, ncp_noted as Noted};
+pub use refusal::Refusal;
+use refusal::{done, found};
+
+/// A buffer that has room for each message and each text.
+pub type Buffer = [u8; sys::NCP_LONGEST_MESSAGE];
+
+/// An empty buffer.
+pub const BUFFER: Buffer = [0; sys::NCP_LONGEST_MESSAGE];
+
+/// A message or a text: so many bits, from the most significant bit of the first byte. Spare bits of the last byte are zero.
+#[derive(Clone, Copy, Debug, PartialEq, Eq)]
+pub struct Bits<'a> {
+    bytes: &'a [u8],
+    len: usize,
+}
+
+impl<'a> Bits<'a> {
+    /// The first `len` bits of bytes: the call that takes them refuses what is no such number of bits.
+    pub fn new(bytes: &'a [u8], len: usize) -> Bits<'a> {
+        Bits { bytes, len }
+    }
+
+    pub fn bytes(&self) -> &'a [u8] {
+        self.bytes
+    }
+
+    /// How many bits there are.
+    pub fn len(&self) -> usize {
+        self.len
+    }
+
+    pub fn is_empty(&self) -> bool {
+        self.len == 0
+    }
+}
+
+impl<'a> From<&'a [u8]> for Bits<'a> {
+    fn from(bytes: &'a [u8]) -> Bits<'a> {
+        Bits::new(bytes, 8 * bytes.len())
+    }
+}
+
+impl<'a, const N: usize> From<&'a [u8; N]> for Bits<'a> {
+    fn from(bytes: &'a [u8; N]) -> Bits<'a> {
+        Bits::from(&bytes[..])
+    }
+}
+
+/// A connection: the peer, the socket here and the socket there. A socket that sends is odd, and one that receives even.
+#[derive(Clone, Copy, Debug, PartialEq, Eq)]
+pub struct At {
+    pub peer: u8,
+    pub local: u32,
+    pub remote: u32,
+}
+
+/// What became of a message that came.
+#[derive(Clone, Copy, Debug, PartialEq, Eq)]
+pub enum What {
+    /// Fewer than 32 bits.
+    Short,
+    /// Of a type that says nothing to a host: its number.
+    Other(u32),
+    /// From a host that is no peer.
+    Unknown,
+    /// An answer where none is waited for.
+    Stray,
+    /// The answer to the message that went out on its link: its type, 5 for RFNM, 7 for Destination Dead, 9 for Incomplete.
+    Answered(u32),
+    /// No regular message: why, as `ncp.h` has it.
+    Fault(u32),
+    /// Link 1, or over 71.
+    WrongLink,
+    /// A control message whose bytes have not 8 bits.
+    WrongSize,
+    /// So many whole commands were read.
+    Control(u32),
+    /// A text: 1 admitted, 2 late, 3 wrong size, 4 over, 5 not open.
+    Text(u32),
+    /// A text while the host is not up with the peer.
+    NotUp,
+}
+
+/// What became of a message that came, with the host and the link that its leader names.
+#[derive(Clone, Copy, Debug, PartialEq, Eq)]
+pub struct Arrived {
+    pub what: What,
+    pub peer: u8,
+    pub link: u8,
+}
+
+impl Arrived {
+    fn of(told: sys::ncp_arrived) -> Arrived {
+        let detail = told.detail;
+        let what = match told.what {
+            1 => What::Short,
+            2 => What::Other(detail),
+            3 => What::Unknown,
+            4 => What::Stray,
+            5 => What::Answered(detail),
+            6 => What::Fault(detail),
+            7 => What::WrongLink,
+            8 => What::WrongSize,
+            9 => What::Control(detail),
+            10 => What::Text(detail),
+            _ => What::NotUp,
+        };
+        Arrived { what, peer: told.peer, link: told.link }
+    }
+}
+
+/// A host, down with each of its peers at first.
+#[derive(Debug)]
+pub struct Host {
+    // Each call of the library takes the host out of the handle and puts it back, also one that only reads.
+    handle: UnsafeCell<sys::ncp_host>,
+}
+
+// SAFETY: the library has no state beside the host, and it asks for one call at a time: `&mut`, and `&` of what is not `Sync`.
+unsafe impl Send for Host {}
+
+impl Drop for Host {
+    fn drop(&mut self) {
+        // SAFETY: the handle is what the library left there.
+        unsafe { sys::ncp_free(self.handle.get_mut()) }
+    }
+}
+
+impl Host {
+    /// Refused, in this order: `BadPeers` (not one to eight, not distinct, or one is `me`), `OutOfMemory`.
+    pub fn new(me: u8, peers: &[u8]) -> Result<Host, Refusal> {
+        let host = Host { handle: UnsafeCell::new(sys::ncp_host { at: core::ptr::null_mut() }) };
+        // SAFETY: in all calls here the handle has a host, or is empty as here, and no other call has it at the time; pointers lead
+        // to as much as the length beside them says, and none overlap.
+        done(unsafe { sys::ncp_new(host.handle.get(), me, peers.as_ptr(), peers.len()) })?;
+        Ok(host)
+    }
+
+    /// A message that came from the IMP, with its leader. Refused: `TooLong`, `ShortBytes`, `SpareNotZero`.
+    pub fn receive<'a>(&mut self, message: impl Into<Bits<'a>>) -> Result<Arrived, Refusal> {
+        let (message, mut told) = (message.into(), sys::ncp_arrived::default());
+        done(unsafe { sys::ncp_receive(self.handle.get(), message.bytes.as_ptr(), message.bytes.len(), message.len, &mut told) })?;
+        Ok(Arrived::of(told))
+    }
+
+    /// The message that goes out next, with its leader, if one is ready.
+    pub fn next_output<'a>(&mut self, buffer: &'a mut Buffer) -> Option<Bits<'a>> {
+        let mut len = 0;
+        let answer = unsafe { sys::ncp_next_output(self.handle.get(), buffer.as_mut_ptr(), buffer.len(), &mut len) };
+        (answer == sys::NCP_DONE).then(|| front(buffer, len))
+    }
+
+    pub fn reset(&mut self, peer: u8) -> Result<(), Refusal> {
+        done(unsafe { sys::ncp_reset(self.handle.get(), peer) })
+    }
+
+    /// Asks to send, with so many bits a byte, and room for so many bits that wait.
+    pub fn ask_send(&mut self, at: At, size: u8, room: u32) -> Result<(), Refusal> {
+        done(unsafe { sys::ncp_ask_send(self.handle.get(), at.peer, at.local, at.remote, size, room) })
+    }
+
+    /// Asks to receive, with room for so many bits that are held.
+    pub fn ask_receive(&mut self, at: At, room: u32) -> Result<(), Refusal> {
+        done(unsafe { sys::ncp_ask_receive(self.handle.get(), at.peer, at.local, at.remote, room) })
+    }
+
+    /// Gives text to send.
+    pub fn give<'a>(&mut self, at: At, text: impl Into<Bits<'a>>) -> Result<(), Refusal> {
+        let text = text.into();
+        done(unsafe { sys::ncp_give(self.handle.get(), at.peer, at.local, at.remote, text.bytes.as_ptr(), text.bytes.len(), text.len) })
+    }
+
+    /// Takes as many held bytes of the connection as are asked for and fit one message: with `u32::MAX` all that fit.
+    pub fn take<'a>(&mut self, at: At, bytes: u32, buffer: &'a mut Buffer) -> Result<Bits<'a>, Refusal> {
+        let mut len = 0;
+        done(unsafe { sys::ncp_take(self.handle.get(), at.peer, at.local, at.remote, bytes, buffer.as_mut_ptr(), buffer.len(), &mut len) })?;
+        Ok(front(buffer, len))
+    }
+
+    /// Allows the sender so many messages and bits more.
+    pub fn allocate(&mut self, at: At, messages: u16, bits: u32) -> Result<(), Refusal> {
+        done(unsafe { sys::ncp_allocate(self.handle.get(), at.peer, at.local, at.remote, messages, bits) })
+    }
+
+    /// Asks the sender to give back 128ths of its messages and of its bits.
+    pub fn call_back(&mut self, at: At, messages: u8, bits: u8) -> Result<(), Refusal> {
+        done(unsafe { sys::ncp_call_back(self.handle.get(), at.peer, at.local, at.remote, messages, bits) })
+    }
+
+    pub fn interrupt(&mut self, at: At) -> Result<(), Refusal> {
+        done(unsafe { sys::ncp_interrupt(self.handle.get(), at.peer, at.local, at.remote) })
+    }
+
+    pub fn close(&mut self, at: At) -> Result<(), Refusal> {
+        done(unsafe { sys::ncp_close(self.handle.get(), at.peer, at.local, at.remote) })
+    }
+
+    pub fn echo(&mut self, peer: u8, byte: u8) -> Result<(), Refusal> {
+        done(unsafe { sys::ncp_echo(self.handle.get(), peer, byte) })
+    }
+
+    /// Asks for the messages to a peer that are held since their destination was dead: they are to go out again.
+    pub fn wake(&mut self, peer: u8) -> Result<(), Refusal> {
+        done(unsafe { sys::ncp_wake(self.handle.get(), peer) })
+    }
+
+    /// What is known of a connection. Refused, in this order: `UnknownPeer`, `NoEntry`.
+    pub fn state(&self, at: At) -> Result<Connection, Refusal> {
+        let mut told = Connection::default();
+        done(unsafe { sys::ncp_state(self.handle.get(), at.peer, at.local, at.remote, &mut told) })?;
+        Ok(told)
+    }
+
+    /// Whether both requests were made, and this side is not closing.
+    pub fn is_open(&self, at: At) -> bool {
+        unsafe { sys::ncp_is_open(self.handle.get(), at.peer, at.local, at.remote) }
+    }
+
+    /// The flags for a peer.
+    pub fn phase(&self, peer: u8) -> Result<Flags, Refusal> {
+        let mut told = Flags::default();
+        done(unsafe { sys::ncp_phase(self.handle.get(), peer, &mut told) })?;
+        Ok(told)
+    }
+
+    pub fn is_up(&self, peer: u8) -> bool {
+        unsafe { sys::ncp_is_up(self.handle.get(), peer) }
+    }
+
+    /// The byte of the last ERP that answered an echo, if one did.
+    pub fn echoed(&self, peer: u8) -> Result<Option<u8>, Refusal> {
+        let mut told = 0;
+        let answer = unsafe { sys::ncp_echoed(self.handle.get(), peer, &mut told) };
+        Ok(found(answer)?.then_some(told))
+    }
+
+    /// The ERR that came from a peer at a place behind the oldest of the last sixteen.
+    pub fn error(&self, peer: u8, place: u32) -> Result<Option<Noted>, Refusal> {
+        let mut told = Noted::default();
+        let answer = unsafe { sys::ncp_error(self.handle.get(), peer, place, &mut told) };
+        Ok(found(answer)?.then_some(told))
+    }
+
+    /// What was counted of what came from a peer.
+    pub fn counts(&self, peer: u8) -> Result<Counted, Refusal> {
+        let mut told = Counted::default();
+        done(unsafe { sys::ncp_counts(self.handle.get(), peer, &mut told) })?;
+        Ok(told)
+    }
+
+    /// What was counted of messages that are of no peer.
+    pub fn ignored(&self) -> Discarded {
+        let mut told = Discarded::default();
+        unsafe { sys::ncp_ignored(self.handle.get(), &mut told) };
+        told
+    }
+
+    /// The bytes of the command that waits for a peer at a place behind the first.
+    pub fn waiting<'a>(&self, peer: u8, place: u32, buffer: &'a mut [u8; sys::NCP_LONGEST_COMMAND]) -> Option<&'a [u8]> {
+        let mut len = 0;
+        let answer = unsafe { sys::ncp_waiting(self.handle.get(), peer, place, buffer.as_mut_ptr(), buffer.len(), &mut len) };
+        (answer == sys::NCP_DONE).then(|| &buffer[..len])
+    }
+
+    /// The message to a peer on a link that is not taken yet.
+    pub fn kept<'a>(&self, peer: u8, link: u8, buffer: &'a mut Buffer) -> Option<Bits<'a>> {
+        let mut len = 0;
+        let answer = unsafe { sys::ncp_kept(self.handle.get(), peer, link, buffer.as_mut_ptr(), buffer.len(), &mut len) };
+        (answer == sys::NCP_DONE).then(|| front(buffer, len))
+    }
+}
+
+fn front(buffer: &Buffer, len: usize) -> Bits<'_> {
+    Bits::new(&buffer[..len.div_ceil(8)], len)
+}
+
+/// The command at a place behind the first of a control message that came, as its bytes, if there is one. So a server reads who
+/// asks: of an RTS (1) and an STR (2) bytes 1 to 4 are the socket of the peer, and 5 to 8 the one here.
+pub fn command<'a, 'b>(message: impl Into<Bits<'a>>, place: u32, buffer: &'b mut [u8; sys::NCP_LONGEST_COMMAND]) -> Option<&'b [u8]> {
+    let (message, mut len) = (message.into(), 0);
+    // SAFETY: as in the calls of a host.
+    let answer = unsafe {
+        sys::ncp_command(message.bytes.as_ptr(), message.bytes.len(), message.len, place, buffer.as_mut_ptr(), buffer.len(), &mut len)
+    };
+    (answer == sys::NCP_DONE).then(|| &buffer[..len])
+}
+
+/// The version of the library.
+pub fn version() -> &'static str {
+    // SAFETY: the library answers a string that stays.
+    unsafe { CStr::from_ptr(sys::ncp_version()) }.to_str().unwrap_or_default()
+}

@@ -1,0 +1,109 @@
+//! `Refusal`.
+use core::fmt;
+use ncp_sys as sys;
+
+/// Why a call was refused, which then changed nothing: the names of `ncp.h`.
+#[derive(Clone, Copy, Debug, PartialEq, Eq)]
+#[non_exhaustive]
+pub enum Refusal {
+    UnknownPeer,
+    NotUp,
+    BadSex,
+    BadSize,
+    BadRoom,
+    NoEntry,
+    AlreadyAsked,
+    Closing,
+    NotOpen,
+    WrongEnd,
+    NotWhole,
+    Busy,
+    NoRoom,
+    TooMuch,
+    TableFull,
+    QueueFull,
+    OutOfMemory,
+    TooLong,
+    ShortBytes,
+    SpareNotZero,
+    BadPeers,
+    /// A number that the header does not name.
+    Unnamed(u32),
+}
+
+impl Refusal {
+    fn of(number: u32) -> Refusal {
+        match number {
+            1 => Refusal::UnknownPeer,
+            2 => Refusal::NotUp,
+            3 => Refusal::BadSex,
+            4 => Refusal::BadSize,
+            5 => Refusal::BadRoom,
+            6 => Refusal::NoEntry,
+            7 => Refusal::AlreadyAsked,
+            8 => Refusal::Closing,
+            9 => Refusal::NotOpen,
+            10 => Refusal::WrongEnd,
+            11 => Refusal::NotWhole,
+            12 => Refusal::Busy,
+            13 => Refusal::NoRoom,
+            14 => Refusal::TooMuch,
+            15 => Refusal::TableFull,
+            16 => Refusal::QueueFull,
+            17 | 66 => Refusal::OutOfMemory,
+            41 => Refusal::TooLong,
+            42 => Refusal::ShortBytes,
+            43 => Refusal::SpareNotZero,
+            65 => Refusal::BadPeers,
+            _ => Refusal::Unnamed(number),
+        }
+    }
+}
+
+impl fmt::Display for Refusal {
+    fn fmt(&self, f: &mut fmt::Formatter<'_>) -> fmt::Result {
+        fmt::Debug::fmt(self, f)
+    }
+}
+
+impl core::error::Error for Refusal {}
+
+/// Done, or why not.
+pub(crate) fn done(answer: u32) -> Result<(), Refusal> {
+    if answer == sys::NCP_DONE {
+        Ok(())
+    } else {
+        Err(Refusal::of(answer))
+    }
+}
+
+/// Whether there is something, or why nothing can be told.
+pub(crate) fn found(answer: u32) -> Result<bool, Refusal> {
+    if answer == sys::NCP_NOTHING {
+        Ok(false)
+    } else {
+        done(answer).map(|()| true)
+    }
+}
+
+#[cfg(test)]
+mod tests {
+    extern crate std;
+    use super::Refusal;
+    use core::ffi::CStr;
+    use std::string::ToString;
+
+    // What a safe caller is never answered.
+    const OF_C: [&str; 4] = ["NoHost", "NoPointer", "ShortBuffer", "Nothing"];
+
+    #[test]
+    fn each_number_has_the_name_of_the_library() {
+        for number in 1..256 {
+            let word = unsafe { CStr::from_ptr(ncp_sys::ncp_word(number)) }.to_str().unwrap();
+            match Refusal::of(number) {
+                Refusal::Unnamed(_) => assert!(word.is_empty() || OF_C.contains(&word), "{number} is {word}"),
+                refusal => assert_eq!(refusal.to_string(), word),
+            }
+        }
+    }
+}

@@ -1,0 +1,86 @@
+//! Refusals by their names, what arrived and what is told, and a host that goes to another thread.
+use ncp::{Arrived, At, Bits, Host, Refusal, What, BUFFER};
+
+const RST: [u8; 10] = [0, 2, 0, 0, 0, 8, 0, 1, 0, 12];
+const RFNM: [u8; 4] = [5, 2, 0, 0];
+const AT: At = At { peer: 2, local: 3, remote: 2 };
+
+/// A host that is up with host 2, for which nothing waits.
+fn up() -> Host {
+    let mut host = Host::new(1, &[2]).unwrap();
+    host.receive(&RST).unwrap();
+    assert!(host.next_output(&mut BUFFER.clone()).is_some());
+    host.receive(&RFNM).unwrap();
+    host
+}
+
+#[test]
+fn refusals_have_their_names() {
+    let mut host = Host::new(1, &[2]).unwrap();
+    assert_eq!(Host::new(1, &[1]).err(), Some(Refusal::BadPeers));
+    assert_eq!(Host::new(1, &[]).err(), Some(Refusal::BadPeers));
+    assert_eq!(host.reset(3), Err(Refusal::UnknownPeer));
+    assert_eq!(host.ask_send(AT, 8, 64), Err(Refusal::NotUp));
+    assert_eq!(host.state(AT), Err(Refusal::NoEntry));
+    assert_eq!(host.echoed(2), Ok(None));
+    assert_eq!(host.error(2, 0), Ok(None));
+    assert_eq!(host.error(3, 0), Err(Refusal::UnknownPeer));
+    assert_eq!(host.receive(Bits::new(&[0; 1025], 8193)), Err(Refusal::TooLong));
+    assert_eq!(host.receive(Bits::new(&[0], 9)), Err(Refusal::ShortBytes));
+    assert_eq!(host.receive(Bits::new(&[1], 7)), Err(Refusal::SpareNotZero));
+    assert_eq!(Refusal::NoEntry.to_string(), "NoEntry");
+}
+
+#[test]
+fn what_arrived_and_what_is_told() {
+    let mut host = Host::new(1, &[2]).unwrap();
+    let mut buffer = BUFFER;
+    host.reset(2).unwrap();
+    assert_eq!(host.next_output(&mut buffer), Some(Bits::from(&RST)));
+    assert_eq!(host.next_output(&mut BUFFER.clone()), None);
+    assert_eq!(host.kept(2, 0, &mut buffer), Some(Bits::from(&RST)));
+    assert_eq!(host.receive(&[7, 2, 0, 0]), Ok(Arrived { what: What::Answered(7), peer: 2, link: 0 }));
+    assert_eq!(host.receive(&[4, 9, 3, 0]), Ok(Arrived { what: What::Other(4), peer: 9, link: 3 }));
+    assert_eq!(host.receive(&[0]), Ok(Arrived { what: What::Short, peer: 0, link: 0 }));
+    assert_eq!((host.ignored().short_bits, host.ignored().other), (1, 1));
+    assert!(host.phase(2).unwrap().wait);
+    assert_eq!(host.counts(2), Ok(ncp::Counted::default()));
+}
+
+#[test]
+fn an_echo_comes_back() {
+    let mut host = up();
+    let mut command = [0; 12];
+    assert!(host.is_up(2));
+    host.echo(2, 65).unwrap();
+    assert_eq!(host.waiting(2, 0, &mut command), Some(&[9, 65][..]));
+    assert!(host.next_output(&mut BUFFER.clone()).is_some());
+    host.receive(&[0, 2, 0, 0, 0, 8, 0, 2, 0, 10, 65]).unwrap();
+    assert_eq!(host.echoed(2), Ok(Some(65)));
+}
+
+#[test]
+fn commands_are_read() {
+    let message = [0, 2, 0, 0, 0, 8, 0, 4, 0, 12, 9, 65, 14];
+    let mut buffer = [0; 12];
+    assert_eq!(ncp::command(&message, 0, &mut buffer), Some(&[12][..]));
+    assert_eq!(ncp::command(&message, 1, &mut buffer), Some(&[9, 65][..]));
+    assert_eq!(ncp::command(&message, 2, &mut buffer), None);
+}
+
+#[test]
+fn a_host_goes_to_another_thread() {
+    let mut host = up();
+    let there = std::thread::spawn(move || {
+        host.ask_send(AT, 36, 720).unwrap();
+        assert!(!host.is_open(AT));
+        host
+    });
+    assert!(there.join().unwrap().state(AT).unwrap().asked);
+}
+
+#[test]
+fn the_version_is_that_of_the_header() {
+    let header = include_str!("../../../../include/ncp.h");
+    assert!(header.contains(&format!("#define NCP_VERSION \"{}\"", ncp::version())));
+}

@@ -1,0 +1,27 @@
+-- What a reader meets at a place of a control text is the command there, or none.
+use Rattle.std.proofs.Common.{◌≡◌, ℕ, zero, suc, List, [], ◌∷◌, Bool, false, if◌then◌else◌, Option, None, Some, Ok, slice_get, refl, sym, ap, ◌∙◌}
+use Rattle.ncp_terms.specs.declared.command.Command.{Command}
+use Rattle.ncp_terms.specs.declared.fault.CommandFault.{CommandFault}
+use Rattle.ncp_control.specs.Texts.{items_of}
+use Rattle.ncp_control.specs.Reading.{commands_within, commands_in, fault_in}
+use Rattle.ncp_numbers.specs.Bytes.{bytes_of}
+use Rattle.ncp_leader.specs.Message.{Message}
+use Rattle.ncp_embed.specs.Commands.{is_control, text_of, command_of}
+
+at_place : (commands : List Command) (fault : Option CommandFault) (place : ℕ) → command_of (slice_get (items_of commands fault) place) ≡ slice_get commands place
+at_place [] None place = refl
+at_place [] (Some fault) zero = refl
+at_place [] (Some fault) (suc place) = refl
+at_place (command ∷ commands) fault zero = refl
+at_place (command ∷ commands) fault (suc place) = at_place commands fault place
+
+-- where there is no control text, there is no command
+pub nothing : (place : ℕ) → None ≡ slice_get (commands_in []) place
+unfolding commands_within
+nothing place = refl
+
+pub other : (m : Message) (place : ℕ) → is_control m ≡ false → None ≡ slice_get (commands_in (text_of (Ok m))) place
+other m place e = nothing place ∙ ap (λ (control : Bool). slice_get (commands_in (if control then bytes_of m.text else [])) place) (sym e)
+
+pub in_text : (bytes : List ℕ) (place : ℕ) → command_of (slice_get (items_of (commands_in bytes) (fault_in bytes)) place) ≡ slice_get (commands_in bytes) place
+in_text bytes place = at_place (commands_in bytes) (fault_in bytes) place

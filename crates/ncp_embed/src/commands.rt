@@ -1,0 +1,98 @@
+//! The commands of a control message, one by one: what a peer asks for, as who receives its message may read it.
+ghost use Rattle.std.specs.Prelude.{◌≡◌, ◌%◌, length, slice_get, Some};
+ghost use Rattle.ncp_numbers.specs.Bytes.{bytes_of};
+ghost use Rattle.ncp_bits.specs.Bits.{read_bytes};
+ghost use Rattle.ncp_control.specs.Texts.{items_of};
+ghost use Rattle.ncp_control.specs.Reading.{commands_in, fault_in};
+ghost use Rattle.ncp_terms.specs.declared.command.TheConstants.{LONGEST_COMMAND};
+ghost use Rattle.ncp_embed.specs.Commands.{is_control, command_of, command_of_message};
+ghost use Rattle.ncp_embed.specs.Exports.{after_bits, any_of, code_if_any, code_of_bits, command_over, size_of_command, with_room};
+
+use crate::codes::{DONE, NOTHING, SHORT_BUFFER, bits_code};
+use crate::writing::write_command;
+use ncp_bits::{Bits, Part};
+use ncp_control::Commands;
+use ncp_leader::{REGULAR, Regular, read_regular};
+use ncp_terms::{Command, CommandFault, LONGEST_COMMAND};
+
+// The bits of a byte of a control text, and its link.
+const CONTROL_SIZE: u8 = 8;
+
+const CONTROL_LINK: u8 = 0;
+
+fn is_control(message: &Regular<'_>) -> bool
+    ensures { result ≡ is_control message.now }
+{
+    let leader = message.leader();
+    leader.kind == REGULAR && leader.link == CONTROL_LINK && message.size() == CONTROL_SIZE
+}
+
+fn command_of(item: Result<Command, CommandFault>) -> Option<Command>
+    ensures { result ≡ command_of (Some item) }
+{
+    match item {
+        Ok(command) => Some(command),
+        Err(_) => None,
+    }
+}
+
+// The command at a place of a control text.
+fn command_at(text: Part<'_>, place: u32) -> Option<Command>
+    requires { length text % 8 ≡ 0 }
+    ensures { result ≡ command_of (slice_get (items_of (commands_in (bytes_of text.entry)) (fault_in (bytes_of text.entry))) place) }
+{
+    let mut left = place;
+    for item in Commands::new(text) {
+        if left == 0 {
+            return command_of(item);
+        }
+        left -= 1;
+    }
+    None
+}
+
+// The command at a place of a control message, if it is one.
+fn command_in(came: &Bits, place: u32) -> Option<Command>
+    ensures { result ≡ command_of_message came.now place }
+{
+    let Ok(message) = read_regular(came) else {
+        return None;
+    };
+    if !is_control(&message) {
+        return None;
+    }
+    command_at(message.text(), place)
+}
+
+/// The command at a place behind the first, which is at 0, of a control message of the first `bits` bits of a buffer: its bytes
+/// in the front of another buffer, with their number. No host is asked.
+///
+/// Refused, in this order: `BITS` and the number of the fault of bits, `SHORT_BUFFER` (fewer than `LONGEST_COMMAND` bytes),
+/// `NOTHING` (fewer commands, or no control message).
+#[unsafe(no_mangle)]
+pub extern "C" fn ncp_embed_command(
+    bytes: &[u8],
+    bits: usize,
+    place: u32,
+    out: &mut [u8],
+    size: &mut usize,
+) -> u32
+    ensures code { result ≡ code_of_bits (read_bytes bytes.now bits) (λ came. with_room LONGEST_COMMAND out.old SHORT_BUFFER (code_if_any (command_of_message came place))) }
+    ensures command { out.new ≡ after_bits (read_bytes bytes.now bits) (λ came. with_room LONGEST_COMMAND out.old out.old (any_of command_over (command_of_message came place) out.old)) out.old }
+    ensures size { size.new ≡ after_bits (read_bytes bytes.now bits) (λ came. with_room LONGEST_COMMAND out.old size.old (any_of size_of_command (command_of_message came place) size.old)) size.old }
+{
+    let came = match Bits::from_bytes(bytes, bits) {
+        Ok(came) => came,
+        Err(fault) => return bits_code(fault),
+    };
+    if out.len() < LONGEST_COMMAND {
+        return SHORT_BUFFER;
+    }
+    match command_in(&came, place) {
+        Some(command) => {
+            *size = write_command(&command, out);
+            DONE
+        }
+        None => NOTHING,
+    }
+}

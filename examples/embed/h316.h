@@ -1,0 +1,138 @@
+/* The line between a host and its IMP as the host interface of the H316 simulator has it, as far as that is known here
+ * (README.md): a datagram is `H316`, a sequence number, a count of words and flags, and then the words of 16 bits, all with
+ * the most significant byte first. A message is one datagram or more, the last of which has the flag LAST, and its last word
+ * is filled up with zeros. */
+#ifndef H316_H
+#define H316_H
+
+#include "imp.h"
+#include <arpa/inet.h>
+#include <errno.h>
+#include <netinet/in.h>
+#include <poll.h>
+#include <sys/socket.h>
+#include <unistd.h>
+
+enum {
+    PATIENCE = 10,    /* seconds */
+    WORDS_A_PART = 64, /* in a datagram */
+    NAME = 4,         /* bytes of the header, up to the sequence number */
+    HEAD = 12,        /* all bytes of the header */
+    LAST = 1,         /* flags: the message ends here */
+    READY = 2         /* and who sends this is ready */
+};
+
+/* Types of messages that a host and its IMP exchange themselves (BBN 1822, section 3). */
+enum { GOING_DOWN = 2, NOP = 4, INTERFACE_RESET = 10, NOPS = 3 /* so many, on coming up */ };
+
+struct line {
+    int socket;
+    uint32_t sent, came;                  /* the last sequence numbers */
+    uint8_t message[NCP_LONGEST_MESSAGE]; /* what has come of a message */
+    size_t len;
+    bool is_ready; /* whether the other end is, as it said last */
+};
+
+static inline void give_up(const char *what)
+{
+    perror(what);
+    exit(1);
+}
+
+static inline struct sockaddr_in at_port(const char *port)
+{
+    struct sockaddr_in at;
+    memset(&at, 0, sizeof at);
+    at.sin_family = AF_INET;
+    at.sin_addr.s_addr = htonl(INADDR_LOOPBACK);
+    at.sin_port = htons((uint16_t)strtoul(port, NULL, 10));
+    return at;
+}
+
+/* A line from a port here to one there, both of 127.0.0.1. */
+static inline void attach(struct line *line, const char *here, const char *there)
+{
+    const struct sockaddr_in from = at_port(here), to = at_port(there);
+    memset(line, 0, sizeof *line);
+    line->socket = socket(AF_INET, SOCK_DGRAM, 0);
+    if (line->socket < 0) give_up("socket");
+    if (bind(line->socket, (const struct sockaddr *)&from, sizeof from) != 0) give_up("bind");
+    if (connect(line->socket, (const struct sockaddr *)&to, sizeof to) != 0) give_up("connect");
+}
+
+static inline void put(uint8_t *at, uint32_t number, size_t bytes)
+{
+    for (size_t place = 0; place < bytes; place++) at[place] = (uint8_t)(number >> 8 * (bytes - 1 - place));
+}
+
+static inline uint32_t got(const uint8_t *at, size_t bytes)
+{
+    uint32_t number = 0;
+    for (size_t place = 0; place < bytes; place++) number = number << 8 | at[place];
+    return number;
+}
+
+/* Sends so many bytes of words as one datagram. Where nobody listens yet, it is lost. */
+static inline void send_part(struct line *line, uint16_t flags, const uint8_t *bytes, size_t len)
+{
+    uint8_t datagram[HEAD + 2 * WORDS_A_PART] = {'H', '3', '1', '6'};
+    size_t words = (len + 1) / 2;
+    put(datagram + NAME, ++line->sent, 4);
+    put(datagram + 8, (uint32_t)words, 2);
+    put(datagram + 10, flags, 2);
+    if (len > 0) memcpy(datagram + HEAD, bytes, len);
+    if (send(line->socket, datagram, HEAD + 2 * words, 0) < 0 && errno != ECONNREFUSED) give_up("send");
+}
+
+/* Sends a message, whose spare bits are zero. */
+static inline void send_message(struct line *line, const uint8_t *message, size_t bits)
+{
+    size_t len = (bits + 7) / 8, part = 2 * WORDS_A_PART;
+    for (; len > part; message += part, len -= part) send_part(line, READY, message, part);
+    send_part(line, READY | LAST, message, len);
+}
+
+static inline void send_leader(struct line *line, uint8_t type)
+{
+    const uint8_t leader[LEADER] = {type};
+    send_message(line, leader, 8 * sizeof leader);
+}
+
+static inline void send_nops(struct line *line)
+{
+    for (int count = 0; count < NOPS; count++) send_leader(line, NOP);
+}
+
+/* Whether a datagram has come. */
+static inline bool is_there(const struct line *line)
+{
+    struct pollfd ready = {line->socket, POLLIN, 0};
+    return poll(&ready, 1, 0) > 0;
+}
+
+/* Waits for a datagram, but not for ever. Where it ends a message, the bits of that are answered, with what fills up its last word; else 0.
+ * What is old, or no datagram of this form, is passed over; a sequence begins anew with 1. */
+static inline size_t take_part(struct line *line)
+{
+    uint8_t datagram[HEAD + 2 * 65535];
+    struct pollfd ready = {line->socket, POLLIN, 0};
+    ssize_t len = poll(&ready, 1, 1000 * PATIENCE) > 0 ? recv(line->socket, datagram, sizeof datagram, 0) : -1;
+    uint32_t sequence, flags;
+    size_t bytes;
+    if (len < 0) return 0;
+    if (len < HEAD || memcmp(datagram, "H316", NAME) != 0 || 2 * got(datagram + 8, 2) != (uint32_t)len - HEAD) return 0;
+    sequence = got(datagram + NAME, 4), flags = got(datagram + 10, 2), bytes = (size_t)len - HEAD;
+    if (sequence != 1 && sequence <= line->came) return 0;
+    if (sequence != line->came + 1) line->len = 0; /* a part is missing, so what came before is of no use */
+    line->came = sequence;
+    line->is_ready = (flags & READY) != 0;
+    if (bytes > sizeof line->message - line->len) bytes = sizeof line->message - line->len; /* padding, or no message of a host */
+    memcpy(line->message + line->len, datagram + HEAD, bytes);
+    line->len += bytes;
+    if ((flags & LAST) == 0) return 0;
+    bytes = line->len;
+    line->len = 0;
+    return 8 * bytes;
+}
+
+#endif

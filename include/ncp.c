@@ -1,0 +1,249 @@
+/* The functions of ncp.h: each looks for null pointers, and calls the one of the proved library that is named as it.
+ * include/library joins both in one archive, out of which no name of the library is seen. */
+#include "ncp.h"
+
+/* The functions of the library, in the sources of crates/ncp_embed. No pointer of theirs may be null. A `handle` whose
+ * `at` is null has no host, and is answered NCP_NO_HOST by these too, behind what they say of bits and buffers. */
+uint32_t ncp_embed_new(struct ncp_host *handle, uint8_t me, const uint8_t *peers, size_t peers_len);
+void ncp_embed_free(struct ncp_host *handle);
+uint32_t ncp_embed_receive(struct ncp_host *handle, const uint8_t *bytes, size_t bytes_len, size_t bits, struct ncp_arrived *arrived);
+uint32_t ncp_embed_next_output(struct ncp_host *handle, uint8_t *out, size_t out_len, size_t *bits);
+uint32_t ncp_embed_reset(struct ncp_host *handle, uint8_t peer);
+uint32_t ncp_embed_ask_send(struct ncp_host *handle, uint8_t peer, uint32_t local, uint32_t remote, uint8_t size, uint32_t room);
+uint32_t ncp_embed_ask_receive(struct ncp_host *handle, uint8_t peer, uint32_t local, uint32_t remote, uint32_t room);
+uint32_t ncp_embed_give(struct ncp_host *handle, uint8_t peer, uint32_t local, uint32_t remote, const uint8_t *bytes, size_t bytes_len, size_t bits);
+uint32_t ncp_embed_take(struct ncp_host *handle, uint8_t peer, uint32_t local, uint32_t remote, uint32_t bytes, uint8_t *out, size_t out_len, size_t *bits);
+uint32_t ncp_embed_allocate(struct ncp_host *handle, uint8_t peer, uint32_t local, uint32_t remote, uint16_t messages, uint32_t bits);
+uint32_t ncp_embed_call_back(struct ncp_host *handle, uint8_t peer, uint32_t local, uint32_t remote, uint8_t fm, uint8_t fb);
+uint32_t ncp_embed_interrupt(struct ncp_host *handle, uint8_t peer, uint32_t local, uint32_t remote);
+uint32_t ncp_embed_close(struct ncp_host *handle, uint8_t peer, uint32_t local, uint32_t remote);
+uint32_t ncp_embed_echo(struct ncp_host *handle, uint8_t peer, uint8_t byte);
+uint32_t ncp_embed_wake(struct ncp_host *handle, uint8_t peer);
+uint32_t ncp_embed_state(struct ncp_host *handle, uint8_t peer, uint32_t local, uint32_t remote, struct ncp_connection *out);
+bool ncp_embed_is_open(struct ncp_host *handle, uint8_t peer, uint32_t local, uint32_t remote);
+bool ncp_embed_is_up(struct ncp_host *handle, uint8_t peer);
+uint32_t ncp_embed_phase(struct ncp_host *handle, uint8_t peer, struct ncp_flags *out);
+uint32_t ncp_embed_echoed(struct ncp_host *handle, uint8_t peer, uint8_t *byte);
+uint32_t ncp_embed_error(struct ncp_host *handle, uint8_t peer, uint32_t place, struct ncp_noted *out);
+uint32_t ncp_embed_counts(struct ncp_host *handle, uint8_t peer, struct ncp_counted *out);
+uint32_t ncp_embed_ignored(struct ncp_host *handle, struct ncp_discarded *out);
+uint32_t ncp_embed_waiting(struct ncp_host *handle, uint8_t peer, uint32_t place, uint8_t *out, size_t out_len, size_t *bytes);
+uint32_t ncp_embed_kept(struct ncp_host *handle, uint8_t peer, uint8_t link, uint8_t *out, size_t out_len, size_t *bits);
+uint32_t ncp_embed_command(const uint8_t *bytes, size_t bytes_len, size_t bits, uint32_t place, uint8_t *out, size_t out_len, size_t *size);
+uint32_t ncp_embed_name(uint32_t code, uint8_t *out, size_t out_len, size_t *bytes);
+
+bool ncp_is_made(const struct ncp_host *host)
+{
+    return host != NULL && host->at != NULL;
+}
+
+uint32_t ncp_new(struct ncp_host *host, uint8_t me, const uint8_t *peers, size_t count)
+{
+    if (host == NULL) return NCP_NO_HOST;
+    if (peers == NULL) return NCP_NO_POINTER;
+    return ncp_embed_new(host, me, peers, count);
+}
+
+void ncp_free(struct ncp_host *host)
+{
+    if (ncp_is_made(host)) ncp_embed_free(host);
+}
+
+uint32_t ncp_receive(struct ncp_host *host, const uint8_t *bytes, size_t len, size_t bits, struct ncp_arrived *arrived)
+{
+    if (!ncp_is_made(host)) return NCP_NO_HOST;
+    if (bytes == NULL || arrived == NULL) return NCP_NO_POINTER;
+    return ncp_embed_receive(host, bytes, len, bits, arrived);
+}
+
+uint32_t ncp_next_output(struct ncp_host *host, uint8_t *out, size_t len, size_t *bits)
+{
+    if (!ncp_is_made(host)) return NCP_NO_HOST;
+    if (out == NULL || bits == NULL) return NCP_NO_POINTER;
+    return ncp_embed_next_output(host, out, len, bits);
+}
+
+uint32_t ncp_reset(struct ncp_host *host, uint8_t peer)
+{
+    if (!ncp_is_made(host)) return NCP_NO_HOST;
+    return ncp_embed_reset(host, peer);
+}
+
+uint32_t ncp_ask_send(struct ncp_host *host, uint8_t peer, uint32_t local, uint32_t remote, uint8_t size, uint32_t room)
+{
+    if (!ncp_is_made(host)) return NCP_NO_HOST;
+    return ncp_embed_ask_send(host, peer, local, remote, size, room);
+}
+
+uint32_t ncp_ask_receive(struct ncp_host *host, uint8_t peer, uint32_t local, uint32_t remote, uint32_t room)
+{
+    if (!ncp_is_made(host)) return NCP_NO_HOST;
+    return ncp_embed_ask_receive(host, peer, local, remote, room);
+}
+
+uint32_t ncp_give(struct ncp_host *host, uint8_t peer, uint32_t local, uint32_t remote, const uint8_t *bytes, size_t len, size_t bits)
+{
+    if (!ncp_is_made(host)) return NCP_NO_HOST;
+    if (bytes == NULL) return NCP_NO_POINTER;
+    return ncp_embed_give(host, peer, local, remote, bytes, len, bits);
+}
+
+uint32_t ncp_take(struct ncp_host *host, uint8_t peer, uint32_t local, uint32_t remote, uint32_t bytes, uint8_t *out, size_t len, size_t *bits)
+{
+    if (!ncp_is_made(host)) return NCP_NO_HOST;
+    if (out == NULL || bits == NULL) return NCP_NO_POINTER;
+    return ncp_embed_take(host, peer, local, remote, bytes, out, len, bits);
+}
+
+uint32_t ncp_allocate(struct ncp_host *host, uint8_t peer, uint32_t local, uint32_t remote, uint16_t messages, uint32_t bits)
+{
+    if (!ncp_is_made(host)) return NCP_NO_HOST;
+    return ncp_embed_allocate(host, peer, local, remote, messages, bits);
+}
+
+uint32_t ncp_call_back(struct ncp_host *host, uint8_t peer, uint32_t local, uint32_t remote, uint8_t fm, uint8_t fb)
+{
+    if (!ncp_is_made(host)) return NCP_NO_HOST;
+    return ncp_embed_call_back(host, peer, local, remote, fm, fb);
+}
+
+uint32_t ncp_interrupt(struct ncp_host *host, uint8_t peer, uint32_t local, uint32_t remote)
+{
+    if (!ncp_is_made(host)) return NCP_NO_HOST;
+    return ncp_embed_interrupt(host, peer, local, remote);
+}
+
+uint32_t ncp_close(struct ncp_host *host, uint8_t peer, uint32_t local, uint32_t remote)
+{
+    if (!ncp_is_made(host)) return NCP_NO_HOST;
+    return ncp_embed_close(host, peer, local, remote);
+}
+
+uint32_t ncp_echo(struct ncp_host *host, uint8_t peer, uint8_t byte)
+{
+    if (!ncp_is_made(host)) return NCP_NO_HOST;
+    return ncp_embed_echo(host, peer, byte);
+}
+
+uint32_t ncp_wake(struct ncp_host *host, uint8_t peer)
+{
+    if (!ncp_is_made(host)) return NCP_NO_HOST;
+    return ncp_embed_wake(host, peer);
+}
+
+uint32_t ncp_state(struct ncp_host *host, uint8_t peer, uint32_t local, uint32_t remote, struct ncp_connection *out)
+{
+    if (!ncp_is_made(host)) return NCP_NO_HOST;
+    if (out == NULL) return NCP_NO_POINTER;
+    return ncp_embed_state(host, peer, local, remote, out);
+}
+
+bool ncp_is_open(struct ncp_host *host, uint8_t peer, uint32_t local, uint32_t remote)
+{
+    return ncp_is_made(host) && ncp_embed_is_open(host, peer, local, remote);
+}
+
+uint32_t ncp_phase(struct ncp_host *host, uint8_t peer, struct ncp_flags *out)
+{
+    if (!ncp_is_made(host)) return NCP_NO_HOST;
+    if (out == NULL) return NCP_NO_POINTER;
+    return ncp_embed_phase(host, peer, out);
+}
+
+bool ncp_is_up(struct ncp_host *host, uint8_t peer)
+{
+    return ncp_is_made(host) && ncp_embed_is_up(host, peer);
+}
+
+uint32_t ncp_echoed(struct ncp_host *host, uint8_t peer, uint8_t *byte)
+{
+    if (!ncp_is_made(host)) return NCP_NO_HOST;
+    if (byte == NULL) return NCP_NO_POINTER;
+    return ncp_embed_echoed(host, peer, byte);
+}
+
+uint32_t ncp_error(struct ncp_host *host, uint8_t peer, uint32_t place, struct ncp_noted *out)
+{
+    if (!ncp_is_made(host)) return NCP_NO_HOST;
+    if (out == NULL) return NCP_NO_POINTER;
+    return ncp_embed_error(host, peer, place, out);
+}
+
+uint32_t ncp_counts(struct ncp_host *host, uint8_t peer, struct ncp_counted *out)
+{
+    if (!ncp_is_made(host)) return NCP_NO_HOST;
+    if (out == NULL) return NCP_NO_POINTER;
+    return ncp_embed_counts(host, peer, out);
+}
+
+uint32_t ncp_ignored(struct ncp_host *host, struct ncp_discarded *out)
+{
+    if (!ncp_is_made(host)) return NCP_NO_HOST;
+    if (out == NULL) return NCP_NO_POINTER;
+    return ncp_embed_ignored(host, out);
+}
+
+uint32_t ncp_waiting(struct ncp_host *host, uint8_t peer, uint32_t place, uint8_t *out, size_t len, size_t *bytes)
+{
+    if (!ncp_is_made(host)) return NCP_NO_HOST;
+    if (out == NULL || bytes == NULL) return NCP_NO_POINTER;
+    return ncp_embed_waiting(host, peer, place, out, len, bytes);
+}
+
+uint32_t ncp_kept(struct ncp_host *host, uint8_t peer, uint8_t link, uint8_t *out, size_t len, size_t *bits)
+{
+    if (!ncp_is_made(host)) return NCP_NO_HOST;
+    if (out == NULL || bits == NULL) return NCP_NO_POINTER;
+    return ncp_embed_kept(host, peer, link, out, len, bits);
+}
+
+uint32_t ncp_command(const uint8_t *bytes, size_t len, size_t bits, uint32_t place, uint8_t *out, size_t room, size_t *size)
+{
+    if (bytes == NULL || out == NULL || size == NULL) return NCP_NO_POINTER;
+    return ncp_embed_command(bytes, len, bits, place, out, room, size);
+}
+
+uint32_t ncp_name(uint32_t code, char *out, size_t len, size_t *bytes)
+{
+    if (out == NULL || bytes == NULL) return NCP_NO_POINTER;
+    return ncp_embed_name(code, (uint8_t *)out, len, bytes);
+}
+
+const char *ncp_word(uint32_t code)
+{
+    switch (code) {
+    case NCP_DONE: return "Done";
+    case NCP_UNKNOWN_PEER: return "UnknownPeer";
+    case NCP_NOT_UP: return "NotUp";
+    case NCP_BAD_SEX: return "BadSex";
+    case NCP_BAD_SIZE: return "BadSize";
+    case NCP_BAD_ROOM: return "BadRoom";
+    case NCP_NO_ENTRY: return "NoEntry";
+    case NCP_ALREADY_ASKED: return "AlreadyAsked";
+    case NCP_CLOSING: return "Closing";
+    case NCP_NOT_OPEN: return "NotOpen";
+    case NCP_WRONG_END: return "WrongEnd";
+    case NCP_NOT_WHOLE: return "NotWhole";
+    case NCP_BUSY: return "Busy";
+    case NCP_NO_ROOM: return "NoRoom";
+    case NCP_TOO_MUCH: return "TooMuch";
+    case NCP_TABLE_FULL: return "TableFull";
+    case NCP_QUEUE_FULL: return "QueueFull";
+    case NCP_OUT_OF_MEMORY: return "OutOfMemory";
+    case NCP_NO_HOST: return "NoHost";
+    case NCP_NO_POINTER: return "NoPointer";
+    case NCP_SHORT_BUFFER: return "ShortBuffer";
+    case NCP_NOTHING: return "Nothing";
+    case NCP_TOO_LONG: return "TooLong";
+    case NCP_SHORT_BYTES: return "ShortBytes";
+    case NCP_SPARE_NOT_ZERO: return "SpareNotZero";
+    case NCP_NEW_BAD_PEERS: return "BadPeers";
+    case NCP_NEW_OUT_OF_MEMORY: return "OutOfMemory";
+    default: return "";
+    }
+}
+
+const char *ncp_version(void)
+{
+    return NCP_VERSION;
+}
