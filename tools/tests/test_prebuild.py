@@ -1,4 +1,4 @@
-"""tools/prebuild in a repository of two crates, with a toolchain that only says its name: what is prebuilt is compared with
+"""tools/prebuild in a repository of three crates, with a toolchain that only says its name: what is prebuilt is compared with
 what is built here by its bytes, and with another kit by its answers."""
 import os
 import shutil
@@ -17,12 +17,17 @@ for name in libncp.a libncp.so.1; do
     [ "$1" = --target ] && cat "$(dirname "$0")/../crates/ncp_embed/src/lib.rt" >"$3/$name" && echo "$name $2" >>"$3/$name"
 done
 """
+PAGE = """#!/bin/sh
+cd "$(dirname "$0")/.." || exit
+[ "$1" = --module ] && cat crates/ncp_web/src/lib.rt >"$2" || echo page >web/ncp.html
+"""
 PROGRAM = """#!/bin/sh
 # {remark}
 echo {answer} "$@"
 """
 CRATES = """ncp:
 ncp_embed staticlib:
+ncp_web staticlib:
 """
 
 
@@ -43,11 +48,13 @@ class Prebuilding(unittest.TestCase):
             shutil.copy(f"{TOP}/tools/{name}", f"{self.top}/tools")
         write(f"{self.room.name}/bin/rt", RT, 0o755)
         write(f"{self.top}/include/library", LIBRARY, 0o755)
+        write(f"{self.top}/web/build", PAGE, 0o755)
         for name in ("ncp.h", "ncp.c", "heap.c"):
             write(f"{self.top}/include/{name}", f"/* {name} */\n")
         write(f"{self.top}/crates.txt", CRATES)
         write(f"{self.top}/crates/ncp/src/main.rt", "code\n")
         write(f"{self.top}/crates/ncp_embed/src/lib.rt", "code of the library\n")
+        write(f"{self.top}/crates/ncp_web/src/lib.rt", "code of the page\n")
         write(f"{self.top}/examples/one.script", "hosts 1 2\n")
         self.kit = "kit one"
         self.build()

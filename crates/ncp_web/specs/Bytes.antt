@@ -1,0 +1,60 @@
+-- What a page is handed of bytes: what the players and the readers of files say of them.
+use Rattle.std.specs.Prelude.{◌≡◌, ◌≢◌, ℕ, Bool, true, false, List, [], Option, Some, Result, Ok, Err, min, take, length}
+use Rattle.ncp_files.specs.declared.file.FileFault.{FileFault}
+use Rattle.ncp_files.specs.Shown.{Shown}
+use Rattle.ncp_files.specs.Checked.{Checked}
+use Rattle.ncp_play.specs.declared.fault.PlayFault.{PlayFault}
+use Rattle.ncp_host_player.specs.Played.{HostPlayed}
+use Rattle.ncp_world_player.specs.ManyRules.{is_many_script}
+use Rattle.ncp_world_player.specs.Players.{PlaysWorld, PlaysMany}
+use Rattle.ncp_world_player.specs.Tales.{lines_of_script, lines_of_many, recording_of, recording_of_many}
+use Rattle.ncp_web.specs.declared.answer.TheConstants.{DONE, BAD, FAULT, NO_MEMORY}
+
+-- the lines of a script of two hosts, or of two to eight
+abbrev pub PlaysBytes : List ℕ → Result Bool PlayFault → List ℕ → Type 0
+PlaysBytes bytes answer lines =
+    (is_many_script bytes ≡ false → (left : Option (List ℕ)) × PlaysWorld lines_of_script bytes [] answer left (Some lines))
+    × (is_many_script bytes ≡ true → (left : Option (List ℕ)) × PlaysMany lines_of_many bytes [] answer left (Some lines))
+
+-- the message file of one
+abbrev pub RecordsBytes : List ℕ → Result Bool PlayFault → List ℕ → Type 0
+RecordsBytes bytes answer file =
+    (is_many_script bytes ≡ false → (left : Option (List ℕ)) × PlaysWorld recording_of bytes [] answer left (Some file))
+    × (is_many_script bytes ≡ true → (left : Option (List ℕ)) × PlaysMany recording_of_many bytes [] answer left (Some file))
+
+-- the lines of a script of one host
+abbrev pub PlaysHostBytes : List ℕ → Result Bool PlayFault → List ℕ → Type 0
+PlaysHostBytes bytes answer lines = (left : Option (List ℕ)) × HostPlayed bytes [] answer left (Some lines)
+
+-- the lines of a message file
+abbrev pub ShowsBytes : List ℕ → Result Unit FileFault → List ℕ → Type 0
+ShowsBytes bytes answer lines = (left : Option (List ℕ)) × Shown bytes [] left (Some lines) answer
+
+-- the line of what a message file holds
+abbrev pub ChecksBytes : List ℕ → Result Bool FileFault → List ℕ → Type 0
+ChecksBytes bytes answer line = (left : Option (List ℕ)) × Checked bytes [] left (Some line) answer
+
+-- the front of a buffer has these bytes, as far as there is room
+abbrev pub IsFront : List ℕ → List ℕ → List ℕ → ℕ → Type 0
+IsFront bytes before now written = (written ≡ min (length bytes) (length before)) × (take written now ≡ take written bytes)
+
+-- the code of an answer
+
+abbrev pub code_of_played : Result Bool PlayFault → ℕ
+code_of_played (Ok true) = DONE
+code_of_played (Ok false) = BAD
+code_of_played (Err fault) = FAULT
+
+abbrev pub code_of_checked : Result Bool FileFault → ℕ
+code_of_checked (Ok true) = DONE
+code_of_checked (Ok false) = BAD
+code_of_checked (Err fault) = FAULT
+
+abbrev pub code_of_shown : Result Unit FileFault → ℕ
+code_of_shown (Ok done) = DONE
+code_of_shown (Err fault) = FAULT
+
+-- where there was memory, an answer is right of some bytes, the code is that of the answer, and the bytes are handed out
+abbrev pub HandsOut : {A : Type 0} → (A → List ℕ → Type 0) → (A → ℕ) → ℕ → List ℕ → List ℕ → ℕ → Type 0
+HandsOut {A} IsRight code result before now written =
+    result ≢ NO_MEMORY → (answer : A) × (bytes : List ℕ) × IsRight answer bytes × (result ≡ code answer) × IsFront bytes before now written

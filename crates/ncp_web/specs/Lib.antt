@@ -1,0 +1,4 @@
+pub mod Handles
+pub mod Bytes
+pub mod Sessions
+pub mod Readings

@@ -1,0 +1,63 @@
+//! What is wrong, in words for the person who wrote a script: nothing rests on them.
+use crate::answer::{DONE, FULL, NO_MEMORY, NOTHING};
+use ncp_faults::{Player, meaning, wrong_first_line, wrong_line};
+use std::alloc::{AllocError, Global};
+
+// Copies words into the front of a buffer that has room for them.
+fn hand_out(words: &str, out: &mut [u8], written: &mut usize) -> u32 {
+    let bytes = words.as_bytes();
+    if bytes.len() > out.len() {
+        return FULL;
+    }
+    out[..bytes.len()].copy_from_slice(bytes);
+    *written = bytes.len();
+    DONE
+}
+
+// Copies words into a buffer, if there was memory for them.
+fn hand_out_made(words: Result<String, AllocError>, out: &mut [u8], written: &mut usize) -> u32 {
+    match words {
+        Ok(words) => hand_out(words.as_str(), out, written),
+        Err(_) => NO_MEMORY,
+    }
+}
+
+/// What is wrong with a line that asks for nothing, in a script of several hosts with this first line.
+#[unsafe(no_mangle)]
+pub extern "C" fn ncp_web_wrong_line(
+    alloc: Global,
+    first: &[u8],
+    line: &[u8],
+    out: &mut [u8],
+    written: &mut usize,
+) -> u32 {
+    *written = 0;
+    let wrong = wrong_line(alloc, Player::World, first, line);
+    hand_out_made(wrong, out, written)
+}
+
+/// What is wrong with the first line of a script of several hosts.
+#[unsafe(no_mangle)]
+pub extern "C" fn ncp_web_wrong_first_line(
+    alloc: Global,
+    first: &[u8],
+    out: &mut [u8],
+    written: &mut usize,
+) -> u32 {
+    *written = 0;
+    let wrong = wrong_first_line(alloc, Player::World, first);
+    hand_out_made(wrong, out, written)
+}
+
+/// What the name of a fault or of a refusal means; `NOTHING` where it is none.
+#[unsafe(no_mangle)]
+pub extern "C" fn ncp_web_meaning(name: &[u8], out: &mut [u8], written: &mut usize) -> u32 {
+    *written = 0;
+    let Ok(name) = std::str::from_utf8(name) else {
+        return NOTHING;
+    };
+    match meaning(name) {
+        Some(words) => hand_out(words, out, written),
+        None => NOTHING,
+    }
+}

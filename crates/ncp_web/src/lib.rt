@@ -1,0 +1,27 @@
+//! What a page calls: scripts are played and recorded, message files shown and checked, from bytes to bytes; and a
+//! session, which is hosts behind a handle that are played line by line and read between lines. A static library.
+//!
+//! What a page has to uphold: a handle is all zeros before its first use, and then what these functions left there,
+//! neither altered nor copied and used twice; pointers lead to as much as their length says, and do not overlap. Each
+//! buffer for bytes has its length behind it, and how many bytes were written is answered in `written`.
+#![tactic(auto)]
+
+mod answer;
+mod faults;
+mod files;
+mod handle;
+mod readers;
+mod reading;
+mod scripts;
+mod session;
+mod stage;
+mod stepping;
+mod transit;
+
+pub use answer::{
+    BAD, DONE, FAULT, FULL, LONGEST_MESSAGE, NO_LINE, NO_MEMORY, NO_SESSION, NOTHING,
+};
+pub use handle::Handle;
+pub use readers::{Books, Quantity};
+pub use stage::{ManyStage, Stage, TwoStage};
+pub use transit::Fate;

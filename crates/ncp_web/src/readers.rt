@@ -1,0 +1,383 @@
+//! What a page reads of a session between lines. The hosts stay as they were; each answers `NO_SESSION` where there is
+//! no session.
+ghost use Rattle.std.specs.Prelude.{◌≡◌, ◌≤◌, length};
+ghost use Rattle.ncp_web.specs.Readings.{quantity_of, books_of, message_over};
+
+use crate::answer::{DONE, FULL, LONGEST_MESSAGE, NO_MEMORY, NO_SESSION, NOTHING, copy_out};
+use crate::handle::{Handle, put, take};
+use crate::reading::reading;
+use crate::session::code_of_refusal;
+use crate::stage::{ManyStage, Refusal, Stage, TwoStage, side_of};
+use crate::stepping::number_of;
+use ncp_bits::Bits;
+use ncp_files::{LONGEST_LINE, push_item};
+use ncp_host::Pair;
+use ncp_many::{ManyEvent, ManyNote};
+use ncp_page::Page;
+use ncp_script::Words;
+use ncp_stream::{Failed, MemorySink};
+use ncp_terms::Command;
+use ncp_transcript::{HostNote, Message};
+use ncp_world::{Amount, Event, Ledger, Note};
+use ncp_world_lines::{many_line, say_many_note, say_world_note, world_line};
+use std::alloc::Global;
+
+/// So many messages, and so many bits.
+#[repr(C)]
+#[derive(Clone, Copy, Drop)]
+pub struct Quantity {
+    pub messages: u64,
+    pub bits: u64,
+}
+
+/// The ledger of an open connection: the first is the sum of the others.
+#[repr(C)]
+#[derive(Clone, Copy, Drop)]
+pub struct Books {
+    pub outstanding: Quantity,
+    pub counters: Quantity,
+    pub all: Quantity,
+    pub text: Quantity,
+    pub ret: Quantity,
+}
+
+fn quantity_of(amount: Amount) -> Quantity
+    ensures { result ≡ quantity_of amount }
+{
+    Quantity {
+        messages: amount.messages,
+        bits: amount.bits,
+    }
+}
+
+fn books_of(ledger: Ledger) -> Books
+    ensures { result ≡ books_of ledger }
+{
+    Books {
+        outstanding: quantity_of(ledger.outstanding),
+        counters: quantity_of(ledger.counters),
+        all: quantity_of(ledger.all),
+        text: quantity_of(ledger.text),
+        ret: quantity_of(ledger.ret),
+    }
+}
+
+// Writes a message over the front of a buffer; how many bits it has is answered.
+fn write_message(message: &Bits, out: &mut [u8]) -> usize
+    requires { LONGEST_MESSAGE ≤ length out.old }
+    ensures bits { result ≡ length message.now }
+    ensures out { out.new ≡ message_over message.now out.old }
+{
+    let bits = message.len();
+    let _used = message.to_bytes(out);
+    bits
+}
+
+// The command that waits at a host for a peer at a place.
+fn waiting_at(stage: &Stage, host: u8, peer: u8, place: u32) -> Option<Command> {
+    stage.host(host)?.waiting(peer, place)
+}
+
+// The message that a host keeps for a peer on a link.
+fn kept_at<'a>(stage: &'a Stage, host: u8, peer: u8, link: u8) -> Option<&'a Bits> {
+    stage.host(host)?.kept(peer, link)
+}
+
+// The message that a host noted which went out, or came.
+fn message_in(note: &HostNote) -> Option<&Message> {
+    match note {
+        HostNote::Out { message } => Some(message),
+        HostNote::In { message, .. } => Some(message),
+        _ => None,
+    }
+}
+
+// The message of a note of two hosts.
+fn message_in_two(note: &Note) -> Option<&Message> {
+    match note {
+        Note::Out { note, .. } => message_in(note),
+        Note::Came { note, .. } => message_in(note),
+        _ => None,
+    }
+}
+
+// The message of a note of two to eight hosts.
+fn message_in_many(note: &ManyNote) -> Option<&Message> {
+    match note {
+        ManyNote::Out { note, .. } => message_in(note),
+        ManyNote::Came { note, .. } => message_in(note),
+        _ => None,
+    }
+}
+
+// The message of an event, by its number from 1.
+fn message_of(stage: &Stage, number: usize) -> Option<&Message> {
+    let place = number.checked_sub(1)?;
+    match stage {
+        Stage::Two(two) => message_in_two(two.world.transcript().get(place)?),
+        Stage::Many(of_many) => message_in_many(of_many.many.transcript().get(place)?),
+    }
+}
+
+// The ledger of a sender of two hosts.
+fn ledger_at(stage: &Stage, host: u8, pair: Pair) -> Option<Ledger> {
+    match stage {
+        Stage::Two(two) => two.world.ledger(side_of(two.first.hosts, host)?, pair),
+        Stage::Many(_) => None,
+    }
+}
+
+// Says the line of a command.
+fn say_command(command: &Command, sink: &mut MemorySink) -> Result<(), Failed> {
+    let mut page = Page::new();
+    push_item(&mut page, &Ok(*command));
+    page.flush(sink)
+}
+
+// Says what a line of a script of two hosts would be answered that reads a host, as the next note.
+fn ask_two(
+    alloc: Global,
+    two: &TwoStage,
+    line: &[u8],
+    page: &mut Page,
+    sink: &mut MemorySink,
+) -> Result<(), Refusal> {
+    let event = match world_line(alloc, two.first.hosts, &mut Words::new(line)) {
+        Ok(Some(event)) => event,
+        Ok(None) => return Err(Refusal::NoLine),
+        Err(_) => return Err(Refusal::NoMemory),
+    };
+    let Event::Call { side, call } = event else {
+        return Err(Refusal::NoLine);
+    };
+    let Some(note) = reading(two.world.host(side), &call) else {
+        return Err(Refusal::NoLine);
+    };
+    let number = number_of(two.world.transcript().len().saturating_add(1));
+    match say_world_note(page, sink, number, &Note::Called { side, note }) {
+        Ok(()) => Ok(()),
+        Err(_) => Err(Refusal::Full),
+    }
+}
+
+// The same of two to eight hosts.
+fn ask_many(
+    alloc: Global,
+    stage: &ManyStage,
+    line: &[u8],
+    page: &mut Page,
+    sink: &mut MemorySink,
+) -> Result<(), Refusal> {
+    let event = match many_line(alloc, stage.first.numbers(), &mut Words::new(line)) {
+        Ok(Some(event)) => event,
+        Ok(None) => return Err(Refusal::NoLine),
+        Err(_) => return Err(Refusal::NoMemory),
+    };
+    let ManyEvent::Call { host, call } = event else {
+        return Err(Refusal::NoLine);
+    };
+    let Some(asked) = stage.many.host(host) else {
+        return Err(Refusal::NoLine);
+    };
+    let Some(note) = reading(asked, &call) else {
+        return Err(Refusal::NoLine);
+    };
+    let number = number_of(stage.many.transcript().len().saturating_add(1));
+    match say_many_note(page, sink, number, &ManyNote::Called { host, note }) {
+        Ok(()) => Ok(()),
+        Err(_) => Err(Refusal::Full),
+    }
+}
+
+// What a line would be answered that reads a host.
+fn ask(alloc: Global, stage: &Stage, line: &[u8], sink: &mut MemorySink) -> Result<(), Refusal> {
+    let mut page = Page::new();
+    match stage {
+        Stage::Two(two) => ask_two(alloc, two, line, &mut page, sink)?,
+        Stage::Many(of_many) => ask_many(alloc, of_many, line, &mut page, sink)?,
+    }
+    match page.flush(sink) {
+        Ok(()) => Ok(()),
+        Err(_) => Err(Refusal::Full),
+    }
+}
+
+/// The line that a reading of a host would be answered as the next event of the script: `state`, `phase`, `echoed`,
+/// `counts` or `ignored`, as a line of the script asks for it.
+///
+/// Refused, in this order: `NO_MEMORY` (for as many bytes as the buffer has), `NO_SESSION`, `NO_LINE` (any other line),
+/// `NO_MEMORY`, `FULL` (a beginning is written).
+#[unsafe(no_mangle)]
+pub extern "C" fn ncp_web_ask(
+    alloc: Global,
+    handle: &mut Handle,
+    line: &[u8],
+    out: &mut [u8],
+    written: &mut usize,
+) -> u32
+    ensures session { handle.new.session ≡ handle.old.session }
+{
+    *written = 0;
+    let Ok(mut sink) = MemorySink::new(alloc, out.len(), None) else {
+        return NO_MEMORY;
+    };
+    let Some(held) = take(alloc, handle) else {
+        return NO_SESSION;
+    };
+    let asked = ask(alloc, &held.stage, line, &mut sink);
+    put(handle, held);
+    *written = copy_out(&sink, out);
+    match asked {
+        Ok(()) => DONE,
+        Err(refusal) => code_of_refusal(refusal),
+    }
+}
+
+/// `Host::waiting`: the line of the command that waits at a host for a peer, at a place from the front, the first at 0.
+///
+/// Refused, in this order: `NO_MEMORY`, `NO_SESSION`, `NOTHING` (there is no such host, peer or command), `FULL`.
+#[unsafe(no_mangle)]
+pub extern "C" fn ncp_web_waiting(
+    alloc: Global,
+    handle: &mut Handle,
+    host: u8,
+    peer: u8,
+    place: u32,
+    out: &mut [u8],
+    written: &mut usize,
+) -> u32
+    ensures session { handle.new.session ≡ handle.old.session }
+{
+    *written = 0;
+    let Ok(mut sink) = MemorySink::new(alloc, out.len(), None) else {
+        return NO_MEMORY;
+    };
+    let Some(held) = take(alloc, handle) else {
+        return NO_SESSION;
+    };
+    let waiting = waiting_at(&held.stage, host, peer, place);
+    put(handle, held);
+    let Some(command) = waiting else {
+        return NOTHING;
+    };
+    let said = say_command(&command, &mut sink);
+    *written = copy_out(&sink, out);
+    match said {
+        Ok(()) => DONE,
+        Err(_) => FULL,
+    }
+}
+
+/// `Host::kept`: the message that a host has for a peer on a link and that is not taken yet, with its length in bits.
+///
+/// Refused, in this order: `FULL` (fewer than `LONGEST_MESSAGE` bytes), `NO_SESSION`, `NOTHING`.
+#[unsafe(no_mangle)]
+pub extern "C" fn ncp_web_kept(
+    alloc: Global,
+    handle: &mut Handle,
+    host: u8,
+    peer: u8,
+    link: u8,
+    out: &mut [u8],
+    bits: &mut usize,
+) -> u32
+    ensures session { handle.new.session ≡ handle.old.session }
+{
+    if out.len() < LONGEST_MESSAGE {
+        return FULL;
+    }
+    let Some(held) = take(alloc, handle) else {
+        return NO_SESSION;
+    };
+    let told = match kept_at(&held.stage, host, peer, link) {
+        Some(message) => {
+            *bits = write_message(message, out);
+            DONE
+        }
+        None => NOTHING,
+    };
+    put(handle, held);
+    told
+}
+
+/// The message of an event, by its number from 1: the one that went out, or came, with its length in bits.
+///
+/// Refused, in this order: `FULL` (fewer than `LONGEST_MESSAGE` bytes), `NO_SESSION`, `NOTHING` (there is no such event,
+/// or no message went out or came).
+#[unsafe(no_mangle)]
+pub extern "C" fn ncp_web_message(
+    alloc: Global,
+    handle: &mut Handle,
+    number: usize,
+    out: &mut [u8],
+    bits: &mut usize,
+) -> u32
+    ensures session { handle.new.session ≡ handle.old.session }
+{
+    if out.len() < LONGEST_MESSAGE {
+        return FULL;
+    }
+    let Some(held) = take(alloc, handle) else {
+        return NO_SESSION;
+    };
+    let told = match message_of(&held.stage, number) {
+        Some(message) => {
+            *bits = write_message(&message.to_bits(), out);
+            DONE
+        }
+        None => NOTHING,
+    };
+    put(handle, held);
+    told
+}
+
+/// `World::ledger`: what an open connection has outstanding, and where it is. The host and the pair are the sender's.
+///
+/// Refused, in this order: `NO_SESSION`, `NOTHING` (no such host, an end is not open, or more than two hosts).
+#[unsafe(no_mangle)]
+pub extern "C" fn ncp_web_ledger(
+    alloc: Global,
+    handle: &mut Handle,
+    host: u8,
+    local: u32,
+    remote: u32,
+    out: &mut Books,
+) -> u32
+    ensures session { handle.new.session ≡ handle.old.session }
+{
+    let Some(held) = take(alloc, handle) else {
+        return NO_SESSION;
+    };
+    let ledger = ledger_at(&held.stage, host, Pair { local, remote });
+    put(handle, held);
+    match ledger {
+        Some(ledger) => {
+            *out = books_of(ledger);
+            DONE
+        }
+        None => NOTHING,
+    }
+}
+
+/// What became of the last message from a host to another on a link, by the notes: the number of its [`crate::Fate`].
+///
+/// Refused: `NO_SESSION`.
+#[unsafe(no_mangle)]
+pub extern "C" fn ncp_web_transit(
+    alloc: Global,
+    handle: &mut Handle,
+    from: u8,
+    to: u8,
+    link: u8,
+    out: &mut u32,
+) -> u32
+    ensures session { handle.new.session ≡ handle.old.session }
+{
+    let Some(held) = take(alloc, handle) else {
+        return NO_SESSION;
+    };
+    let fate = held.stage.fate(from, to, link);
+    put(handle, held);
+    *out = fate.number();
+    DONE
+}

@@ -1,0 +1,107 @@
+//! Scripts from bytes to bytes: they are played, or recorded.
+ghost use Rattle.std.specs.Prelude.{◌≡◌, [], false};
+ghost use Rattle.ncp_web.specs.Bytes.{PlaysBytes, RecordsBytes, PlaysHostBytes, HandsOut, code_of_played};
+
+use crate::answer::{NO_MEMORY, conclude, copy_out};
+use ncp_bits::PackedStore;
+use ncp_host_player::play_host;
+use ncp_play::PlayFault;
+use ncp_stream::{MemorySink, MemorySource};
+use ncp_world_player::{play_world, record_world};
+use std::alloc::Global;
+
+// Plays the bytes of a script of several hosts into an empty sink.
+fn played(alloc: Global, input: &[u8], sink: &mut MemorySink) -> Result<bool, PlayFault>
+    requires clean { sink.old.failed ≡ false }
+    requires empty { sink.old.written ≡ [] }
+    ensures { PlaysBytes input.now result sink.new.written }
+{
+    let mut source = MemorySource::new(input, None);
+    play_world::<PackedStore, _, _>(alloc, &mut source, sink)
+}
+
+// Records the bytes of a script of several hosts into an empty sink.
+fn recorded(alloc: Global, input: &[u8], sink: &mut MemorySink) -> Result<bool, PlayFault>
+    requires clean { sink.old.failed ≡ false }
+    requires empty { sink.old.written ≡ [] }
+    ensures { RecordsBytes input.now result sink.new.written }
+{
+    let mut source = MemorySource::new(input, None);
+    record_world::<PackedStore, _, _>(alloc, &mut source, sink)
+}
+
+// Plays the bytes of a script of one host into an empty sink.
+fn host_played(alloc: Global, input: &[u8], sink: &mut MemorySink) -> Result<bool, PlayFault>
+    requires clean { sink.old.failed ≡ false }
+    requires empty { sink.old.written ≡ [] }
+    ensures { PlaysHostBytes input.now result sink.new.written }
+{
+    let mut source = MemorySource::new(input, None);
+    play_host::<PackedStore, _, _>(alloc, &mut source, sink)
+}
+
+/// `play_world`: the lines of a script of two hosts, or of two to eight.
+///
+/// Answers `DONE` where no call was refused, `BAD` where one was, `FAULT` with the fault told, or `NO_MEMORY`, where
+/// there was none for as many bytes as the buffer has.
+#[unsafe(no_mangle)]
+pub extern "C" fn ncp_web_play(
+    alloc: Global,
+    input: &[u8],
+    out: &mut [u8],
+    written: &mut usize,
+    error: &mut [u8],
+    told: &mut usize,
+) -> u32
+    ensures played { HandsOut (PlaysBytes input.now) code_of_played result out.old out.new written.new }
+{
+    *written = 0;
+    let Ok(mut sink) = MemorySink::new(alloc, out.len(), None) else {
+        return NO_MEMORY;
+    };
+    let answer = played(alloc, input, &mut sink);
+    *written = copy_out(&sink, out);
+    conclude(alloc, answer, error, told)
+}
+
+/// `record_world`: a script of two hosts, or of two to eight, as a message file. It answers as [`ncp_web_play`] does.
+#[unsafe(no_mangle)]
+pub extern "C" fn ncp_web_record(
+    alloc: Global,
+    input: &[u8],
+    out: &mut [u8],
+    written: &mut usize,
+    error: &mut [u8],
+    told: &mut usize,
+) -> u32
+    ensures recorded { HandsOut (RecordsBytes input.now) code_of_played result out.old out.new written.new }
+{
+    *written = 0;
+    let Ok(mut sink) = MemorySink::new(alloc, out.len(), None) else {
+        return NO_MEMORY;
+    };
+    let answer = recorded(alloc, input, &mut sink);
+    *written = copy_out(&sink, out);
+    conclude(alloc, answer, error, told)
+}
+
+/// `play_host`: the lines of a script of one host. It answers as [`ncp_web_play`] does.
+#[unsafe(no_mangle)]
+pub extern "C" fn ncp_web_host(
+    alloc: Global,
+    input: &[u8],
+    out: &mut [u8],
+    written: &mut usize,
+    error: &mut [u8],
+    told: &mut usize,
+) -> u32
+    ensures played { HandsOut (PlaysHostBytes input.now) code_of_played result out.old out.new written.new }
+{
+    *written = 0;
+    let Ok(mut sink) = MemorySink::new(alloc, out.len(), None) else {
+        return NO_MEMORY;
+    };
+    let answer = host_played(alloc, input, &mut sink);
+    *written = copy_out(&sink, out);
+    conclude(alloc, answer, error, told)
+}

@@ -1,0 +1,74 @@
+//! A session begins, goes on line by line, and ends.
+ghost use Rattle.std.specs.Prelude.{◌≡◌, ◌≢◌};
+ghost use Rattle.std.specs.declared.option.Option.TheVariants.{None};
+
+use crate::answer::{DONE, FULL, NO_LINE, NO_MEMORY, NO_SESSION, copy_out};
+use crate::handle::{Handle, Held, put, take};
+use crate::stage::{Refusal, Stage};
+use ncp_stream::MemorySink;
+use std::alloc::Global;
+
+// The code of a refusal.
+pub(crate) fn code_of_refusal(refusal: Refusal) -> u32 {
+    match refusal {
+        Refusal::NoLine => NO_LINE,
+        Refusal::NoMemory => NO_MEMORY,
+        Refusal::Full => FULL,
+    }
+}
+
+/// New hosts, which the first line of a script names, in the place of the session that the handle had.
+///
+/// Refused, in this order, and the handle stays as it was: `NO_LINE` (the line names no hosts as it should), `NO_MEMORY`.
+#[unsafe(no_mangle)]
+pub extern "C" fn ncp_web_open(alloc: Global, handle: &mut Handle, first: &[u8]) -> u32
+    ensures err { result ≢ DONE → handle.new.session ≡ handle.old.session }
+{
+    let stage = match Stage::new(alloc, first) {
+        Ok(stage) => stage,
+        Err(refusal) => return code_of_refusal(refusal),
+    };
+    match Box::new(alloc, Held { stage }) {
+        Ok(held) => {
+            put(handle, held);
+            DONE
+        }
+        Err(_) => NO_MEMORY,
+    }
+}
+
+/// Plays a line behind the first, and writes what is told of its note.
+///
+/// Refused, in this order: `NO_MEMORY` (for as many bytes as the buffer has), `NO_SESSION`, `NO_LINE`, `NO_MEMORY`: then
+/// nothing has happened. After `FULL` it has, and a beginning is written.
+#[unsafe(no_mangle)]
+pub extern "C" fn ncp_web_step(
+    alloc: Global,
+    handle: &mut Handle,
+    line: &[u8],
+    out: &mut [u8],
+    written: &mut usize,
+) -> u32 {
+    *written = 0;
+    let Ok(mut sink) = MemorySink::new(alloc, out.len(), None) else {
+        return NO_MEMORY;
+    };
+    let Some(mut held) = take(alloc, handle) else {
+        return NO_SESSION;
+    };
+    let stepped = held.stage.step(alloc, line, &mut sink);
+    put(handle, held);
+    *written = copy_out(&sink, out);
+    match stepped {
+        Ok(()) => DONE,
+        Err(refusal) => code_of_refusal(refusal),
+    }
+}
+
+/// Frees the hosts of the handle, if it has some.
+#[unsafe(no_mangle)]
+pub extern "C" fn ncp_web_close(alloc: Global, handle: &mut Handle)
+    ensures { handle.new.session ≡ None }
+{
+    *handle = Handle::none(alloc);
+}

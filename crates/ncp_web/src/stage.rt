@@ -1,0 +1,96 @@
+//! `Stage`: the hosts of a session, with the first line that named them.
+ghost use Rattle.std.specs.Prelude.{◌≡◌, IfOk, IfSome};
+ghost use Rattle.std.specs.Option.{option_copied};
+ghost use Rattle.ncp_web.specs.Sessions.{Begins, side_at, host_at};
+
+use ncp_bits::PackedStore;
+use ncp_host::Host;
+use ncp_many::Many;
+use ncp_scene::Scene;
+use ncp_script::{TwoHosts, Words, is_many};
+use ncp_world::{Side, World};
+use ncp_world_player::{FirstLine, ManyHosts, ManyPlayed, TwoPlayed};
+use std::alloc::Global;
+
+/// Two hosts, with the first line of their script.
+#[derive(Drop)]
+pub struct TwoStage {
+    pub first: FirstLine,
+    pub world: World<PackedStore>,
+}
+
+/// Two to eight hosts, with the first line of their script.
+#[derive(Drop)]
+pub struct ManyStage {
+    pub first: ManyHosts,
+    pub many: Many<PackedStore>,
+}
+
+/// The hosts of a session.
+#[derive(Drop)]
+pub enum Stage {
+    Two(TwoStage),
+    Many(ManyStage),
+}
+
+/// Why there is no stage, or no step.
+#[derive(Clone, Copy, Debug, Drop)]
+pub enum Refusal {
+    /// The line asks for nothing that can be played.
+    NoLine,
+    /// There was no memory.
+    NoMemory,
+    /// The buffer is too short for the lines.
+    Full,
+}
+
+// New hosts, which a first line names.
+fn begun<C: Scene>(alloc: Global, line: &[u8]) -> Result<(C::First, C::Hosts), Refusal>
+    ensures { Begins C.rules line.now result }
+{
+    let Some(first) = C::first_of(&mut Words::new(line)) else {
+        return Err(Refusal::NoLine);
+    };
+    match C::begin(alloc, &first) {
+        Ok(hosts) => Ok((first, hosts)),
+        Err(_) => Err(Refusal::NoMemory),
+    }
+}
+
+/// The side of a host, by its number.
+pub(crate) fn side_of(hosts: TwoHosts, number: u8) -> Option<Side>
+    ensures { result ≡ side_at hosts number }
+{
+    if number == hosts.a {
+        Some(Side::A)
+    } else if number == hosts.b {
+        Some(Side::B)
+    } else {
+        None
+    }
+}
+
+impl Stage {
+    /// The hosts that the first line of a script names, before its first event.
+    pub(crate) fn new(alloc: Global, line: &[u8]) -> Result<Stage, Refusal> {
+        if is_many(&mut Words::new(line)) {
+            let (first, many) = begun::<ManyPlayed<PackedStore>>(alloc, line)?;
+            return Ok(Stage::Many(ManyStage { first, many }));
+        }
+        let (first, world) = begun::<TwoPlayed<PackedStore>>(alloc, line)?;
+        Ok(Stage::Two(TwoStage { first, world }))
+    }
+
+    /// The host of a number, if there is one.
+    pub(crate) fn host(&self, number: u8) -> Option<&Host<PackedStore>>
+        ensures { option_copied result ≡ host_at number self.now }
+    {
+        match self {
+            Stage::Two(two) => {
+                let side = side_of(two.first.hosts, number)?;
+                Some(two.world.host(side))
+            }
+            Stage::Many(of_many) => of_many.many.host(number),
+        }
+    }
+}

@@ -1,0 +1,199 @@
+/** The ladder: a line for each host, time downwards, a row for each event. Only the rows that are seen are drawn. */
+const ROW = 28, MARGIN = 24, OVERSCAN = 8;
+
+const escaped = text => text.replace(/[&<>"]/g, it => ({ "&": "&amp;", "<": "&lt;", ">": "&gt;", '"': "&quot;" })[it]);
+
+/** The picture of some events as the inside of an SVG, from the height of the first of them. */
+class Picture {
+  constructor(run, width, at) {
+    this.run = run;
+    this.width = width;
+    this.at = at;
+  }
+
+  column(host) {
+    const gaps = Math.max(this.run.hosts.length - 1, 1);
+    return MARGIN + host * (this.width - 2 * MARGIN) / gaps;
+  }
+
+  rows(first, last) {
+    const height = event => (event - first + 0.5) * ROW;
+    const bottom = (last - first + 1) * ROW;
+    const lines = this.run.hosts.map((_, host) => `<line class="host" x1="${this.column(host)}" x2="${this.column(host)}" y1="0" y2="${bottom}"/>`);
+    const shown = Math.min(last, this.at);
+    const messages = this.run.seen(first, shown).map(it => this.#message(it, height));
+    const events = [];
+    for (let event = first; event <= shown; event++) events.push(this.#event(event, height(event)));
+    return [...lines, ...messages, ...events].join("");
+  }
+
+  /** How far a message has come: it is at its other host where it was delivered, else on its way. */
+  tip(message) {
+    const [x1, x2] = [this.column(message.from), this.column(message.to)];
+    const hasEnded = message.end !== null && message.end <= this.at;
+    const fate = hasEnded ? message.fate : "underway";
+    const part = fate === "deliver" ? 1 : fate === "underway" ? 0.5 : 0.8;
+    return { fate, x: x1 + part * (x2 - x1), event: hasEnded ? message.end : Math.max(this.at, message.event) };
+  }
+
+  #message(message, height) {
+    const { fate, x, event } = this.tip(message), [x1, y1, y2] = [this.column(message.from), height(message.event), height(event) + (event === message.event ? ROW / 2 : 0)];
+    const kind = message.link === 0 ? "control" : "text", toLeft = x < x1;
+    const angle = Math.atan2(y2 - y1, x - x1) * 180 / Math.PI;
+    const label = message.words.map(it => it.split(" ")[0]).join(" ") || kind;
+    return `<g class="message ${kind} ${fate}"><line x1="${x1}" y1="${y1}" x2="${x}" y2="${y2}"/>`
+      + `<path d="${Picture.MARKS[fate]}" transform="translate(${x} ${y2}) rotate(${angle})"/>`
+      + `<text x="${(x1 + x) / 2}" y="${(y1 + y2) / 2 - 5}" text-anchor="middle" data-left="${toLeft}">${escaped(label.slice(0, 24))}</text></g>`;
+  }
+
+  #event(event, y) {
+    const answer = this.run.answers.get(event);
+    if (answer) {
+      const [x1, x2] = [this.column(answer.to), this.column(answer.from)];
+      return `<g class="answer"><line x1="${x1}" y1="${y}" x2="${x2}" y2="${y}"/><path d="${Picture.MARKS.deliver}" transform="translate(${x2} ${y}) rotate(${x2 < x1 ? 180 : 0})"/>`
+        + `<text x="${(x1 + x2) / 2}" y="${y - 4}" text-anchor="middle">${escaped(answer.words)}</text></g>`;
+    }
+    const [, name, ...words] = this.run.lines(event).split("\n")[0].split(" ");
+    const host = this.run.hosts.findIndex(it => it.name === name);
+    const refused = words.includes("refused") ? " refused" : "";
+    return host < 0 ? "" : `<circle class="event${refused}" cx="${this.column(host)}" cy="${y}" r="4"/>`;
+  }
+
+  static MARKS = {
+    deliver: "M0 0 L-8 -4 L-8 4 Z", lose: "M-5 -5 L5 5 M-5 5 L5 -5", dead: "M0 -7 L0 7", underway: "M-3 0 a3 3 0 1 0 6 0 a3 3 0 1 0 -6 0",
+  };
+}
+
+class Ladder {
+  /** `on` has what is done where a row is chosen, moved, or a message underway is touched. */
+  constructor(box, heads, on) {
+    this.box = box;
+    this.heads = heads;
+    this.on = on;
+    this.sheet = box.querySelector(".sheet");
+    this.run = null;
+    this.at = 0;
+    this.drag = null;
+    box.addEventListener("scroll", () => this.#soon());
+    new ResizeObserver(() => this.#soon()).observe(box);
+    box.addEventListener("click", event => this.#click(event));
+    box.addEventListener("pointerdown", event => this.#grab(event));
+    box.addEventListener("pointermove", event => this.#carry(event));
+    box.addEventListener("pointerup", event => this.#drop(event));
+    box.addEventListener("pointercancel", () => this.#letGo());
+  }
+
+  show(run, at) {
+    const isNew = run !== this.run;
+    this.run = run;
+    this.at = at;
+    this.sheet.style.height = `${(run.length + 1) * ROW}px`;
+    if (isNew) this.box.scrollTop = 0;
+    this.reveal(at);
+    this.draw();
+  }
+
+  reveal(event) {
+    const top = (event - 1) * ROW, { scrollTop, clientHeight } = this.box;
+    if (top < scrollTop + ROW) this.box.scrollTop = Math.max(0, top - 2 * ROW);
+    else if (top + 3 * ROW > scrollTop + clientHeight) this.box.scrollTop = top + 3 * ROW - clientHeight;
+  }
+
+  get width() {
+    const wanted = 150 + 70 * Math.max(this.run.hosts.length - 2, 0);
+    return Math.min(wanted + 60, Math.max(wanted, 0.45 * this.box.clientWidth), Math.max(0.5 * this.box.clientWidth, 60 * this.run.hosts.length));
+  }
+
+  #soon() {
+    if (this.waits || !this.run) return;
+    this.waits = true;
+    requestAnimationFrame(() => { this.waits = false; this.draw(); });
+  }
+
+  draw() {
+    const { run, at, box } = this;
+    const first = Math.max(1, Math.floor(box.scrollTop / ROW) + 1 - OVERSCAN);
+    const last = Math.min(run.length, Math.ceil((box.scrollTop + box.clientHeight) / ROW) + OVERSCAN);
+    const width = this.width, picture = new Picture(run, width, at);
+    this.heads.style.width = `${width}px`;
+    this.heads.innerHTML = run.hosts.map((it, host) => `<span style="left:${picture.column(host)}px">${escaped(run.isMany ? `host ${it.number}` : `${it.name} (${it.number})`)}</span>`).join("");
+    const rows = [];
+    for (let event = first; event <= last; event++) rows.push(this.#row(event, width));
+    const height = Math.max(last - first + 1, 0) * ROW;
+    const drawing = last < first ? "" : `<svg class="picture" aria-hidden="true" width="${width}" height="${height}" style="top:${(first - 1) * ROW}px">${picture.rows(first, last)}</svg>`;
+    this.sheet.innerHTML = drawing + rows.join("") + this.#tips(picture);
+    if (at > 0) box.setAttribute("aria-activedescendant", `event-${at}`); else box.removeAttribute("aria-activedescendant");
+  }
+
+  #row(event, width) {
+    const [line, ...details] = this.run.lines(event).split("\n");
+    const [number, ...words] = line.split(" ");
+    const more = details.map(it => it.trim()).filter(it => !it.startsWith("size=") && !it.startsWith("ledger")).join("; ");
+    const state = event === this.at ? " now" : event > this.at ? " later" : "";
+    const refused = words.includes("refused") ? " refused" : "";
+    return `<div role="option" id="event-${event}" class="row${state}${refused}" data-event="${event}" aria-selected="${event === this.at}" aria-posinset="${event}" aria-setsize="${this.run.length}" style="top:${(event - 1) * ROW}px;padding-left:${width}px">`
+      + `<span class="grip" title="drag to another place">⠿</span><span class="number">${number}</span><span class="words">${escaped(words.join(" "))}${more ? ` <i>${escaped(more)}</i>` : ""}</span></div>`;
+  }
+
+  /** Behind each message that is underway now what may become of it. */
+  #tips(picture) {
+    const underway = this.run.seen(Math.max(this.at, 1), Math.max(this.at, 1)).filter(it => it.event <= this.at && (it.end === null || it.end > this.at));
+    return underway.map((message, each) => {
+      const { x } = picture.tip(message), name = `${this.run.hosts[message.from].name} to ${this.run.hosts[message.to]?.name}, link ${message.link}`;
+      const buttons = [["deliver", "✓"], ["lose", "✗"], ["dead", "†"]].map(([move, sign]) =>
+        `<button class="move ${move}" tabindex="-1" data-move="${move}" data-from="${message.from}" data-to="${message.to}" data-link="${message.link}" title="${move} (${name})" aria-label="${move} the message from ${name}">${sign}</button>`);
+      return `<div class="tip" style="top:${(this.at + 0.15 + each) * ROW}px;left:${Math.max(0, x - 36)}px">${buttons.join("")}</div>`;
+    }).join("");
+  }
+
+  #eventAt(pointer) {
+    const y = pointer.clientY - this.box.getBoundingClientRect().top + this.box.scrollTop;
+    return Math.min(Math.max(Math.floor(y / ROW) + 1, 1), this.run.length);
+  }
+
+  #click(event) {
+    const move = event.target.closest("[data-move]"), row = event.target.closest("[data-event]");
+    if (move) {
+      const { move: verb, from, to, link } = move.dataset;
+      this.on.move(verb, Number(from), Number(to), Number(link));
+    } else if (row && !event.target.closest(".grip")) {
+      this.on.choose(Number(row.dataset.event));
+    }
+  }
+
+  #grab(event) {
+    const grip = event.target.closest(".grip");
+    if (!grip) return;
+    event.preventDefault();
+    this.drag = { from: Number(grip.closest("[data-event]").dataset.event) };
+    this.drag.to = this.drag.from;
+    this.box.setPointerCapture(event.pointerId);
+    this.box.classList.add("dragging");
+  }
+
+  #carry(event) {
+    if (!this.drag) return;
+    this.drag.to = this.#eventAt(event);
+    for (const row of this.sheet.querySelectorAll(".row")) row.classList.toggle("target", Number(row.dataset.event) === this.drag.to);
+  }
+
+  #drop(event) {
+    if (!this.drag) return;
+    const { from } = this.drag, to = this.#eventAt(event);
+    this.#letGo();
+    if (from !== to) this.on.drag(from, to);
+  }
+
+  #letGo() {
+    this.drag = null;
+    this.box.classList.remove("dragging");
+  }
+
+  /** The whole ladder up to now as a picture of its own. */
+  svg(style) {
+    const width = 220 + 90 * Math.max(this.run.hosts.length - 2, 0), picture = new Picture(this.run, width, this.at), height = (this.at + 2) * ROW;
+    const heads = this.run.hosts.map((it, host) => `<text class="name" x="${picture.column(host)}" y="16" text-anchor="middle">${escaped(it.name)} (${it.number})</text>`);
+    const words = Array.from({ length: this.at }, (_, each) => `<text x="${width + 10}" y="${(each + 1.6) * ROW}">${escaped(this.run.lines(each + 1).split("\n")[0])}</text>`);
+    return `<svg xmlns="http://www.w3.org/2000/svg" width="${width + 640}" height="${height}"><style>${style}</style>${heads.join("")}<g transform="translate(0 ${ROW})">${this.at ? picture.rows(1, this.at) : ""}</g>${words.join("")}</svg>`;
+  }
+}

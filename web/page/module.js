@@ -1,0 +1,173 @@
+/**
+ * The module, which is made of the proved crate `ncp_web`. Bytes go in, and bytes come out: nothing here knows the
+ * protocol, and no line is written here.
+ */
+const ANSWER = { DONE: 0, BAD: 1, FAULT: 2, NO_MEMORY: 3, NO_SESSION: 4, NO_LINE: 5, FULL: 6, NOTHING: 7 };
+
+/** What became of the last message on a link, by the number that the module answers. */
+const FATES = ["free", "underway", "delivered", "lost", "dead"];
+
+/** As many bytes as the lines of one event have at most, and as the longest message has. */
+const ROOM = { event: 1 << 16, message: 1024, words: 4096 };
+
+const asText = bytes => new TextDecoder().decode(bytes);
+const asBytes = text => new TextEncoder().encode(text);
+
+class Module {
+  static async load(code) {
+    const { instance } = await WebAssembly.instantiate(code, {});
+    return new Module(instance.exports);
+  }
+
+  constructor(exports) {
+    this.exports = exports;
+    this.counts = this.room(16);
+    this.words = this.room(ROOM.words);
+  }
+
+  /** Room in the module's memory, by its address. */
+  room(bytes) {
+    const at = this.exports.web_alloc(BigInt(Math.max(bytes, 1)));
+    if (!at) throw new Error("the module has no memory left");
+    return Number(at);
+  }
+
+  free(...rooms) {
+    for (const at of rooms) this.exports.web_free(BigInt(at));
+  }
+
+  /** A view of the memory as it is now: it may move whenever the module takes memory. */
+  get memory() {
+    return new Uint8Array(this.exports.memory.buffer);
+  }
+
+  put(bytes) {
+    const at = this.room(bytes.length);
+    this.memory.set(bytes, at);
+    return at;
+  }
+
+  read(at, length) {
+    return this.memory.slice(at, at + length);
+  }
+
+  number(at) {
+    return Number(new DataView(this.exports.memory.buffer).getBigUint64(at, true));
+  }
+
+  /** Calls a function from bytes to bytes, with more room where the bytes do not fit. */
+  call(name, input, room = 4 * input.length + ROOM.event) {
+    for (;;) {
+      const from = this.put(input), out = this.room(room), [written, told] = [this.counts, this.counts + 8];
+      const status = this.exports[`ncp_web_${name}`](
+        BigInt(from), BigInt(input.length), BigInt(out), BigInt(room), BigInt(written), BigInt(this.words), BigInt(ROOM.words), BigInt(told));
+      const bytes = status === ANSWER.NO_MEMORY ? new Uint8Array() : this.read(out, this.number(written));
+      const error = status === ANSWER.FAULT ? asText(this.read(this.words, this.number(told))) : "";
+      this.free(from, out);
+      if (!error.includes("WriteFailed")) return { status, bytes, error };
+      room *= 4;
+    }
+  }
+
+  /** Words about some texts: `name` is one of the functions that explain. */
+  explain(name, ...texts) {
+    const inputs = texts.map(asBytes), rooms = inputs.map(it => this.put(it));
+    const pairs = inputs.flatMap((it, each) => [BigInt(rooms[each]), BigInt(it.length)]);
+    const status = this.exports[`ncp_web_${name}`](...pairs, BigInt(this.words), BigInt(ROOM.words), BigInt(this.counts));
+    const words = status === ANSWER.DONE ? asText(this.read(this.words, this.number(this.counts))) : "";
+    this.free(...rooms);
+    return words;
+  }
+
+  /** The lines that `show` has of one message, without its number. */
+  showMessage(bytes, bits) {
+    const file = new Uint8Array(6 + bytes.length);
+    file.set(asBytes("NCPH"));
+    file.set([bits >> 8, bits & 255], 4);
+    file.set(bytes, 6);
+    return asText(this.call("show", file).bytes).replace(/^\d+ /, "");
+  }
+}
+
+/** Hosts in the module that are played line by line, and read between lines. */
+class Session {
+  constructor(module) {
+    this.module = module;
+    this.handle = module.room(8);
+    module.memory.fill(0, this.handle, this.handle + 8);
+    this.out = module.room(ROOM.event);
+    this.script = null;
+  }
+
+  /** Takes the bytes of a script, from which lines are played by where they begin and end. */
+  hold(bytes) {
+    if (this.script !== null) this.module.free(this.script);
+    this.script = this.module.put(bytes);
+  }
+
+  open([begin, end]) {
+    return this.module.exports.ncp_web_open(BigInt(this.handle), BigInt(this.script + begin), BigInt(end - begin));
+  }
+
+  /** Plays a line of the script; its text is read by `said`. */
+  step([begin, end]) {
+    return this.module.exports.ncp_web_step(
+      BigInt(this.handle), BigInt(this.script + begin), BigInt(end - begin), BigInt(this.out), BigInt(ROOM.event), BigInt(this.module.counts));
+  }
+
+  said() {
+    return asText(this.module.read(this.out, this.module.number(this.module.counts)));
+  }
+
+  /** What a line would be answered that reads a host, without its number; none where it is refused. */
+  ask(line) {
+    const input = asBytes(line), at = this.module.put(input);
+    const status = this.module.exports.ncp_web_ask(
+      BigInt(this.handle), BigInt(at), BigInt(input.length), BigInt(this.out), BigInt(ROOM.event), BigInt(this.module.counts));
+    this.module.free(at);
+    return status === ANSWER.DONE ? this.said().trimEnd().replace(/^\d+ /, "") : null;
+  }
+
+  /** The commands that wait at a host for a peer, a line each. */
+  waiting(host, peer) {
+    const lines = [];
+    for (let place = 0; ; place++) {
+      const status = this.module.exports.ncp_web_waiting(
+        BigInt(this.handle), host, peer, place, BigInt(this.out), BigInt(ROOM.event), BigInt(this.module.counts));
+      if (status !== ANSWER.DONE) return lines;
+      lines.push(this.said().trim());
+    }
+  }
+
+  /** The message that a host keeps for a peer on a link. */
+  kept(host, peer, link) {
+    return this.message(this.module.exports.ncp_web_kept(
+      BigInt(this.handle), host, peer, link, BigInt(this.out), BigInt(ROOM.message), BigInt(this.module.counts)));
+  }
+
+  /** The message that went out or came at an event. */
+  messageOf(number) {
+    return this.message(this.module.exports.ncp_web_message(
+      BigInt(this.handle), BigInt(number), BigInt(this.out), BigInt(ROOM.message), BigInt(this.module.counts)));
+  }
+
+  message(status) {
+    if (status !== ANSWER.DONE) return null;
+    const bits = this.module.number(this.module.counts);
+    return { bits, bytes: this.module.read(this.out, Math.ceil(bits / 8)) };
+  }
+
+  /** The ledger of a sender, in messages and bits; none where an end is not open. */
+  ledger(host, local, remote) {
+    const status = this.module.exports.ncp_web_ledger(BigInt(this.handle), host, local, remote, BigInt(this.out));
+    if (status !== ANSWER.DONE) return null;
+    const amount = place => ({ messages: this.module.number(this.out + 16 * place), bits: this.module.number(this.out + 16 * place + 8) });
+    return { outstanding: amount(0), counters: amount(1), all: amount(2), text: amount(3), ret: amount(4) };
+  }
+
+  /** What became of the last message from a host to another on a link. */
+  transit(from, to, link) {
+    const status = this.module.exports.ncp_web_transit(BigInt(this.handle), from, to, link, BigInt(this.out));
+    return status === ANSWER.DONE ? FATES[this.module.memory[this.out]] : FATES[0];
+  }
+}
