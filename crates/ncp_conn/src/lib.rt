@@ -10,8 +10,8 @@
 //! let out = Pair { local: 3, remote: 2 };                // an odd socket sends
 //! let inward = Pair { local: 2, remote: 3 };             // an even one receives
 //!
-//! let str = here.ask_send(out, 8, 1024, false)?;         // bytes of 8 bits, room for 1,024 bits
-//! let rts = there.ask_receive(inward, 1024, false)?;     // on the lowest free link, 2
+//! let str = here.ask_send(3, 2, 8, 1024, false)?;        // bytes of 8 bits, room for 1,024 bits
+//! let rts = there.ask_receive(2, 3, 1024, false)?;       // on the lowest free link, 2
 //! there.hear(&str);                                      // Nothing: it is open there
 //! here.hear(&rts);                                       // Nothing: and here
 //!

@@ -143,9 +143,9 @@ fn ask(
         }
         1 => {
             let size = if dice.one_in(4) { dice.small(37) } else { 8 };
-            host.ask_send(peer, pair, size, dice.mostly(4096, 8))
+            host.ask_send(peer, pair.local, pair.remote, size, dice.mostly(4096, 8))
         }
-        2 => host.ask_receive(peer, pair, dice.mostly(4096, 8)),
+        2 => host.ask_receive(peer, pair.local, pair.remote, dice.mostly(4096, 8)),
         3 => {
             let messages = u16::from(dice.small(4));
             host.allocate(peer, pair, messages, dice.mostly(600, 16))

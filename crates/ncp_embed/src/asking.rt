@@ -7,7 +7,6 @@ ghost use Rattle.ncp_embed.specs.Exports.{pair_of, code_in, host_in, DoneOrNoMem
 
 use crate::codes::{DONE, NO_HOST, code_of};
 use crate::handle::{Handle, put, take};
-use ncp_model::Pair;
 use std::alloc::Global;
 
 /// `Host::ask_send`.
@@ -27,7 +26,7 @@ pub extern "C" fn ncp_embed_ask_send(
     let Some(mut held) = take(alloc, handle) else {
         return NO_HOST;
     };
-    let answer = held.host.ask_send(peer, Pair { local, remote }, size, room);
+    let answer = held.host.ask_send(peer, local, remote, size, room);
     put(handle, held);
     code_of(answer)
 }
@@ -48,7 +47,7 @@ pub extern "C" fn ncp_embed_ask_receive(
     let Some(mut held) = take(alloc, handle) else {
         return NO_HOST;
     };
-    let answer = held.host.ask_receive(peer, Pair { local, remote }, room);
+    let answer = held.host.ask_receive(peer, local, remote, room);
     put(handle, held);
     code_of(answer)
 }

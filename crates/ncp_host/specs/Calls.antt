@@ -19,6 +19,10 @@ use Rattle.ncp_host.specs.Host.{Host, state_of, changed, if_known}
 
 -- A call on a connection.
 
+-- the connection of a socket here with one there
+abbrev pub sockets : ℕ → ℕ → Pair
+sockets local remote = record { local = local; remote = remote }
+
 abbrev pub call_reply : ℕ → Pair → Call → Host → Result (Unit {0}) CallFault
 call_reply number pair call h = if_known (state_of h number) (λ s. reply (comes_of pair call s.peer))
 

@@ -39,7 +39,9 @@ fn up<S: BitStore>(rt: &impl Abort, alloc: Global) -> Result<Host<S>, Fail> {
 fn is_as_before<S: BitStore>(host: &mut Host<S>, pair: Pair) -> bool {
     let has_none = host.state(PEER, pair) == Err(CallFault::NoEntry);
     let waits_none = host.waiting(PEER, 0).is_none();
-    let asked = host.ask_receive(PEER, INWARD, ROOM).is_ok();
+    let asked = host
+        .ask_receive(PEER, INWARD.local, INWARD.remote, ROOM)
+        .is_ok();
     let first = host
         .state(PEER, INWARD)
         .is_ok_and(|record| record.link == LINK);
@@ -49,7 +51,7 @@ fn is_as_before<S: BitStore>(host: &mut Host<S>, pair: Pair) -> bool {
 /// Whether the request to send was refused.
 fn asks_to_send<S: BitStore>(rt: &impl Abort, alloc: Global) -> Result<bool, Fail> {
     let mut host = up::<S>(rt, alloc)?;
-    let Err(fault) = host.ask_send(PEER, OUTWARD, 8, ROOM) else {
+    let Err(fault) = host.ask_send(PEER, OUTWARD.local, OUTWARD.remote, 8, ROOM) else {
         return Ok(false);
     };
     assert!(rt; fault == CallFault::OutOfMemory && is_as_before(&mut host, OUTWARD));
@@ -59,7 +61,7 @@ fn asks_to_send<S: BitStore>(rt: &impl Abort, alloc: Global) -> Result<bool, Fai
 /// Whether the request to receive was refused.
 fn asks_to_receive<S: BitStore>(rt: &impl Abort, alloc: Global) -> Result<bool, Fail> {
     let mut host = up::<S>(rt, alloc)?;
-    let Err(fault) = host.ask_receive(PEER, INWARD, ROOM) else {
+    let Err(fault) = host.ask_receive(PEER, INWARD.local, INWARD.remote, ROOM) else {
         return Ok(false);
     };
     assert!(rt; fault == CallFault::OutOfMemory && is_as_before(&mut host, INWARD));

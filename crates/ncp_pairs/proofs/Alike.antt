@@ -14,7 +14,7 @@ use Rattle.ncp_host.specs.Host.{Host, state_of, if_known}
 use Rattle.ncp_host.specs.Hearing.{regular, is_kind}
 use Rattle.ncp_host.specs.Output.{leader_to}
 use Rattle.ncp_host.specs.Arrivals.{received_with, received_from}
-use Rattle.ncp_host.specs.Calls.{record_answer, record_told, flags_of, flags_told, echoed_told, errors_told, counts_told, take_reply, waiting_at, kept_for}
+use Rattle.ncp_host.specs.Calls.{record_answer, record_told, flags_of, flags_told, echoed_told, errors_told, counts_told, take_reply, waiting_at, kept_for, sockets}
 use Rattle.ncp_subnet.specs.Messages.{answer_bits}
 use Rattle.ncp_transcript.specs.declared.call.Call.{Call}
 use Rattle.ncp_transcript.specs.declared.call.Call.TheVariants as calls
@@ -42,8 +42,8 @@ module _ (h k : Host) where
 
   pub answers-alike : (call : Call) (n : ℕ) → peer_of_call call ≡ Some n → state_of h n ≡ state_of k n → answer_to call h ≡ answer_to call k
   answers-alike (calls.Reset peer) n e same = done-alike (calls.Reset peer) peer (λ s. reset_answer s.peer.phase) (for-one peer n e same)
-  answers-alike (calls.AskSend peer pair size room) n e same = done-alike (calls.AskSend peer pair size room) peer (λ s. reply (comes_of pair (Ask_to_send size room) s.peer)) (for-one peer n e same)
-  answers-alike (calls.AskReceive peer pair room) n e same = done-alike (calls.AskReceive peer pair room) peer (λ s. reply (comes_of pair (Ask_to_receive room) s.peer)) (for-one peer n e same)
+  answers-alike (calls.AskSend peer local remote size room) n e same = done-alike (calls.AskSend peer local remote size room) peer (λ s. reply (comes_of (sockets local remote) (Ask_to_send size room) s.peer)) (for-one peer n e same)
+  answers-alike (calls.AskReceive peer local remote room) n e same = done-alike (calls.AskReceive peer local remote room) peer (λ s. reply (comes_of (sockets local remote) (Ask_to_receive room) s.peer)) (for-one peer n e same)
   answers-alike (calls.Give peer pair text) n e same = done-alike (calls.Give peer pair text) peer (λ s. reply (comes_of pair (Give text) s.peer)) (for-one peer n e same)
   answers-alike (calls.Take peer pair bytes) n e same = told-alike (calls.Take peer pair bytes) (notes.Took peer pair bytes) peer (λ s. reply_of_take (comes_of pair (Take bytes) s.peer)) (for-one peer n e same)
   answers-alike (calls.Allocate peer pair messages bits) n e same = done-alike (calls.Allocate peer pair messages bits) peer (λ s. reply (comes_of pair (Allocate messages bits) s.peer)) (for-one peer n e same)
@@ -77,8 +77,8 @@ told-names call told (Err fault) is = refl
 
 answer-names : (call : Call) (h : Host) → peer_of (answer_to call h) ≡ peer_of_call call
 answer-names (calls.Reset peer) h = done-names (calls.Reset peer) _
-answer-names (calls.AskSend peer pair size room) h = done-names (calls.AskSend peer pair size room) _
-answer-names (calls.AskReceive peer pair room) h = done-names (calls.AskReceive peer pair room) _
+answer-names (calls.AskSend peer local remote size room) h = done-names (calls.AskSend peer local remote size room) _
+answer-names (calls.AskReceive peer local remote room) h = done-names (calls.AskReceive peer local remote room) _
 answer-names (calls.Give peer pair text) h = done-names (calls.Give peer pair text) _
 answer-names (calls.Take peer pair bytes) h = told-names (calls.Take peer pair bytes) (notes.Took peer pair bytes) (take_reply peer pair bytes h) (λ x. refl)
 answer-names (calls.Allocate peer pair messages bits) h = done-names (calls.Allocate peer pair messages bits) _

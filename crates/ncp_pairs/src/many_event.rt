@@ -37,16 +37,28 @@ fn copied_call(alloc: Global, call: &Call) -> Result<Call, AllocError>
         Call::Reset { peer } => Call::Reset { peer },
         Call::AskSend {
             peer,
-            pair,
+            local,
+            remote,
             size,
             room,
         } => Call::AskSend {
             peer,
-            pair,
+            local,
+            remote,
             size,
             room,
         },
-        Call::AskReceive { peer, pair, room } => Call::AskReceive { peer, pair, room },
+        Call::AskReceive {
+            peer,
+            local,
+            remote,
+            room,
+        } => Call::AskReceive {
+            peer,
+            local,
+            remote,
+            room,
+        },
         Call::Give {
             peer,
             pair,

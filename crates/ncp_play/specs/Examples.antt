@@ -92,7 +92,7 @@ each_result =
     ∷ notes.Counts 2 (record { stray = 1; faults = 2; wrong_link = 3; wrong_size = 4; not_up = 5; late = 6; over = 7 })
     ∷ notes.Ignored (record { short = 1; other = 2; unknown = 3 })
     ∷ notes.Refused (calls.State 2 pair) NoEntry
-    ∷ notes.Refused (calls.AskSend 2 pair 8 64) OutOfMemory
+    ∷ notes.Refused (calls.AskSend 2 3 2 8 64) OutOfMemory
     ∷ []
 
 -- ---- bits that came
@@ -123,7 +123,7 @@ each_that_came = map (notes.In []) each_received
 
 abbrev pub of_a_side : List HostNote
 of_a_side =
-    notes.Done (calls.AskReceive 1 pair 1024)
+    notes.Done (calls.AskReceive 1 3 2 1024)
     ∷ notes.Out (bits_of_bytes (0 ∷ 1 ∷ 2 ∷ 0 ∷ 0 ∷ 8 ∷ 0 ∷ 2 ∷ 0 ∷ 97 ∷ 98 ∷ []))
     ∷ notes.Nothing
     ∷ []

@@ -13,8 +13,8 @@ Name = Verb × Option ℕ
 -- two that read what waits have no name
 abbrev pub name_of_call : Call → Option Name
 name_of_call (calls.Reset peer) = Some (verbs.Reset, Some peer)
-name_of_call (calls.AskSend peer pair size room) = Some (verbs.AskSend, Some peer)
-name_of_call (calls.AskReceive peer pair room) = Some (verbs.AskReceive, Some peer)
+name_of_call (calls.AskSend peer local remote size room) = Some (verbs.AskSend, Some peer)
+name_of_call (calls.AskReceive peer local remote room) = Some (verbs.AskReceive, Some peer)
 name_of_call (calls.Give peer pair text) = Some (verbs.Give, Some peer)
 name_of_call (calls.Take peer pair bytes) = Some (verbs.Take, Some peer)
 name_of_call (calls.Allocate peer pair messages bits) = Some (verbs.Allocate, Some peer)

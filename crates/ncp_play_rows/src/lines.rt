@@ -54,7 +54,8 @@ fn calls_that_are_done(rt: HostRuntime) -> Result<(), Fail> {
             HostNote::Done {
                 call: Call::AskSend {
                     peer: 2,
-                    pair: PAIR,
+                    local: PAIR.local,
+                    remote: PAIR.remote,
                     size: 8,
                     room: 1024,
                 },
@@ -66,7 +67,8 @@ fn calls_that_are_done(rt: HostRuntime) -> Result<(), Fail> {
             HostNote::Done {
                 call: Call::AskReceive {
                     peer: 2,
-                    pair: PAIR,
+                    local: PAIR.local,
+                    remote: PAIR.remote,
                     room: 1024,
                 },
             },
@@ -175,7 +177,8 @@ fn calls_that_are_refused(rt: HostRuntime) {
             HostNote::Refused {
                 call: Call::AskSend {
                     peer: 2,
-                    pair: PAIR,
+                    local: PAIR.local,
+                    remote: PAIR.remote,
                     size: 8,
                     room: 8,
                 },
@@ -496,7 +499,8 @@ fn sides_of_two_hosts(rt: HostRuntime) {
             HostNote::Done {
                 call: Call::AskReceive {
                     peer: 1,
-                    pair: PAIR,
+                    local: PAIR.local,
+                    remote: PAIR.remote,
                     room: 1024,
                 },
             },

@@ -10,6 +10,7 @@ use Rattle.ncp_model.specs.Peers.{Ask_to_send, Ask_to_receive, Close, Give, Take
 use Rattle.ncp_host.specs.PeerState.{PeerState, new_state}
 use Rattle.ncp_host.specs.Host.{is_one_of}
 use Rattle.ncp_host.specs.Output.{after_by, output_by}
+use Rattle.ncp_host.specs.Calls.{sockets}
 use Rattle.ncp_transcript.specs.declared.call.Call.{Call}
 use Rattle.ncp_transcript.specs.declared.call.Call.TheVariants as calls
 use Rattle.ncp_transcript.specs.declared.note.HostNote.{HostNote}
@@ -25,8 +26,8 @@ use Rattle.ncp_progress_host.proofs.HostWork.{message-work, answer-work, made-wo
 
 called-work : (call : Call) (s : PeerState) → peer_work (called_for call s).peer ≤ peer_work s.peer + call_brings call s
 called-work (calls.Reset peer) s = reset-work (is_quiet s.slots) s.peer
-called-work (calls.AskSend peer pair size room) s = call-work pair (Ask_to_send size room) s.peer
-called-work (calls.AskReceive peer pair room) s = call-work pair (Ask_to_receive room) s.peer
+called-work (calls.AskSend peer local remote size room) s = call-work (sockets local remote) (Ask_to_send size room) s.peer
+called-work (calls.AskReceive peer local remote room) s = call-work (sockets local remote) (Ask_to_receive room) s.peer
 called-work (calls.Give peer pair text) s = call-work pair (Give text) s.peer
 called-work (calls.Take peer pair bytes) s = call-work pair (Take bytes) s.peer
 called-work (calls.Allocate peer pair messages bits) s = call-work pair (Allocate messages bits) s.peer

@@ -11,6 +11,7 @@ use Rattle.ncp_model.specs.declared.pair.Pair.{Pair}
 use Rattle.ncp_model.specs.Peers.{Ask_to_send, Ask_to_receive, Close, Give, Take, Allocate, Call_back, Interrupt}
 use Rattle.ncp_model.specs.Peers as peers
 use Rattle.ncp_host.specs.PeerState.{PeerState}
+use Rattle.ncp_host.specs.Calls.{sockets}
 use Rattle.ncp_transcript.specs.declared.call.Call.{Call}
 use Rattle.ncp_transcript.specs.declared.call.Call.TheVariants as calls
 use Rattle.ncp_transcript.specs.declared.note.HostNote.{HostNote}
@@ -38,8 +39,8 @@ credit_at pair call s = credit call (get s.peer.ends pair)
 
 abbrev pub call_brings : Call → PeerState → ℕ
 call_brings (calls.Reset peer) s = 2
-call_brings (calls.AskSend peer pair size room) s = credit_at pair (Ask_to_send size room) s
-call_brings (calls.AskReceive peer pair room) s = credit_at pair (Ask_to_receive room) s
+call_brings (calls.AskSend peer local remote size room) s = credit_at (sockets local remote) (Ask_to_send size room) s
+call_brings (calls.AskReceive peer local remote room) s = credit_at (sockets local remote) (Ask_to_receive room) s
 call_brings (calls.Give peer pair text) s = credit_at pair (Give text) s
 call_brings (calls.Take peer pair bytes) s = credit_at pair (Take bytes) s
 call_brings (calls.Allocate peer pair messages bits) s = credit_at pair (Allocate messages bits) s

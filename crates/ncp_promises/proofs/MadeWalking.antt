@@ -16,7 +16,7 @@ use Rattle.ncp_hosts.specs.Hosts as hosts
 use Rattle.ncp_host.specs.PeerState.{PeerState, control_link}
 use Rattle.ncp_host.specs.Hearing.{control_size, is_wrong_link, message_received, control_received, text_received}
 use Rattle.ncp_host.specs.Host.{Host, numbers_of, state_of, if_known}
-use Rattle.ncp_host.specs.Calls.{record_told, flags_told, echoed_told, errors_told, counts_told}
+use Rattle.ncp_host.specs.Calls.{record_told, flags_told, echoed_told, errors_told, counts_told, sockets}
 use Rattle.ncp_host.specs.Arrivals.{received_in}
 use Rattle.ncp_host.specs.Output.{leader_to}
 use Rattle.ncp_host.specs.Turns.{next_output}
@@ -191,8 +191,8 @@ module _ (side : Side) (w : Hosts) (k : Stand w) (p : Watches) where
 
   own-answer : (call : Call) → Own (answer_to call (host_of side w))
   own-answer (calls.Reset peer) = own-done (calls.Reset peer) peer (λ s. reset_answer s.peer.phase) (λ e. own-asks Asks_reset (worlds.Replied (Ok tt)) peer (of_host.Done (calls.Reset peer)) e refl (λ t l i. reset-watched (ours side w) (watch_at side p) l i))
-  own-answer (calls.AskSend peer q size room) = own-pair (calls.AskSend peer q size room) peer q (Ask_to_send size room) refl refl (λ t l. refl)
-  own-answer (calls.AskReceive peer q room) = own-pair (calls.AskReceive peer q room) peer q (Ask_to_receive room) refl refl (λ t l. refl)
+  own-answer (calls.AskSend peer local remote size room) = own-pair (calls.AskSend peer local remote size room) peer (sockets local remote) (Ask_to_send size room) refl refl (λ t l. refl)
+  own-answer (calls.AskReceive peer local remote room) = own-pair (calls.AskReceive peer local remote room) peer (sockets local remote) (Ask_to_receive room) refl refl (λ t l. refl)
   own-answer (calls.Give peer q text) = own-pair (calls.Give peer q text) peer q (Give text) refl refl (λ t l. refl)
   own-answer (calls.Take peer q bytes) = own-took peer q bytes (λ s. reply_of_take (comes_of q (Take bytes) s.peer))
   own-answer (calls.Allocate peer q m b) = own-pair (calls.Allocate peer q m b) peer q (Allocate m b) refl refl (λ t l. refl)

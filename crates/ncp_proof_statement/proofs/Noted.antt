@@ -15,6 +15,7 @@ use Rattle.ncp_model.specs.Peers.{Call as Pair_call, Ask_to_send, Ask_to_receive
 use Rattle.ncp_watch.specs.Histories.{is_accepted}
 use Rattle.ncp_host.specs.PeerState.{PeerState, new_state}
 use Rattle.ncp_host.specs.Host.{state_of, new_host, if_known}
+use Rattle.ncp_host.specs.Calls.{sockets}
 use Rattle.ncp_transcript.specs.declared.call.Call.{Call}
 use Rattle.ncp_transcript.specs.declared.call.Call.TheVariants as calls_of
 use Rattle.ncp_transcript.specs.declared.note.HostNote.{HostNote}
@@ -88,16 +89,16 @@ module _ (me : ℕ) (ns : List ℕ) (n : ℕ) (pair : Pair) where
 
   -- each note of the peer
 
-  asks-send : (p : Pair) (size room : ℕ) (before after : List HostNote) → FromBeginning me ns (before ++ notes.Done (calls_of.AskSend n p size room) ∷ after) → Says (notes.Done (calls_of.AskSend n p size room)) before
+  asks-send : (p : Pair) (size room : ℕ) (before after : List HostNote) → FromBeginning me ns (before ++ notes.Done (calls_of.AskSend n p.local p.remote size room) ∷ after) → Says (notes.Done (calls_of.AskSend n p.local p.remote size room)) before
   asks-send p size room before after from =
-      let b = before_note me ns before after (notes.Done (calls_of.AskSend n p size room)) from in
-      let w = done-before me ns before n p (Ask_to_send size room) (calls_of.AskSend n p size room) b.from b.said in
+      let b = before_note me ns before after (notes.Done (calls_of.AskSend n p.local p.remote size room)) from in
+      let w = done-before me ns before n p (Ask_to_send size room) (calls_of.AskSend n p.local p.remote size room) b.from b.said in
       does pair p (Ask_to_send size room) (notes_for (notes_of n before) new_state) w.is_up Asked (λ q e. done-use Asked _ e) w.fine
 
-  asks-receive : (p : Pair) (room : ℕ) (before after : List HostNote) → FromBeginning me ns (before ++ notes.Done (calls_of.AskReceive n p room) ∷ after) → Says (notes.Done (calls_of.AskReceive n p room)) before
+  asks-receive : (p : Pair) (room : ℕ) (before after : List HostNote) → FromBeginning me ns (before ++ notes.Done (calls_of.AskReceive n p.local p.remote room) ∷ after) → Says (notes.Done (calls_of.AskReceive n p.local p.remote room)) before
   asks-receive p room before after from =
-      let b = before_note me ns before after (notes.Done (calls_of.AskReceive n p room)) from in
-      let w = done-before me ns before n p (Ask_to_receive room) (calls_of.AskReceive n p room) b.from b.said in
+      let b = before_note me ns before after (notes.Done (calls_of.AskReceive n p.local p.remote room)) from in
+      let w = done-before me ns before n p (Ask_to_receive room) (calls_of.AskReceive n p.local p.remote room) b.from b.said in
       does pair p (Ask_to_receive room) (notes_for (notes_of n before) new_state) w.is_up Asked (λ q e. done-use Asked _ e) w.fine
 
   gives : (p : Pair) (text : List Bool) (before after : List HostNote) → FromBeginning me ns (before ++ notes.Done (calls_of.Give n p text) ∷ after) → Says (notes.Done (calls_of.Give n p text)) before
@@ -113,8 +114,8 @@ module _ (me : ℕ) (ns : List ℕ) (n : ℕ) (pair : Pair) where
       does pair p (Allocate m bits) (notes_for (notes_of n before) new_state) w.is_up (Let bits) (λ q e. done-use (Let bits) _ e) w.fine
 
   by-call : (call : Call) (before after : List HostNote) → FromBeginning me ns (before ++ notes.Done call ∷ after) → names n (notes.Done call) ≡ true → Says (notes.Done call) before
-  by-call (calls_of.AskSend peer p size room) before after from e = asks-send p size room before after (subst (λ (k : ℕ). FromBeginning me ns (before ++ notes.Done (calls_of.AskSend k p size room) ∷ after)) (eqb-true peer n e) from)
-  by-call (calls_of.AskReceive peer p room) before after from e = asks-receive p room before after (subst (λ (k : ℕ). FromBeginning me ns (before ++ notes.Done (calls_of.AskReceive k p room) ∷ after)) (eqb-true peer n e) from)
+  by-call (calls_of.AskSend peer local remote size room) before after from e = asks-send (sockets local remote) size room before after (subst (λ (k : ℕ). FromBeginning me ns (before ++ notes.Done (calls_of.AskSend k local remote size room) ∷ after)) (eqb-true peer n e) from)
+  by-call (calls_of.AskReceive peer local remote room) before after from e = asks-receive (sockets local remote) room before after (subst (λ (k : ℕ). FromBeginning me ns (before ++ notes.Done (calls_of.AskReceive k local remote room) ∷ after)) (eqb-true peer n e) from)
   by-call (calls_of.Give peer p text) before after from e = gives p text before after (subst (λ (k : ℕ). FromBeginning me ns (before ++ notes.Done (calls_of.Give k p text) ∷ after)) (eqb-true peer n e) from)
   by-call (calls_of.Take peer p bytes) before after from e =
       let b = before_note me ns before after (notes.Done (calls_of.Take peer p bytes)) from in

@@ -10,7 +10,7 @@ use Rattle.ncp_model.specs.Peers.{Ask_to_send, Ask_to_receive, Close, Give, Take
 use Rattle.ncp_model.specs.Phase.{reset_answer}
 use Rattle.ncp_host.specs.PeerState.{PeerState}
 use Rattle.ncp_host.specs.Host.{state_of, if_known}
-use Rattle.ncp_host.specs.Calls.{record_told, flags_told, echoed_told, errors_told, counts_told}
+use Rattle.ncp_host.specs.Calls.{record_told, flags_told, echoed_told, errors_told, counts_told, sockets}
 use Rattle.ncp_host.specs.Arrivals.{received_in}
 use Rattle.ncp_host.specs.Turns.{next_output}
 use Rattle.ncp_host.specs.declared.received.Received.{Received}
@@ -137,8 +137,8 @@ module _ (pair : Pair) where
 
     own-answer : (call : Call) → Own (answer_to call (host_of side w))
     own-answer (calls.Reset peer) = own-done (calls.Reset peer) peer (λ s. reset_answer s.peer.phase) refl
-    own-answer (calls.AskSend peer q size room) = own-done (calls.AskSend peer q size room) peer (λ s. reply (comes_of q (Ask_to_send size room) s.peer)) refl
-    own-answer (calls.AskReceive peer q room) = own-done (calls.AskReceive peer q room) peer (λ s. reply (comes_of q (Ask_to_receive room) s.peer)) refl
+    own-answer (calls.AskSend peer local remote size room) = own-done (calls.AskSend peer local remote size room) peer (λ s. reply (comes_of (sockets local remote) (Ask_to_send size room) s.peer)) refl
+    own-answer (calls.AskReceive peer local remote room) = own-done (calls.AskReceive peer local remote room) peer (λ s. reply (comes_of (sockets local remote) (Ask_to_receive room) s.peer)) refl
     own-answer (calls.Give peer q text) = own-done (calls.Give peer q text) peer (λ s. reply (comes_of q (Give text) s.peer)) refl
     own-answer (calls.Take peer q bytes) = own-made (calls.Take peer q bytes) (of_host.Took peer q bytes) peer (λ s. reply_of_take (comes_of q (Take bytes) s.peer)) (λ x is. of_peer peer (of_host.Took peer q bytes x) refl is)
     own-answer (calls.Allocate peer q m b) = own-done (calls.Allocate peer q m b) peer (λ s. reply (comes_of q (Allocate m b) s.peer)) refl

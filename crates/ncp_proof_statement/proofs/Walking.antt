@@ -20,7 +20,7 @@ use Rattle.ncp_hosts.specs.Hosts.{past_of as past_here}
 use Rattle.ncp_host.specs.PeerState.{PeerState, control_link}
 use Rattle.ncp_host.specs.Hearing.{control_size, is_wrong_link, message_received, control_received, text_received}
 use Rattle.ncp_host.specs.Host.{Host, numbers_of, state_of, if_known}
-use Rattle.ncp_host.specs.Calls.{record_told, flags_told, echoed_told, errors_told, counts_told}
+use Rattle.ncp_host.specs.Calls.{record_told, flags_told, echoed_told, errors_told, counts_told, sockets}
 use Rattle.ncp_host.specs.Arrivals.{received_in}
 use Rattle.ncp_host.specs.Output.{leader_to}
 use Rattle.ncp_host.specs.Turns.{next_output}
@@ -189,8 +189,8 @@ module _ (pair : Pair) where
 
     own-answer : (call : Call) → Own (answer_to call (host_of side w))
     own-answer (calls.Reset peer) = own-done (calls.Reset peer) peer (λ s. reset_answer s.peer.phase) (λ e. own-still Asks_reset _ (of_host.Done (calls.Reset peer)) refl refl)
-    own-answer (calls.AskSend peer q size room) = own-done (calls.AskSend peer q size room) peer (λ s. reply (comes_of q (Ask_to_send size room) s.peer)) (λ e. own-asks q (Ask_to_send size room) _ peer (of_host.Done (calls.AskSend peer q size room)) e refl refl)
-    own-answer (calls.AskReceive peer q room) = own-done (calls.AskReceive peer q room) peer (λ s. reply (comes_of q (Ask_to_receive room) s.peer)) (λ e. own-asks q (Ask_to_receive room) _ peer (of_host.Done (calls.AskReceive peer q room)) e refl refl)
+    own-answer (calls.AskSend peer local remote size room) = own-done (calls.AskSend peer local remote size room) peer (λ s. reply (comes_of (sockets local remote) (Ask_to_send size room) s.peer)) (λ e. own-asks (sockets local remote) (Ask_to_send size room) _ peer (of_host.Done (calls.AskSend peer local remote size room)) e refl refl)
+    own-answer (calls.AskReceive peer local remote room) = own-done (calls.AskReceive peer local remote room) peer (λ s. reply (comes_of (sockets local remote) (Ask_to_receive room) s.peer)) (λ e. own-asks (sockets local remote) (Ask_to_receive room) _ peer (of_host.Done (calls.AskReceive peer local remote room)) e refl refl)
     own-answer (calls.Give peer q text) = own-done (calls.Give peer q text) peer (λ s. reply (comes_of q (Give text) s.peer)) (λ e. own-asks q (Give text) _ peer (of_host.Done (calls.Give peer q text)) e refl refl)
     own-answer (calls.Take peer q bytes) = own-took peer q bytes (λ s. reply_of_take (comes_of q (Take bytes) s.peer))
     own-answer (calls.Allocate peer q m b) = own-done (calls.Allocate peer q m b) peer (λ s. reply (comes_of q (Allocate m b) s.peer)) (λ e. own-asks q (Allocate m b) _ peer (of_host.Done (calls.Allocate peer q m b)) e refl refl)

@@ -35,6 +35,7 @@ use Rattle.ncp_host.specs.Counting.{one_more}
 use Rattle.ncp_host.specs.PeerState.{PeerState, new_state, control_link, is_answered, answer_taken, answer_comes, frees_on, after_answer}
 use Rattle.ncp_host.specs.Hearing.{control_size, control_after, text_after, is_wrong_link, hears, hears_all, hears_last, message_after}
 use Rattle.ncp_host.specs.Output.{after_made, after_by}
+use Rattle.ncp_host.specs.Calls.{sockets}
 use Rattle.ncp_transcript.specs.declared.call.Call.{Call}
 use Rattle.ncp_transcript.specs.declared.call.Call.TheVariants as calls_of
 use Rattle.ncp_transcript.specs.declared.note.HostNote.{HostNote}
@@ -107,8 +108,8 @@ module _ (pair : Pair) where
 
   done-acts : (call : Call) (s : PeerState) → AreActs pair (get s.peer.ends pair) (acts_of_call pair call s) (get (called_for call s).peer.ends pair)
   done-acts (calls_of.Reset peer) s = reset-acts s
-  done-acts (calls_of.AskSend peer p size room) s = call-acts p (Ask_to_send size room) s
-  done-acts (calls_of.AskReceive peer p room) s = call-acts p (Ask_to_receive room) s
+  done-acts (calls_of.AskSend peer local remote size room) s = call-acts (sockets local remote) (Ask_to_send size room) s
+  done-acts (calls_of.AskReceive peer local remote room) s = call-acts (sockets local remote) (Ask_to_receive room) s
   done-acts (calls_of.Give peer p text) s = call-acts p (Give text) s
   done-acts (calls_of.Take peer p bytes) s = call-acts p (Take bytes) s
   done-acts (calls_of.Allocate peer p messages bits) s = call-acts p (Allocate messages bits) s

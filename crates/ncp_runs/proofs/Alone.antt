@@ -12,7 +12,7 @@ use Rattle.ncp_host.specs.PeerState.{PeerState}
 use Rattle.ncp_host.specs.Hearing.{regular, is_kind}
 use Rattle.ncp_host.specs.Output.{next_of}
 use Rattle.ncp_host.specs.Host.{Host, state_in, state_of, numbers_of, is_one_of, new_host, if_known}
-use Rattle.ncp_host.specs.Calls.{record_answer, flags_of, waiting_at, kept_for}
+use Rattle.ncp_host.specs.Calls.{record_answer, flags_of, waiting_at, kept_for, sockets}
 use Rattle.ncp_host.specs.Arrivals.{received_from, received_with}
 use Rattle.ncp_host.specs.declared.received.Received.TheVariants as told_of
 use Rattle.ncp_host.specs.Turns.{message_in_turn, first_message, next_output}
@@ -43,8 +43,8 @@ pair-same c pair call o p e = ap (λ (x : Option PeerState). done_or_refused c (
 
 pub answer-same : (call : Call) (h g : Host) (n : ℕ) → state_of h n ≡ state_of g n → is_number n (peer_of_call call) ≡ true → answer_to call h ≡ answer_to call g
 answer-same (calls_of.Reset peer) h g n e q = ap (λ (x : Option PeerState). done_or_refused (calls_of.Reset peer) (if_known x (λ s. reset_answer s.peer.phase))) (same-at h g n peer e q)
-answer-same (calls_of.AskSend peer pair size room) h g n e q = pair-same (calls_of.AskSend peer pair size room) pair (Ask_to_send size room) (state_of h peer) (state_of g peer) (same-at h g n peer e q)
-answer-same (calls_of.AskReceive peer pair room) h g n e q = pair-same (calls_of.AskReceive peer pair room) pair (Ask_to_receive room) (state_of h peer) (state_of g peer) (same-at h g n peer e q)
+answer-same (calls_of.AskSend peer local remote size room) h g n e q = pair-same (calls_of.AskSend peer local remote size room) (sockets local remote) (Ask_to_send size room) (state_of h peer) (state_of g peer) (same-at h g n peer e q)
+answer-same (calls_of.AskReceive peer local remote room) h g n e q = pair-same (calls_of.AskReceive peer local remote room) (sockets local remote) (Ask_to_receive room) (state_of h peer) (state_of g peer) (same-at h g n peer e q)
 answer-same (calls_of.Give peer pair text) h g n e q = pair-same (calls_of.Give peer pair text) pair (Give text) (state_of h peer) (state_of g peer) (same-at h g n peer e q)
 answer-same (calls_of.Take peer pair bytes) h g n e q = ap (λ (x : Option PeerState). told_or_refused (calls_of.Take peer pair bytes) (notes.Took peer pair bytes) (if_known x (λ s. reply_of_take (comes_of pair (Take bytes) s.peer)))) (same-at h g n peer e q)
 answer-same (calls_of.Allocate peer pair messages bits) h g n e q = pair-same (calls_of.Allocate peer pair messages bits) pair (Allocate messages bits) (state_of h peer) (state_of g peer) (same-at h g n peer e q)

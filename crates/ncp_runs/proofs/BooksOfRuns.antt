@@ -44,6 +44,7 @@ use Rattle.ncp_host.specs.Counting.{one_more}
 use Rattle.ncp_host.specs.PeerState.{PeerState, new_state, control_link, is_answered, answer_taken, answer_comes, frees_on, after_answer}
 use Rattle.ncp_host.specs.Hearing.{control_size, control_after, text_after, is_wrong_link, hears, hears_all, hears_last, message_after}
 use Rattle.ncp_host.specs.Output.{after_made, after_by}
+use Rattle.ncp_host.specs.Calls.{sockets}
 use Rattle.ncp_transcript.specs.declared.call.Call.{Call}
 use Rattle.ncp_transcript.specs.declared.call.Call.TheVariants as calls_of
 use Rattle.ncp_transcript.specs.declared.note.HostNote.{HostNote}
@@ -329,8 +330,8 @@ module _ (pair : Pair) where
 
   done-kept : (call : Call) (s : PeerState) (past : Past) → Kept pair s.peer.ends past → Kept pair (called_for call s).peer.ends (past_of_call pair call s past)
   done-kept (calls_of.Reset peer) s past k = reset-kept (is_quiet s.slots) s.peer past k
-  done-kept (calls_of.AskSend peer p size room) s past k = call-kept p (Ask_to_send size room) s past k
-  done-kept (calls_of.AskReceive peer p room) s past k = call-kept p (Ask_to_receive room) s past k
+  done-kept (calls_of.AskSend peer local remote size room) s past k = call-kept (sockets local remote) (Ask_to_send size room) s past k
+  done-kept (calls_of.AskReceive peer local remote room) s past k = call-kept (sockets local remote) (Ask_to_receive room) s past k
   done-kept (calls_of.Give peer p text) s past k = call-kept p (Give text) s past k
   done-kept (calls_of.Take peer p bytes) s past k = call-kept p (Take bytes) s past k
   done-kept (calls_of.Allocate peer p messages bits) s past k = call-kept p (Allocate messages bits) s past k

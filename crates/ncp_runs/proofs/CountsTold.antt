@@ -221,8 +221,8 @@ answered-counted on how told s n i f = go (is_answered on s) ∙ ap (λ (x : Rec
 
 called-counts : (call : Call) (s : PeerState) → (called_for call s).counts ≡ s.counts
 called-counts (calls_of.Reset peer) s = refl
-called-counts (calls_of.AskSend peer pair size room) s = refl
-called-counts (calls_of.AskReceive peer pair room) s = refl
+called-counts (calls_of.AskSend peer local remote size room) s = refl
+called-counts (calls_of.AskReceive peer local remote room) s = refl
 called-counts (calls_of.Give peer pair text) s = refl
 called-counts (calls_of.Take peer pair bytes) s = refl
 called-counts (calls_of.Allocate peer pair messages bits) s = refl

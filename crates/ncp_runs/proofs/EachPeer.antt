@@ -34,8 +34,8 @@ changed-numbers (p ∷ ps) k f = go (p.0 == k) (changed-numbers ps k f)
 
 called-numbers : (call : Call) (h : Host) → numbers_of (after_call call h).peers ≡ numbers_of h.peers
 called-numbers (calls_of.Reset peer) h = changed-numbers h.peers peer _
-called-numbers (calls_of.AskSend peer pair size room) h = changed-numbers h.peers peer _
-called-numbers (calls_of.AskReceive peer pair room) h = changed-numbers h.peers peer _
+called-numbers (calls_of.AskSend peer local remote size room) h = changed-numbers h.peers peer _
+called-numbers (calls_of.AskReceive peer local remote room) h = changed-numbers h.peers peer _
 called-numbers (calls_of.Give peer pair text) h = changed-numbers h.peers peer _
 called-numbers (calls_of.Take peer pair bytes) h = changed-numbers h.peers peer _
 called-numbers (calls_of.Allocate peer pair messages bits) h = changed-numbers h.peers peer _

@@ -37,6 +37,7 @@ use Rattle.ncp_host.specs.PeerState.{PeerState, new_state, control_link, after_a
 use Rattle.ncp_host.specs.Hearing.{control_size, control_after, text_after, is_wrong_link, took, hears, hears_all, hears_last, message_after, message_received}
 use Rattle.ncp_host.specs.Output.{after_by}
 use Rattle.ncp_host.specs.Host.{state_of, new_host}
+use Rattle.ncp_host.specs.Calls.{sockets}
 use Rattle.ncp_transcript.specs.declared.call.Call.{Call}
 use Rattle.ncp_transcript.specs.declared.call.Call.TheVariants as calls_of
 use Rattle.ncp_transcript.specs.declared.note.HostNote.{HostNote}
@@ -197,8 +198,8 @@ same-phase p t e = e ∙ ap echoes_told (stays p.phase p.phase t (λ u. u))
 called : (call : Call) (s : PeerState) (t : EchoHistory) → IsDone call s → s.peer.echoes ≡ echoes_told t
     → (called_for call s).peer.echoes ≡ echoes_told (while_up s.peer.phase (called_for call s).peer.phase (echo_done call t))
 called (calls_of.Reset peer) s t d e = reset-call (is_quiet s.slots) s.peer t d e
-called (calls_of.AskSend peer pair size room) s t d e = pair-call pair (Ask_to_send size room) s.peer t e
-called (calls_of.AskReceive peer pair room) s t d e = pair-call pair (Ask_to_receive room) s.peer t e
+called (calls_of.AskSend peer local remote size room) s t d e = pair-call (sockets local remote) (Ask_to_send size room) s.peer t e
+called (calls_of.AskReceive peer local remote room) s t d e = pair-call (sockets local remote) (Ask_to_receive room) s.peer t e
 called (calls_of.Give peer pair text) s t d e = pair-call pair (Give text) s.peer t e
 called (calls_of.Take peer pair bytes) s t d e = pair-call pair (Take bytes) s.peer t e
 called (calls_of.Allocate peer pair messages bits) s t d e = pair-call pair (Allocate messages bits) s.peer t e

@@ -13,6 +13,7 @@ use Rattle.ncp_host.specs.Output.{after_output}
 use Rattle.ncp_host.specs.Host.{Host, state_of, at_peer, new_host}
 use Rattle.ncp_host.specs.Arrivals.{after_with, after_from, one_other}
 use Rattle.ncp_host.specs.Readiness.{IsNext}
+use Rattle.ncp_host.specs.Calls.{sockets}
 use Rattle.ncp_host.proofs.Sound.{sound-calls, sound-echo, sound-reset, sound-wakes, sound-bits, sound-output, sound-new}
 use Rattle.ncp_host.proofs.Short.{fit-calls, fit-echo, fit-reset, fit-bits, fit-output, fit-new}
 use Rattle.ncp_host.proofs.FirstReady.{IsWell, AreWell, is_next}
@@ -40,8 +41,8 @@ pair-well peer pair call h s = changed-well h.peers peer (calls pair call) (λ x
 
 called-well : (call : Call) (h : Host) → AreWell h.peers → AreWell (after_call call h).peers
 called-well (calls_of.Reset peer) h s = changed-well h.peers peer calls_reset (λ x k. (sound-reset _ x.peer x.slots k.0, fit-reset _ x.peer k.1)) s
-called-well (calls_of.AskSend peer pair size room) h s = pair-well peer pair (Ask_to_send size room) h s
-called-well (calls_of.AskReceive peer pair room) h s = pair-well peer pair (Ask_to_receive room) h s
+called-well (calls_of.AskSend peer local remote size room) h s = pair-well peer (sockets local remote) (Ask_to_send size room) h s
+called-well (calls_of.AskReceive peer local remote room) h s = pair-well peer (sockets local remote) (Ask_to_receive room) h s
 called-well (calls_of.Give peer pair text) h s = pair-well peer pair (Give text) h s
 called-well (calls_of.Take peer pair bytes) h s = pair-well peer pair (Take bytes) h s
 called-well (calls_of.Allocate peer pair messages bits) h s = pair-well peer pair (Allocate messages bits) h s

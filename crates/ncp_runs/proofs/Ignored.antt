@@ -61,8 +61,8 @@ bits-counts (Ok leader) bits h = by (is_kind leader.kind) (state_of h leader.hos
 
 called-counts : (call : Call) (h : Host) → (after_call call h).ignored ≡ h.ignored
 called-counts (calls_of.Reset peer) h = refl
-called-counts (calls_of.AskSend peer pair size room) h = refl
-called-counts (calls_of.AskReceive peer pair room) h = refl
+called-counts (calls_of.AskSend peer local remote size room) h = refl
+called-counts (calls_of.AskReceive peer local remote room) h = refl
 called-counts (calls_of.Give peer pair text) h = refl
 called-counts (calls_of.Take peer pair bytes) h = refl
 called-counts (calls_of.Allocate peer pair messages bits) h = refl

@@ -33,7 +33,7 @@ use Rattle.ncp_host.specs.PeerState.{PeerState, new_state, control_link, is_answ
 use Rattle.ncp_host.specs.Hearing.{control_size, control_after, text_after, is_wrong_link, hears, hears_all, hears_last, message_after}
 use Rattle.ncp_host.specs.Output.{control_message, output_by, output_on, after_by}
 use Rattle.ncp_host.specs.declared.flags.Flags.{Flags}
-use Rattle.ncp_host.specs.Calls.{flags_of, flags_told}
+use Rattle.ncp_host.specs.Calls.{flags_of, flags_told, sockets}
 use Rattle.ncp_host.specs.Host.{Host, state_of, new_host, if_known}
 use Rattle.ncp_transcript.specs.Notes.{told_or_refused}
 use Rattle.ncp_transcript.specs.declared.call.Call.{Call}
@@ -79,8 +79,8 @@ module _ (g : List Command) where
 
   call-agrees : (call : Call) (s : PeerState) (l : Made) → Agrees l s.peer.phase g → Agrees (by_call call s l) (called_for call s).peer.phase g
   call-agrees (calls_of.Reset peer) s l a = reset-call s l a
-  call-agrees (calls_of.AskSend peer pair size room) s l a = pair-call pair (Ask_to_send size room) s l a
-  call-agrees (calls_of.AskReceive peer pair room) s l a = pair-call pair (Ask_to_receive room) s l a
+  call-agrees (calls_of.AskSend peer local remote size room) s l a = pair-call (sockets local remote) (Ask_to_send size room) s l a
+  call-agrees (calls_of.AskReceive peer local remote room) s l a = pair-call (sockets local remote) (Ask_to_receive room) s l a
   call-agrees (calls_of.Give peer pair text) s l a = pair-call pair (Give text) s l a
   call-agrees (calls_of.Take peer pair bytes) s l a = pair-call pair (Take bytes) s l a
   call-agrees (calls_of.Allocate peer pair messages bits) s l a = pair-call pair (Allocate messages bits) s l a

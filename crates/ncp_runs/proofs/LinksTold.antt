@@ -174,8 +174,8 @@ bits-tells on (Ok leader) bits s t e = ap (λ (x : LinkSlots). slot_at x on) (me
 
 called-tells : (on : ℕ) (call : Call) (s : PeerState) (t : LinkHistory) → Tells on s t → Tells on (called_for call s) (told_by on (notes.Done call) t)
 called-tells on (calls_of.Reset peer) s t e = e
-called-tells on (calls_of.AskSend peer pair size room) s t e = e
-called-tells on (calls_of.AskReceive peer pair room) s t e = e
+called-tells on (calls_of.AskSend peer local remote size room) s t e = e
+called-tells on (calls_of.AskReceive peer local remote room) s t e = e
 called-tells on (calls_of.Give peer pair text) s t e = e
 called-tells on (calls_of.Take peer pair bytes) s t e = e
 called-tells on (calls_of.Allocate peer pair messages bits) s t e = e

@@ -82,12 +82,12 @@ down-shut q m e = go (up q)
     go true = e
     go false = refl
 
-pub sender-marked : (me : ℕ) (ns : List ℕ) (before after : List HostNote) (n : ℕ) (p : Pair) (of_size room : ℕ) → FromBeginning me ns (before ++ notes.Done (calls_of.AskSend n p of_size room) ∷ after)
-    → (let m = marks_of p (notes_of n (before ++ notes.Done (calls_of.AskSend n p of_size room) ∷ [])) in (m.asked ≡ true) × (m.size ≡ of_size))
+pub sender-marked : (me : ℕ) (ns : List ℕ) (before after : List HostNote) (n : ℕ) (p : Pair) (of_size room : ℕ) → FromBeginning me ns (before ++ notes.Done (calls_of.AskSend n p.local p.remote of_size room) ∷ after)
+    → (let m = marks_of p (notes_of n (before ++ notes.Done (calls_of.AskSend n p.local p.remote of_size room) ∷ [])) in (m.asked ≡ true) × (m.size ≡ of_size))
 sender-marked me ns before after n p of_size room from =
-    let note = notes.Done (calls_of.AskSend n p of_size room) in
+    let note = notes.Done (calls_of.AskSend n p.local p.remote of_size room) in
     let b = before_note me ns before after note from in
-    let w = done-before me ns before n p (Ask_to_send of_size room) (calls_of.AskSend n p of_size room) b.from b.said in
+    let w = done-before me ns before n p (Ask_to_send of_size room) (calls_of.AskSend n p.local p.remote of_size room) b.from b.said in
     let s = notes_for (notes_of n before) new_state in
     let m = marks_of p (notes_of n before) in
     let act = acted (called (Ask_to_send of_size room) (is_full s.peer.phase) s.peer.ends) (happened_at p (Ask_to_send of_size room) s.peer) in
@@ -97,12 +97,12 @@ sender-marked me ns before after n p of_size room from =
     ∙ ap (λ (c : Bool). marks_from (act ∷ (if c then [] else was_cleared ∷ [])) m) (sender-stays p of_size room s.peer w.is_up w.fine) in
     subst (λ (x : Marks). (x.asked ≡ true) × (x.size ≡ of_size)) (sym is) (sender-asked (is_accepted act.outcome) of_size room m (accepted _ w.fine))
 
-pub receiver-marked : (me : ℕ) (ns : List ℕ) (before after : List HostNote) (n : ℕ) (p : Pair) (room : ℕ) → FromBeginning me ns (before ++ notes.Done (calls_of.AskReceive n p room) ∷ after)
-    → (marks_of p (notes_of n (before ++ notes.Done (calls_of.AskReceive n p room) ∷ []))).asked ≡ true
+pub receiver-marked : (me : ℕ) (ns : List ℕ) (before after : List HostNote) (n : ℕ) (p : Pair) (room : ℕ) → FromBeginning me ns (before ++ notes.Done (calls_of.AskReceive n p.local p.remote room) ∷ after)
+    → (marks_of p (notes_of n (before ++ notes.Done (calls_of.AskReceive n p.local p.remote room) ∷ []))).asked ≡ true
 receiver-marked me ns before after n p room from =
-    let note = notes.Done (calls_of.AskReceive n p room) in
+    let note = notes.Done (calls_of.AskReceive n p.local p.remote room) in
     let b = before_note me ns before after note from in
-    let w = done-before me ns before n p (Ask_to_receive room) (calls_of.AskReceive n p room) b.from b.said in
+    let w = done-before me ns before n p (Ask_to_receive room) (calls_of.AskReceive n p.local p.remote room) b.from b.said in
     let s = notes_for (notes_of n before) new_state in
     let m = marks_of p (notes_of n before) in
     let act = acted (called (Ask_to_receive room) (is_full s.peer.phase) s.peer.ends) (happened_at p (Ask_to_receive room) s.peer) in

@@ -96,8 +96,8 @@ addressed-same n s t is a on message e = a on message (sym (ap (λ (x : LinkSlot
 
 addressed-called : (n : ℕ) (call : Call) (s : PeerState) → Addressed n s → Addressed n (called_for call s)
 addressed-called n (calls_of.Reset peer) s a = a
-addressed-called n (calls_of.AskSend peer pair size room) s a = a
-addressed-called n (calls_of.AskReceive peer pair room) s a = a
+addressed-called n (calls_of.AskSend peer local remote size room) s a = a
+addressed-called n (calls_of.AskReceive peer local remote room) s a = a
 addressed-called n (calls_of.Give peer pair text) s a = a
 addressed-called n (calls_of.Take peer pair bytes) s a = a
 addressed-called n (calls_of.Allocate peer pair messages bits) s a = a

@@ -34,6 +34,7 @@ use Rattle.ncp_host.specs.PeerState.{PeerState, new_state, calls, control_link, 
 use Rattle.ncp_host.specs.Hearing.{control_size, control_after, text_after, is_wrong_link, hears, hears_all, hears_last, message_after}
 use Rattle.ncp_host.specs.Output.{after_by}
 use Rattle.ncp_host.specs.Host.{state_of, is_one_of, new_host}
+use Rattle.ncp_host.specs.Calls.{sockets}
 use Rattle.ncp_transcript.specs.declared.call.Call.{Call}
 use Rattle.ncp_transcript.specs.declared.call.Call.TheVariants as calls_of
 use Rattle.ncp_transcript.specs.declared.note.HostNote.{HostNote}
@@ -154,8 +155,8 @@ pair-settled pair call s k = λ q. up-clear (happened_at pair call s.peer).made 
 
 called-settled : (call : Call) (s : PeerState) → Settled s → Settled (called_for call s)
 called-settled (calls_of.Reset peer) s k = λ q. reset-clear (is_quiet s.slots) s.peer (k q) q
-called-settled (calls_of.AskSend peer pair size room) s k = pair-settled pair (Ask_to_send size room) s k
-called-settled (calls_of.AskReceive peer pair room) s k = pair-settled pair (Ask_to_receive room) s k
+called-settled (calls_of.AskSend peer local remote size room) s k = pair-settled (sockets local remote) (Ask_to_send size room) s k
+called-settled (calls_of.AskReceive peer local remote room) s k = pair-settled (sockets local remote) (Ask_to_receive room) s k
 called-settled (calls_of.Give peer pair text) s k = pair-settled pair (Give text) s k
 called-settled (calls_of.Take peer pair bytes) s k = pair-settled pair (Take bytes) s k
 called-settled (calls_of.Allocate peer pair messages bits) s k = pair-settled pair (Allocate messages bits) s k

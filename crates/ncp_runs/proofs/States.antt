@@ -60,8 +60,8 @@ changed-state h k n f = at_peer-state h.peers k n f
 
 pub called-state : (call : Call) (h : Host) (n : ℕ) → state_of (after_call call h) n ≡ done (is_number n (peer_of_call call)) (called_for call) (state_of h n)
 called-state (calls_of.Reset peer) h n = changed-state h peer n _
-called-state (calls_of.AskSend peer pair size room) h n = changed-state h peer n _
-called-state (calls_of.AskReceive peer pair room) h n = changed-state h peer n _
+called-state (calls_of.AskSend peer local remote size room) h n = changed-state h peer n _
+called-state (calls_of.AskReceive peer local remote room) h n = changed-state h peer n _
 called-state (calls_of.Give peer pair text) h n = changed-state h peer n _
 called-state (calls_of.Take peer pair bytes) h n = changed-state h peer n _
 called-state (calls_of.Allocate peer pair messages bits) h n = changed-state h peer n _

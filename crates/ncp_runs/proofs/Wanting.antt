@@ -177,8 +177,8 @@ record-unwanted None e = absurd (cc)
 record-unwanted (Some r) e = absurd (cc)
 
 refuses-none : (call : Call) (h : Host) → answer_to call h ≡ notes.Refused call OutOfMemory → is_request call ≡ true
-refuses-none (calls_of.AskSend peer pair size room) h e = refl
-refuses-none (calls_of.AskReceive peer pair room) h e = refl
+refuses-none (calls_of.AskSend peer local remote size room) h e = refl
+refuses-none (calls_of.AskReceive peer local remote room) h e = refl
 refuses-none (calls_of.Reset peer) h e = absurd (done-unwanted (calls_of.Reset peer) (state_of h peer) (λ s. reset_answer s.peer.phase) reset-unwanted e)
 refuses-none (calls_of.Give peer pair text) h e =
     absurd (done-unwanted (calls_of.Give peer pair text) (state_of h peer) (λ s. reply (comes_of pair (Give text) s.peer))
@@ -211,8 +211,8 @@ refuses-none calls_of.Ignored h e = absurd (cc)
 
 -- the calls that may be noted so
 takes : (call : Call) → takes_memory call ≡ true → is_request call ≡ true
-takes (calls_of.AskSend peer pair size room) e = refl
-takes (calls_of.AskReceive peer pair room) e = refl
+takes (calls_of.AskSend peer local remote size room) e = refl
+takes (calls_of.AskReceive peer local remote room) e = refl
 takes call e = absurd (cc)
 
 pub want-said : (me : ℕ) (ns : List ℕ) (before after : List HostNote) (call : Call) → FromBeginning me ns (before ++ notes.Refused call OutOfMemory ∷ after) → is_request call ≡ true

@@ -34,6 +34,7 @@ use Rattle.ncp_model.specs.Peers.{Peer, Ask_to_send, Ask_to_receive, Close, Give
 use Rattle.ncp_model.specs.Peers as peers
 use Rattle.ncp_host.specs.PeerState.{PeerState, new_state, control_link, is_answered}
 use Rattle.ncp_host.specs.Hearing.{control_size, is_wrong_link, hears, hears_all}
+use Rattle.ncp_host.specs.Calls.{sockets}
 use Rattle.ncp_transcript.specs.declared.call.Call.{Call}
 use Rattle.ncp_transcript.specs.declared.call.Call.TheVariants as calls
 use Rattle.ncp_transcript.specs.declared.note.HostNote.{HostNote}
@@ -78,8 +79,8 @@ acts_reset s = if is_resetting s.peer.phase then [] else was_cleared ∷ []
 
 abbrev pub acts_of_call : Pair → Call → PeerState → List Acted
 acts_of_call pair (calls.Reset peer) s = acts_reset s
-acts_of_call pair (calls.AskSend peer p size room) s = acts_called pair p (Ask_to_send size room) s
-acts_of_call pair (calls.AskReceive peer p room) s = acts_called pair p (Ask_to_receive room) s
+acts_of_call pair (calls.AskSend peer local remote size room) s = acts_called pair (sockets local remote) (Ask_to_send size room) s
+acts_of_call pair (calls.AskReceive peer local remote room) s = acts_called pair (sockets local remote) (Ask_to_receive room) s
 acts_of_call pair (calls.Give peer p text) s = acts_called pair p (Give text) s
 acts_of_call pair (calls.Take peer p bytes) s = acts_called pair p (Take bytes) s
 acts_of_call pair (calls.Allocate peer p messages bits) s = acts_called pair p (Allocate messages bits) s

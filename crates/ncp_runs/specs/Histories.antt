@@ -25,6 +25,7 @@ use Rattle.ncp_model.specs.Peers as peers
 use Rattle.ncp_watch.specs.Histories.{Past, no_past, adds, opens}
 use Rattle.ncp_host.specs.PeerState.{PeerState, new_state, control_link}
 use Rattle.ncp_host.specs.Hearing.{control_size, is_wrong_link, hears}
+use Rattle.ncp_host.specs.Calls.{sockets}
 use Rattle.ncp_transcript.specs.declared.call.Call.{Call}
 use Rattle.ncp_transcript.specs.declared.call.Call.TheVariants as calls
 use Rattle.ncp_transcript.specs.declared.note.HostNote.{HostNote}
@@ -68,8 +69,8 @@ past_bits pair (Err short) bits s past = past
 past_bits pair (Ok leader) bits s past = past_message pair leader.link bits (message_in bits) s past
 
 abbrev pub past_of_call : Pair → Call → PeerState → Past → Past
-past_of_call pair (calls.AskSend peer p size room) s past = past_called pair p (Ask_to_send size room) s past
-past_of_call pair (calls.AskReceive peer p room) s past = past_called pair p (Ask_to_receive room) s past
+past_of_call pair (calls.AskSend peer local remote size room) s past = past_called pair (sockets local remote) (Ask_to_send size room) s past
+past_of_call pair (calls.AskReceive peer local remote room) s past = past_called pair (sockets local remote) (Ask_to_receive room) s past
 past_of_call pair (calls.Give peer p text) s past = past_called pair p (Give text) s past
 past_of_call pair (calls.Take peer p bytes) s past = past_called pair p (Take bytes) s past
 past_of_call pair (calls.Allocate peer p messages bits) s past = past_called pair p (Allocate messages bits) s past

@@ -35,6 +35,7 @@ use Rattle.ncp_model.specs.Peers as peers
 use Rattle.ncp_host.specs.PeerState.{PeerState, new_state, control_link, is_answered, frees_on}
 use Rattle.ncp_host.specs.Hearing.{control_size, is_wrong_link, hears, hears_all}
 use Rattle.ncp_host.specs.Output.{message_to}
+use Rattle.ncp_host.specs.Calls.{sockets}
 use Rattle.ncp_transcript.specs.declared.call.Call.{Call}
 use Rattle.ncp_transcript.specs.declared.call.Call.TheVariants as calls
 use Rattle.ncp_transcript.specs.declared.note.HostNote.{HostNote}
@@ -135,8 +136,8 @@ by_reset s l = if is_resetting s.peer.phase then l else settling_made (is_quiet 
 
 abbrev pub by_call : Call → PeerState → Made → Made
 by_call (calls.Reset peer) s l = by_reset s l
-by_call (calls.AskSend peer pair size room) s l = by_pair_call pair (Ask_to_send size room) s l
-by_call (calls.AskReceive peer pair room) s l = by_pair_call pair (Ask_to_receive room) s l
+by_call (calls.AskSend peer local remote size room) s l = by_pair_call (sockets local remote) (Ask_to_send size room) s l
+by_call (calls.AskReceive peer local remote room) s l = by_pair_call (sockets local remote) (Ask_to_receive room) s l
 by_call (calls.Give peer pair text) s l = by_pair_call pair (Give text) s l
 by_call (calls.Take peer pair bytes) s l = by_pair_call pair (Take bytes) s l
 by_call (calls.Allocate peer pair messages bits) s l = by_pair_call pair (Allocate messages bits) s l

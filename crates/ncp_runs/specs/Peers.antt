@@ -14,6 +14,7 @@ use Rattle.ncp_host.specs.PeerState.{PeerState, calls, calls_reset, calls_echo, 
 use Rattle.ncp_host.specs.Hearing.{regular, message_after}
 use Rattle.ncp_host.specs.Output.{after_output}
 use Rattle.ncp_host.specs.Host.{is_one_of, are_distinct, new_host}
+use Rattle.ncp_host.specs.Calls.{sockets}
 use Rattle.ncp_transcript.specs.declared.call.Call.{Call}
 use Rattle.ncp_transcript.specs.declared.call.Call.TheVariants as calls_of
 use Rattle.ncp_transcript.specs.declared.note.HostNote.{HostNote}
@@ -30,8 +31,8 @@ pub record FromBeginning (me : ℕ) (ns : List ℕ) (notes : List HostNote) : Ty
 
 abbrev pub peer_of_call : Call → Option ℕ
 peer_of_call (calls_of.Reset peer) = Some peer
-peer_of_call (calls_of.AskSend peer pair size room) = Some peer
-peer_of_call (calls_of.AskReceive peer pair room) = Some peer
+peer_of_call (calls_of.AskSend peer local remote size room) = Some peer
+peer_of_call (calls_of.AskReceive peer local remote room) = Some peer
 peer_of_call (calls_of.Give peer pair text) = Some peer
 peer_of_call (calls_of.Take peer pair bytes) = Some peer
 peer_of_call (calls_of.Allocate peer pair messages bits) = Some peer
@@ -51,8 +52,8 @@ peer_of_call calls_of.Ignored = None
 
 -- the requests: of all calls they alone take memory, for the bits of their pair
 abbrev pub is_request : Call → Bool
-is_request (calls_of.AskSend peer pair size room) = true
-is_request (calls_of.AskReceive peer pair room) = true
+is_request (calls_of.AskSend peer local remote size room) = true
+is_request (calls_of.AskReceive peer local remote room) = true
 is_request call = false
 
 -- a regular message names the host of its leader: where it comes from, or goes to (BBN 1822, section 3)
@@ -91,8 +92,8 @@ notes_of n all = filter (names n) all
 
 abbrev pub called_for : Call → PeerState → PeerState
 called_for (calls_of.Reset peer) s = calls_reset s
-called_for (calls_of.AskSend peer pair size room) s = calls pair (Ask_to_send size room) s
-called_for (calls_of.AskReceive peer pair room) s = calls pair (Ask_to_receive room) s
+called_for (calls_of.AskSend peer local remote size room) s = calls (sockets local remote) (Ask_to_send size room) s
+called_for (calls_of.AskReceive peer local remote room) s = calls (sockets local remote) (Ask_to_receive room) s
 called_for (calls_of.Give peer pair text) s = calls pair (Give text) s
 called_for (calls_of.Take peer pair bytes) s = calls pair (Take bytes) s
 called_for (calls_of.Allocate peer pair messages bits) s = calls pair (Allocate messages bits) s

@@ -29,8 +29,8 @@ all_of (Some (it, word ∷ words)) = None
 -- the call on a pair, of which the arguments are read
 abbrev pub pair_call : Verb → ℕ → Pair → List (List ℕ) → Read Call
 pair_call verbs.AskSend peer pair words =
-    behind (number_first largest_u8 words) (λ size words. behind (number_first largest_u32 words) (λ room words. Some (calls.AskSend peer pair size room, words)))
-pair_call verbs.AskReceive peer pair words = behind (number_first largest_u32 words) (λ room words. Some (calls.AskReceive peer pair room, words))
+    behind (number_first largest_u8 words) (λ size words. behind (number_first largest_u32 words) (λ room words. Some (calls.AskSend peer pair.local pair.remote size room, words)))
+pair_call verbs.AskReceive peer pair words = behind (number_first largest_u32 words) (λ room words. Some (calls.AskReceive peer pair.local pair.remote room, words))
 pair_call verbs.Give peer pair words = behind (bits_first words) (λ text words. Some (calls.Give peer pair text, words))
 pair_call verbs.Take peer pair words = behind (number_first largest_u32 words) (λ bytes words. Some (calls.Take peer pair bytes, words))
 pair_call verbs.Allocate peer pair words =

@@ -17,7 +17,8 @@ fn ask_send(peer: u8, pair: Pair, words: &mut Words<'_>) -> Option<Call>
     let room = words.next_u32()?;
     Some(Call::AskSend {
         peer,
-        pair,
+        local: pair.local,
+        remote: pair.remote,
         size,
         room,
     })
@@ -28,7 +29,12 @@ fn ask_receive(peer: u8, pair: Pair, words: &mut Words<'_>) -> Option<Call>
     ensures { option_map (λ call. (call, words.new)) result ≡ pair_call AskReceive peer pair words.old }
 {
     let room = words.next_u32()?;
-    Some(Call::AskReceive { peer, pair, room })
+    Some(Call::AskReceive {
+        peer,
+        local: pair.local,
+        remote: pair.remote,
+        room,
+    })
 }
 
 // The argument of a call that takes text.

@@ -21,8 +21,8 @@ pub fn texts_are_given_so()
 /// Each other call, with arguments that all differ.
 pub fn calls_are_read_so()
     ensures reset { call_of None (words_of (codes "reset 9")) ≡ Some (calls.Reset 9) }
-    ensures ask_send { call_of None (words_of (codes "ask-send 9 3 4 8 1024")) ≡ Some (calls.AskSend 9 (record { local = 3; remote = 4 }) 8 1024) }
-    ensures ask_receive { call_of None (words_of (codes "ask-receive 9 2 5 1024")) ≡ Some (calls.AskReceive 9 (record { local = 2; remote = 5 }) 1024) }
+    ensures ask_send { call_of None (words_of (codes "ask-send 9 3 4 8 1024")) ≡ Some (calls.AskSend 9 3 4 8 1024) }
+    ensures ask_receive { call_of None (words_of (codes "ask-receive 9 2 5 1024")) ≡ Some (calls.AskReceive 9 2 5 1024) }
     ensures take { call_of None (words_of (codes "take 9 2 5 100")) ≡ Some (calls.Take 9 (record { local = 2; remote = 5 }) 100) }
     ensures allocate { call_of None (words_of (codes "allocate 9 2 5 65535 65536")) ≡ Some (calls.Allocate 9 (record { local = 2; remote = 5 }) 65535 65536) }
     ensures call_back { call_of None (words_of (codes "call-back 9 2 5 64 1")) ≡ Some (calls.CallBack 9 (record { local = 2; remote = 5 }) 64 1) }
@@ -40,8 +40,8 @@ pub fn calls_are_read_so()
 
 /// The largest numbers of calls.
 pub fn the_largest_numbers_are_read_so()
-    ensures ask_send { call_of None (words_of (codes "ask-send 255 4294967295 4294967294 255 4294967295")) ≡ Some (calls.AskSend 255 (record { local = 4294967295; remote = 4294967294 }) 255 4294967295) }
-    ensures ask_receive { call_of None (words_of (codes "ask-receive 9 2 5 4294967295")) ≡ Some (calls.AskReceive 9 (record { local = 2; remote = 5 }) 4294967295) }
+    ensures ask_send { call_of None (words_of (codes "ask-send 255 4294967295 4294967294 255 4294967295")) ≡ Some (calls.AskSend 255 4294967295 4294967294 255 4294967295) }
+    ensures ask_receive { call_of None (words_of (codes "ask-receive 9 2 5 4294967295")) ≡ Some (calls.AskReceive 9 2 5 4294967295) }
     ensures take { call_of None (words_of (codes "take 9 2 5 4294967295")) ≡ Some (calls.Take 9 (record { local = 2; remote = 5 }) 4294967295) }
     ensures allocate { call_of None (words_of (codes "allocate 9 2 5 65535 4294967295")) ≡ Some (calls.Allocate 9 (record { local = 2; remote = 5 }) 65535 4294967295) }
     ensures room { call_of None (words_of (codes "ask-receive 9 2 5 4294967296")) ≡ None }

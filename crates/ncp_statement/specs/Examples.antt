@@ -24,10 +24,10 @@ abbrev pub in_pair : Pair
 in_pair = record { local = 2; remote = 1 }
 
 abbrev pub asks_send : Note
-asks_send = notes.Called A (of_host.Done (calls.AskSend 2 out_pair 8 64))
+asks_send = notes.Called A (of_host.Done (calls.AskSend 2 1 2 8 64))
 
 abbrev pub asks_receive : Note
-asks_receive = notes.Called B (of_host.Done (calls.AskReceive 1 in_pair 64))
+asks_receive = notes.Called B (of_host.Done (calls.AskReceive 1 2 1 64))
 
 abbrev pub allocates : ℕ → Note
 allocates bits = notes.Called B (of_host.Done (calls.Allocate 1 in_pair 1 bits))

@@ -49,8 +49,8 @@ on_pair true u = u
 on_pair false u = Else
 
 abbrev pub use_by : Pair → Call → Use
-use_by pair (calls.AskSend peer p size room) = on_pair (same pair p) Asked
-use_by pair (calls.AskReceive peer p room) = on_pair (same pair p) Asked
+use_by pair (calls.AskSend peer local remote size room) = on_pair (same pair (record { local = local; remote = remote })) Asked
+use_by pair (calls.AskReceive peer local remote room) = on_pair (same pair (record { local = local; remote = remote })) Asked
 use_by pair (calls.Give peer p text) = on_pair (same pair p) (Gave text)
 use_by pair (calls.Allocate peer p messages bits) = on_pair (same pair p) (Let bits)
 use_by pair other = Else

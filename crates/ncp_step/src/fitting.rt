@@ -18,9 +18,19 @@ pub(crate) fn numbers_fit(call: &Call)
     ensures { CallFits call.now }
 {
     match call {
-        Call::AskSend { pair, size, .. } => {
-            pair_fits(pair);
+        Call::AskSend {
+            local,
+            remote,
+            size,
+            ..
+        } => {
+            let _local = *local;
+            let _remote = *remote;
             let _size = *size;
+        }
+        Call::AskReceive { local, remote, .. } => {
+            let _local = *local;
+            let _remote = *remote;
         }
         Call::Allocate {
             pair,
@@ -37,7 +47,6 @@ pub(crate) fn numbers_fit(call: &Call)
             let _messages = *fm;
             let _bits = *fb;
         }
-        Call::AskReceive { pair, .. } => pair_fits(pair),
         Call::Give { pair, .. } => pair_fits(pair),
         Call::Take { pair, .. } => pair_fits(pair),
         Call::Interrupt { pair, .. } => pair_fits(pair),

@@ -10,6 +10,7 @@ use Rattle.ncp_host.specs.Host.{Host, numbers_of, at_peer, changed, is_one_of, n
 use Rattle.ncp_host.specs.Hearing.{is_kind, after_bits}
 use Rattle.ncp_host.specs.Arrivals.{after_from, after_with, after_received, one_other}
 use Rattle.ncp_host.specs.Turns.{after_turn, first_goes}
+use Rattle.ncp_host.specs.Calls.{sockets}
 use Rattle.ncp_transcript.specs.declared.call.Call.{Call}
 use Rattle.ncp_transcript.specs.declared.call.Call.TheVariants as calls
 use Rattle.ncp_transcript.specs.declared.note.HostNote.{HostNote}
@@ -58,8 +59,8 @@ began_heard bits h = go (leader_in bits)
 
 began_called : (call : Call) (h : Host) → began (after_call call h) ≡ began h
 began_called (calls.Reset peer) h = began_changed peer calls_reset h
-began_called (calls.AskSend peer pair size room) h = began_changed peer (calls_pair pair (Ask_to_send size room)) h
-began_called (calls.AskReceive peer pair room) h = began_changed peer (calls_pair pair (Ask_to_receive room)) h
+began_called (calls.AskSend peer local remote size room) h = began_changed peer (calls_pair (sockets local remote) (Ask_to_send size room)) h
+began_called (calls.AskReceive peer local remote room) h = began_changed peer (calls_pair (sockets local remote) (Ask_to_receive room)) h
 began_called (calls.Give peer pair text) h = began_changed peer (calls_pair pair (Give text)) h
 began_called (calls.Take peer pair bytes) h = began_changed peer (calls_pair pair (Take bytes)) h
 began_called (calls.Allocate peer pair messages bits) h = began_changed peer (calls_pair pair (Allocate messages bits)) h

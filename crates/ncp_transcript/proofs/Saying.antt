@@ -4,7 +4,7 @@ use Rattle.ncp_leader.specs.declared.leader.Leader.{Leader}
 use Rattle.ncp_model.specs.declared.call_fault.CallFault.{CallFault}
 use Rattle.ncp_model.specs.Peers.{Ask_to_send, Ask_to_receive, Close, Give, Allocate, Call_back, Interrupt}
 use Rattle.ncp_host.specs.Host.{Host}
-use Rattle.ncp_host.specs.Calls.{call_reply, take_reply, reset_reply, echo_reply, wake_reply, record_told, flags_told, echoed_told, errors_told, counts_told}
+use Rattle.ncp_host.specs.Calls.{call_reply, take_reply, reset_reply, echo_reply, wake_reply, record_told, flags_told, echoed_told, errors_told, counts_told, sockets}
 use Rattle.ncp_host.specs.Arrivals.{received_in}
 use Rattle.ncp_host.specs.Turns.{next_output}
 use Rattle.ncp_transcript.specs.declared.call.Call.{Call}
@@ -30,8 +30,8 @@ told_said call told (Err fault) h says e = inl e
 
 answer_said : (call : Call) (h : Host) → IsSaid (answer_to call h) h
 answer_said (calls.Reset peer) h = done_said (calls.Reset peer) (reset_reply peer h) h refl
-answer_said (calls.AskSend peer pair size room) h = done_said (calls.AskSend peer pair size room) (call_reply peer pair (Ask_to_send size room) h) h refl
-answer_said (calls.AskReceive peer pair room) h = done_said (calls.AskReceive peer pair room) (call_reply peer pair (Ask_to_receive room) h) h refl
+answer_said (calls.AskSend peer local remote size room) h = done_said (calls.AskSend peer local remote size room) (call_reply peer (sockets local remote) (Ask_to_send size room) h) h refl
+answer_said (calls.AskReceive peer local remote room) h = done_said (calls.AskReceive peer local remote room) (call_reply peer (sockets local remote) (Ask_to_receive room) h) h refl
 answer_said (calls.Give peer pair text) h = done_said (calls.Give peer pair text) (call_reply peer pair (Give text) h) h refl
 answer_said (calls.Take peer pair bytes) h = told_said (calls.Take peer pair bytes) (notes.Took peer pair bytes) (take_reply peer pair bytes h) h (λ a e. e) refl
 answer_said (calls.Allocate peer pair messages bits) h = done_said (calls.Allocate peer pair messages bits) (call_reply peer pair (Allocate messages bits) h) h refl

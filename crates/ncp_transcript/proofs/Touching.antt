@@ -10,6 +10,7 @@ use Rattle.ncp_host.specs.Host.{Host, state_in, state_of, at_peer}
 use Rattle.ncp_host.specs.Hearing.{is_kind, after_bits}
 use Rattle.ncp_host.specs.Arrivals.{after_from, after_with, after_received, one_other}
 use Rattle.ncp_host.specs.Turns.{after_turn, first_goes}
+use Rattle.ncp_host.specs.Calls.{sockets}
 use Rattle.ncp_transcript.specs.declared.call.Call.{Call}
 use Rattle.ncp_transcript.specs.declared.call.Call.TheVariants as calls
 use Rattle.ncp_transcript.specs.declared.note.HostNote.{HostNote}
@@ -64,8 +65,8 @@ heard bits h other d = go (leader_in bits) d
 
 called : (call : Call) (h : Host) (other : ℕ) → named call ≢ Some other → state_of (after_call call h) other ≡ state_of h other
 called (calls.Reset peer) h other d = at_other h.peers peer other calls_reset d
-called (calls.AskSend peer pair size room) h other d = at_other h.peers peer other (calls_pair pair (Ask_to_send size room)) d
-called (calls.AskReceive peer pair room) h other d = at_other h.peers peer other (calls_pair pair (Ask_to_receive room)) d
+called (calls.AskSend peer local remote size room) h other d = at_other h.peers peer other (calls_pair (sockets local remote) (Ask_to_send size room)) d
+called (calls.AskReceive peer local remote room) h other d = at_other h.peers peer other (calls_pair (sockets local remote) (Ask_to_receive room)) d
 called (calls.Give peer pair text) h other d = at_other h.peers peer other (calls_pair pair (Give text)) d
 called (calls.Take peer pair bytes) h other d = at_other h.peers peer other (calls_pair pair (Take bytes)) d
 called (calls.Allocate peer pair messages bits) h other d = at_other h.peers peer other (calls_pair pair (Allocate messages bits)) d

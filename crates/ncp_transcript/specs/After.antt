@@ -4,7 +4,7 @@ use Rattle.std.specs.Prelude.{List, [], ◌∷◌}
 use Rattle.ncp_model.specs.Peers.{Ask_to_send, Ask_to_receive, Close, Give, Take, Allocate, Call_back, Interrupt}
 use Rattle.ncp_host.specs.PeerState.{answer_comes}
 use Rattle.ncp_host.specs.Host.{Host, changed}
-use Rattle.ncp_host.specs.Calls.{after_call as after_pair_call, after_reset, after_echo, after_wake}
+use Rattle.ncp_host.specs.Calls.{after_call as after_pair_call, after_reset, after_echo, after_wake, sockets}
 use Rattle.ncp_host.specs.Arrivals.{after_received}
 use Rattle.ncp_host.specs.Turns.{after_next_output}
 use Rattle.ncp_transcript.specs.declared.call.Call.{Call}
@@ -15,8 +15,8 @@ use Rattle.ncp_transcript.specs.declared.note.HostNote.TheVariants as notes
 -- after a call that was done
 abbrev pub after_call : Call → Host → Host
 after_call (calls.Reset peer) h = after_reset peer h
-after_call (calls.AskSend peer pair size room) h = after_pair_call peer pair (Ask_to_send size room) h
-after_call (calls.AskReceive peer pair room) h = after_pair_call peer pair (Ask_to_receive room) h
+after_call (calls.AskSend peer local remote size room) h = after_pair_call peer (sockets local remote) (Ask_to_send size room) h
+after_call (calls.AskReceive peer local remote room) h = after_pair_call peer (sockets local remote) (Ask_to_receive room) h
 after_call (calls.Give peer pair text) h = after_pair_call peer pair (Give text) h
 after_call (calls.Take peer pair bytes) h = after_pair_call peer pair (Take bytes) h
 after_call (calls.Allocate peer pair messages bits) h = after_pair_call peer pair (Allocate messages bits) h

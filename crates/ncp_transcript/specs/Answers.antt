@@ -2,7 +2,7 @@
 use Rattle.std.specs.Prelude.{Bool, true, false}
 use Rattle.ncp_model.specs.Peers.{Ask_to_send, Ask_to_receive, Close, Give, Allocate, Call_back, Interrupt}
 use Rattle.ncp_host.specs.Host.{Host, state_of}
-use Rattle.ncp_host.specs.Calls.{call_reply, take_reply, reset_reply, echo_reply, wake_reply, record_told, flags_told, echoed_told, errors_told, counts_told, waiting_at, kept_for}
+use Rattle.ncp_host.specs.Calls.{call_reply, take_reply, reset_reply, echo_reply, wake_reply, record_told, flags_told, echoed_told, errors_told, counts_told, waiting_at, kept_for, sockets}
 use Rattle.ncp_transcript.specs.declared.call.Call.{Call}
 use Rattle.ncp_transcript.specs.declared.call.Call.TheVariants as calls
 use Rattle.ncp_transcript.specs.declared.note.HostNote.{HostNote}
@@ -11,8 +11,8 @@ use Rattle.ncp_transcript.specs.Notes.{done_or_refused, told_or_refused}
 
 abbrev pub answer_to : Call → Host → HostNote
 answer_to (calls.Reset peer) h = done_or_refused (calls.Reset peer) (reset_reply peer h)
-answer_to (calls.AskSend peer pair size room) h = done_or_refused (calls.AskSend peer pair size room) (call_reply peer pair (Ask_to_send size room) h)
-answer_to (calls.AskReceive peer pair room) h = done_or_refused (calls.AskReceive peer pair room) (call_reply peer pair (Ask_to_receive room) h)
+answer_to (calls.AskSend peer local remote size room) h = done_or_refused (calls.AskSend peer local remote size room) (call_reply peer (sockets local remote) (Ask_to_send size room) h)
+answer_to (calls.AskReceive peer local remote room) h = done_or_refused (calls.AskReceive peer local remote room) (call_reply peer (sockets local remote) (Ask_to_receive room) h)
 answer_to (calls.Give peer pair text) h = done_or_refused (calls.Give peer pair text) (call_reply peer pair (Give text) h)
 answer_to (calls.Take peer pair bytes) h = told_or_refused (calls.Take peer pair bytes) (notes.Took peer pair bytes) (take_reply peer pair bytes h)
 answer_to (calls.Allocate peer pair messages bits) h = done_or_refused (calls.Allocate peer pair messages bits) (call_reply peer pair (Allocate messages bits) h)
@@ -32,6 +32,6 @@ answer_to calls.Ignored h = notes.Ignored h.ignored
 
 -- a call that takes memory, which may not be there
 abbrev pub takes_memory : Call → Bool
-takes_memory (calls.AskSend peer pair size room) = true
-takes_memory (calls.AskReceive peer pair room) = true
+takes_memory (calls.AskSend peer local remote size room) = true
+takes_memory (calls.AskReceive peer local remote room) = true
 takes_memory call = false

@@ -14,8 +14,8 @@ use Rattle.ncp_transcript.specs.declared.note.HostNote.TheVariants as notes
 -- the peer that a call names which changes something
 abbrev pub named : Call → Option ℕ
 named (calls.Reset peer) = Some peer
-named (calls.AskSend peer pair size room) = Some peer
-named (calls.AskReceive peer pair room) = Some peer
+named (calls.AskSend peer local remote size room) = Some peer
+named (calls.AskReceive peer local remote room) = Some peer
 named (calls.Give peer pair text) = Some peer
 named (calls.Take peer pair bytes) = Some peer
 named (calls.Allocate peer pair messages bits) = Some peer

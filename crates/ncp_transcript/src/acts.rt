@@ -31,18 +31,20 @@ pub(crate) fn reset<S: BitStore>(host: &mut Host<S>, peer: u8) -> HostNote
 pub(crate) fn ask_send<S: BitStore>(
     host: &mut Host<S>,
     peer: u8,
-    pair: Pair,
+    local: u32,
+    remote: u32,
     size: u8,
     room: u32,
 ) -> HostNote
-    ensures note { CallNoted (Call.AskSend peer pair size room) result host.old }
+    ensures note { CallNoted (Call.AskSend peer local remote size room) result host.old }
     ensures host { host.new ≡ after_note result host.old }
 {
-    let reply = host.ask_send(peer, pair, size, room);
+    let reply = host.ask_send(peer, local, remote, size, room);
     done(
         Call::AskSend {
             peer,
-            pair,
+            local,
+            remote,
             size,
             room,
         },
@@ -53,14 +55,23 @@ pub(crate) fn ask_send<S: BitStore>(
 pub(crate) fn ask_receive<S: BitStore>(
     host: &mut Host<S>,
     peer: u8,
-    pair: Pair,
+    local: u32,
+    remote: u32,
     room: u32,
 ) -> HostNote
-    ensures note { CallNoted (Call.AskReceive peer pair room) result host.old }
+    ensures note { CallNoted (Call.AskReceive peer local remote room) result host.old }
     ensures host { host.new ≡ after_note result host.old }
 {
-    let reply = host.ask_receive(peer, pair, room);
-    done(Call::AskReceive { peer, pair, room }, reply)
+    let reply = host.ask_receive(peer, local, remote, room);
+    done(
+        Call::AskReceive {
+            peer,
+            local,
+            remote,
+            room,
+        },
+        reply,
+    )
 }
 
 pub(crate) fn allocate<S: BitStore>(

@@ -12,14 +12,16 @@ pub enum Call {
     /// [`ncp_host::Host::ask_send`]: `size` bits a byte, and room for `room` bits that wait.
     AskSend {
         peer: u8,
-        pair: Pair,
+        local: u32,
+        remote: u32,
         size: u8,
         room: u32,
     },
     /// [`ncp_host::Host::ask_receive`]: room for `room` bits that are held.
     AskReceive {
         peer: u8,
-        pair: Pair,
+        local: u32,
+        remote: u32,
         room: u32,
     },
     /// [`ncp_host::Host::give`].

@@ -92,11 +92,17 @@ pub fn perform<S: BitStore>(
         Call::Reset { peer } => Ok(reset(host, peer)),
         Call::AskSend {
             peer,
-            pair,
+            local,
+            remote,
             size,
             room,
-        } => Ok(ask_send(host, peer, pair, size, room)),
-        Call::AskReceive { peer, pair, room } => Ok(ask_receive(host, peer, pair, room)),
+        } => Ok(ask_send(host, peer, local, remote, size, room)),
+        Call::AskReceive {
+            peer,
+            local,
+            remote,
+            room,
+        } => Ok(ask_receive(host, peer, local, remote, room)),
         Call::Allocate {
             peer,
             pair,

@@ -3,7 +3,7 @@ use Rattle.std.proofs.Common.{Result, Ok, Err, inl, inr, sym, subst}
 use Rattle.ncp_model.specs.declared.call_fault.CallFault.{CallFault}
 use Rattle.ncp_model.specs.Peers.{Ask_to_send, Ask_to_receive, Close, Give, Allocate, Call_back, Interrupt}
 use Rattle.ncp_host.specs.Host.{Host}
-use Rattle.ncp_host.specs.Calls.{call_reply, take_reply, reset_reply, echo_reply, wake_reply, record_told, flags_told, echoed_told, errors_told, counts_told}
+use Rattle.ncp_host.specs.Calls.{call_reply, take_reply, reset_reply, echo_reply, wake_reply, record_told, flags_told, echoed_told, errors_told, counts_told, sockets}
 use Rattle.ncp_transcript.specs.declared.call.Call.{Call}
 use Rattle.ncp_transcript.specs.declared.call.Call.TheVariants as calls
 use Rattle.ncp_transcript.specs.declared.note.HostNote.{HostNote}
@@ -23,8 +23,8 @@ told-fits call told (Err fault) fits = tt
 
 answer-fits : (call : Call) (h : Host) → CallFits call → Fits (told_call (answer_to call h))
 answer-fits (calls.Reset peer) h fits = done-fits (calls.Reset peer) (reset_reply peer h) fits
-answer-fits (calls.AskSend peer pair size room) h fits = done-fits (calls.AskSend peer pair size room) (call_reply peer pair (Ask_to_send size room) h) fits
-answer-fits (calls.AskReceive peer pair room) h fits = done-fits (calls.AskReceive peer pair room) (call_reply peer pair (Ask_to_receive room) h) fits
+answer-fits (calls.AskSend peer local remote size room) h fits = done-fits (calls.AskSend peer local remote size room) (call_reply peer (sockets local remote) (Ask_to_send size room) h) fits
+answer-fits (calls.AskReceive peer local remote room) h fits = done-fits (calls.AskReceive peer local remote room) (call_reply peer (sockets local remote) (Ask_to_receive room) h) fits
 answer-fits (calls.Give peer pair text) h fits = done-fits (calls.Give peer pair text) (call_reply peer pair (Give text) h) fits
 answer-fits (calls.Take peer pair bytes) h fits = told-fits (calls.Take peer pair bytes) (of_host.Took peer pair bytes) (take_reply peer pair bytes h) (λ x. fits)
 answer-fits (calls.Allocate peer pair messages bits) h fits = done-fits (calls.Allocate peer pair messages bits) (call_reply peer pair (Allocate messages bits) h) fits

@@ -9,7 +9,7 @@ use Rattle.ncp_model.specs.Phase.{reset_answer}
 use Rattle.ncp_host.specs.PeerState.{PeerState, answer_comes}
 use Rattle.ncp_host.specs.PeerState as states
 use Rattle.ncp_host.specs.Host.{Host, numbers_of, state_of, changed, if_known}
-use Rattle.ncp_host.specs.Calls.{record_told, flags_told, echoed_told, errors_told, counts_told}
+use Rattle.ncp_host.specs.Calls.{record_told, flags_told, echoed_told, errors_told, counts_told, sockets}
 use Rattle.ncp_subnet.specs.Ways.{OnLink}
 use Rattle.ncp_subnet.specs.Subnet.{has_way, transit_at, with_transit}
 use Rattle.ncp_subnet.proofs.Places.{transit_at-same, transit_at-others}
@@ -127,8 +127,8 @@ module _ (w : Hosts) (k : Stand w) where
 
   answer-does : (call : Call) → Fits (told_call (answer_to call w.a)) → Does (told_call (answer_to call w.a)) (seen w) (seen (host_notes_it A (answer_to call w.a) w))
   answer-does (calls.Reset peer) fits = done-does (calls.Reset peer) Asks_reset peer (λ s. reset_answer s.peer.phase) refl refl (λ s. refl) fits
-  answer-does (calls.AskSend peer pair size room) fits = done-does (calls.AskSend peer pair size room) (Asks pair (Ask_to_send size room)) peer (λ s. reply (comes_of pair (Ask_to_send size room) s.peer)) refl refl (λ s. refl) fits
-  answer-does (calls.AskReceive peer pair room) fits = done-does (calls.AskReceive peer pair room) (Asks pair (Ask_to_receive room)) peer (λ s. reply (comes_of pair (Ask_to_receive room) s.peer)) refl refl (λ s. refl) fits
+  answer-does (calls.AskSend peer local remote size room) fits = done-does (calls.AskSend peer local remote size room) (Asks (sockets local remote) (Ask_to_send size room)) peer (λ s. reply (comes_of (sockets local remote) (Ask_to_send size room) s.peer)) refl refl (λ s. refl) fits
+  answer-does (calls.AskReceive peer local remote room) fits = done-does (calls.AskReceive peer local remote room) (Asks (sockets local remote) (Ask_to_receive room)) peer (λ s. reply (comes_of (sockets local remote) (Ask_to_receive room) s.peer)) refl refl (λ s. refl) fits
   answer-does (calls.Give peer pair text) fits = done-does (calls.Give peer pair text) (Asks pair (Give text)) peer (λ s. reply (comes_of pair (Give text) s.peer)) refl refl (λ s. refl) fits
   answer-does (calls.Take peer pair bytes) fits = take-does peer pair bytes fits
   answer-does (calls.Allocate peer pair messages bits) fits = done-does (calls.Allocate peer pair messages bits) (Asks pair (Allocate messages bits)) peer (λ s. reply (comes_of pair (Allocate messages bits) s.peer)) refl refl (λ s. refl) fits

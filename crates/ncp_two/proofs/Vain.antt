@@ -69,8 +69,8 @@ told_says call told (Err fault) says = refl
 
 answer_says : (call : Call) (h : Host) → is_nothing (answer_to call h) ≡ false
 answer_says (calls.Reset peer) h = done_says (calls.Reset peer) _
-answer_says (calls.AskSend peer pair size room) h = done_says (calls.AskSend peer pair size room) _
-answer_says (calls.AskReceive peer pair room) h = done_says (calls.AskReceive peer pair room) _
+answer_says (calls.AskSend peer local remote size room) h = done_says (calls.AskSend peer local remote size room) _
+answer_says (calls.AskReceive peer local remote room) h = done_says (calls.AskReceive peer local remote room) _
 answer_says (calls.Give peer pair text) h = done_says (calls.Give peer pair text) _
 answer_says (calls.Take peer pair bytes) h = told_says (calls.Take peer pair bytes) (of_host.Took peer pair bytes) (take_reply peer pair bytes h) (λ x. refl)
 answer_says (calls.Allocate peer pair messages bits) h = done_says (calls.Allocate peer pair messages bits) _

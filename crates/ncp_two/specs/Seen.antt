@@ -5,6 +5,7 @@ use Rattle.ncp_resets.specs.Resets.{This, That}
 use Rattle.ncp_resets.specs.Resets as rules
 use Rattle.ncp_host.specs.PeerState.{PeerState, new_state}
 use Rattle.ncp_host.specs.Host.{Host, state_of}
+use Rattle.ncp_host.specs.Calls.{sockets}
 use Rattle.ncp_subnet.specs.Subnet.{transit_at}
 use Rattle.ncp_transcript.specs.declared.call.Call.{Call}
 use Rattle.ncp_transcript.specs.declared.call.Call.TheVariants as calls
@@ -47,8 +48,8 @@ as_rules B = That
 -- the call that the rules speak of; what is only read is none
 abbrev pub asked_by : Call → Option Asked
 asked_by (calls.Reset peer) = Some Asks_reset
-asked_by (calls.AskSend peer pair size room) = Some (Asks pair (Ask_to_send size room))
-asked_by (calls.AskReceive peer pair room) = Some (Asks pair (Ask_to_receive room))
+asked_by (calls.AskSend peer local remote size room) = Some (Asks (sockets local remote) (Ask_to_send size room))
+asked_by (calls.AskReceive peer local remote room) = Some (Asks (sockets local remote) (Ask_to_receive room))
 asked_by (calls.Give peer pair text) = Some (Asks pair (Give text))
 asked_by (calls.Take peer pair bytes) = Some (Asks pair (Take bytes))
 asked_by (calls.Allocate peer pair messages bits) = Some (Asks pair (Allocate messages bits))

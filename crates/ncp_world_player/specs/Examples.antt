@@ -50,7 +50,7 @@ coming_up =
     ∷ notes.Out B rrp_out
     ∷ notes.Came B 0 control_came
     ∷ notes.Answered B 0 rfnm
-    ∷ notes.Called B (host_notes.Done (calls.AskReceive 1 receiver 1024))
+    ∷ notes.Called B (host_notes.Done (calls.AskReceive 1 receiver.local receiver.remote 1024))
     ∷ []
 
 -- each thing that may become of a message, and each that may not

@@ -35,7 +35,8 @@ pub(super) const ASK_RECEIVE: Event = Event::Call {
     side: Side::B,
     call: Call::AskReceive {
         peer: A,
-        pair: RECEIVER,
+        local: RECEIVER.local,
+        remote: RECEIVER.remote,
         room: 1024,
     },
 };
@@ -44,7 +45,8 @@ pub(super) const ASK_SEND: Event = Event::Call {
     side: Side::A,
     call: Call::AskSend {
         peer: B,
-        pair: SENDER,
+        local: SENDER.local,
+        remote: SENDER.remote,
         size: 8,
         room: 1024,
     },

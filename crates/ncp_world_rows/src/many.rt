@@ -369,7 +369,8 @@ fn open<S: BitStore>(rt: &impl Abort, tried: &mut ManyTried<S>, from: u8, to: u8
             to,
             Call::AskReceive {
                 peer: from,
-                pair: RECEIVER,
+                local: RECEIVER.local,
+                remote: RECEIVER.remote,
                 room: 1024,
             },
         ),
@@ -380,7 +381,8 @@ fn open<S: BitStore>(rt: &impl Abort, tried: &mut ManyTried<S>, from: u8, to: u8
             from,
             Call::AskSend {
                 peer: to,
-                pair: SENDER,
+                local: SENDER.local,
+                remote: SENDER.remote,
                 size: 8,
                 room: 1024,
             },

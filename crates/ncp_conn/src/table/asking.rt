@@ -77,14 +77,16 @@ impl<S: BitStore> Table<S> {
     /// (`MAX_OWN` connections have an own request), `QueueFull`, `OutOfMemory`.
     pub fn ask_send(
         &mut self,
-        pair: Pair,
+        local: u32,
+        remote: u32,
         size: u8,
         room: u32,
         full: bool,
     ) -> Result<Command, CallFault>
-        ensures done { DoneOrNoMemory pair (ask_send_in pair size room full self.old) result self.old self.new }
+        ensures done { DoneOrNoMemory (record { local = local; remote = remote }) (ask_send_in (record { local = local; remote = remote }) size room full self.old) result self.old self.new }
         ensures err { OnErr result (self.new ≡ self.old) }
     {
+        let pair = Pair { local, remote };
         if !pair.sends() {
             return Err(CallFault::BadSex);
         }
@@ -98,8 +100,8 @@ impl<S: BitStore> Table<S> {
         let store = self.stores.make(room)?;
         self.ask_send_of(pair, size, store);
         Ok(Command::Str {
-            send: pair.local,
-            receive: pair.remote,
+            send: local,
+            receive: remote,
             size,
         })
     }
@@ -137,10 +139,17 @@ impl<S: BitStore> Table<S> {
     ///
     /// Refused, in this order: `BadSex`, `BadRoom`, `AlreadyAsked`, `Closing`, `TableFull`,
     /// `QueueFull`, `OutOfMemory`, each as in [`Table::ask_send`].
-    pub fn ask_receive(&mut self, pair: Pair, room: u32, full: bool) -> Result<Command, CallFault>
-        ensures done { DoneOrNoMemory pair (ask_receive_in pair room full self.old) result self.old self.new }
+    pub fn ask_receive(
+        &mut self,
+        local: u32,
+        remote: u32,
+        room: u32,
+        full: bool,
+    ) -> Result<Command, CallFault>
+        ensures done { DoneOrNoMemory (record { local = local; remote = remote }) (ask_receive_in (record { local = local; remote = remote }) room full self.old) result self.old self.new }
         ensures err { OnErr result (self.new ≡ self.old) }
     {
+        let pair = Pair { local, remote };
         if !pair.receives() {
             return Err(CallFault::BadSex);
         }
@@ -152,8 +161,8 @@ impl<S: BitStore> Table<S> {
         let link = self.free_link();
         self.ask_receive_of(pair, link, store);
         Ok(Command::Rts {
-            receive: pair.local,
-            send: pair.remote,
+            receive: local,
+            send: remote,
             link,
         })
     }

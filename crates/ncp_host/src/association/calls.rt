@@ -19,7 +19,10 @@ impl<S: BitStore> Association<S> {
             return Err(CallFault::NotUp);
         }
         let full = self.phase.is_full();
-        match self.table.ask_send(pair, size, room, full) {
+        match self
+            .table
+            .ask_send(pair.local, pair.remote, size, room, full)
+        {
             Ok(command) => {
                 self.make(command);
                 Ok(())
@@ -37,7 +40,7 @@ impl<S: BitStore> Association<S> {
             return Err(CallFault::NotUp);
         }
         let full = self.phase.is_full();
-        match self.table.ask_receive(pair, room, full) {
+        match self.table.ask_receive(pair.local, pair.remote, room, full) {
             Ok(command) => {
                 self.make(command);
                 Ok(())

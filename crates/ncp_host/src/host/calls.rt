@@ -2,7 +2,7 @@
 //! call states, is answered. All but `ask_send` and `ask_receive` take no memory.
 ghost use Rattle.std.specs.Prelude.{◌≡◌, OnErr};
 ghost use Rattle.ncp_model.specs.Peers.{Close, Give, Take, Allocate, Call_back, Interrupt, Ask_to_send, Ask_to_receive};
-ghost use Rattle.ncp_host.specs.Calls.{DoneOrNoMemory, call_reply, after_call, take_reply, reset_reply, after_reset, echo_reply, after_echo, wake_reply, after_wake};
+ghost use Rattle.ncp_host.specs.Calls.{DoneOrNoMemory, sockets, call_reply, after_call, take_reply, reset_reply, after_reset, echo_reply, after_echo, wake_reply, after_wake};
 
 use crate::host::{Host, find};
 use ncp_bits::{BitStore, Bits};
@@ -29,12 +29,19 @@ impl<S: BitStore> Host<S> {
     /// even), `BadSize` (0), `BadRoom` (outside 1 to `MAX_ROOM` bits), `AlreadyAsked`, `Closing`,
     /// `TableFull` (`MAX_OWN` connections with the peer have an own request), `QueueFull` (`MAX_CALLED` or
     /// more commands wait), `OutOfMemory` (for the room).
-    pub fn ask_send(&mut self, peer: u8, pair: Pair, size: u8, room: u32) -> Result<(), CallFault>
-        ensures done { DoneOrNoMemory (call_reply peer pair (Ask_to_send size room) self.old) (after_call peer pair (Ask_to_send size room) self.old) result self.old self.new }
+    pub fn ask_send(
+        &mut self,
+        peer: u8,
+        local: u32,
+        remote: u32,
+        size: u8,
+        room: u32,
+    ) -> Result<(), CallFault>
+        ensures done { DoneOrNoMemory (call_reply peer (sockets local remote) (Ask_to_send size room) self.old) (after_call peer (sockets local remote) (Ask_to_send size room) self.old) result self.old self.new }
         ensures err { OnErr result (self.new ≡ self.old) }
     {
         let place = find(self.numbers.as_slice(), &self.peers, peer)?;
-        self.peers[place].ask_send(pair, size, room)
+        self.peers[place].ask_send(Pair { local, remote }, size, room)
     }
 
     /// Asks to receive on a connection, with room for `room` bits that are held, on the lowest link that
@@ -43,12 +50,18 @@ impl<S: BitStore> Host<S> {
     /// Refused, in this order: `UnknownPeer`, `NotUp`, `BadSex` (a receiver's own socket is even, the other
     /// odd), `BadRoom`, `AlreadyAsked`, `Closing`, `TableFull`, `QueueFull`, `OutOfMemory`, each as in
     /// [`Host::ask_send`].
-    pub fn ask_receive(&mut self, peer: u8, pair: Pair, room: u32) -> Result<(), CallFault>
-        ensures done { DoneOrNoMemory (call_reply peer pair (Ask_to_receive room) self.old) (after_call peer pair (Ask_to_receive room) self.old) result self.old self.new }
+    pub fn ask_receive(
+        &mut self,
+        peer: u8,
+        local: u32,
+        remote: u32,
+        room: u32,
+    ) -> Result<(), CallFault>
+        ensures done { DoneOrNoMemory (call_reply peer (sockets local remote) (Ask_to_receive room) self.old) (after_call peer (sockets local remote) (Ask_to_receive room) self.old) result self.old self.new }
         ensures err { OnErr result (self.new ≡ self.old) }
     {
         let place = find(self.numbers.as_slice(), &self.peers, peer)?;
-        self.peers[place].ask_receive(pair, room)
+        self.peers[place].ask_receive(Pair { local, remote }, room)
     }
 
     /// Gives text to send: it joins the bits that wait, at their end.

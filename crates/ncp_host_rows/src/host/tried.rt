@@ -138,8 +138,14 @@ impl<S: BitStore> Tried<S> {
     fn call(&mut self, rt: &impl Abort, call: &Call<'_>) -> Result<(), CallFault> {
         match *call {
             Call::Reset => self.host.reset(self.peer),
-            Call::AskSend(pair, size, room) => self.host.ask_send(self.peer, pair, size, room),
-            Call::AskReceive(pair, room) => self.host.ask_receive(self.peer, pair, room),
+            Call::AskSend(pair, size, room) => {
+                self.host
+                    .ask_send(self.peer, pair.local, pair.remote, size, room)
+            }
+            Call::AskReceive(pair, room) => {
+                self.host
+                    .ask_receive(self.peer, pair.local, pair.remote, room)
+            }
             Call::Interrupt(pair) => self.host.interrupt(self.peer, pair),
             Call::Echo(byte) => self.host.echo(self.peer, byte),
             Call::Close(pair) => self.host.close(self.peer, pair),
@@ -218,11 +224,8 @@ impl<S: BitStore> Tried<S> {
 
     fn asks_to_send(&mut self, times: u8, room: u32) -> bool {
         for place in 0..times {
-            let pair = Pair {
-                local: 5 + 2 * u32::from(place),
-                remote: 2,
-            };
-            if self.host.ask_send(self.peer, pair, 8, room).is_err() {
+            let local = 5 + 2 * u32::from(place);
+            if self.host.ask_send(self.peer, local, 2, 8, room).is_err() {
                 return false;
             }
         }
@@ -231,11 +234,8 @@ impl<S: BitStore> Tried<S> {
 
     fn asks_to_receive(&mut self, times: u8, room: u32) -> bool {
         for place in 0..times {
-            let pair = Pair {
-                local: 4 + 2 * u32::from(place),
-                remote: 3,
-            };
-            if self.host.ask_receive(self.peer, pair, room).is_err() {
+            let local = 4 + 2 * u32::from(place);
+            if self.host.ask_receive(self.peer, local, 3, room).is_err() {
                 return false;
             }
         }

@@ -49,9 +49,13 @@ impl<S: BitStore> Tried<S> {
     ) -> Result<Option<Command>, CallFault> {
         match call {
             Call::AskSend(pair, size, room) => {
-                Ok(Some(self.table.ask_send(*pair, *size, *room, full)?))
+                let (local, remote) = (pair.local, pair.remote);
+                Ok(Some(self.table.ask_send(local, remote, *size, *room, full)?))
             }
-            Call::AskReceive(pair, room) => Ok(Some(self.table.ask_receive(*pair, *room, full)?)),
+            Call::AskReceive(pair, room) => {
+                let (local, remote) = (pair.local, pair.remote);
+                Ok(Some(self.table.ask_receive(local, remote, *room, full)?))
+            }
             Call::Close(pair) => self.table.close(*pair, full),
             _ => self.call_open(rt, call, full),
         }

@@ -54,7 +54,8 @@ const OPENING: [ManyEvent; 15] = [
         host: 3,
         call: Call::AskReceive {
             peer: 1,
-            pair: RECEIVER,
+            local: RECEIVER.local,
+            remote: RECEIVER.remote,
             room: 1024,
         },
     },
@@ -62,7 +63,8 @@ const OPENING: [ManyEvent; 15] = [
         host: 1,
         call: Call::AskSend {
             peer: 3,
-            pair: SENDER,
+            local: SENDER.local,
+            remote: SENDER.remote,
             size: 8,
             room: 1024,
         },

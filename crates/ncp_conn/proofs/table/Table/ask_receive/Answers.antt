@@ -1,5 +1,6 @@
 use Rattle.std.proofs.Common.{rules, ◌≡◌, ◌≤◌, ℕ, true, arith, inl, sym, ap, subst, ◌∙◌, Err}
 use Rattle.std.proofs.lemmas.Result.{err_from_is_err_and}
+use Rattle.ncp_model.specs.declared.pair.Pair.{Pair}
 use Rattle.ncp_model.specs.Pairs.{receives}
 use Rattle.ncp_model.specs.Act.{answer, is_room}
 use Rattle.ncp_model.specs.Ends.{count, any, has_asked, uses_link, map_after}
@@ -10,11 +11,12 @@ use Rattle.ncp_conn.proofs.table.Table.ask_receive.Goals as goal
 
 pub returns-in_err-may_ask-clause-done : goal.returns-in_err-may_ask-clause-done
 returns-in_err-may_ask-clause-done g c =
-    let ps : receives c.args.pair ≡ true = sym c.receives.ensures ∙ c.if-not-receives.false in
+    let pair : Pair = record { local = c.args.local; remote = c.args.remote } in
+    let ps : receives pair ≡ true = sym c.receives.ensures ∙ c.if-not-receives.false in
     let pr : is_room c.args.room ≡ true = sym c.is_room.ensures ∙ c.if-not-is_room.false in
-    let e = receive_err c.args.pair c.args.room c.args.full c.args.self.now ps pr c.in_err-may_ask.field-0.0 (sym c.in_err-may_ask.ensures.told) in
+    let e = receive_err pair c.args.room c.args.full c.args.self.now ps pr c.in_err-may_ask.field-0.0 (sym c.in_err-may_ask.ensures.told) in
     let p = err_from_is_err_and c.from_residual.result c.from_residual.ensures.1 in
-    inl (p.1 ∙ ap Err p.2 ∙ ap answer (sym e), ap (map_after c.args.self.now c.args.pair) (sym e))
+    inl (p.1 ∙ ap Err p.2 ∙ ap answer (sym e), ap (map_after c.args.self.now pair) (sym e))
 
 pub ask_receive_of-requires-clause-link : goal.ask_receive_of-requires-clause-link
 ask_receive_of-requires-clause-link g c =

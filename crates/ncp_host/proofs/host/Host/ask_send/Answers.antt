@@ -3,12 +3,13 @@ use Rattle.std.specs.Box.{boxed_slice_items}
 use Rattle.std.proofs.lemmas.Result.{err_from_is_err_and}
 use Rattle.ncp_model.specs.Peers.{Ask_to_send, comes_of, reply}
 use Rattle.ncp_host.specs.PeerState.{calls}
+use Rattle.ncp_host.specs.Calls.{sockets}
 use Rattle.ncp_host.proofs.Calling.{host_called, called_lives, stays, unknown, untouched}
 use Rattle.ncp_host.proofs.host.Host.ask_send.Goals as goal
 
 pub returns-clause-done : goal.returns-clause-done
 returns-clause-done g c =
-    host_called c.self.inside.me c.self.inside.numbers.items (boxed_slice_items c.self.inside.peers) c.self.inside.ignored c.args.peer c.in_ok-place.place c.index_mut.result.now c.index_mut.result.now c.ask_send.new.self c.args.pair (Ask_to_send c.args.size c.args.room) c.ask_send.result
+    host_called c.self.inside.me c.self.inside.numbers.items (boxed_slice_items c.self.inside.peers) c.self.inside.ignored c.args.peer c.in_ok-place.place c.index_mut.result.now c.index_mut.result.now c.ask_send.new.self (sockets c.args.local c.args.remote) (Ask_to_send c.args.size c.args.room) c.ask_send.result
     c.args.self.now c.as_slice.result.now c.deref.result.now c.self.view_is c.as_slice.ensures.value c.deref.ensures.value c.in_ok-place.ensures.found c.in_ok-place.ensures.inside c.index_mut.ensures.value c.ask_send.ensures.done
 
 pub returns-clause-err : goal.returns-clause-err
@@ -22,15 +23,15 @@ returns-in_err-place-clause-done g c =
     let e = err_from_is_err_and c.from_residual.result c.from_residual.ensures.1 in
     let told = unknown c.self.inside.me c.self.inside.numbers.items (boxed_slice_items c.self.inside.peers) c.self.inside.ignored c.args.peer
     c.args.self.now c.as_slice.result.now c.deref.result.now c.in_err-place.field-0.0 c.self.view_is c.as_slice.ensures.value c.deref.ensures.value c.in_err-place.ensures.found
-    (λ s. reply (comes_of c.args.pair (Ask_to_send c.args.size c.args.room) s.peer)) c.from_residual.result (e.1 ∙ ap Err e.2) in
+    (λ s. reply (comes_of (sockets c.args.local c.args.remote) (Ask_to_send c.args.size c.args.room) s.peer)) c.from_residual.result (e.1 ∙ ap Err e.2) in
     inl (
       told,
       untouched c.self.inside.me c.self.inside.numbers.items (boxed_slice_items c.self.inside.peers) c.self.inside.ignored c.args.peer
           c.args.self.now c.as_slice.result.now c.deref.result.now c.in_err-place.field-0.0 c.self.view_is c.as_slice.ensures.value c.deref.ensures.value c.in_err-place.ensures.found
-          (calls c.args.pair (Ask_to_send c.args.size c.args.room)),
+          (calls (sockets c.args.local c.args.remote) (Ask_to_send c.args.size c.args.room)),
     )
 
 pub invariant_of-self : goal.invariant_of-self
 invariant_of-self g c =
-    called_lives c.self.inside.me c.self.inside.numbers.items (boxed_slice_items c.self.inside.peers) c.self.inside.ignored c.args.peer c.in_ok-place.place c.index_mut.result.now c.index_mut.result.now c.ask_send.new.self c.args.pair (Ask_to_send c.args.size c.args.room) c.ask_send.result
+    called_lives c.self.inside.me c.self.inside.numbers.items (boxed_slice_items c.self.inside.peers) c.self.inside.ignored c.args.peer c.in_ok-place.place c.index_mut.result.now c.index_mut.result.now c.ask_send.new.self (sockets c.args.local c.args.remote) (Ask_to_send c.args.size c.args.room) c.ask_send.result
     c.args.self.now c.as_slice.result.now c.deref.result.now c.self.view_is c.as_slice.ensures.value c.deref.ensures.value c.in_ok-place.ensures.found c.in_ok-place.ensures.inside c.index_mut.ensures.value c.ask_send.ensures.done c.self.invariant
