@@ -1,3 +1,5 @@
+-- Meant for other crates too: they cite what is public here.
+--
 -- What a note tells of is a step of the model, which is paid for.
 use Rattle.std.proofs.Common.{◌≡◌, ℕ, ◌+◌, ◌==◌, ◌≤◌, true, false, List, Option, Some, sym, ap, ◌∙◌, subst, arith}
 use Rattle.std.specs.FinMap.{get}
@@ -17,7 +19,7 @@ use Rattle.ncp_progress_hosts.specs.HostsWork.{work, BothFit, OnLink, one_if_any
 use Rattle.ncp_progress_hosts.proofs.HostsWork.{at-fit, at-paid}
 use Rattle.ncp_progress_notes.specs.NotesWork.{told_moves, told_allows}
 
-on-data : (on : ℕ) → (on == 0) ≡ false → is_wrong_link on ≡ false → is_data_link on ≡ true
+pub on-data : (on : ℕ) → (on == 0) ≡ false → is_wrong_link on ≡ false → is_data_link on ≡ true
 on-data on z f = grind arith
 
 -- the step is on its link, moves so many messages at least, and allows no more

@@ -1,3 +1,3 @@
-mod Leading
+pub mod Leading
 pub mod Running
 mod Resting

@@ -23,7 +23,7 @@ use Rattle.ncp_progress_notes.specs.NotesWork.{told_moves, told_allows, from_sid
 use Rattle.ncp_progress_notes.proofs.Leading.{led-paid}
 
 -- the model goes on to a world for which this one stands, and what moves is paid for
-abbrev On : World → hosts.World → ℕ → ℕ → Type 0
+abbrev pub On : World → hosts.World → ℕ → ℕ → Type 0
 On v x move allow = (y : hosts.World) × Tied y v × BothFit y × (work y + move ≤ work x + allow)
 
 -- one event
@@ -39,7 +39,7 @@ steps-on That st v x ok t b =
     (hosts.swap r.0, tied-swapped r.0 (moves st (worlds.swap v)).0 r.1, turned-fit r.0 p.0, omega (arith, q))
 
 -- one note
-note-on : (note : Note) (w : Hosts) (x : hosts.World) (o : Option Told) → DoesOn (as_rules (side_of note)) o (seen w) (seen (after_note note w)) → Tied x (seen w) → BothFit x
+pub note-on : (note : Note) (w : Hosts) (x : hosts.World) (o : Option Told) → DoesOn (as_rules (side_of note)) o (seen w) (seen (after_note note w)) → Tied x (seen w) → BothFit x
     → On (seen (after_note note w)) x (note_moves o) (note_allows (as_rules (side_of note)) o (seen w))
 note-on note w x None same t b = (x, subst (λ (v : World). Tied x v) (sym same) t, b, omega arith)
 note-on note w x (Some told) (st, ok, is) t b =
@@ -65,7 +65,7 @@ from (note ∷ ns) w x run k t b =
     (q.0, (q.1.0, q.1.1, q.1.2, omega (arith, i, j)))
 
 -- a new world stands for the start of the model
-starts : (v : World) → IsNewWorld v → Tied hosts.start v
+pub starts : (v : World) → IsNewWorld v → Tied hosts.start v
 starts v k = record { reached = Begins; this = new-side v.there v.this v.going k.there k.this k.going; that = new-side v.here v.that v.coming k.here k.that k.coming }
 
 run-after : (before more : List Note) (w : Hosts) → IsRun (before ++ more) w → IsRun more (after_notes before w)

@@ -1,3 +1,5 @@
+-- Meant for other crates too: they cite what is public here.
+--
 -- Nothing can happen to two new hosts but a call.
 use Rattle.std.proofs.Common.{◌≡◌, ◌≢◌, ◌<◌, ◌^◌, ℕ, ◌==◌, Bool, true, false, if◌then◌else◌, List, [], ◌∷◌, Option, None, refl, sym, ap, ◌∙◌, subst}
 use Rattle.ncp_slot.specs.Slots.{LinkSlot}
@@ -6,7 +8,7 @@ use Rattle.ncp_model.specs.Act.{answer}
 use Rattle.ncp_model.specs.Ends.{no_ends, cut_in}
 use Rattle.ncp_hosts.proofs.Standing.{nothing_out}
 use Rattle.ncp_host.specs.PeerState.{PeerState, new_state}
-use Rattle.ncp_host.specs.Output.{links, first_or, first_output, output_by, output_on, text_message}
+use Rattle.ncp_host.specs.Output.{next_of, links, first_or, first_output, output_by, output_on, text_message}
 use Rattle.ncp_two.specs.Subnet.{Subnet, Free}
 use Rattle.ncp_two.specs.Between.{new_hosts}
 use Rattle.ncp_two.specs.Transcript.{IsTranscript}
@@ -26,9 +28,12 @@ none-new n on = ap (λ (x : LinkSlot). output_by x n on new_state.peer) (slot_at
     go true = refl
     go false = ap (λ (o : Option (ℕ × List Bool)). text_message n on o) (nothing_out on)
 
+pub new-none : (there : ℕ) → next_of there new_state ≡ None
+new-none there = none-first there new_state links (none-new there)
+
 new-still : (there : ℕ) (s : PeerState) (u : Subnet) → s ≡ new_state → ((on : ℕ) → u on ≡ Free) → IsStill there s u
 new-still there s u e f = subst (λ (x : PeerState). IsStill there x u) (sym e) (record {
-  out = none-first there new_state links (none-new there);
+  out = new-none there;
   free = λ on h. f on;
   awake = λ on h. ap is_held (slot_at-no_slots on);
 })

@@ -1,3 +1,3 @@
 pub mod OfModel
 pub mod Finished
-mod Beginning
+pub mod Beginning

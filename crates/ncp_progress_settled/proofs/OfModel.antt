@@ -45,7 +45,7 @@ among on from (suc many) l h = go (from == on) refl (λ m. among on (from + 1) m
         let apart : from ≢ on = λ s. both_ways (from == on) e (eq-eqb from on s) in
         ap (λ (b : Bool). b || is_one_of on (range_with_len (from + 1) many)) e ∙ rest (omega (arith, l, apart))
 
-a-link : (on : ℕ) → is_data_link on ≡ true → is_one_of on links ≡ true
+pub a-link : (on : ℕ) → is_data_link on ≡ true → is_one_of on links ≡ true
 a-link on d =
     let l : 2 ≤ on = grind (arith, d) in
     let h : on < 72 = grind (arith, d) in
@@ -74,7 +74,7 @@ nothing-there write P l s h c f k n = go c.place c.model c.in_slot c.in_subnet
     go (Died m) a b d = absurd (cc (sym f ∙ d))
     go (Kept m) a b d = absurd (both_ways (is_held s) k (ap is_held b))
 
-not-ready : (on number : ℕ) (s : PeerState) → output_on number on s ≡ None → (r : List Bool) → slot_at s.slots on ≡ slots.Ready r → ⊥
+pub not-ready : (on number : ℕ) (s : PeerState) → output_on number on s ≡ None → (r : List Bool) → slot_at s.slots on ≡ slots.Ready r → ⊥
 not-ready on number s o r e = cc (sym (ap (λ (x : LinkSlot). output_by x number on s.peer) e) ∙ o)
 
 -- and where no message is made nothing waits

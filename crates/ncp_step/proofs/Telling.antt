@@ -1,5 +1,10 @@
 -- What two hosts note where the subnet gives bits, or none.
-use Rattle.std.proofs.Common.{◌≡◌, ℕ, Bool, List, Option, None, Some, refl, ap}
+use Rattle.std.proofs.Common.{◌≡◌, ℕ, Bool, true, false, List, Option, None, Some, refl, ap}
+use Rattle.std.specs.Option.{is_some}
+use Rattle.ncp_subnet.specs.declared.transit.Transit.{Transit}
+use Rattle.ncp_subnet.specs.declared.transit.Transit.TheVariants.{Free, Accepted, Delivered, Lost, Dead}
+use Rattle.ncp_subnet.specs.Transit.{is_accepted, answer_kind}
+use Rattle.ncp_subnet.specs.Messages.{arriving, answer_about}
 use Rattle.ncp_host.specs.Host.{Host}
 use Rattle.ncp_transcript.specs.declared.note.HostNote.{HostNote}
 use Rattle.ncp_transcript.specs.Noting.{note_of_bits}
@@ -28,3 +33,33 @@ answer-noted side link (Some bits) w n e = ap (notes.Answered side link) (said b
 pub answer-vain : (side : Side) (link : ℕ) (o : Option (List Bool)) (w : Hosts) → None ≡ told o (host_of side w) → notes.Nothing side link moves.Answer ≡ answered side link o w
 answer-vain side link None w e = refl
 answer-vain side link (Some bits) w e = absurd (cc e)
+
+-- what is not accepted does not come; what is, does
+pub not-arriving : (from : ℕ) (t : Transit (List Bool)) → is_accepted t ≡ false → arriving from t ≡ None
+not-arriving from Free e = refl
+not-arriving from (Accepted message) e = absurd (cc)
+not-arriving from Delivered e = refl
+not-arriving from Lost e = refl
+not-arriving from Dead e = refl
+
+pub is-arriving : (from : ℕ) (t : Transit (List Bool)) → is_accepted t ≡ true → arriving from t ≡ None → ⊥
+is-arriving from Free e none = cc
+is-arriving from (Accepted message) e none = cc
+is-arriving from Delivered e none = cc
+is-arriving from Lost e none = cc
+is-arriving from Dead e none = cc
+
+-- where no answer is to give there is none; else there is
+pub not-answered : (to link : ℕ) (t : Transit (List Bool)) → is_some (answer_kind t) ≡ false → answer_about to link t ≡ None
+not-answered to link Free e = refl
+not-answered to link (Accepted message) e = refl
+not-answered to link Delivered e = absurd (cc)
+not-answered to link Lost e = absurd (cc)
+not-answered to link Dead e = absurd (cc)
+
+pub is-answered : (to link : ℕ) (t : Transit (List Bool)) → is_some (answer_kind t) ≡ true → answer_about to link t ≡ None → ⊥
+is-answered to link Free e none = cc
+is-answered to link (Accepted message) e none = cc
+is-answered to link Delivered e none = cc
+is-answered to link Lost e none = cc
+is-answered to link Dead e none = cc

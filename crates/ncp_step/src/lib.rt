@@ -3,6 +3,8 @@
 #![tactic(auto)]
 
 mod fitting;
+mod keeping;
 mod steps;
 
+pub use keeping::first_kept;
 pub use steps::{answers, calls, comes, new_host, sends};

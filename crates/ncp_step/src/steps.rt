@@ -1,5 +1,5 @@
 //! What is done to one host.
-ghost use Rattle.std.specs.Prelude.{◌≡◌, true, IfOk, OnErr};
+ghost use Rattle.std.specs.Prelude.{◌≡◌, true, None, IfOk, OnErr, IsOk};
 ghost use Rattle.ncp_subnet.specs.declared.transit.Transit.{Transit};
 ghost use Rattle.ncp_subnet.specs.Messages.{arriving, answer_about};
 ghost use Rattle.ncp_subnet.specs.Subnet.{transit_at};
@@ -74,7 +74,8 @@ pub fn sends<S: BitStore>(
 }
 
 /// The subnet gives out a message at its destination, which is this host (BBN Report 1822, section 3). None, and
-/// nothing has happened, where no message is there that may come; and nothing has after an `AllocError`.
+/// nothing has happened, where no message is there that may come; that takes no memory. And nothing has after an
+/// `AllocError`.
 pub fn comes<S: BitStore>(
     alloc: Global,
     subnet: &mut Subnet,
@@ -88,7 +89,11 @@ pub fn comes<S: BitStore>(
     ensures subnet { IfOk result (λ note. subnet.new ≡ put_told note from to link Transit.Delivered subnet.old) }
     ensures err { OnErr result (host.new ≡ host.old) }
     ensures kept { OnErr result (subnet.new ≡ subnet.old) }
+    ensures nothing { arriving from (transit_at subnet.old from to link) ≡ None → IsOk result }
 {
+    if !subnet.accepted(from, to, link) {
+        return Ok(None);
+    }
     let room = Room::new(alloc)?;
     let Some(bits) = subnet.deliver(from, to, link) else {
         return Ok(None);
@@ -97,7 +102,7 @@ pub fn comes<S: BitStore>(
 }
 
 /// The subnet answers the sender of a message, which is this host (BBN Report 1822, section 3). None, and nothing
-/// has happened, where there is no answer to give; and nothing has after an `AllocError`.
+/// has happened, where there is no answer to give; that takes no memory. And nothing has after an `AllocError`.
 pub fn answers<S: BitStore>(
     alloc: Global,
     subnet: &mut Subnet,
@@ -111,7 +116,11 @@ pub fn answers<S: BitStore>(
     ensures subnet { IfOk result (λ note. subnet.new ≡ put_told note from to link Transit.Free subnet.old) }
     ensures err { OnErr result (host.new ≡ host.old) }
     ensures kept { OnErr result (subnet.new ≡ subnet.old) }
+    ensures nothing { answer_about to link (transit_at subnet.old from to link) ≡ None → IsOk result }
 {
+    if !subnet.has_answer(from, to, link) {
+        return Ok(None);
+    }
     let room = Room::new(alloc)?;
     let Some(bits) = subnet.answer(from, to, link) else {
         return Ok(None);

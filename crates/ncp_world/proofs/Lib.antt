@@ -4,3 +4,4 @@ pub mod Ledgers
 pub mod Books
 pub mod Noting
 pub mod Numbers
+pub mod Settling

@@ -40,7 +40,7 @@ impl<S: BitStore> Model for Hosts<S> {
 }
 
 /// The other side.
-fn other(side: Side) -> Side
+pub(crate) fn other(side: Side) -> Side
     ensures { result ≡ other side }
 {
     match side {
@@ -82,7 +82,7 @@ impl<S: BitStore> Hosts<S> {
     }
 
     /// The number for which a side is a name.
-    fn number(&self, side: Side) -> u8
+    pub(crate) fn number(&self, side: Side) -> u8
         ensures { result ≡ number_of side self.now }
     {
         match side {

@@ -2,6 +2,8 @@
 ghost use Rattle.std.specs.Prelude.{◌≡◌, [], OnOk, OnErr};
 ghost use Rattle.ncp_two.specs.Transcript.{IsStep};
 
+mod attempting;
+
 use crate::hosts::Hosts;
 use ncp_bits::BitStore;
 use ncp_two::{Event, Note};

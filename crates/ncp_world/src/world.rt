@@ -9,6 +9,8 @@ ghost use Rattle.ncp_progress_notes.specs.NotesWork.{MovesArePaidFor};
 ghost use Rattle.ncp_progress_settled.specs.Settled.{EndsFinished};
 ghost use Rattle.ncp_world.specs.Booked.{IsBooked};
 
+mod settling;
+
 use crate::hosts::Hosts;
 use crate::transcript::Transcript;
 use ncp_bits::BitStore;
@@ -24,8 +26,8 @@ use std::marker::Model;
 /// Two hosts and the subnet between them, with their transcript: one note for each event, in order.
 ///
 /// A note takes at most [`crate::NOTE_BYTES`] bytes; beside them one with a message has the message's, and
-/// one of the errors that were read has theirs. Only [`World::new`] and [`World::step`] take memory: the readers
-/// are lent the hosts and the notes, and no allocator is in their reach.
+/// one of the errors that were read has theirs. Only what makes a world, and what makes an event happen, takes memory:
+/// the readers are lent the hosts and the notes, and no allocator is in their reach.
 #[derive(Drop)]
 pub struct World<S: BitStore> {
     hosts: Hosts<S>,

@@ -25,6 +25,8 @@ mod refused;
 #[cfg(test)]
 mod scripts;
 #[cfg(test)]
+mod settled;
+#[cfg(test)]
 mod states;
 #[cfg(test)]
 mod subnet;

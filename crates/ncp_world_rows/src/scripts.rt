@@ -12,33 +12,33 @@ use std::process::Abort;
 use std::test::Fail;
 
 /// Messages as they go out, and as they come.
-const RST: &[u8] = &[0, 2, 0, 0, 0, 8, 0, 1, 0, 12];
+pub(super) const RST: &[u8] = &[0, 2, 0, 0, 0, 8, 0, 1, 0, 12];
 
-const RST_CAME: &[u8] = &[0, 1, 0, 0, 0, 8, 0, 1, 0, 12];
+pub(super) const RST_CAME: &[u8] = &[0, 1, 0, 0, 0, 8, 0, 1, 0, 12];
 
-const RRP: &[u8] = &[0, 1, 0, 0, 0, 8, 0, 1, 0, 13];
+pub(super) const RRP: &[u8] = &[0, 1, 0, 0, 0, 8, 0, 1, 0, 13];
 
-const RRP_CAME: &[u8] = &[0, 2, 0, 0, 0, 8, 0, 1, 0, 13];
+pub(super) const RRP_CAME: &[u8] = &[0, 2, 0, 0, 0, 8, 0, 1, 0, 13];
 
-const RTS: &[u8] = &[0, 1, 0, 0, 0, 8, 0, 10, 0, 1, 0, 0, 0, 2, 0, 0, 0, 3, 2];
+pub(super) const RTS: &[u8] = &[0, 1, 0, 0, 0, 8, 0, 10, 0, 1, 0, 0, 0, 2, 0, 0, 0, 3, 2];
 
-const RTS_CAME: &[u8] = &[0, 2, 0, 0, 0, 8, 0, 10, 0, 1, 0, 0, 0, 2, 0, 0, 0, 3, 2];
+pub(super) const RTS_CAME: &[u8] = &[0, 2, 0, 0, 0, 8, 0, 10, 0, 1, 0, 0, 0, 2, 0, 0, 0, 3, 2];
 
-const STR: &[u8] = &[0, 2, 0, 0, 0, 8, 0, 10, 0, 2, 0, 0, 0, 3, 0, 0, 0, 2, 8];
+pub(super) const STR: &[u8] = &[0, 2, 0, 0, 0, 8, 0, 10, 0, 2, 0, 0, 0, 3, 0, 0, 0, 2, 8];
 
-const STR_CAME: &[u8] = &[0, 1, 0, 0, 0, 8, 0, 10, 0, 2, 0, 0, 0, 3, 0, 0, 0, 2, 8];
+pub(super) const STR_CAME: &[u8] = &[0, 1, 0, 0, 0, 8, 0, 10, 0, 2, 0, 0, 0, 3, 0, 0, 0, 2, 8];
 
 const ALL: &[u8] = &[0, 1, 0, 0, 0, 8, 0, 8, 0, 4, 2, 0, 2, 0, 0, 0, 16];
 
 const ALL_CAME: &[u8] = &[0, 2, 0, 0, 0, 8, 0, 8, 0, 4, 2, 0, 2, 0, 0, 0, 16];
 
-const TEXT: &[u8] = &[0, 2, 2, 0, 0, 8, 0, 2, 0, 0x61, 0x62];
+pub(super) const TEXT: &[u8] = &[0, 2, 2, 0, 0, 8, 0, 2, 0, 0x61, 0x62];
 
-const TEXT_CAME: &[u8] = &[0, 1, 2, 0, 0, 8, 0, 2, 0, 0x61, 0x62];
+pub(super) const TEXT_CAME: &[u8] = &[0, 1, 2, 0, 0, 8, 0, 2, 0, 0x61, 0x62];
 
-const CONTROL: Received = Received::Control(1);
+pub(super) const CONTROL: Received = Received::Control(1);
 
-const ADMITTED: Received = Received::Text(Took::Admitted);
+pub(super) const ADMITTED: Received = Received::Text(Took::Admitted);
 
 /// What the notes of the beginning say.
 const BEGINNING: [Wanted<'static>; 21] = [

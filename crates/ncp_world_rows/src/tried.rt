@@ -79,4 +79,11 @@ impl<S: BitStore> Tried<S> {
                 || (self.notes().len() == many && self.world.step(event).is_ok())
         );
     }
+
+    /// Settles, and answers how many events that made. Where memory is refused once, the rest is asked for again.
+    pub(super) fn settles(&mut self, rt: &impl Abort) -> usize {
+        let many = self.notes().len();
+        assert!(rt; self.world.settle().is_ok() || self.world.settle().is_ok());
+        self.notes().len().saturating_sub(many)
+    }
 }

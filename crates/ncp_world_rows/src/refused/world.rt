@@ -1,6 +1,6 @@
 //! Two hosts with their subnet.
 use super::{end_alike, is_same, wants_memory};
-use crate::events::one_connection;
+use crate::events::{RESET_A, one_connection};
 use crate::reading::{Reading, reading_of};
 use crate::tried::{A, B};
 use ncp_bits::{BitStore, PackedStore, PlainStore};
@@ -153,6 +153,38 @@ fn runs<S: BitStore>(rt: &impl Abort, alloc: Global) -> Result<bool, Fail> {
 fn is_refused<S: BitStore>(alloc: Global) -> Result<bool, AllocError> {
     let (_world, refused) = made::<S>(alloc)?;
     Ok(refused)
+}
+
+/// Settles, and once more where memory is refused: what happened before stands. Whether it was.
+fn settles<S: BitStore>(rt: &impl Abort, world: &mut World<S>) -> bool {
+    let refused = world.settle().is_err();
+    assert!(rt; !refused || world.settle().is_ok());
+    refused
+}
+
+/// Two worlds settle behind the reset that the first of all events is, and note the same. Whether memory was refused.
+fn settle_alike<S: BitStore>(rt: &impl Abort, alloc: Global) -> Result<bool, AllocError> {
+    let (mut one, _refused) = made::<S>(alloc)?;
+    let (mut other, _refused) = made::<S>(alloc)?;
+    let _refused = does(rt, &mut one, &RESET_A);
+    let _refused = does(rt, &mut other, &RESET_A);
+    let first = settles(rt, &mut one);
+    let second = settles(rt, &mut other);
+    assert!(rt; one.transcript().len() == 7 && other.transcript().len() == 7);
+    for (note, again) in one.transcript().iter().zip(other.transcript().iter()) {
+        assert!(rt; is_same(alloc, note, again)?);
+    }
+    Ok(first || second)
+}
+
+#[test]
+fn world_settle(rt: HostRuntime) -> Result<(), Fail> {
+    let plain = settle_alike::<PlainStore>(&rt, rt.alloc())?;
+    let packed = settle_alike::<PackedStore>(&rt, rt.alloc())?;
+    if plain || packed {
+        println!(rt; "refused: what happened before stands, and the rest may be asked for again")?;
+    }
+    Ok(())
 }
 
 #[test]

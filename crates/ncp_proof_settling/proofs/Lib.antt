@@ -1,0 +1,3 @@
+pub mod Paying
+pub mod Going
+pub mod Resting

@@ -1,0 +1,45 @@
+//! Events that are noted only where their notes say something.
+ghost use Rattle.std.specs.Prelude.{◌≡◌, IfOk, OnErr};
+ghost use Rattle.ncp_proof_settling.specs.Settling.{says_nothing, IsTried};
+
+use crate::hosts::Hosts;
+use crate::transcript::Transcript;
+use ncp_bits::BitStore;
+use ncp_transcript::HostNote;
+use ncp_two::{Event, Note};
+use std::alloc::AllocError;
+
+// Whether a note says nothing: no link was ready, or the subnet had no message to which this may happen.
+fn says_nothing(note: &Note) -> bool
+    ensures { result ≡ says_nothing note.now }
+{
+    matches!(
+        note,
+        Note::Nothing { .. }
+            | Note::Out {
+                note: HostNote::Nothing,
+                ..
+            }
+    )
+}
+
+impl Transcript {
+    /// Does what an event says, and notes it, unless its note says nothing: then nothing has happened, and it answers
+    /// false. The notes grow first.
+    pub(crate) fn attempt<S: BitStore>(
+        &mut self,
+        hosts: &mut Hosts<S>,
+        event: &Event,
+    ) -> Result<bool, AllocError>
+        ensures tried { IfOk result (λ done. IsTried event.now done (record { hosts = hosts.old; notes = self.old }) (record { hosts = hosts.new; notes = self.new })) }
+        ensures err { OnErr result ((self.new ≡ self.old) × (hosts.new ≡ hosts.old)) }
+    {
+        self.notes.reserve(1)?;
+        let note = hosts.happen(self.alloc, event)?;
+        if says_nothing(&note) {
+            return Ok(false);
+        }
+        self.notes.push_reserved(note);
+        Ok(true)
+    }
+}
