@@ -6,6 +6,7 @@ mod checking;
 mod control;
 mod converting;
 mod detail;
+pub mod examples;
 mod file;
 pub mod laws;
 mod line;

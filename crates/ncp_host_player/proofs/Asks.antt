@@ -5,6 +5,7 @@ use Rattle.ncp_script.specs.declared.line_buffer.LineKind.{LineKind}
 use Rattle.ncp_script.specs.declared.line_buffer.LineKind.TheVariants as kinds
 use Rattle.ncp_script.specs.Lines.{text_of, kind_of}
 use Rattle.ncp_script.specs.Words.{words_of}
+use Rattle.ncp_script.specs.Calls.{NamesGive}
 use Rattle.ncp_script.specs.Scripts as scripts
 use Rattle.ncp_script.specs.Scripts.{Line, Asked, Course, lines_of, said, ends, Faulty, Fed, judged, played, number_behind}
 use Rattle.ncp_transcript.specs.declared.input.Input.{Input}
@@ -62,7 +63,7 @@ module _ (first : ℕ) (bytes : List ℕ) (number : ℕ) (ended : Bool) (now : L
             ∙ asks here (course_of now.number rest) is,
       )
 
-  asks_as : (r : Result NextAsked PlayFault) → ((l : Line) (course : Course Input) → l.ended ≡ ended → IsPlayedAs number l (asked_of words) course r) → AsksNext first bytes r now left
+  asks_as : (r : Result NextAsked PlayFault) → ((l : Line) (course : Course Input) → l.ended ≡ ended → IsPlayedAs number l words course r) → AsksNext first bytes r now left
   asks_as (Ok Over) asks = absurd (asks line behind is)
   asks_as (Ok FeedBehind) asks = (line.behind, course_is ∙ asks line behind is, next.3)
   asks_as (Ok (Does input lf)) asks =
@@ -74,7 +75,7 @@ module _ (first : ℕ) (bytes : List ℕ) (number : ℕ) (ended : Bool) (now : L
         λ some. is_behind input (λ l course e. (asks l course e).0) (sym here.1 ∙ some),
       )
   asks_as (Err (BadLine bad)) asks = course_is ∙ asks line behind is
-  asks_as (Err OutOfMemory) asks = tt
+  asks_as (Err OutOfMemory) asks = (number, line, next, subst (λ (t : List ℕ). NamesGive (words_of t)) text (asks line behind is))
   asks_as (Err (LineTooLong long)) asks = absurd (asks line behind is)
   asks_as (Err BadHosts) asks = absurd (asks line behind is)
   asks_as (Err (Feed fault)) asks = absurd (asks line behind is)
@@ -82,9 +83,9 @@ module _ (first : ℕ) (bytes : List ℕ) (number : ℕ) (ended : Bool) (now : L
   asks_as (Err WriteFailed) asks = absurd (asks line behind is)
 
 pub asks_played : (first : ℕ) (bytes : List ℕ) (number : ℕ) (ended : Bool) (now : Lines) (left : Option (List ℕ)) → ReadsNext first bytes (Ok (nexts.Played number ended)) now left → (parted : List (List ℕ)) → parted ≡ words_of (text_of ended now.line)
-    → (r : Result NextAsked PlayFault) → ((l : Line) (course : Course Input) → l.ended ≡ ended → IsPlayedAs number l (asked_of parted) course r) → AsksNext first bytes r now left
+    → (r : Result NextAsked PlayFault) → ((l : Line) (course : Course Input) → l.ended ≡ ended → IsPlayedAs number l parted course r) → AsksNext first bytes r now left
 asks_played first bytes number ended now left read parted e r asks =
-    asks_as first bytes number ended now left read.0 read.1 read.2 read.3 r (subst (λ (w : List (List ℕ)). (l : Line) (course : Course Input) → l.ended ≡ ended → IsPlayedAs number l (asked_of w) course r) e asks)
+    asks_as first bytes number ended now left read.0 read.1 read.2 read.3 r (subst (λ (w : List (List ℕ)). (l : Line) (course : Course Input) → l.ended ≡ ended → IsPlayedAs number l w course r) e asks)
 
 pub less_where_it_goes_on : (r : Result NextAsked PlayFault) (ended : Bool) (Less : Type 0) → IfOk r (λ next. goes_on next ≡ true → ended ≡ true) → (ended ≡ true → Less) → IfOk r (λ next. goes_on next ≡ true → Less)
 less_where_it_goes_on (Ok next) ended Less e less = λ on. less (e on)

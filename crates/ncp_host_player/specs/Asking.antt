@@ -3,12 +3,15 @@ use Rattle.std.specs.Prelude.{◌≡◌, ℕ, Bool, true, false, List, [], ◌�
 use Rattle.ncp_stream.specs.Streams.{Ahead}
 use Rattle.ncp_transcript.specs.declared.input.Input.{Input}
 use Rattle.ncp_script.specs.FirstLines.{Named, first_of_host}
+use Rattle.ncp_script.specs.Calls.{NamesGive}
 use Rattle.ncp_script.specs.HostLines.{host_line_of}
 use Rattle.ncp_script.specs.HostScripts.{asked_by}
 use Rattle.ncp_script.specs.Scripts as scripts
-use Rattle.ncp_script.specs.Scripts.{Line, Asked, Course, Script, lines_of, ends, played, Fed, Faulty, course_from, script_from}
+use Rattle.ncp_script.specs.Words.{words_of}
+use Rattle.ncp_script.specs.declared.line_buffer.LineKind.TheVariants as kinds
+use Rattle.ncp_script.specs.Scripts.{Line, Asked, Course, Script, lines_of, said, ends, played, Fed, Faulty, course_from, script_from}
 use Rattle.ncp_reader.specs.declared.lines.Lines.{Lines}
-use Rattle.ncp_reader.specs.NextLines.{ended_lines, CameBefore}
+use Rattle.ncp_reader.specs.NextLines.{ended_lines, CameBefore, IsNext}
 use Rattle.ncp_play.specs.declared.fault.PlayFault.{PlayFault}
 use Rattle.ncp_play.specs.declared.fault.PlayFault.TheVariants.{BadLine, LineTooLong, BadHosts, Feed, ReadFailed, WriteFailed, OutOfMemory}
 use Rattle.ncp_host_player.specs.declared.asking.NextAsked.{NextAsked}
@@ -30,19 +33,19 @@ script_of_lines lines = script_from first_of_host (λ hosts. asked_of) 1 lines
 abbrev pub in_front : Input → Course Input → Course Input
 in_front input course = record course { events = input ∷ course.events }
 
--- what a line asks for, by the answer: that the bytes behind it be fed, this input, nothing that can be played; or
--- there was no memory
-abbrev pub IsPlayedAs : ℕ → Line → Option (Asked Input) → Course Input → Result NextAsked PlayFault → Type 0
-IsPlayedAs number line asked course (Ok Over) = ⊥
-IsPlayedAs number line asked course (Ok FeedBehind) = played number line asked course ≡ ends (Fed line.behind)
-IsPlayedAs number line asked course (Ok (Does input ended)) = (played number line asked course ≡ in_front input course) × (ended ≡ line.ended)
-IsPlayedAs number line asked course (Err (BadLine bad)) = played number line asked course ≡ ends (Faulty (scripts.BadLine bad))
-IsPlayedAs number line asked course (Err OutOfMemory) = Unit {0}
-IsPlayedAs number line asked course (Err (LineTooLong long)) = ⊥
-IsPlayedAs number line asked course (Err BadHosts) = ⊥
-IsPlayedAs number line asked course (Err (Feed fault)) = ⊥
-IsPlayedAs number line asked course (Err ReadFailed) = ⊥
-IsPlayedAs number line asked course (Err WriteFailed) = ⊥
+-- what a line of these words asks for, by the answer: that the bytes behind it be fed, this input, nothing that can
+-- be played; or it gives a text, and there was no memory for that
+abbrev pub IsPlayedAs : ℕ → Line → List (List ℕ) → Course Input → Result NextAsked PlayFault → Type 0
+IsPlayedAs number line words course (Ok Over) = ⊥
+IsPlayedAs number line words course (Ok FeedBehind) = played number line (asked_of words) course ≡ ends (Fed line.behind)
+IsPlayedAs number line words course (Ok (Does input ended)) = (played number line (asked_of words) course ≡ in_front input course) × (ended ≡ line.ended)
+IsPlayedAs number line words course (Err (BadLine bad)) = played number line (asked_of words) course ≡ ends (Faulty (scripts.BadLine bad))
+IsPlayedAs number line words course (Err OutOfMemory) = NamesGive words
+IsPlayedAs number line words course (Err (LineTooLong long)) = ⊥
+IsPlayedAs number line words course (Err BadHosts) = ⊥
+IsPlayedAs number line words course (Err (Feed fault)) = ⊥
+IsPlayedAs number line words course (Err ReadFailed) = ⊥
+IsPlayedAs number line words course (Err WriteFailed) = ⊥
 
 -- of bytes that were read to the end of a line, these are behind; where a read fails there, the lines that came
 -- whole ask for the same as all would
@@ -57,8 +60,13 @@ AsksInput first bytes input ended now left =
     (behind : List ℕ) × (course_of first (lines_of bytes) ≡ in_front input (course_of now.number (lines_of behind))) × Ahead now.window left behind
     × (ended ≡ false → behind ≡ []) × (ended ≡ true → IsBehind (course_of first) (in_front input) now.number bytes behind)
 
+-- the next line gives a text
+abbrev pub GivesNext : ℕ → List ℕ → Lines → Option (List ℕ) → Type 0
+GivesNext first bytes now left = (number : ℕ) × (line : Line) × IsNext first bytes kinds.Played number line now.number now.window left × NamesGive (words_of (said line))
+
 -- what the next of bytes asks for whose first line has this number: nothing, as all lines are skipped; that the bytes
--- behind it be fed; an input; or it is at fault; or a read failed, and the lines that came whole ask for nothing
+-- behind it be fed; an input; or it is at fault; a read failed, and the lines that came whole ask for nothing; or there
+-- was no memory for the text that it gives
 abbrev pub AsksNext : ℕ → List ℕ → Result NextAsked PlayFault → Lines → Option (List ℕ) → Type 0
 AsksNext first bytes (Ok Over) now left = course_of first (lines_of bytes) ≡ ends scripts.Over
 AsksNext first bytes (Ok FeedBehind) now left = (feed : List ℕ) × (course_of first (lines_of bytes) ≡ ends (Fed feed)) × Ahead now.window left feed
@@ -66,7 +74,7 @@ AsksNext first bytes (Ok (Does input ended)) now left = AsksInput first bytes in
 AsksNext first bytes (Err (BadLine number)) now left = course_of first (lines_of bytes) ≡ ends (Faulty (scripts.BadLine number))
 AsksNext first bytes (Err (LineTooLong number)) now left = course_of first (lines_of bytes) ≡ ends (Faulty (scripts.LineTooLong number))
 AsksNext first bytes (Err ReadFailed) now left = (given : List ℕ) × CameBefore bytes left given × (course_of first (ended_lines (lines_of given)) ≡ ends scripts.Over)
-AsksNext first bytes (Err OutOfMemory) now left = Unit {0}
+AsksNext first bytes (Err OutOfMemory) now left = GivesNext first bytes now left
 AsksNext first bytes (Err BadHosts) now left = ⊥
 AsksNext first bytes (Err (Feed fault)) now left = ⊥
 AsksNext first bytes (Err WriteFailed) now left = ⊥

@@ -3,7 +3,7 @@ ghost use Rattle.std.specs.Prelude.{◌≡◌, ℕ, List, ◌<◌, ◌||◌, IfO
 ghost use Rattle.ncp_stream.specs.Streams.{Ahead};
 ghost use Rattle.ncp_page.specs.Windows.{effort};
 ghost use Rattle.ncp_play.specs.Faults.{is_read_failed, is_write_failed};
-ghost use Rattle.ncp_host_player.specs.Asking.{asked_of, IsPlayedAs, AsksNext, goes_on};
+ghost use Rattle.ncp_host_player.specs.Asking.{IsPlayedAs, AsksNext, goes_on};
 ghost use Rattle.ncp_script.specs.Scripts.{Line, Course};
 ghost use Rattle.ncp_transcript.specs.declared.input.Input.{Input as Asks};
 
@@ -32,7 +32,7 @@ fn asked_by_words(
     number: u32,
     ended: bool,
 ) -> Result<NextAsked, PlayFault>
-    ensures told { (line : Line) (course : Course Asks) → line.ended ≡ ended → IsPlayedAs number line (asked_of words.old) course result }
+    ensures told { (line : Line) (course : Course Asks) → line.ended ≡ ended → IsPlayedAs number line words.old course result }
     ensures ended { IfOk result (λ next. goes_on next ≡ true → ended ≡ true) }
     ensures read { is_read_failed result ≡ false }
     ensures write { is_write_failed result ≡ false }

@@ -227,3 +227,24 @@ fn errors_of_peer_255_are_noted(rt: HostRuntime) -> Result<(), Fail> {
     ];
     goes_with(&rt, rt.alloc(), 255, NO_STEPS, STEPS)
 }
+
+// A text of as many bits as a message can have is given, and waits.
+#[test]
+fn the_longest_text_is_noted(rt: HostRuntime) -> Result<(), Fail> {
+    const LONGEST: &[u8] = &[0x61; 1024];
+    const STEPS: &[Step<'static>] = &[
+        (Act::Comes(&[0, 2, 0, 0, 0, 8, 0, 1, 0, 12]), HEARD_ONE),
+        (Act::AskSend(OUTWARD, 8, 16384), Want::Done),
+        (
+            Act::Comes(&[0, 2, 0, 0, 0, 8, 0, 10, 0, 1, 0, 0, 0, 2, 0, 0, 0, 3, 2]),
+            HEARD_ONE,
+        ),
+        (Act::Give(OUTWARD, LONGEST), Want::Done),
+        (Act::Give(OUTWARD, LONGEST), Want::Done),
+        (
+            Act::Give(OUTWARD, LONGEST),
+            Want::Refused(CallFault::NoRoom),
+        ),
+    ];
+    goes_on(&rt, rt.alloc(), NO_STEPS, STEPS)
+}

@@ -48,8 +48,12 @@ enum Step<'a> {
     Loses(Way, bool),
     /// Whether a message finds its destination dead.
     IsDead(Way, bool),
+    /// Whether a message was accepted that has not come.
+    IsAccepted(Way, bool),
     /// Whether the last message was delivered.
     IsDelivered(Way, bool),
+    /// Whether there is an answer to give.
+    HasAnswer(Way, bool),
     /// The answer that is given, if any is.
     Answers(Way, Option<Message<'a>>),
 }
@@ -85,7 +89,9 @@ fn does(rt: &impl Abort, subnet: &mut Subnet, step: &Step<'_>) -> bool {
         Step::Answers(way, wanted) => is_given(rt, answers(subnet, *way), *wanted),
         Step::Loses(way, wanted) => loses(subnet, *way) == *wanted,
         Step::IsDead(way, wanted) => is_dead(subnet, *way) == *wanted,
+        Step::IsAccepted(way, wanted) => is_accepted(subnet, *way) == *wanted,
         Step::IsDelivered(way, wanted) => is_delivered(subnet, *way) == *wanted,
+        Step::HasAnswer(way, wanted) => has_answer(subnet, *way) == *wanted,
     }
 }
 
@@ -112,6 +118,14 @@ fn loses(subnet: &mut Subnet, (from, to, link): Way) -> bool {
 
 fn is_dead(subnet: &mut Subnet, (from, to, link): Way) -> bool {
     subnet.dead(from, to, link)
+}
+
+fn is_accepted(subnet: &Subnet, (from, to, link): Way) -> bool {
+    subnet.accepted(from, to, link)
+}
+
+fn has_answer(subnet: &Subnet, (from, to, link): Way) -> bool {
+    subnet.has_answer(from, to, link)
 }
 
 fn is_delivered(subnet: &Subnet, (from, to, link): Way) -> bool {
@@ -169,6 +183,38 @@ fn answers_what_will_not_come(rt: HostRuntime) -> Result<(), Fail> {
     goes(&rt, rt.alloc(), 2, 1, STEPS)?;
     places_are_apart();
     each_message_is_answered_once::<Bits>();
+    Ok(())
+}
+
+#[test]
+fn tells_what_can_be_and_what_it_answers(rt: HostRuntime) -> Result<(), Fail> {
+    const STEPS: &[Step<'static>] = &[
+        Step::IsAccepted(WAY, false),
+        Step::HasAnswer(WAY, false),
+        Step::Accepts(1, (&RESET, 80)),
+        Step::IsAccepted(WAY, true),
+        Step::HasAnswer(WAY, false),
+        Step::IsAccepted((2, 1, 0), false),
+        Step::IsAccepted((1, 2, 2), false),
+        Step::IsAccepted((1, 3, 0), false),
+        Step::Delivers(WAY, Some((&RESET_COMES, 80))),
+        Step::IsAccepted(WAY, false),
+        Step::HasAnswer(WAY, true),
+        Step::HasAnswer((2, 1, 0), false),
+        Step::HasAnswer((1, 2, 2), false),
+        Step::HasAnswer((1, 3, 0), false),
+        Step::Answers(WAY, Some((&[0x05, 0x02, 0x00, 0x00], 32))),
+        Step::HasAnswer(WAY, false),
+        Step::Accepts(1, (&RESET, 80)),
+        Step::Loses(WAY, true),
+        Step::IsAccepted(WAY, false),
+        Step::HasAnswer(WAY, true),
+        Step::Answers(WAY, Some((&[0x09, 0x02, 0x00, 0x00], 32))),
+        Step::Accepts(1, (&RESET, 80)),
+        Step::IsDead(WAY, true),
+        Step::HasAnswer(WAY, true),
+    ];
+    goes(&rt, rt.alloc(), 1, 2, STEPS)?;
     Ok(())
 }
 

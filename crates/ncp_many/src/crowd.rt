@@ -1,5 +1,5 @@
 //! `Crowd`: two to eight hosts and the subnet between them.
-ghost use Rattle.std.specs.Prelude.{◌≡◌, ◌<◌, ◌==◌, true, map, length, IfOk, OnErr};
+ghost use Rattle.std.specs.Prelude.{◌≡◌, ◌<◌, ◌==◌, true, false, map, length, IfOk, OnErr};
 ghost use Rattle.std.specs.Box.{boxed_slice_items};
 ghost use Rattle.std.specs.List.{position};
 ghost use Rattle.std.specs.Option.{option_copied};
@@ -15,7 +15,7 @@ ghost use Rattle.ncp_step.specs.Told.{told, put_told};
 ghost use Rattle.ncp_pairs.specs.declared.many_event.ManyEvent.TheVariants as events;
 ghost use Rattle.ncp_pairs.specs.Numbered.{thing_in, at_thing};
 ghost use Rattle.ncp_pairs.specs.Crowd.{is_there, are_hosts, others, new_crowd, host_or_none, after_many};
-ghost use Rattle.ncp_pairs.specs.ManyHappening.{are_two, are_there, ManyNoted};
+ghost use Rattle.ncp_pairs.specs.ManyHappening.{are_two, are_there, gives, ManyNoted};
 ghost use Rattle.ncp_many.specs.Found.{IsAt, at_told};
 
 use ncp_bits::BitStore;
@@ -372,7 +372,7 @@ impl<S: BitStore> Crowd<S> {
         }
     }
 
-    /// What happens, and its note.
+    /// What happens, and its note. What happens at no host takes memory for the text of a call alone.
     pub(crate) fn happen(
         &mut self,
         alloc: Global,
@@ -381,6 +381,7 @@ impl<S: BitStore> Crowd<S> {
         ensures note { IfOk result (λ note. ManyNoted event.now note self.old) }
         ensures crowd { IfOk result (λ note. self.new ≡ after_many note self.old) }
         ensures err { OnErr result (self.new ≡ self.old) }
+        ensures absent { are_there event.now self.old ≡ false → OnErr result (gives event.now ≡ true) }
     {
         if !self.are_there(event) {
             let event = event.copied(alloc)?;

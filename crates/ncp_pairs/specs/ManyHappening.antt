@@ -1,6 +1,8 @@
 -- The note of an event among two to eight hosts: it is the note of two hosts, the rule of Happening in
 -- ncp_two, at the two that the event names, the sender at side A.
 use Rattle.std.specs.Prelude.{◌≡◌, ℕ, ◌==◌, Bool, true, false, not, ◌&&◌}
+use Rattle.ncp_transcript.specs.declared.call.Call.{Call}
+use Rattle.ncp_transcript.specs.declared.call.Call.TheVariants as calls
 use Rattle.ncp_two.specs.declared.side.Side.TheVariants.{A, B}
 use Rattle.ncp_two.specs.declared.event.Event.{Event}
 use Rattle.ncp_two.specs.declared.event.Event.TheVariants as two_events
@@ -44,6 +46,20 @@ are_there (events.Deliver from to link) m = are_two from to m
 are_there (events.Lose from to link) m = are_two from to m
 are_there (events.Dead from to link) m = are_two from to m
 are_there (events.Answer from to link) m = are_two from to m
+
+-- What a copy of an event takes memory for: the text that a user gives.
+
+abbrev pub is_give : Call → Bool
+is_give (calls.Give peer pair text) = true
+is_give call = false
+
+abbrev pub gives : ManyEvent → Bool
+gives (events.Call host call) = is_give call
+gives (events.Out host) = false
+gives (events.Deliver from to link) = false
+gives (events.Lose from to link) = false
+gives (events.Dead from to link) = false
+gives (events.Answer from to link) = false
 
 -- An event and a note of two hosts, with the numbers of side A and of side B in place of the sides.
 

@@ -1,5 +1,6 @@
 //! `ManyEvent`.
-ghost use Rattle.std.specs.Prelude.{◌≡◌, IfOk};
+ghost use Rattle.std.specs.Prelude.{◌≡◌, true, IfOk, OnErr};
+ghost use Rattle.ncp_pairs.specs.ManyHappening.{is_give, gives};
 
 use ncp_transcript::{Call, Message};
 use std::alloc::{AllocError, Global};
@@ -31,7 +32,8 @@ fn copied_text(alloc: Global, text: &Message) -> Result<Message, AllocError>
 
 // A copy of a call; that of a text takes memory.
 fn copied_call(alloc: Global, call: &Call) -> Result<Call, AllocError>
-    ensures { IfOk result (λ copy. copy ≡ call.now) }
+    ensures copy { IfOk result (λ copy. copy ≡ call.now) }
+    ensures memory { OnErr result (is_give call.now ≡ true) }
 {
     Ok(match *call {
         Call::Reset { peer } => Call::Reset { peer },
@@ -99,7 +101,8 @@ fn copied_call(alloc: Global, call: &Call) -> Result<Call, AllocError>
 impl ManyEvent {
     /// A copy. That of a call's text takes as many bytes of memory as the text has; no other takes any.
     pub fn copied(&self, alloc: Global) -> Result<ManyEvent, AllocError>
-        ensures { IfOk result (λ event. event ≡ self.now) }
+        ensures event { IfOk result (λ event. event ≡ self.now) }
+        ensures memory { OnErr result (gives self.now ≡ true) }
     {
         Ok(match *self {
             ManyEvent::Call { host, ref call } => ManyEvent::Call {

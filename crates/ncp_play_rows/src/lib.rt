@@ -10,6 +10,8 @@ mod faults;
 #[cfg(test)]
 mod feed;
 #[cfg(test)]
+mod limits;
+#[cfg(test)]
 mod lines;
 #[cfg(test)]
 mod refused;

@@ -33,7 +33,7 @@ const PEERS_LINES: &[u8] =
 
 /// Plays a script, a byte at a time and in one piece, with both stores, and compares the answer and all
 /// that is written.
-fn expect(
+pub(crate) fn expect(
     rt: &impl Abort,
     alloc: Global,
     script: &[u8],
@@ -122,16 +122,16 @@ fn bad_lines(rt: HostRuntime) -> Result<(), Fail> {
     Ok(())
 }
 
-// A script with a line of so many bytes, of which each is this one.
+/// A script with a line of so many bytes, of which each is this one.
 #[derive(Clone, Copy, Drop)]
-struct LongLine<'a> {
-    front: &'a [u8],
-    byte: u8,
-    count: usize,
-    behind: &'a [u8],
+pub(crate) struct LongLine<'a> {
+    pub(crate) front: &'a [u8],
+    pub(crate) byte: u8,
+    pub(crate) count: usize,
+    pub(crate) behind: &'a [u8],
 }
 
-fn with_long_line(alloc: Global, long: &LongLine<'_>) -> Result<Vec<u8>, Fail> {
+pub(crate) fn with_long_line(alloc: Global, long: &LongLine<'_>) -> Result<Vec<u8>, Fail> {
     let mut script = Vec::new(alloc);
     script.extend_from_slice(long.front)?;
     for _ in 0..long.count {

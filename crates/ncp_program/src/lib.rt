@@ -3,6 +3,7 @@
 //! each is a crate with a thin `main`.
 #![tactic(auto)]
 
+pub mod examples;
 mod kept;
 mod origin;
 mod output;

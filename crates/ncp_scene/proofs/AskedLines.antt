@@ -1,8 +1,9 @@
 -- What the next line asks for, by its words.
-use Rattle.std.proofs.Common.{◌≡◌, ℕ, Bool, true, false, List, Option, Some, None, Ok, Err, option_map, sym, ap, ◌∙◌}
+use Rattle.std.proofs.Common.{◌≡◌, ℕ, Bool, true, false, List, Option, Some, None, Ok, Err, option_map, sym, ap, ◌∙◌, subst}
 use Rattle.ncp_script.specs.declared.line_buffer.LineKind.{LineKind}
 use Rattle.ncp_script.specs.declared.line_buffer.LineKind.TheVariants as kinds
 use Rattle.ncp_script.specs.Words.{words_of}
+use Rattle.ncp_script.specs.Calls.{NamesGiveBehind}
 use Rattle.ncp_script.specs.Scripts.{Line, lines_of, said, Event as Asks, Over as Is_over, Faulty, ends, judged, played, number_behind, begun, first_judged, NoHosts, Plays}
 use Rattle.ncp_script.specs.Scripts.{BadLine as Is_bad_line, LineTooLong as Is_too_long, BadHosts as Are_bad_hosts}
 use Rattle.ncp_reader.specs.declared.lines.Lines.{Lines}
@@ -74,7 +75,7 @@ module _ {F E N W : Type 0} (rules : Rules F E N W) (named : F) (first : ℕ) (b
 
     pub asks_fault : (fault : PlayFault) (text : List ℕ) → text ≡ said line → EventIn rules named number text (Err fault) → AsksNext rules named first bytes (Err fault) now left
     asks_fault (BadLine line') text same bad = asks_bad (ap (λ t. rules.reads named (words_of t)) (sym same) ∙ bad.0) ∙ ap (λ n. ends (Faulty (Is_bad_line n))) (sym bad.1)
-    asks_fault OutOfMemory text same bad = tt
+    asks_fault OutOfMemory text same bad = (number, line, is, subst (λ (t : List ℕ). NamesGiveBehind (words_of t)) same bad)
     asks_fault (LineTooLong line') text same bad = absurd bad
     asks_fault ReadFailed text same bad = absurd bad
     asks_fault WriteFailed text same bad = absurd bad

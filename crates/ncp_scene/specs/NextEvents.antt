@@ -3,6 +3,7 @@ use Rattle.std.specs.Prelude.{◌≡◌, ℕ, Bool, true, false, List, ◌∷◌
 use Rattle.ncp_stream.specs.Streams.{Ahead}
 use Rattle.ncp_script.specs.declared.line_buffer.LineKind.TheVariants.{Played, TooLong}
 use Rattle.ncp_script.specs.Words.{words_of}
+use Rattle.ncp_script.specs.Calls.{NamesGiveBehind}
 use Rattle.ncp_script.specs.Scripts.{Line, lines_of, said, Course, Over, Faulty, ends, course_from}
 use Rattle.ncp_script.specs.Lines.{text_of}
 use Rattle.ncp_script.specs.Scripts.{BadLine as Is_bad_line, LineTooLong as Is_too_long}
@@ -21,12 +22,16 @@ abbrev pub may_go_on : {E : Type 0} → Option (E × Bool) → Bool
 may_go_on None = false
 may_go_on (Some (event, ended)) = ended
 
+-- the next line of bytes of which the first line has this number gives a text
+abbrev pub GivesNext : ℕ → List ℕ → Lines → Option (List ℕ) → Type 0
+GivesNext first bytes now left = (number : ℕ) × (line : Line) × IsNext first bytes Played number line now.number now.window left × NamesGiveBehind (words_of (said line))
+
 module _ {F E N W : Type 0} (rules : Rules F E N W) (named : F) where
-  -- what a line of this number that says this asks for; or there was no memory for its text
+  -- what a line of this number that says this asks for; or it gives a text, and there was no memory for that
   abbrev pub EventIn : ℕ → List ℕ → Result E PlayFault → Type 0
   EventIn number text (Ok event) = rules.reads named (words_of text) ≡ Some event
   EventIn number text (Err (BadLine line)) = (rules.reads named (words_of text) ≡ None) × (line ≡ number)
-  EventIn number text (Err OutOfMemory) = Unit {0}
+  EventIn number text (Err OutOfMemory) = NamesGiveBehind (words_of text)
   EventIn number text (Err (LineTooLong line)) = ⊥
   EventIn number text (Err ReadFailed) = ⊥
   EventIn number text (Err WriteFailed) = ⊥
@@ -49,8 +54,8 @@ module _ {F E N W : Type 0} (rules : Rules F E N W) (named : F) where
       → (all : List ℕ) × CameBefore bytes left' all × (course_cut first all ≡ with_event event (course_cut now.number given)))
 
   -- what became of bytes of which the first line has this number: none asks for more; an event is asked for by the
-  -- next line, or by the last, which no LF ends; a line is at fault; or a read failed, and the lines that came whole
-  -- ask for nothing
+  -- next line, or by the last, which no LF ends; a line is at fault; a read failed, and the lines that came whole
+  -- ask for nothing; or there was no memory for the text that the next line gives
   abbrev pub AsksNext : ℕ → List ℕ → Result (Option (E × Bool)) PlayFault → Lines → Option (List ℕ) → Type 0
   AsksNext first bytes (Ok None) now left = course_of first bytes ≡ ends Over
   AsksNext first bytes (Ok (Some (event, true))) now left = AsksOne first bytes event now left
@@ -58,7 +63,7 @@ module _ {F E N W : Type 0} (rules : Rules F E N W) (named : F) where
   AsksNext first bytes (Err (BadLine line)) now left = course_of first bytes ≡ ends (Faulty (Is_bad_line line))
   AsksNext first bytes (Err (LineTooLong line)) now left = course_of first bytes ≡ ends (Faulty (Is_too_long line))
   AsksNext first bytes (Err ReadFailed) now left = (given : List ℕ) × CameBefore bytes left given × (course_cut first given ≡ ends Over)
-  AsksNext first bytes (Err OutOfMemory) now left = Unit {0}
+  AsksNext first bytes (Err OutOfMemory) now left = GivesNext first bytes now left
   AsksNext first bytes (Err WriteFailed) now left = ⊥
   AsksNext first bytes (Err BadHosts) now left = ⊥
   AsksNext first bytes (Err (Feed fault)) now left = ⊥

@@ -7,6 +7,7 @@ use std::alloc::{AllocError, Global};
 /// What a script plays: hosts with their notes, how a first line makes them, what a line behind it asks for,
 /// and how that happens.
 pub trait Scene {
+    ghost use Rattle.ncp_script.specs.Calls.{NamesGiveBehind};
     ghost use Rattle.ncp_scene.specs.Rules.{Rules};
 
     /// The hosts, with their notes.
@@ -33,14 +34,15 @@ pub trait Scene {
         ensures first { result ≡ rules.first words.old }
         ensures proper { IfSome result IsProper };
 
-    /// What a line of these words asks for, all that are left. Memory may be taken for what it says. Where the
-    /// line is none, the words that are left are not told.
+    /// What a line of these words asks for, all that are left. Memory is taken for the text of a `give`, and for
+    /// nothing else. Where the line is none, the words that are left are not told.
     fn event_of(
         alloc: Global,
         first: &Self::First,
         words: &mut Words<'_>,
     ) -> Result<Option<Self::Event>, AllocError>
-        ensures { IfOk result (λ event. event ≡ rules.reads first.now words.old) };
+        ensures event { IfOk result (λ event. event ≡ rules.reads first.now words.old) }
+        ensures memory { OnErr result (NamesGiveBehind words.old) };
 
     /// New hosts.
     fn begin(alloc: Global, first: &Self::First) -> Result<Self::Hosts, AllocError>

@@ -1,6 +1,6 @@
 -- The calls of a script, as the words of a line say them (this profile): the word that names the call, its
 -- peer where none is given, its pair where it has one, and its arguments, in this order.
-use Rattle.std.specs.Prelude.{ℕ, List, [], ◌∷◌, Option, Some, None}
+use Rattle.std.specs.Prelude.{◌≡◌, ℕ, List, [], ◌∷◌, Option, Some, None}
 use Rattle.ncp_model.specs.declared.pair.Pair.{Pair}
 use Rattle.ncp_transcript.specs.declared.call.Call.{Call}
 use Rattle.ncp_transcript.specs.declared.call.Call.TheVariants as calls
@@ -67,3 +67,15 @@ named_call given (Some verb) words = verb_call given verb words
 abbrev pub call_of : Option ℕ → List (List ℕ) → Option Call
 call_of given [] = None
 call_of given (word ∷ words) = all_of (named_call given (verb_of word) words)
+
+-- ---- what memory is taken for: the text of a `give`, and nothing else
+
+-- the word in front names the call that gives a text
+abbrev pub NamesGive : List (List ℕ) → Type 0
+NamesGive [] = ⊥
+NamesGive (word ∷ words) = verb_of word ≡ Some verbs.Give
+
+-- the word behind the first does: a side or a host stands in front
+abbrev pub NamesGiveBehind : List (List ℕ) → Type 0
+NamesGiveBehind [] = ⊥
+NamesGiveBehind (first ∷ words) = NamesGive words

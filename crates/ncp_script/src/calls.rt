@@ -1,7 +1,8 @@
 //! The call that the words of a line are.
-ghost use Rattle.std.specs.Prelude.{◌≡◌, ◌≢◌, ◌∷◌, IfOk, option_map};
+ghost use Rattle.std.specs.Prelude.{◌≡◌, ◌≢◌, ◌∷◌, Some, IfOk, OnErr, option_map};
 ghost use Rattle.ncp_script.specs.declared.verbs.Verb.TheVariants.{AskSend, AskReceive, Give, Take, Allocate, CallBack};
-ghost use Rattle.ncp_script.specs.Calls.{pair_call, peer_call, verb_call, call_of, all_of};
+ghost use Rattle.ncp_script.specs.Verbs.{verb_of};
+ghost use Rattle.ncp_script.specs.Calls.{pair_call, peer_call, verb_call, call_of, all_of, NamesGive};
 
 use crate::line_words::Words;
 use crate::verbs::{Verb, verb_named};
@@ -146,15 +147,16 @@ fn last(call: Option<Call>, words: &Words<'_>) -> Option<Call>
 }
 
 /// The call that a word names, with the words behind it, all that are left: its peer where none is
-/// given, and its arguments. Memory is taken for the text of a `give` alone. Where they are no call, the
-/// words that are left are not told.
+/// given, and its arguments. Memory is taken for the text of a `give`, and for nothing else. Where they
+/// are no call, the words that are left are not told.
 pub fn call_named(
     alloc: Global,
     word: &[u8],
     words: &mut Words<'_>,
     given: Option<u8>,
 ) -> Result<Option<Call>, AllocError>
-    ensures { IfOk result (λ call. call ≡ call_of given (word.now ∷ words.old)) }
+    ensures call { IfOk result (λ call. call ≡ call_of given (word.now ∷ words.old)) }
+    ensures memory { OnErr result (verb_of word.now ≡ Some Give) }
 {
     let Some(verb) = verb_named(word) else {
         return Ok(None);
@@ -168,14 +170,15 @@ pub fn call_named(
 }
 
 /// The call that the words of a line are, all that are left: the word that names it, its peer where
-/// none is given, and its arguments. Memory is taken for the text of a `give` alone. Where the words
-/// are no call, the words that are left are not told.
+/// none is given, and its arguments. Memory is taken for the text of a `give`, and for nothing else.
+/// Where the words are no call, the words that are left are not told.
 pub fn call(
     alloc: Global,
     words: &mut Words<'_>,
     given: Option<u8>,
 ) -> Result<Option<Call>, AllocError>
-    ensures { IfOk result (λ call. call ≡ call_of given words.old) }
+    ensures call { IfOk result (λ call. call ≡ call_of given words.old) }
+    ensures memory { OnErr result (NamesGive words.old) }
 {
     let Some(word) = words.next_word() else {
         return Ok(None);

@@ -1,14 +1,17 @@
 //! Lines of scripts and what they ask for, computed from the definitions.
-ghost use Rattle.std.specs.Prelude.{◌≡◌, codes, List, [], ◌∷◌, Option, None, Some, true, false};
+ghost use Rattle.std.specs.Prelude.{◌≡◌, ◌<◌, ◌++◌, ℕ, codes, length, List, [], ◌∷◌, Option, None, Some, true, false};
 ghost use Rattle.ncp_numbers.specs.Bytes.{bits_of_bytes};
 ghost use Rattle.ncp_transcript.specs.declared.call.Call.TheVariants as calls;
 ghost use Rattle.ncp_transcript.specs.declared.input.Input.TheVariants as inputs;
 ghost use Rattle.ncp_script.specs.declared.host_lines.HostLine.TheVariants as lines;
 ghost use Rattle.ncp_script.specs.Words.{words_of};
-ghost use Rattle.ncp_script.specs.Calls.{call_of};
+ghost use Rattle.ncp_script.specs.Calls.{call_of, NamesGive, NamesGiveBehind};
 ghost use Rattle.ncp_script.specs.HostLines.{host_line_of};
 ghost use Rattle.ncp_script.specs.FirstLines.{first_of_host, is_many, many_named, hosts_first};
-ghost use Rattle.ncp_script.specs.Scripts.{Over, Fed, Faulty, BadLine, BadHosts, NoHosts, Plays};
+ghost use Rattle.ncp_script.specs.Lines.{text_of, is_skipped, kind_of};
+ghost use Rattle.ncp_script.specs.declared.line_buffer.TheConstants.{MAX_LINE};
+ghost use Rattle.ncp_script.specs.declared.line_buffer.LineKind.TheVariants as kinds;
+ghost use Rattle.ncp_script.specs.Scripts.{Over, Fed, Faulty, BadLine, BadHosts, NoHosts, Plays, number_behind};
 ghost use Rattle.ncp_script.specs.HostScripts.{host_script};
 
 /// A text that is given: its number of bits, and their bytes.
@@ -67,6 +70,43 @@ pub fn no_calls()
     ensures byte { call_of None (words_of (codes "echo 9 256")) ≡ None }
     ensures messages { call_of None (words_of (codes "allocate 9 2 5 65536 0")) ≡ None }
     ensures size { call_of None (words_of (codes "ask-send 9 3 4 256 1024")) ≡ None }
+{}
+
+/// Which lines name the call that gives a text: in a script of one host the word stands in front, in one of more behind
+/// the side or the host.
+pub fn lines_that_give_are_told_apart()
+    ensures give { NamesGive (words_of (codes "give 9 3 4 0")) }
+    ensures whatever { NamesGive (words_of (codes "give")) }
+    ensures take { NamesGive (words_of (codes "take 9 2 5 100")) → ⊥ }
+    ensures longer { NamesGive (words_of (codes "gives 9 3 4 0")) → ⊥ }
+    ensures behind { NamesGiveBehind (words_of (codes "a give 3 4 0")) }
+    ensures front { NamesGiveBehind (words_of (codes "give 9 3 4 0")) → ⊥ }
+    ensures alone { NamesGiveBehind (words_of (codes "a")) → ⊥ }
+{}
+
+/// What a line says: one CR before its LF is dropped, and a last line without LF keeps it.
+pub fn lines_say_this()
+    ensures line { text_of true (codes "out") ≡ codes "out" }
+    ensures cr { text_of true (codes "out\r") ≡ codes "out" }
+    ensures one { text_of true (codes "out\r\r") ≡ codes "out\r" }
+    ensures last { text_of false (codes "out\r") ≡ codes "out\r" }
+    ensures empty { text_of true (codes "\r") ≡ [] }
+{}
+
+/// What is done with a line: an empty one and a remark, however long, are skipped; another is played up to the limit.
+pub fn lines_are_judged_so()
+    ensures empty { kind_of [] ≡ kinds.Skipped }
+    ensures remark { (text : List ℕ) → kind_of (codes "#" ++ text) ≡ kinds.Skipped }
+    ensures played { kind_of (codes " #") ≡ kinds.Played }
+    ensures long { (text : List ℕ) → is_skipped text ≡ false → MAX_LINE < length text → kind_of text ≡ kinds.TooLong }
+    ensures longest { (text : List ℕ) → is_skipped text ≡ false → length text ≡ MAX_LINE → kind_of text ≡ kinds.Played }
+{}
+
+/// Lines are numbered by one more each, and numbers stay at the greatest.
+pub fn lines_are_numbered_so()
+    ensures next { number_behind 7 ≡ 8 }
+    ensures last { number_behind 4294967294 ≡ 4294967295 }
+    ensures stays { number_behind 4294967295 ≡ 4294967295 }
 {}
 
 /// Bits that come, in a script of one host.

@@ -1,5 +1,6 @@
 //! `HostLine`.
-ghost use Rattle.std.specs.Prelude.{◌≡◌, ◌∷◌, IfOk};
+ghost use Rattle.std.specs.Prelude.{◌≡◌, ◌∷◌, IfOk, OnErr};
+ghost use Rattle.ncp_script.specs.Calls.{NamesGive};
 ghost use Rattle.ncp_script.specs.HostLines.{alone, bits_line, call_line, host_line_of};
 
 use crate::calls::call_named;
@@ -44,7 +45,8 @@ fn call_line(
     word: &[u8],
     words: &mut Words<'_>,
 ) -> Result<Option<HostLine>, AllocError>
-    ensures { IfOk result (λ line. line ≡ call_line (word.now ∷ words.old)) }
+    ensures line { IfOk result (λ line. line ≡ call_line (word.now ∷ words.old)) }
+    ensures memory { OnErr result (NamesGive (word.now ∷ words.old)) }
 {
     let Some(call) = call_named(alloc, word, words, None)? else {
         return Ok(None);
@@ -52,10 +54,11 @@ fn call_line(
     Ok(Some(HostLine::Input(Input::Call(call))))
 }
 
-/// What a line of these words asks for, all that are left. Memory is taken for the text of a `give`
-/// alone. Where the line is none, the words that are left are not told.
+/// What a line of these words asks for, all that are left. Memory is taken for the text of a `give`,
+/// and for nothing else. Where the line is none, the words that are left are not told.
 pub fn host_line(alloc: Global, words: &mut Words<'_>) -> Result<Option<HostLine>, AllocError>
-    ensures { IfOk result (λ line. line ≡ host_line_of words.old) }
+    ensures line { IfOk result (λ line. line ≡ host_line_of words.old) }
+    ensures memory { OnErr result (NamesGive words.old) }
 {
     let Some(word) = words.next_word() else {
         return Ok(None);

@@ -1,11 +1,21 @@
 //! Laws about the subnet, each the contract of a function that does nothing.
-ghost use Rattle.std.specs.Prelude.{◌≡◌, ◌≢◌, ℕ, Some, None};
+ghost use Rattle.std.specs.Prelude.{◌≡◌, ◌≢◌, ℕ, [], ◌∷◌, Some, None};
+ghost use Rattle.ncp_numbers.specs.Bytes.{bits_of_bytes};
+ghost use Rattle.ncp_subnet.specs.Messages.{from_host, answer_bits};
 ghost use Rattle.ncp_subnet.specs.declared.transit.Transit.{Transit};
 ghost use Rattle.ncp_subnet.specs.Transit.{accepted, delivered, lost, dead, answered, answer_kind, accepted_message};
 ghost use Rattle.ncp_subnet.specs.Ways.{OnLink};
 ghost use Rattle.ncp_subnet.specs.Subnet.{Subnet, transit_at, with_transit, OthersStay};
 
 use ncp_leader::{DESTINATION_DEAD, INCOMPLETE, RFNM};
+
+/// What comes has the number of its sender where the destination's was, and an answer the number of the destination:
+/// RST on link 3 from host 1 to host 2, and what is said of it if it is lost.
+#[tactic(auto, unfolding(ncp_numbers::specs::Bytes::byte_bits, ncp_numbers::specs::Numbers::bits_of))]
+pub fn messages_are_addressed_so()
+    ensures comes { from_host 1 (bits_of_bytes (0 ∷ 2 ∷ 3 ∷ 0 ∷ 0 ∷ 8 ∷ 0 ∷ 1 ∷ 0 ∷ 12 ∷ [])) ≡ bits_of_bytes (0 ∷ 1 ∷ 3 ∷ 0 ∷ 0 ∷ 8 ∷ 0 ∷ 1 ∷ 0 ∷ 12 ∷ []) }
+    ensures answer { answer_bits INCOMPLETE 2 3 ≡ bits_of_bytes (9 ∷ 2 ∷ 3 ∷ 0 ∷ []) }
+{}
 
 /// What is in transit at different places is apart.
 pub fn places_are_apart()

@@ -1,9 +1,10 @@
 //! `Subnet`.
 ghost use Rattle.std.specs.Prelude.{◌≡◌, ◌≢◌, ◌≤◌, ◌<◌, ◌↔◌, ℕ, IsTrue, [], ◌∷◌, ◌++◌, length, map, slice_get, Some, IfOk, IfErr, IfSome, IfNone, OnOk, OnErr, IsOk};
+ghost use Rattle.std.specs.Option.{is_some};
 ghost use Rattle.std.specs.List.{position};
 ghost use Rattle.std.specs.Bool.{OnTrue, OnFalse};
 ghost use Rattle.ncp_bits.specs.Reasons.{IsFirst, NoneHolds};
-ghost use Rattle.ncp_subnet.specs.Transit.{is_accepted, is_delivered, delivered, lost, dead, answered};
+ghost use Rattle.ncp_subnet.specs.Transit.{is_accepted, is_delivered, answer_kind, delivered, lost, dead, answered};
 ghost use Rattle.ncp_subnet.specs.declared.transit.Transit.{Transit};
 ghost use Rattle.ncp_subnet.specs.Messages.{host_in, link_in, arriving, answer_about};
 ghost use Rattle.ncp_subnet.specs.Ways.{leads, free_ways_from};
@@ -173,6 +174,26 @@ impl Subnet {
     {
         let place = way_between(&self.ways, from, to)?;
         self.ways[place].answer(link)
+    }
+
+    /// Whether a message was accepted that has not come: it may come, be lost, or find its destination dead.
+    pub fn accepted(&self, from: u8, to: u8, link: u8) -> bool
+        ensures { result ≡ is_accepted (transit_at self.now from to link) }
+    {
+        match way_between(&self.ways, from, to) {
+            Some(place) => self.ways[place].is_accepted(link),
+            None => false,
+        }
+    }
+
+    /// Whether there is an answer to give: a message came, was lost, or found its destination dead.
+    pub fn has_answer(&self, from: u8, to: u8, link: u8) -> bool
+        ensures { result ≡ is_some (answer_kind (transit_at self.now from to link)) }
+    {
+        match way_between(&self.ways, from, to) {
+            Some(place) => self.ways[place].has_answer(link),
+            None => false,
+        }
     }
 
     /// Whether a message came that is not answered yet.

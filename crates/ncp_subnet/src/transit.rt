@@ -36,6 +36,25 @@ impl<M: Drop> Transit<M> {
         matches!(self, Transit::Delivered)
     }
 
+    /// Whether there is a message that has not come.
+    pub(crate) fn is_accepted(&self) -> bool
+        ensures { result ≡ is_accepted self.now }
+    {
+        matches!(self, Transit::Accepted(_))
+    }
+
+    /// The type of the answer to a message that came or will not come.
+    pub(crate) fn answer_kind(&self) -> Option<u8>
+        ensures { result ≡ answer_kind self.now }
+    {
+        match self {
+            Transit::Free | Transit::Accepted(_) => None,
+            Transit::Delivered => Some(RFNM),
+            Transit::Lost => Some(INCOMPLETE),
+            Transit::Dead => Some(DESTINATION_DEAD),
+        }
+    }
+
     /// Takes a message, where there is none.
     pub(crate) fn accept(&mut self, message: M)
         requires { self.old ≡ Transit.Free }
@@ -66,7 +85,7 @@ impl<M: Drop> Transit<M> {
         ensures told { result ≡ is_accepted self.old }
         ensures transit { self.new ≡ lost self.old }
     {
-        let has_message = matches!(self, Transit::Accepted(_));
+        let has_message = self.is_accepted();
         if has_message {
             *self = Transit::Lost;
         }
@@ -78,7 +97,7 @@ impl<M: Drop> Transit<M> {
         ensures told { result ≡ is_accepted self.old }
         ensures transit { self.new ≡ dead self.old }
     {
-        let has_message = matches!(self, Transit::Accepted(_));
+        let has_message = self.is_accepted();
         if has_message {
             *self = Transit::Dead;
         }
@@ -90,12 +109,7 @@ impl<M: Drop> Transit<M> {
         ensures kind { result ≡ answer_kind self.old }
         ensures transit { self.new ≡ answered self.old }
     {
-        let kind = match self {
-            Transit::Free | Transit::Accepted(_) => None,
-            Transit::Delivered => Some(RFNM),
-            Transit::Lost => Some(INCOMPLETE),
-            Transit::Dead => Some(DESTINATION_DEAD),
-        };
+        let kind = self.answer_kind();
         if kind.is_some() {
             *self = Transit::Free;
         }

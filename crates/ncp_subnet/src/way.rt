@@ -1,5 +1,6 @@
 //! `Way`: what is in transit from one host to another.
 ghost use Rattle.std.specs.Prelude.{◌≡◌, ◌≤◌, ◌<◌, ◌==◌, ◌&&◌, length, IfOk};
+ghost use Rattle.std.specs.Option.{is_some};
 ghost use Rattle.ncp_subnet.specs.Transit.{answer_kind, is_accepted, is_delivered, is_free};
 ghost use Rattle.ncp_subnet.specs.Ways.{OneWay, free_way, on_link, with_link, leads};
 ghost use Rattle.ncp_subnet.specs.Transit as transit;
@@ -66,6 +67,22 @@ impl Way {
         ensures inside { link < length self.now.links }
     {
         self.links[usize::from(link)].is_free()
+    }
+
+    /// Whether there is a message on a link that has not come.
+    pub(crate) fn is_accepted(&self, link: u8) -> bool
+        ensures accepted { result ≡ is_accepted (on_link self.now link) }
+        ensures inside { link < length self.now.links }
+    {
+        self.links[usize::from(link)].is_accepted()
+    }
+
+    /// Whether there is an answer to give about the message on a link.
+    pub(crate) fn has_answer(&self, link: u8) -> bool
+        ensures answer { result ≡ is_some (answer_kind (on_link self.now link)) }
+        ensures inside { link < length self.now.links }
+    {
+        self.links[usize::from(link)].answer_kind().is_some()
     }
 
     /// Whether the message on a link came and is not answered yet.

@@ -1,8 +1,12 @@
 //! What holds of every list of inputs.
-ghost use Rattle.std.specs.Prelude.{◌≡◌, ◌≢◌, ℕ, ◌++◌, List, length, Some};
+ghost use Rattle.std.specs.Prelude.{◌≡◌, ◌≢◌, ℕ, [], ◌++◌, List, length, Some, true, false};
+ghost use Rattle.ncp_model.specs.declared.pair.Pair.{Pair};
 ghost use Rattle.ncp_host.specs.Host.{Host, state_of};
+ghost use Rattle.ncp_transcript.specs.declared.call.Call.TheVariants as calls;
 ghost use Rattle.ncp_transcript.specs.declared.input.Input.{Input};
 ghost use Rattle.ncp_transcript.specs.declared.note.HostNote.{HostNote};
+ghost use Rattle.ncp_transcript.specs.Answers.{takes_memory};
+ghost use Rattle.ncp_transcript.specs.Noting.{is_answer};
 ghost use Rattle.ncp_transcript.specs.After.{after_note, after_notes};
 ghost use Rattle.ncp_transcript.specs.Runs.{AreNotes, IsRun};
 ghost use Rattle.ncp_transcript.specs.Touching.{touched};
@@ -21,4 +25,30 @@ pub fn every_list_of_inputs_is_a_run()
 /// come from, or that has its turn.
 pub fn one_peer_is_touched()
     ensures { (note : HostNote) (h : Host) (other : ℕ) → touched note h ≢ Some other → state_of (after_note note h) other ≡ state_of h other }
+{}
+
+/// A call that asks for a connection may be refused for want of memory, and no other.
+pub fn calls_that_take_memory_are_told_apart()
+    ensures ask_send { (peer local remote size room : ℕ) → takes_memory (calls.AskSend peer local remote size room) ≡ true }
+    ensures ask_receive { (peer local remote room : ℕ) → takes_memory (calls.AskReceive peer local remote room) ≡ true }
+    ensures give { (peer : ℕ) (pair : Pair) → takes_memory (calls.Give peer pair []) ≡ false }
+    ensures take { (peer bytes : ℕ) (pair : Pair) → takes_memory (calls.Take peer pair bytes) ≡ false }
+    ensures allocate { (peer messages bits : ℕ) (pair : Pair) → takes_memory (calls.Allocate peer pair messages bits) ≡ false }
+    ensures call_back { (peer fm fb : ℕ) (pair : Pair) → takes_memory (calls.CallBack peer pair fm fb) ≡ false }
+    ensures interrupt { (peer : ℕ) (pair : Pair) → takes_memory (calls.Interrupt peer pair) ≡ false }
+    ensures close { (peer : ℕ) (pair : Pair) → takes_memory (calls.Close peer pair) ≡ false }
+    ensures reset { (peer : ℕ) → takes_memory (calls.Reset peer) ≡ false }
+    ensures echo { (peer byte : ℕ) → takes_memory (calls.Echo peer byte) ≡ false }
+    ensures wake { (peer : ℕ) → takes_memory (calls.Wake peer) ≡ false }
+    ensures errors { (peer : ℕ) → takes_memory (calls.Errors peer) ≡ false }
+    ensures kept { (peer link : ℕ) → takes_memory (calls.Kept peer link) ≡ false }
+{}
+
+/// Bits of type 5, 7 and 9 are noted as an answer of a peer, and no others (BBN Report 1822, section 3).
+pub fn answers_are_told_apart()
+    ensures rfnm { is_answer 5 ≡ true }
+    ensures dead { is_answer 7 ≡ true }
+    ensures incomplete { is_answer 9 ≡ true }
+    ensures regular { is_answer 0 ≡ false }
+    ensures others { (is_answer 4 ≡ false) × (is_answer 6 ≡ false) × (is_answer 8 ≡ false) × (is_answer 10 ≡ false) }
 {}

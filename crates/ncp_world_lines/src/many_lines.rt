@@ -1,5 +1,6 @@
 //! What a line of a script of two to eight hosts asks for.
-ghost use Rattle.std.specs.Prelude.{◌≡◌, ◌∷◌, option_map, IfOk};
+ghost use Rattle.std.specs.Prelude.{◌≡◌, ◌∷◌, option_map, IfOk, OnErr};
+ghost use Rattle.ncp_script.specs.Calls.{NamesGive, NamesGiveBehind};
 ghost use Rattle.ncp_host.specs.Host.{is_one_of};
 ghost use Rattle.ncp_runs.specs.Peers.{peer_of_call};
 ghost use Rattle.ncp_script.specs.HostLines.{alone};
@@ -105,7 +106,8 @@ fn call_line(
     word: &[u8],
     words: &mut Words<'_>,
 ) -> Result<Option<ManyEvent>, AllocError>
-    ensures { IfOk result (λ event. event ≡ many_call_line hosts.now host (word.now ∷ words.old)) }
+    ensures event { IfOk result (λ event. event ≡ many_call_line hosts.now host (word.now ∷ words.old)) }
+    ensures memory { OnErr result (NamesGive (word.now ∷ words.old)) }
 {
     let Some(call) = call_named(alloc, word, words, None)? else {
         return Ok(None);
@@ -135,7 +137,8 @@ fn asked_of(
     host: u8,
     words: &mut Words<'_>,
 ) -> Result<Option<ManyEvent>, AllocError>
-    ensures { IfOk result (λ event. event ≡ many_asked_of hosts.now host words.old) }
+    ensures event { IfOk result (λ event. event ≡ many_asked_of hosts.now host words.old) }
+    ensures memory { OnErr result (NamesGive words.old) }
 {
     let Some(word) = words.next_word() else {
         return Ok(None);
@@ -150,13 +153,15 @@ fn asked_of(
 }
 
 /// What a line of these words asks for, all that are left, where these are the hosts. Memory is taken
-/// for the text of a `give` alone. Where the line is none, the words that are left are not told.
+/// for the text of a `give`, and for nothing else. Where the line is none, the words that are left are
+/// not told.
 pub fn many_line(
     alloc: Global,
     hosts: &[u8],
     words: &mut Words<'_>,
 ) -> Result<Option<ManyEvent>, AllocError>
-    ensures { IfOk result (λ event. event ≡ many_line_of hosts.now words.old) }
+    ensures event { IfOk result (λ event. event ≡ many_line_of hosts.now words.old) }
+    ensures memory { OnErr result (NamesGiveBehind words.old) }
 {
     let Some(host) = host_first(hosts, words) else {
         return Ok(None);

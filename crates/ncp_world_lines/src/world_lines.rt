@@ -1,5 +1,6 @@
 //! What a line of a script of two hosts asks for.
-ghost use Rattle.std.specs.Prelude.{◌≡◌, ◌∷◌, IfOk};
+ghost use Rattle.std.specs.Prelude.{◌≡◌, ◌∷◌, IfOk, OnErr};
+ghost use Rattle.ncp_script.specs.Calls.{NamesGive, NamesGiveBehind};
 ghost use Rattle.ncp_script.specs.HostLines.{alone};
 ghost use Rattle.ncp_world_lines.specs.WorldLines.{peer_of, event_of, move_line, call_line, asked_of, world_line_of};
 
@@ -64,7 +65,8 @@ fn call_line(
     word: &[u8],
     words: &mut Words<'_>,
 ) -> Result<Option<Event>, AllocError>
-    ensures { IfOk result (λ event. event ≡ call_line hosts side (word.now ∷ words.old)) }
+    ensures event { IfOk result (λ event. event ≡ call_line hosts side (word.now ∷ words.old)) }
+    ensures memory { OnErr result (NamesGive (word.now ∷ words.old)) }
 {
     let Some(call) = call_named(alloc, word, words, Some(peer_of(hosts, side)))? else {
         return Ok(None);
@@ -79,7 +81,8 @@ fn asked_of(
     side: Side,
     words: &mut Words<'_>,
 ) -> Result<Option<Event>, AllocError>
-    ensures { IfOk result (λ event. event ≡ asked_of hosts side words.old) }
+    ensures event { IfOk result (λ event. event ≡ asked_of hosts side words.old) }
+    ensures memory { OnErr result (NamesGive words.old) }
 {
     let Some(word) = words.next_word() else {
         return Ok(None);
@@ -94,13 +97,15 @@ fn asked_of(
 }
 
 /// What a line of these words asks for, all that are left, where these are the hosts. Memory is taken
-/// for the text of a `give` alone. Where the line is none, the words that are left are not told.
+/// for the text of a `give`, and for nothing else. Where the line is none, the words that are left are
+/// not told.
 pub fn world_line(
     alloc: Global,
     hosts: TwoHosts,
     words: &mut Words<'_>,
 ) -> Result<Option<Event>, AllocError>
-    ensures { IfOk result (λ event. event ≡ world_line_of hosts words.old) }
+    ensures event { IfOk result (λ event. event ≡ world_line_of hosts words.old) }
+    ensures memory { OnErr result (NamesGiveBehind words.old) }
 {
     let Some(word) = words.next_word() else {
         return Ok(None);

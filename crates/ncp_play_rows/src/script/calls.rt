@@ -3,6 +3,7 @@ use ncp_script::{HostLine, Verb, Words, call, host_line, host_named, hosts_first
 use ncp_transcript::{Call, Input};
 use std::alloc::Global;
 use std::process::Abort;
+use std::test::Fail;
 
 #[test]
 fn names_calls(rt: HostRuntime) {
@@ -54,6 +55,23 @@ fn reads_calls(rt: HostRuntime) {
     for (line, given, told) in ROWS {
         assert!(rt; told_call(rt.alloc(), line, *given) == *told);
     }
+}
+
+// How many hexadecimal digits the most bits have.
+const MOST_DIGITS: usize = 2048;
+
+// A text of as many bits as a message can have.
+#[test]
+fn reads_the_longest_text(rt: HostRuntime) -> Result<(), Fail> {
+    let mut line = Vec::from_slice(rt.alloc(), b"give 2 3 2 8192 ")?;
+    for _ in 0..MOST_DIGITS {
+        line.push(b'5')?;
+    }
+    match call_in(rt.alloc(), &line, None) {
+        Some(Call::Give { text, .. }) => assert!(rt; text.len() == 8192),
+        _ => assert!(rt; false),
+    }
+    Ok(())
 }
 
 #[test]
