@@ -14,17 +14,17 @@ HERE = os.path.dirname(os.path.abspath(__file__))
 TOP = os.path.dirname(HERE)
 # A call, the crate whose tests make it, and these tests. A test sees what stands where it is refused memory, and prints it.
 CALLS = [
-    ("BitStore::with_room", "ncp_rows", ["refused::with_room"]),
-    ("Slots::new", "ncp_host_rows", ["refused::slots_new"]),
-    ("run_link", "ncp_host_rows", ["refused::running_a_link"]),
-    ("Table::new", "ncp_rows", ["refused::table_new"]),
-    ("order", "ncp_rows", ["refused::reading_an_order"]),
-    ("Host::new", "ncp_host_rows", ["refused::host_new"]),
-    ("ask_send", "ncp_host_rows", ["refused::ask_send"]),
-    ("ask_receive", "ncp_host_rows", ["refused::ask_receive"]),
+    ("BitStore::with_room", "ncp_test_files", ["refused::with_room"]),
+    ("Slots::new", "ncp_test_host", ["refused::slots_new"]),
+    ("run_link", "ncp_test_host", ["refused::running_a_link"]),
+    ("Table::new", "ncp_test_files", ["refused::table_new"]),
+    ("order", "ncp_test_files", ["refused::reading_an_order"]),
+    ("Host::new", "ncp_test_host", ["refused::host_new"]),
+    ("ask_send", "ncp_test_host", ["refused::ask_send"]),
+    ("ask_receive", "ncp_test_host", ["refused::ask_receive"]),
     (
         "Alone::step",
-        "ncp_host_rows",
+        "ncp_test_host",
         [
             "alone::a_stray_answer_and_an_echo_are_noted",
             "alone::calls_are_noted",
@@ -32,15 +32,15 @@ CALLS = [
             "alone::what_is_read_is_noted",
         ],
     ),
-    ("World::new", "ncp_world_rows", ["refused::world::world_new"]),
-    ("World::step", "ncp_world_rows", ["refused::world::world_step"]),
-    ("run", "ncp_world_rows", ["refused::world::world_run"]),
-    ("Many::new", "ncp_world_rows", ["refused::many::many_new"]),
-    ("Many::step", "ncp_world_rows", ["refused::many::many_step"]),
-    ("Many::run", "ncp_world_rows", ["refused::many::many_run"]),
-    ("play_host", "ncp_play_rows", ["refused::playing_one_host"]),
-    ("play_world", "ncp_world_player_rows", ["refused::playing_two_hosts", "refused::playing_many_hosts"]),
-    ("record_world", "ncp_world_player_rows", ["recorded::refused::recording"]),
+    ("World::new", "ncp_test_world", ["refused::world::world_new"]),
+    ("World::step", "ncp_test_world", ["refused::world::world_step"]),
+    ("run", "ncp_test_world", ["refused::world::world_run"]),
+    ("Many::new", "ncp_test_world", ["refused::many::many_new"]),
+    ("Many::step", "ncp_test_world", ["refused::many::many_step"]),
+    ("Many::run", "ncp_test_world", ["refused::many::many_run"]),
+    ("play_host", "ncp_test_play_host", ["refused::playing_one_host"]),
+    ("play_world", "ncp_test_play_world", ["refused::playing_two_hosts", "refused::playing_many_hosts"]),
+    ("record_world", "ncp_test_play_world", ["recorded::refused::recording"]),
 ]
 TOLD = "refused: "  # in front of what a test prints
 PASSED = "test result: ok"

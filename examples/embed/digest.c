@@ -1,5 +1,5 @@
 /* Random calls and messages, valid and not, at two hosts and the network between them: `digest COUNT` makes so
- * many steps and prints a digest of all that was answered, where there was a step. The program of crates/ncp_digest
+ * many steps and prints a digest of all that was answered, where there was a step. The program of crates/ncp_test_digest
  * does the same through the library itself, and prints the same. */
 #include "ncp.h"
 #include <stdio.h>

@@ -9,8 +9,8 @@ use Rattle.ncp_host.specs.Host.{Host, is_one_of}
 use Rattle.ncp_transcript.specs.declared.note.HostNote.{HostNote}
 use Rattle.ncp_transcript.specs.After.{after_note}
 use Rattle.ncp_step.specs.Told.{after_told}
-use Rattle.ncp_pairs.specs.Numbered.{thing_in, at_thing}
-use Rattle.ncp_pairs.specs.Crowd.{host_or_none}
+use Rattle.ncp_transcript_many.specs.Numbered.{thing_in, at_thing}
+use Rattle.ncp_transcript_many.specs.Crowd.{host_or_none}
 use Rattle.ncp_many.specs.Found.{IsAt, at_told}
 
 -- a number has a place where it is there

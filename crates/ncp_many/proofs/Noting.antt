@@ -6,20 +6,20 @@ use Rattle.ncp_host.specs.Host.{Host}
 use Rattle.ncp_transcript.specs.declared.call.Call.{Call}
 use Rattle.ncp_transcript.specs.declared.note.HostNote.{HostNote}
 use Rattle.ncp_transcript.specs.Noting.{CallNoted, note_of_output}
-use Rattle.ncp_two.specs.declared.side.Side.TheVariants.{A}
-use Rattle.ncp_two.specs.declared.note.Move.TheVariants as moves
-use Rattle.ncp_two.specs.declared.note.Note.{Note}
-use Rattle.ncp_two.specs.declared.note.Note.TheVariants as notes
-use Rattle.ncp_two.specs.Happening.{Noted}
-use Rattle.ncp_two.specs.Seen.{CallFits}
+use Rattle.ncp_transcript_two.specs.declared.side.Side.TheVariants.{A}
+use Rattle.ncp_transcript_two.specs.declared.note.Move.TheVariants as moves
+use Rattle.ncp_transcript_two.specs.declared.note.Note.{Note}
+use Rattle.ncp_transcript_two.specs.declared.note.Note.TheVariants as notes
+use Rattle.ncp_transcript_two.specs.Happening.{Noted}
+use Rattle.ncp_transcript_two.specs.Seen.{CallFits}
 use Rattle.ncp_step.specs.Told.{told}
 use Rattle.ncp_step.proofs.Telling.{came-noted, came-vain, answer-noted, answer-vain}
-use Rattle.ncp_pairs.specs.declared.many_event.ManyEvent.{ManyEvent}
-use Rattle.ncp_pairs.specs.declared.many_event.ManyEvent.TheVariants as events
-use Rattle.ncp_pairs.specs.declared.many_note.ManyNote.{ManyNote}
-use Rattle.ncp_pairs.specs.declared.many_note.ManyNote.TheVariants as many
-use Rattle.ncp_pairs.specs.Crowd.{Crowd, is_there, between, host_at}
-use Rattle.ncp_pairs.specs.ManyHappening.{are_there, are_two, as_of_two, by_numbers, ends_of, IfThere, ManyNoted}
+use Rattle.ncp_transcript_many.specs.declared.many_event.ManyEvent.{ManyEvent}
+use Rattle.ncp_transcript_many.specs.declared.many_event.ManyEvent.TheVariants as events
+use Rattle.ncp_transcript_many.specs.declared.many_note.ManyNote.{ManyNote}
+use Rattle.ncp_transcript_many.specs.declared.many_note.ManyNote.TheVariants as many
+use Rattle.ncp_transcript_many.specs.Crowd.{Crowd, is_there, between, host_at}
+use Rattle.ncp_transcript_many.specs.ManyHappening.{are_there, are_two, as_of_two, by_numbers, ends_of, IfThere, ManyNoted}
 
 -- what its two hosts note, where they are there
 noted-two : (event : ManyEvent) (n : ManyNote) (m : Crowd) (two : Note) → are_there event m ≡ true → Noted (as_of_two event) two (between (ends_of event).0 (ends_of event).1 m)

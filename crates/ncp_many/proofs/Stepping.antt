@@ -1,11 +1,11 @@
 -- What happened is noted, or there was no memory for it: either way the notes are a transcript.
 use Rattle.std.proofs.Common.{◌≡◌, List, Result, Ok, Err, sym, subst}
 use Rattle.std.specs.Result.{OnOk, OnErr}
-use Rattle.ncp_pairs.specs.declared.many_event.ManyEvent.{ManyEvent}
-use Rattle.ncp_pairs.specs.declared.many_note.ManyNote.{ManyNote}
-use Rattle.ncp_pairs.specs.Crowd.{Crowd}
-use Rattle.ncp_pairs.specs.ManyTranscript.{Noted_many, IsManyStep, IsManyTranscript}
-use Rattle.ncp_pairs.proofs.ManyRuns.{transcript-grows}
+use Rattle.ncp_transcript_many.specs.declared.many_event.ManyEvent.{ManyEvent}
+use Rattle.ncp_transcript_many.specs.declared.many_note.ManyNote.{ManyNote}
+use Rattle.ncp_transcript_many.specs.Crowd.{Crowd}
+use Rattle.ncp_transcript_many.specs.ManyTranscript.{Noted_many, IsManyStep, IsManyTranscript}
+use Rattle.ncp_transcript_many.proofs.ManyRuns.{transcript-grows}
 
 pub transcript-stepped : {E : Type 0} (r : Result (Unit {0}) E) (event : ManyEvent) (before now : Noted_many)
     → OnOk r (IsManyStep event before now) → OnErr r ((now.notes ≡ before.notes) × (now.crowd ≡ before.crowd)) → IsManyTranscript before.notes before.crowd → IsManyTranscript now.notes now.crowd

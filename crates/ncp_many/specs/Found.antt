@@ -3,7 +3,7 @@ use Rattle.std.specs.Prelude.{◌≡◌, ℕ, List, Option, None, Some, slice_ge
 use Rattle.ncp_host.specs.Host.{Host}
 use Rattle.ncp_transcript.specs.declared.note.HostNote.{HostNote}
 use Rattle.ncp_transcript.specs.After.{after_note}
-use Rattle.ncp_pairs.specs.Numbered.{thing_in, at_thing}
+use Rattle.ncp_transcript_many.specs.Numbered.{thing_in, at_thing}
 
 -- it is at this place, and what happens to it happens there
 abbrev pub IsAt : List (ℕ × Host) → ℕ → ℕ → Type 0

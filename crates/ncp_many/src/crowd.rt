@@ -9,21 +9,21 @@ ghost use Rattle.ncp_subnet.specs.Subnet.{transit_at};
 ghost use Rattle.ncp_host.specs.Host.{is_one_of, are_distinct, new_host};
 ghost use Rattle.ncp_transcript.specs.Noting.{CallNoted, note_of_output};
 ghost use Rattle.ncp_transcript.specs.After.{after_note};
-ghost use Rattle.ncp_two.specs.Seen.{CallFits};
-ghost use Rattle.ncp_two.specs.Between.{after_out};
+ghost use Rattle.ncp_transcript_two.specs.Seen.{CallFits};
+ghost use Rattle.ncp_transcript_two.specs.Between.{after_out};
 ghost use Rattle.ncp_step.specs.Told.{told, put_told};
-ghost use Rattle.ncp_pairs.specs.declared.many_event.ManyEvent.TheVariants as events;
-ghost use Rattle.ncp_pairs.specs.Numbered.{thing_in, at_thing};
-ghost use Rattle.ncp_pairs.specs.Crowd.{is_there, are_hosts, others, new_crowd, host_or_none, after_many};
-ghost use Rattle.ncp_pairs.specs.ManyHappening.{are_two, are_there, gives, ManyNoted};
+ghost use Rattle.ncp_transcript_many.specs.declared.many_event.ManyEvent.TheVariants as events;
+ghost use Rattle.ncp_transcript_many.specs.Numbered.{thing_in, at_thing};
+ghost use Rattle.ncp_transcript_many.specs.Crowd.{is_there, are_hosts, others, new_crowd, host_or_none, after_many};
+ghost use Rattle.ncp_transcript_many.specs.ManyHappening.{are_two, are_there, gives, ManyNoted};
 ghost use Rattle.ncp_many.specs.Found.{IsAt, at_told};
 
 use ncp_bits::BitStore;
 use ncp_host::Host;
-use ncp_pairs::{MAX_HOSTS, ManyEvent, ManyNote};
 use ncp_step::{answers, calls, comes, new_host, sends};
 use ncp_subnet::Subnet;
 use ncp_transcript::{Call, HostNote};
+use ncp_transcript_many::{MAX_HOSTS, ManyEvent, ManyNote};
 use std::alloc::{AllocError, Global};
 use std::boxed::BoxedSlice;
 use std::marker::Model;
@@ -63,7 +63,7 @@ impl<S: BitStore> Model for Crowd<S> {
     ghost use Rattle.ncp_host.specs.Codes.{coded_ends};
     ghost use Rattle.ncp_subnet.specs.Codes.{coded_in_transit};
     ghost use Rattle.std.specs.Box.{boxed_slice_items};
-    ghost use Rattle.ncp_pairs.specs.Crowd.{Crowd as Seen};
+    ghost use Rattle.ncp_transcript_many.specs.Crowd.{Crowd as Seen};
 
     ghost Value = { Seen };
 

@@ -10,4 +10,4 @@ mod transcript;
 pub use crowd::are_hosts;
 pub use many::Many;
 pub use many_fault::ManyFault;
-pub use ncp_pairs::{MANY_NOTE_BYTES, MAX_HOSTS, ManyEvent, ManyNote};
+pub use ncp_transcript_many::{MANY_NOTE_BYTES, MAX_HOSTS, ManyEvent, ManyNote};

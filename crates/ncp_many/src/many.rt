@@ -1,14 +1,14 @@
 //! `Many`.
 ghost use Rattle.std.specs.Prelude.{◌≡◌, true, false, IfOk, IfErr, OnOk, OnErr, Err};
 ghost use Rattle.std.specs.Option.{is_some, option_copied};
-ghost use Rattle.ncp_promises.specs.Taking.{IsTaken};
-ghost use Rattle.ncp_pairs.specs.Numbered.{thing_in};
-ghost use Rattle.ncp_pairs.specs.Crowd.{is_there, are_hosts, new_crowd, after_many_notes};
-ghost use Rattle.ncp_pairs.specs.ManyTranscript.{new_many, IsManyStep, AreManyNotes, IsManyTranscript};
-ghost use Rattle.ncp_pairs.specs.Pairs.{ForEachTwo};
-ghost use Rattle.ncp_pairs.specs.NotesOfTwo.{ForEachNoteOfTwo};
-ghost use Rattle.ncp_progress_notes.specs.NotesWork.{MovesArePaidFor};
-ghost use Rattle.ncp_progress_settled.specs.Settled.{EndsFinished};
+ghost use Rattle.ncp_proof_promises.specs.Taking.{IsTaken};
+ghost use Rattle.ncp_transcript_many.specs.Numbered.{thing_in};
+ghost use Rattle.ncp_transcript_many.specs.Crowd.{is_there, are_hosts, new_crowd, after_many_notes};
+ghost use Rattle.ncp_transcript_many.specs.ManyTranscript.{new_many, IsManyStep, AreManyNotes, IsManyTranscript};
+ghost use Rattle.ncp_transcript_many.specs.Pairs.{ForEachTwo};
+ghost use Rattle.ncp_transcript_many.specs.NotesOfTwo.{ForEachNoteOfTwo};
+ghost use Rattle.ncp_proof_progress_notes.specs.NotesWork.{MovesArePaidFor};
+ghost use Rattle.ncp_proof_progress_settled.specs.Settled.{EndsFinished};
 ghost use Rattle.ncp_proof_statement.specs.EachTwo.{HeadlineOfEachTwo};
 
 use crate::crowd::{Crowd, are_hosts};
@@ -16,10 +16,10 @@ use crate::many_fault::ManyFault;
 use crate::transcript::Transcript;
 use ncp_bits::BitStore;
 use ncp_host::Host;
-use ncp_pairs::taking::what_goes_out_of_each_of_many_is_taken;
-use ncp_pairs::{ManyEvent, ManyNote};
-use ncp_progress_many::many::what_moves_between_two_of_many_is_paid_for;
+use ncp_proof_progress_many::many::what_moves_between_two_of_many_is_paid_for;
 use ncp_proof_statement::each_pair::each_pair_keeps_the_page;
+use ncp_transcript_many::taking::what_goes_out_of_each_of_many_is_taken;
+use ncp_transcript_many::{ManyEvent, ManyNote};
 use std::alloc::{AllocError, Global};
 use std::marker::Model;
 
@@ -40,7 +40,7 @@ impl<S: BitStore> Model for Many<S> {
     ghost use Rattle.ncp_slot.specs.Slots.{coded_slots};
     ghost use Rattle.ncp_host.specs.Codes.{coded_ends};
     ghost use Rattle.ncp_subnet.specs.Codes.{coded_in_transit};
-    ghost use Rattle.ncp_pairs.specs.ManyTranscript.{IsManyTranscript, Noted_many as Seen};
+    ghost use Rattle.ncp_transcript_many.specs.ManyTranscript.{IsManyTranscript, Noted_many as Seen};
 
     ghost Value = { Seen };
 
@@ -109,7 +109,7 @@ impl<S: BitStore> Many<S> {
     /// between them (`paid`); where no message between them is ready, in transit or held they are finished
     /// (`finished`); and the notes are a transcript of the hosts (`run`), of which all that is proved of transcripts of many holds: those
     /// that name two are a transcript of two, the phrases of the headline hold of the two as they are among all
-    /// (`each_pair` of `ncp_pairs`), and each host is by itself (`transcripts` there).
+    /// (`each_pair` of `ncp_transcript_many`), and each host is by itself (`transcripts` there).
     pub fn step(&mut self, event: &ManyEvent) -> Result<(), AllocError>
         ensures step { OnOk result (IsManyStep event.now self.old self.new) }
         ensures err { OnErr result (self.new ≡ self.old) }

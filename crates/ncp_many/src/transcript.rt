@@ -1,10 +1,10 @@
 //! `Transcript`.
 ghost use Rattle.std.specs.Prelude.{◌≡◌, [], OnOk, OnErr};
-ghost use Rattle.ncp_pairs.specs.ManyTranscript.{IsManyStep};
+ghost use Rattle.ncp_transcript_many.specs.ManyTranscript.{IsManyStep};
 
 use crate::crowd::Crowd;
 use ncp_bits::BitStore;
-use ncp_pairs::{ManyEvent, ManyNote};
+use ncp_transcript_many::{ManyEvent, ManyNote};
 use std::alloc::{AllocError, Global};
 use std::marker::Model;
 
@@ -20,7 +20,7 @@ pub(crate) struct Transcript {
 
 impl Model for Transcript {
     ghost use Rattle.std.specs.Prelude.{List};
-    ghost use Rattle.ncp_pairs.specs.declared.many_note.ManyNote.{ManyNote};
+    ghost use Rattle.ncp_transcript_many.specs.declared.many_note.ManyNote.{ManyNote};
 
     ghost Value = { List ManyNote };
 

@@ -6,10 +6,10 @@
 //! `specs/Lib.antt` passes these on, so that whoever uses a call names this crate alone.
 #![tactic(auto)]
 
-pub use ncp_command_line::{Order, order};
-pub use ncp_files::{FileFault, check, convert, show};
-pub use ncp_host_player::play_host;
-pub use ncp_play::PlayFault;
-pub use ncp_program::status;
-pub use ncp_stream::{Failed, FromRead, MemorySink, MemorySource, Sink, Source, ToWrite};
-pub use ncp_world_player::{play_world, record_world};
+pub use ncp_play_command_line::{Order, order};
+pub use ncp_play_files::{FileFault, check, convert, show};
+pub use ncp_play_host::play_host;
+pub use ncp_play_notes::PlayFault;
+pub use ncp_play_program::status;
+pub use ncp_play_stream::{Failed, FromRead, MemorySink, MemorySource, Sink, Source, ToWrite};
+pub use ncp_play_world::{play_world, record_world};

@@ -8,9 +8,9 @@ use Rattle.ncp_terms.specs.declared.command.Command.{Command}
 use Rattle.ncp_terms.specs.declared.command.Command.TheVariants.{Rst, Rrp}
 use Rattle.ncp_model.specs.Phase.{Phase, is_rst, is_rrp, is_other, answers, asks, owes_answer, hears_rrp}
 use Rattle.ncp_model.proofs.ResetLists.{bit, rsts, rrps, others, purged, after_rst, rsts-append, rrps-append, rsts-purged, any-rsts, any-rrps}
-use Rattle.ncp_resets.specs.Resets.{Host, is_up, anew, host_settles}
-use Rattle.ncp_resets.proofs.ResetKept.{Kept, answering}
-use Rattle.ncp_headline.proofs.Lives.{fronts, behind, live, fronts_other, behind_other, behind_new, live_rst, live_cut, rrps_cut, owed}
+use Rattle.ncp_proof_resets.specs.Resets.{Host, is_up, anew, host_settles}
+use Rattle.ncp_proof_resets.proofs.ResetKept.{Kept, answering}
+use Rattle.ncp_proof_headline.proofs.Lives.{fronts, behind, live, fronts_other, behind_other, behind_new, live_rst, live_cut, rrps_cut, owed}
 
 -- a host that is not down, or owes an RRP, by which it comes up
 abbrev pub Rises : Host → Type 0

@@ -15,16 +15,16 @@ use Rattle.ncp_model.specs.Echo.{Echoes, echo_asked}
 use Rattle.ncp_model.specs.Phase.{is_other, is_resetting, wants_reset, owes_answer}
 use Rattle.ncp_model.specs.Sending.{is_full}
 use Rattle.ncp_model.proofs.ResetLists.{bit, rrps}
-use Rattle.ncp_resets.specs.Delivery.{Slot, Empty, Ready, Travelling, Held, Subnet, Free, Accepted, Delivered, Lost, Dead, idle}
-use Rattle.ncp_resets.specs.Resets.{Host, is_up, on_line, anew, host_resets, host_settles, host_falls, host_makes_all, host_hears, Side, This, That}
-use Rattle.ncp_resets.proofs.ResetKept.{Kept, settling, wanting, owing, came_up, replying}
-use Rattle.ncp_hosts.specs.Hosts.{TextOut, Node, kept_echoes, quiet, cleared, called, happens_at, calls, echo_called, calls_echo, calls_reset, is_full_up, echo_replies, echoes_after, reaction, hears, hears_other, hears_all, takes_text, hears_text, cuts, sends_text, frees, text_answered, control_answered, text_comes, message_comes, Call, World, swap, base, Step, Calls_reset, Calls, Calls_echo, Falls, Sends, Sends_text, Hears, Hears_text, Loses, Loses_text, Dies, Text_dies, Is_answered, Text_is_answered, Wakes, steps, Event, at, run_from, run, start}
-use Rattle.ncp_hosts.proofs.HostsBase.{hears_all-control}
-use Rattle.ncp_headline.proofs.Lives.{live}
+use Rattle.ncp_proof_resets.specs.Delivery.{Slot, Empty, Ready, Travelling, Held, Subnet, Free, Accepted, Delivered, Lost, Dead, idle}
+use Rattle.ncp_proof_resets.specs.Resets.{Host, is_up, on_line, anew, host_resets, host_settles, host_falls, host_makes_all, host_hears, Side, This, That}
+use Rattle.ncp_proof_resets.proofs.ResetKept.{Kept, settling, wanting, owing, came_up, replying}
+use Rattle.ncp_proof_machine.specs.Hosts.{TextOut, Node, kept_echoes, quiet, cleared, called, happens_at, calls, echo_called, calls_echo, calls_reset, is_full_up, echo_replies, echoes_after, reaction, hears, hears_other, hears_all, takes_text, hears_text, cuts, sends_text, frees, text_answered, control_answered, text_comes, message_comes, Call, World, swap, base, Step, Calls_reset, Calls, Calls_echo, Falls, Sends, Sends_text, Hears, Hears_text, Loses, Loses_text, Dies, Text_dies, Is_answered, Text_is_answered, Wakes, steps, Event, at, run_from, run, start}
+use Rattle.ncp_proof_machine.proofs.HostsBase.{hears_all-control}
+use Rattle.ncp_proof_headline.proofs.Lives.{live}
 use Rattle.ncp_proof_recovery.proofs.Others.{called-other, hear-other, text-other, answered-other}
-use Rattle.ncp_headline.proofs.HostsJoined.{Joined, AllOther, up_alive, up_waits}
-use Rattle.ncp_headline.proofs.HostsSteps.{hears-keeps}
-use Rattle.ncp_headline.proofs.HostsHeld.{Ever, ever-swapped, after_step, accepted, ever}
+use Rattle.ncp_proof_headline.proofs.HostsJoined.{Joined, AllOther, up_alive, up_waits}
+use Rattle.ncp_proof_headline.proofs.HostsSteps.{hears-keeps}
+use Rattle.ncp_proof_headline.proofs.HostsHeld.{Ever, ever-swapped, after_step, accepted, ever}
 use Rattle.ncp_proof_recovery.proofs.Lines.{line, sent-line, undelivered-line, woken-line, step-other, heard-line}
 use Rattle.ncp_proof_recovery.proofs.EchoUnderway.{is_eco, is_erp, ecos, erps, Echoing, echoing-turned, clears-echo, settles-echo, rrp-echo, drops-echo, came, comes-echo, Made, makes-echo, all-make-echo, front-echo}
 

@@ -7,10 +7,10 @@ use Rattle.ncp_terms.specs.declared.command.Command.{Command}
 use Rattle.ncp_terms.specs.declared.command.Command.TheVariants.{Rst, Rrp, Eco, Erp}
 use Rattle.ncp_model.specs.Phase.{Phase, is_rst, is_rrp, is_other, answers, asks, hears_rrp, has_place, queued}
 use Rattle.ncp_model.proofs.ResetLists.{bit, rsts, rrps, rrps-append}
-use Rattle.ncp_resets.specs.Resets.{Host, is_up, host_settles, host_falls, host_makes, host_makes_all}
-use Rattle.ncp_resets.proofs.ResetKept.{Kept, answering, making}
-use Rattle.ncp_headline.proofs.Lives.{live, alive, fronts_other, behind_other, live_more, owed}
-use Rattle.ncp_headline.proofs.HostsJoined.{AllOther, up_alive, up_waits, not_up_wait, not_alive}
+use Rattle.ncp_proof_resets.specs.Resets.{Host, is_up, host_settles, host_falls, host_makes, host_makes_all}
+use Rattle.ncp_proof_resets.proofs.ResetKept.{Kept, answering, making}
+use Rattle.ncp_proof_headline.proofs.Lives.{live, alive, fronts_other, behind_other, live_more, owed}
+use Rattle.ncp_proof_headline.proofs.HostsJoined.{AllOther, up_alive, up_waits, not_up_wait, not_alive}
 
 abbrev pub is_eco : Command → Bool
 is_eco (Eco byte) = true

@@ -2,18 +2,18 @@
 use Rattle.std.proofs.Common.{◌≡◌, Bool, true, false, List, refl, sym, ap, ◌∙◌, subst}
 use Rattle.ncp_model.specs.Phase.{up}
 use Rattle.ncp_model.specs.Peers.{Peer}
-use Rattle.ncp_hosts.specs.Hosts.{Event, World, swap, run, peer_of}
+use Rattle.ncp_proof_machine.specs.Hosts.{Event, World, swap, run, peer_of}
 use Rattle.ncp_host.specs.PeerState.{PeerState}
-use Rattle.ncp_two.specs.declared.note.Note.{Note}
-use Rattle.ncp_two.specs.Between.{Hosts}
-use Rattle.ncp_two.specs.Transcript.{IsTranscript}
-use Rattle.ncp_two.specs.Seen.{seen}
-use Rattle.ncp_two.proofs.Headlines.{of-model}
-use Rattle.ncp_headline.proofs.HostsHeld.{Ever, ever, ever-swapped}
-use Rattle.ncp_progress_idle.specs.Idle.{IsSettled}
-use Rattle.ncp_progress_idle.proofs.Settled.{ever-idle}
-use Rattle.ncp_progress_finished.proofs.AtRest.{none-going, none-coming}
-use Rattle.ncp_progress_settled.proofs.OfModel.{settled-of}
+use Rattle.ncp_transcript_two.specs.declared.note.Note.{Note}
+use Rattle.ncp_transcript_two.specs.Between.{Hosts}
+use Rattle.ncp_transcript_two.specs.Transcript.{IsTranscript}
+use Rattle.ncp_transcript_two.specs.Seen.{seen}
+use Rattle.ncp_transcript_two.proofs.Headlines.{of-model}
+use Rattle.ncp_proof_headline.proofs.HostsHeld.{Ever, ever, ever-swapped}
+use Rattle.ncp_proof_progress_idle.specs.Idle.{IsSettled}
+use Rattle.ncp_proof_progress_idle.proofs.Settled.{ever-idle}
+use Rattle.ncp_proof_progress_finished.proofs.AtRest.{none-going, none-coming}
+use Rattle.ncp_proof_progress_settled.proofs.OfModel.{settled-of}
 use Rattle.ncp_proof_recovery.specs.Echoes.{NoneAwaits, EchoesAreAnswered}
 use Rattle.ncp_proof_recovery.proofs.Lines.{line}
 use Rattle.ncp_proof_recovery.proofs.EchoUnderway.{echoing-turned}

@@ -3,14 +3,14 @@ use Rattle.std.proofs.Common.{◌≡◌, ℕ, ◌∷◌, ◌++◌, List, Bool, O
 use Rattle.ncp_slot.specs.Slot.{ready_message}
 use Rattle.ncp_model.specs.Act.{answer}
 use Rattle.ncp_model.specs.Ends.{cut_in}
-use Rattle.ncp_resets.specs.Delivery.{Empty}
-use Rattle.ncp_resets.specs.Resets.{Side, This, That}
-use Rattle.ncp_hosts.specs.Hosts.{World, Falls, Step, Sends, Sends_text, Wakes, all_empty, run}
-use Rattle.ncp_hosts.specs.HostRuns.{by, comes_up}
-use Rattle.ncp_hosts.specs.Moving.{put_if_any, as_text}
-use Rattle.ncp_hosts.proofs.Standing.{nothing_out}
-use Rattle.ncp_progress_hosts.specs.HostsWork.{moved_at, held_texts, one_if_any}
-use Rattle.ncp_progress_idle.specs.Idle.{IsSettled}
+use Rattle.ncp_proof_resets.specs.Delivery.{Empty}
+use Rattle.ncp_proof_resets.specs.Resets.{Side, This, That}
+use Rattle.ncp_proof_machine.specs.Hosts.{World, Falls, Step, Sends, Sends_text, Wakes, all_empty, run}
+use Rattle.ncp_proof_machine.specs.HostRuns.{by, comes_up}
+use Rattle.ncp_proof_machine.specs.Moving.{put_if_any, as_text}
+use Rattle.ncp_proof_machine.proofs.Standing.{nothing_out}
+use Rattle.ncp_proof_progress_machine.specs.HostsWork.{moved_at, held_texts, one_if_any}
+use Rattle.ncp_proof_progress_idle.specs.Idle.{IsSettled}
 use Rattle.ncp_proof_recovery.specs.Recovery.{HaveRecovered}
 
 abbrev again : World

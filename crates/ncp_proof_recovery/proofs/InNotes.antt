@@ -5,32 +5,32 @@ use Rattle.ncp_model.specs.declared.call_fault.CallFault.TheVariants.{Busy}
 use Rattle.ncp_model.specs.Ends.{no_ends}
 use Rattle.ncp_model.specs.Phase.{Phase, is_resetting, reset_answer, up}
 use Rattle.ncp_model.specs.Peers.{Peer}
-use Rattle.ncp_resets.specs.Resets.{Side, This, That}
-use Rattle.ncp_hosts.specs.Hosts.{Node, peer_of}
-use Rattle.ncp_hosts.specs.Hosts as hosts
+use Rattle.ncp_proof_resets.specs.Resets.{Side, This, That}
+use Rattle.ncp_proof_machine.specs.Hosts.{Node, peer_of}
+use Rattle.ncp_proof_machine.specs.Hosts as hosts
 use Rattle.ncp_host.specs.PeerState.{PeerState}
 use Rattle.ncp_host.specs.Output.{next_of}
-use Rattle.ncp_headline.proofs.HostsHeld.{Ever, ever, after_step}
-use Rattle.ncp_two.specs.Subnet.{Subnet, Holds, Free, Accepted, Delivered, Lost, Dead}
-use Rattle.ncp_two.specs.World.{World, Asks, Asks_echo, Asks_reset, Asks_wake, Reply, Replied, Told, Called, Out, In, Went_lost, Went_dead, Answered, Nothing, goes, delivers, loses, dies, answers_for, moves, at}
-use Rattle.ncp_two.specs.World as worlds
-use Rattle.ncp_two.specs.Tie.{IsMove, Stands, Tied}
-use Rattle.ncp_two.specs.declared.note.Note.{Note}
-use Rattle.ncp_two.specs.declared.side.Side as sides
-use Rattle.ncp_two.specs.Between.{Hosts, after_note, after_notes}
-use Rattle.ncp_two.specs.Transcript.{IsRun, began, IsTranscript}
-use Rattle.ncp_two.specs.Seen.{seen, as_rules, told_of, side_of}
-use Rattle.ncp_two.proofs.Ties.{IsFor, Leads, tied-swapped}
-use Rattle.ncp_two.proofs.Runs.{moves-tie, new-ties}
-use Rattle.ncp_two.proofs.Reaching.{of-reached}
-use Rattle.ncp_two.proofs.SeenSteps.{Stand}
-use Rattle.ncp_two.proofs.SeenRuns.{DoesOn, event-does, stand-after, stands-at}
-use Rattle.ncp_two.proofs.Headlines.{new, stands}
-use Rattle.ncp_two.proofs.Vain.{said_at, run_before}
-use Rattle.ncp_progress_idle.specs.Idle as model
-use Rattle.ncp_progress_finished.specs.Finished.{IsFinished}
-use Rattle.ncp_progress_finished.proofs.PairsFinished.{ever-finished}
-use Rattle.ncp_progress_settled.proofs.OfModel.{settled-of}
+use Rattle.ncp_proof_headline.proofs.HostsHeld.{Ever, ever, after_step}
+use Rattle.ncp_transcript_two.specs.Subnet.{Subnet, Holds, Free, Accepted, Delivered, Lost, Dead}
+use Rattle.ncp_transcript_two.specs.World.{World, Asks, Asks_echo, Asks_reset, Asks_wake, Reply, Replied, Told, Called, Out, In, Went_lost, Went_dead, Answered, Nothing, goes, delivers, loses, dies, answers_for, moves, at}
+use Rattle.ncp_transcript_two.specs.World as worlds
+use Rattle.ncp_transcript_two.specs.Tie.{IsMove, Stands, Tied}
+use Rattle.ncp_transcript_two.specs.declared.note.Note.{Note}
+use Rattle.ncp_transcript_two.specs.declared.side.Side as sides
+use Rattle.ncp_transcript_two.specs.Between.{Hosts, after_note, after_notes}
+use Rattle.ncp_transcript_two.specs.Transcript.{IsRun, began, IsTranscript}
+use Rattle.ncp_transcript_two.specs.Seen.{seen, as_rules, told_of, side_of}
+use Rattle.ncp_transcript_two.proofs.Ties.{IsFor, Leads, tied-swapped}
+use Rattle.ncp_transcript_two.proofs.Runs.{moves-tie, new-ties}
+use Rattle.ncp_transcript_two.proofs.Reaching.{of-reached}
+use Rattle.ncp_transcript_two.proofs.SeenSteps.{Stand}
+use Rattle.ncp_transcript_two.proofs.SeenRuns.{DoesOn, event-does, stand-after, stands-at}
+use Rattle.ncp_transcript_two.proofs.Headlines.{new, stands}
+use Rattle.ncp_transcript_two.proofs.Vain.{said_at, run_before}
+use Rattle.ncp_proof_progress_idle.specs.Idle as model
+use Rattle.ncp_proof_progress_finished.specs.Finished.{IsFinished}
+use Rattle.ncp_proof_progress_finished.proofs.PairsFinished.{ever-finished}
+use Rattle.ncp_proof_progress_settled.proofs.OfModel.{settled-of}
 use Rattle.ncp_proof_recovery.specs.Recovery.{disturbs, IsFresh}
 use Rattle.ncp_proof_recovery.specs.Notes.{is_call, tells_call, NothingIsAsked, reset_done, IsNew, ResetRecovers}
 use Rattle.ncp_proof_recovery.proofs.Recovering.{Recovers, side-recovers, reset-recovers}

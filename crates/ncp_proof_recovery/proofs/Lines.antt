@@ -1,11 +1,11 @@
 -- What is on a control link, and that it stays there while a message goes out, is lost or is woken.
 use Rattle.std.proofs.Common.{◌≡◌, ℕ, ◌+◌, Bool, List, [], ◌∷◌, take, drop, refl, sym, ap, ◌∙◌, subst}
 use Rattle.ncp_terms.specs.declared.command.Command.{Command}
-use Rattle.ncp_resets.specs.Delivery.{Slot, Empty, Ready, Travelling, Held, Subnet, Free, Accepted, Delivered, Lost, Dead, Link, undelivered, woken}
-use Rattle.ncp_resets.specs.Resets.{Host, on_line}
-use Rattle.ncp_resets.specs.Resets as resets
-use Rattle.ncp_resets.proofs.ResetRuns.{Tied}
-use Rattle.ncp_hosts.specs.Hosts.{TextOut, Node, text_comes, World, Step, Hears, Hears_text, steps}
+use Rattle.ncp_proof_resets.specs.Delivery.{Slot, Empty, Ready, Travelling, Held, Subnet, Free, Accepted, Delivered, Lost, Dead, Link, undelivered, woken}
+use Rattle.ncp_proof_resets.specs.Resets.{Host, on_line}
+use Rattle.ncp_proof_resets.specs.Resets as resets
+use Rattle.ncp_proof_resets.proofs.ResetRuns.{Tied}
+use Rattle.ncp_proof_machine.specs.Hosts.{TextOut, Node, text_comes, World, Step, Hears, Hears_text, steps}
 
 abbrev pub line : Link (List Command) → List Command
 line l = on_line l.slot l.subnet

@@ -18,7 +18,7 @@ use Rattle.ncp_model.specs.Phase.{is_reset}
 use Rattle.ncp_model.specs.Peers.{echo_replies}
 use Rattle.ncp_model.proofs.Lookups.{nowhere}
 use Rattle.ncp_model.proofs.Makes.{none-reset}
-use Rattle.ncp_headline.proofs.HostsJoined.{AllOther}
+use Rattle.ncp_proof_headline.proofs.HostsJoined.{AllOther}
 
 none-other : (cs : List Command) → filter is_reset cs ≡ [] → AllOther cs
 none-other [] e = tt

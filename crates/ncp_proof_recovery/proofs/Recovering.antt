@@ -15,20 +15,20 @@ use Rattle.ncp_model.specs.Leading.{passes}
 use Rattle.ncp_model.specs.Echo.{Echoes}
 use Rattle.ncp_model.specs.Phase.{is_resetting, wants_reset, owes_answer}
 use Rattle.ncp_model.proofs.ResetLists.{rrps}
-use Rattle.ncp_resets.specs.Delivery.{Slot, Empty, Ready, Travelling, Held, Subnet, Free, Accepted, Delivered, Lost, Dead, Link, idle, undelivered, answered, woken}
-use Rattle.ncp_resets.specs.Resets.{Host, is_up, on_line, anew, host_resets, host_settles, host_makes_all, Side, This, That}
-use Rattle.ncp_resets.specs.Resets as resets
-use Rattle.ncp_resets.proofs.ResetKept.{Kept, settling, owing}
-use Rattle.ncp_resets.proofs.ResetRuns.{Tied, fronting}
-use Rattle.ncp_hosts.specs.Hosts.{TextOut, Node, kept, kept_echoes, quiet, cleared, calls_reset, hears, hears_other, hears_all, takes_text, hears_text, cuts, sends_text, frees, settles, text_answered, control_answered, text_comes, message_comes, World, swap, base, Step, Calls_reset, Calls, Calls_echo, Falls, Sends, Sends_text, Hears, Hears_text, Loses, Loses_text, Dies, Text_dies, Is_answered, Text_is_answered, Wakes, steps, Event, at, run_from}
-use Rattle.ncp_hosts.proofs.HostsBase.{hears_all-control}
-use Rattle.ncp_hosts.proofs.Standing.{nothing_out}
-use Rattle.ncp_headline.proofs.Ties.{Owners, Owned}
+use Rattle.ncp_proof_resets.specs.Delivery.{Slot, Empty, Ready, Travelling, Held, Subnet, Free, Accepted, Delivered, Lost, Dead, Link, idle, undelivered, answered, woken}
+use Rattle.ncp_proof_resets.specs.Resets.{Host, is_up, on_line, anew, host_resets, host_settles, host_makes_all, Side, This, That}
+use Rattle.ncp_proof_resets.specs.Resets as resets
+use Rattle.ncp_proof_resets.proofs.ResetKept.{Kept, settling, owing}
+use Rattle.ncp_proof_resets.proofs.ResetRuns.{Tied, fronting}
+use Rattle.ncp_proof_machine.specs.Hosts.{TextOut, Node, kept, kept_echoes, quiet, cleared, calls_reset, hears, hears_other, hears_all, takes_text, hears_text, cuts, sends_text, frees, settles, text_answered, control_answered, text_comes, message_comes, World, swap, base, Step, Calls_reset, Calls, Calls_echo, Falls, Sends, Sends_text, Hears, Hears_text, Loses, Loses_text, Dies, Text_dies, Is_answered, Text_is_answered, Wakes, steps, Event, at, run_from}
+use Rattle.ncp_proof_machine.proofs.HostsBase.{hears_all-control}
+use Rattle.ncp_proof_machine.proofs.Standing.{nothing_out}
+use Rattle.ncp_proof_headline.proofs.Ties.{Owners, Owned}
 use Rattle.ncp_proof_recovery.proofs.Others.{gone-answer, gone-answer-map}
-use Rattle.ncp_headline.proofs.TiesTexts.{text-out-stands}
-use Rattle.ncp_headline.proofs.HostsJoined.{lives, is_alive, Joined, up_alive}
-use Rattle.ncp_headline.proofs.HostsSteps.{hears-keeps}
-use Rattle.ncp_headline.proofs.HostsHeld.{Ever, ever-swapped, after_step, accepted}
+use Rattle.ncp_proof_headline.proofs.TiesTexts.{text-out-stands}
+use Rattle.ncp_proof_headline.proofs.HostsJoined.{lives, is_alive, Joined, up_alive}
+use Rattle.ncp_proof_headline.proofs.HostsSteps.{hears-keeps}
+use Rattle.ncp_proof_headline.proofs.HostsHeld.{Ever, ever-swapped, after_step, accepted}
 use Rattle.ncp_proof_recovery.specs.Recovery.{disturbs, IsQuiet, host_at}
 use Rattle.ncp_proof_recovery.proofs.Lines.{line, sent-line, undelivered-line, woken-line, step-other, heard-line}
 use Rattle.ncp_proof_recovery.proofs.Anew.{Anew, Asked, anew-turned, asked-not-up, settles-asked, rst-asked, other-asked, settles-anew, rst-anew, rst-begins, rrp-anew, drop-anew, up-hears-none, front-asked, front-anew}

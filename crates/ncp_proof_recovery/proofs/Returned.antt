@@ -10,25 +10,25 @@ use Rattle.ncp_model.specs.Ends.{Ends}
 use Rattle.ncp_model.specs.Phase.{up}
 use Rattle.ncp_model.specs.Peers.{Peer}
 use Rattle.ncp_model.proofs.ResetLists.{rrps}
-use Rattle.ncp_watch.specs.Histories.{Watched}
-use Rattle.ncp_resets.specs.Resets.{is_up}
-use Rattle.ncp_sharing.specs.Sharing.{Shared, Tagged, only, at}
-use Rattle.ncp_hosts.specs.Hosts.{Event, World, swap, run, peer_of}
-use Rattle.ncp_two.specs.World as worlds
-use Rattle.ncp_two.specs.declared.note.Note.{Note}
-use Rattle.ncp_two.specs.Between.{Hosts}
-use Rattle.ncp_two.specs.Transcript.{IsTranscript}
-use Rattle.ncp_two.specs.Seen.{seen}
-use Rattle.ncp_two.proofs.Headlines.{of-model}
-use Rattle.ncp_headline.specs.Tied.{watched}
-use Rattle.ncp_headline.proofs.Lives.{live, fronts}
-use Rattle.ncp_headline.proofs.Ties.{commands_of, turn_all}
-use Rattle.ncp_headline.proofs.HostsJoined.{lives, up_alive, up_waits}
-use Rattle.ncp_headline.proofs.HostsHeld.{Ever, ever, ever-swapped, x, y}
-use Rattle.ncp_progress_idle.specs.Idle.{IsSettled, IsIdle}
-use Rattle.ncp_progress_idle.proofs.Settled.{ever-idle}
-use Rattle.ncp_progress_finished.proofs.AtRest.{none-going, none-coming, sends-live}
-use Rattle.ncp_progress_settled.proofs.OfModel.{settled-of}
+use Rattle.ncp_proof_watch.specs.Histories.{Watched}
+use Rattle.ncp_proof_resets.specs.Resets.{is_up}
+use Rattle.ncp_proof_sharing.specs.Sharing.{Shared, Tagged, only, at}
+use Rattle.ncp_proof_machine.specs.Hosts.{Event, World, swap, run, peer_of}
+use Rattle.ncp_transcript_two.specs.World as worlds
+use Rattle.ncp_transcript_two.specs.declared.note.Note.{Note}
+use Rattle.ncp_transcript_two.specs.Between.{Hosts}
+use Rattle.ncp_transcript_two.specs.Transcript.{IsTranscript}
+use Rattle.ncp_transcript_two.specs.Seen.{seen}
+use Rattle.ncp_transcript_two.proofs.Headlines.{of-model}
+use Rattle.ncp_proof_headline.specs.Tied.{watched}
+use Rattle.ncp_proof_headline.proofs.Lives.{live, fronts}
+use Rattle.ncp_proof_headline.proofs.Ties.{commands_of, turn_all}
+use Rattle.ncp_proof_headline.proofs.HostsJoined.{lives, up_alive, up_waits}
+use Rattle.ncp_proof_headline.proofs.HostsHeld.{Ever, ever, ever-swapped, x, y}
+use Rattle.ncp_proof_progress_idle.specs.Idle.{IsSettled, IsIdle}
+use Rattle.ncp_proof_progress_idle.proofs.Settled.{ever-idle}
+use Rattle.ncp_proof_progress_finished.proofs.AtRest.{none-going, none-coming, sends-live}
+use Rattle.ncp_proof_progress_settled.proofs.OfModel.{settled-of}
 use Rattle.ncp_proof_recovery.specs.CallingBack.{NoneIsCalledBack, NoneCallsBack, AllReturned, GvbsAreAnswered}
 use Rattle.ncp_proof_recovery.proofs.CallingBack.{Recalled}
 use Rattle.ncp_proof_recovery.proofs.CalledBack.{AllAnswer, answers-ever}

@@ -6,13 +6,13 @@ use Rattle.ncp_model.specs.declared.pair.Pair.{Pair}
 use Rattle.ncp_model.specs.Pairs.{sends, turned}
 use Rattle.ncp_model.specs.End.{End, is_going}
 use Rattle.ncp_model.specs.Phase.{up}
-use Rattle.ncp_resets.specs.Resets.{is_up}
-use Rattle.ncp_hosts.specs.Hosts as hosts
-use Rattle.ncp_two.specs.World.{World, swap}
-use Rattle.ncp_two.specs.declared.note.Note.{Note}
-use Rattle.ncp_two.specs.Between.{Hosts}
-use Rattle.ncp_two.specs.Seen.{seen}
-use Rattle.ncp_progress_settled.specs.Settled.{IsSettled}
+use Rattle.ncp_proof_resets.specs.Resets.{is_up}
+use Rattle.ncp_proof_machine.specs.Hosts as hosts
+use Rattle.ncp_transcript_two.specs.World.{World, swap}
+use Rattle.ncp_transcript_two.specs.declared.note.Note.{Note}
+use Rattle.ncp_transcript_two.specs.Between.{Hosts}
+use Rattle.ncp_transcript_two.specs.Seen.{seen}
+use Rattle.ncp_proof_progress_settled.specs.Settled.{IsSettled}
 
 -- the sender's end and the receiver's: a receiver's GVB is unanswered while recall is set. An end on its way
 -- out takes a GVB as late, and no RET comes: this profile's rule.

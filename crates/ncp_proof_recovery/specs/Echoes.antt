@@ -1,13 +1,13 @@
 -- An echo is answered (NIC 8246, ECO and ERP): where nothing can happen but a call, and both are up, neither host awaits one.
 use Rattle.std.specs.Prelude.{◌≡◌, true, false, List}
 use Rattle.ncp_model.specs.Phase.{up}
-use Rattle.ncp_resets.specs.Resets.{is_up}
-use Rattle.ncp_hosts.specs.Hosts as hosts
-use Rattle.ncp_two.specs.World.{World}
-use Rattle.ncp_two.specs.declared.note.Note.{Note}
-use Rattle.ncp_two.specs.Between.{Hosts}
-use Rattle.ncp_two.specs.Seen.{seen}
-use Rattle.ncp_progress_settled.specs.Settled.{IsSettled}
+use Rattle.ncp_proof_resets.specs.Resets.{is_up}
+use Rattle.ncp_proof_machine.specs.Hosts as hosts
+use Rattle.ncp_transcript_two.specs.World.{World}
+use Rattle.ncp_transcript_two.specs.declared.note.Note.{Note}
+use Rattle.ncp_transcript_two.specs.Between.{Hosts}
+use Rattle.ncp_transcript_two.specs.Seen.{seen}
+use Rattle.ncp_proof_progress_settled.specs.Settled.{IsSettled}
 
 -- of two hosts of the model
 abbrev pub NoneAwaits : hosts.World → Type 0

@@ -5,13 +5,13 @@ use Rattle.ncp_model.specs.Phase.{up}
 use Rattle.ncp_host.specs.PeerState.{PeerState}
 use Rattle.ncp_transcript.specs.declared.call.Call.TheVariants as calls
 use Rattle.ncp_transcript.specs.declared.note.HostNote.TheVariants as of_host
-use Rattle.ncp_two.specs.World.{World, Asks, Asks_echo, Asks_reset, Told, Called}
-use Rattle.ncp_two.specs.declared.side.Side.{Side}
-use Rattle.ncp_two.specs.declared.note.Note.{Note}
-use Rattle.ncp_two.specs.declared.note.Note.TheVariants as notes
-use Rattle.ncp_two.specs.Between.{Hosts}
-use Rattle.ncp_two.specs.Seen.{seen, told_of}
-use Rattle.ncp_progress_settled.specs.Settled.{IsSettled}
+use Rattle.ncp_transcript_two.specs.World.{World, Asks, Asks_echo, Asks_reset, Told, Called}
+use Rattle.ncp_transcript_two.specs.declared.side.Side.{Side}
+use Rattle.ncp_transcript_two.specs.declared.note.Note.{Note}
+use Rattle.ncp_transcript_two.specs.declared.note.Note.TheVariants as notes
+use Rattle.ncp_transcript_two.specs.Between.{Hosts}
+use Rattle.ncp_transcript_two.specs.Seen.{seen, told_of}
+use Rattle.ncp_proof_progress_settled.specs.Settled.{IsSettled}
 
 -- a call that was done, other than one for what is held; a call that was refused tells nothing
 abbrev pub is_call : Told → Bool

@@ -2,8 +2,8 @@
 -- more.
 use Rattle.std.specs.Prelude.{◌≡◌, Bool, true, false, List, [], ◌∷◌}
 use Rattle.ncp_model.specs.Ends.{no_ends}
-use Rattle.ncp_resets.specs.Resets.{Side, This, That, is_up}
-use Rattle.ncp_hosts.specs.Hosts.{Node, World, Step, Calls_reset, Calls, Calls_echo, Falls, Event}
+use Rattle.ncp_proof_resets.specs.Resets.{Side, This, That, is_up}
+use Rattle.ncp_proof_machine.specs.Hosts.{Node, World, Step, Calls_reset, Calls, Calls_echo, Falls, Event}
 
 -- what does not come about by messages and answers alone: a call of a user, other than one for what is held; and a host
 -- that goes down of itself, which no host of a transcript does

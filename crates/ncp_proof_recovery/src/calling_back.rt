@@ -1,14 +1,14 @@
 //! A GVB is answered.
 ghost use Rattle.std.specs.Prelude.{List};
-ghost use Rattle.ncp_hosts.specs.Hosts.{Event, run};
-ghost use Rattle.ncp_progress_idle.specs.Idle.{IsSettled};
-ghost use Rattle.ncp_two.specs.declared.note.Note.{Note};
-ghost use Rattle.ncp_two.specs.Between.{Hosts};
-ghost use Rattle.ncp_two.specs.Transcript.{IsTranscript};
-ghost use Rattle.ncp_pairs.specs.declared.many_note.ManyNote.{ManyNote as Noted};
-ghost use Rattle.ncp_pairs.specs.Crowd.{Crowd};
-ghost use Rattle.ncp_pairs.specs.ManyTranscript.{IsManyTranscript};
-ghost use Rattle.ncp_pairs.specs.Pairs.{ForEachTwo};
+ghost use Rattle.ncp_proof_machine.specs.Hosts.{Event, run};
+ghost use Rattle.ncp_proof_progress_idle.specs.Idle.{IsSettled};
+ghost use Rattle.ncp_transcript_two.specs.declared.note.Note.{Note};
+ghost use Rattle.ncp_transcript_two.specs.Between.{Hosts};
+ghost use Rattle.ncp_transcript_two.specs.Transcript.{IsTranscript};
+ghost use Rattle.ncp_transcript_many.specs.declared.many_note.ManyNote.{ManyNote as Noted};
+ghost use Rattle.ncp_transcript_many.specs.Crowd.{Crowd};
+ghost use Rattle.ncp_transcript_many.specs.ManyTranscript.{IsManyTranscript};
+ghost use Rattle.ncp_transcript_many.specs.Pairs.{ForEachTwo};
 ghost use Rattle.ncp_proof_recovery.specs.CallingBack.{AllReturned, GvbsAreAnswered};
 
 /// A GVB is answered: where nothing moves any more and both hosts are up, no receiver waits for a RET, as long as neither end

@@ -1,12 +1,12 @@
 //! What is noted of two hosts, or of two to eight, shows that a reset recovers.
 ghost use Rattle.std.specs.Prelude.{List};
-ghost use Rattle.ncp_two.specs.declared.note.Note.{Note};
-ghost use Rattle.ncp_two.specs.Between.{Hosts};
-ghost use Rattle.ncp_two.specs.Transcript.{IsTranscript};
-ghost use Rattle.ncp_pairs.specs.declared.many_note.ManyNote.{ManyNote as Noted};
-ghost use Rattle.ncp_pairs.specs.Crowd.{Crowd};
-ghost use Rattle.ncp_pairs.specs.ManyTranscript.{IsManyTranscript};
-ghost use Rattle.ncp_pairs.specs.Pairs.{ForEachTwo};
+ghost use Rattle.ncp_transcript_two.specs.declared.note.Note.{Note};
+ghost use Rattle.ncp_transcript_two.specs.Between.{Hosts};
+ghost use Rattle.ncp_transcript_two.specs.Transcript.{IsTranscript};
+ghost use Rattle.ncp_transcript_many.specs.declared.many_note.ManyNote.{ManyNote as Noted};
+ghost use Rattle.ncp_transcript_many.specs.Crowd.{Crowd};
+ghost use Rattle.ncp_transcript_many.specs.ManyTranscript.{IsManyTranscript};
+ghost use Rattle.ncp_transcript_many.specs.Pairs.{ForEachTwo};
 ghost use Rattle.ncp_proof_recovery.specs.Notes.{ResetRecovers};
 
 /// In every transcript of two hosts in which a reset was done, and after it no user asked for anything but for what is

@@ -6,15 +6,15 @@ use Rattle.std.proofs.lemmas.List.{append_assoc, append-nil}
 use Rattle.ncp_subnet.specs.Messages.{arriving, answer_about}
 use Rattle.ncp_host.specs.Turns.{next_output}
 use Rattle.ncp_transcript.specs.Noting.{note_of_message}
-use Rattle.ncp_two.specs.declared.side.Side.{Side}
-use Rattle.ncp_two.specs.declared.event.Event.{Event}
-use Rattle.ncp_two.specs.declared.event.Event.TheVariants as events
-use Rattle.ncp_two.specs.declared.note.Note.{Note}
-use Rattle.ncp_two.specs.declared.note.Note.TheVariants as notes
-use Rattle.ncp_two.specs.Between.{Hosts, other, number_of, host_of, transit_of, after_note, after_notes}
-use Rattle.ncp_two.specs.Happening.{came, answered, Noted}
-use Rattle.ncp_two.specs.Transcript.{IsSaid, Noted_world}
-use Rattle.ncp_two.proofs.Growing.{after_append}
+use Rattle.ncp_transcript_two.specs.declared.side.Side.{Side}
+use Rattle.ncp_transcript_two.specs.declared.event.Event.{Event}
+use Rattle.ncp_transcript_two.specs.declared.event.Event.TheVariants as events
+use Rattle.ncp_transcript_two.specs.declared.note.Note.{Note}
+use Rattle.ncp_transcript_two.specs.declared.note.Note.TheVariants as notes
+use Rattle.ncp_transcript_two.specs.Between.{Hosts, other, number_of, host_of, transit_of, after_note, after_notes}
+use Rattle.ncp_transcript_two.specs.Happening.{came, answered, Noted}
+use Rattle.ncp_transcript_two.specs.Transcript.{IsSaid, Noted_world}
+use Rattle.ncp_transcript_two.proofs.Growing.{after_append}
 use Rattle.ncp_proof_settling.specs.Settling.{ByItself, AllByThemselves, GoesOnce, GoesOn, says_nothing, IsTried}
 
 -- A message that goes out, comes or is answered, where its note says something, does so by itself.

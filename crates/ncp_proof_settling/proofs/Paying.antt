@@ -7,10 +7,10 @@ use Rattle.std.proofs.lemmas.List.{length-append}
 use Rattle.ncp_slot.specs.Slots.{LinkSlot, slot_at}
 use Rattle.ncp_model.specs.declared.limits.TheConstants.{DATA_LINKS, FIRST_LINK}
 use Rattle.ncp_model.specs.Act.{is_data_link}
-use Rattle.ncp_resets.specs.Delivery.{Link}
-use Rattle.ncp_resets.specs.Resets.{Side, This, That}
-use Rattle.ncp_hosts.specs.Hosts.{TextOut, Node}
-use Rattle.ncp_hosts.specs.Hosts as hosts
+use Rattle.ncp_proof_resets.specs.Delivery.{Link}
+use Rattle.ncp_proof_resets.specs.Resets.{Side, This, That}
+use Rattle.ncp_proof_machine.specs.Hosts.{TextOut, Node}
+use Rattle.ncp_proof_machine.specs.Hosts as hosts
 use Rattle.ncp_leader.specs.declared.kinds.TheConstants.{RFNM, INCOMPLETE, DESTINATION_DEAD}
 use Rattle.ncp_subnet.specs.Transit.{is_accepted, answer_kind}
 use Rattle.ncp_subnet.specs.Messages.{arriving, answer_about}
@@ -21,32 +21,32 @@ use Rattle.ncp_transcript.specs.declared.note.HostNote.TheVariants as of_host
 use Rattle.ncp_transcript.specs.declared.call.Call.TheVariants as calls
 use Rattle.ncp_transcript.specs.Noting.{note_of_bits, note_of_message}
 use Rattle.ncp_host.specs.Turns.{next_output}
-use Rattle.ncp_two.specs.Subnet.{Holds, Subnet, Free, Accepted, Delivered, Lost, Dead}
-use Rattle.ncp_two.specs.World.{World, Asks_wake, Reply, Replied, Told, Called, at}
-use Rattle.ncp_two.specs.World as worlds
-use Rattle.ncp_two.specs.Tie.{Place, Nowhere, Waits, Goes, Came, Failed, Died, Kept, slot_of, model_of, holds_of, OfMessage, Carries, control_bits, text_bits, AreCommands, IsTextOn, Stands, IsMove, Tied}
-use Rattle.ncp_two.specs.declared.side.Side as sides
-use Rattle.ncp_two.specs.declared.side.Side.TheVariants.{A, B}
-use Rattle.ncp_two.specs.declared.event.Event.{Event}
-use Rattle.ncp_two.specs.declared.event.Event.TheVariants as events
-use Rattle.ncp_two.specs.declared.note.Move.TheVariants as moves
-use Rattle.ncp_two.specs.declared.note.Note.{Note}
-use Rattle.ncp_two.specs.declared.note.Note.TheVariants as notes
-use Rattle.ncp_two.specs.Between.{Hosts, other, number_of, host_of, transit_of, after_note, after_notes}
-use Rattle.ncp_two.specs.Happening.{came, answered, Noted}
-use Rattle.ncp_two.specs.Transcript.{IsSaid, began, IsTranscript, Noted_world}
-use Rattle.ncp_two.specs.Seen.{seen, as_rules, side_of, told_of, told_in, told_answer, told_call}
-use Rattle.ncp_two.proofs.Ties.{IsFor, Leads, tied-swapped}
-use Rattle.ncp_two.proofs.Runs.{moves-tie}
-use Rattle.ncp_two.proofs.SeenSteps.{Stand}
-use Rattle.ncp_two.proofs.SeenRuns.{DoesOn, event-does, stand-after}
-use Rattle.ncp_two.proofs.Headlines.{new, stands}
-use Rattle.ncp_progress_hosts.specs.HostsWork.{work, BothFit, one_if_held, held_texts}
-use Rattle.ncp_progress_hosts.proofs.HostsWork.{at-fit, at-paid, turned-fit, start-fits, start-work}
-use Rattle.ncp_progress_notes.specs.NotesWork.{notes_move, notes_allow}
-use Rattle.ncp_progress_notes.proofs.Leading.{on-data}
-use Rattle.ncp_progress_notes.proofs.Running.{note-on, starts, from}
-use Rattle.ncp_progress_settled.specs.Settled.{is_held}
+use Rattle.ncp_transcript_two.specs.Subnet.{Holds, Subnet, Free, Accepted, Delivered, Lost, Dead}
+use Rattle.ncp_transcript_two.specs.World.{World, Asks_wake, Reply, Replied, Told, Called, at}
+use Rattle.ncp_transcript_two.specs.World as worlds
+use Rattle.ncp_transcript_two.specs.Tie.{Place, Nowhere, Waits, Goes, Came, Failed, Died, Kept, slot_of, model_of, holds_of, OfMessage, Carries, control_bits, text_bits, AreCommands, IsTextOn, Stands, IsMove, Tied}
+use Rattle.ncp_transcript_two.specs.declared.side.Side as sides
+use Rattle.ncp_transcript_two.specs.declared.side.Side.TheVariants.{A, B}
+use Rattle.ncp_transcript_two.specs.declared.event.Event.{Event}
+use Rattle.ncp_transcript_two.specs.declared.event.Event.TheVariants as events
+use Rattle.ncp_transcript_two.specs.declared.note.Move.TheVariants as moves
+use Rattle.ncp_transcript_two.specs.declared.note.Note.{Note}
+use Rattle.ncp_transcript_two.specs.declared.note.Note.TheVariants as notes
+use Rattle.ncp_transcript_two.specs.Between.{Hosts, other, number_of, host_of, transit_of, after_note, after_notes}
+use Rattle.ncp_transcript_two.specs.Happening.{came, answered, Noted}
+use Rattle.ncp_transcript_two.specs.Transcript.{IsSaid, began, IsTranscript, Noted_world}
+use Rattle.ncp_transcript_two.specs.Seen.{seen, as_rules, side_of, told_of, told_in, told_answer, told_call}
+use Rattle.ncp_transcript_two.proofs.Ties.{IsFor, Leads, tied-swapped}
+use Rattle.ncp_transcript_two.proofs.Runs.{moves-tie}
+use Rattle.ncp_transcript_two.proofs.SeenSteps.{Stand}
+use Rattle.ncp_transcript_two.proofs.SeenRuns.{DoesOn, event-does, stand-after}
+use Rattle.ncp_transcript_two.proofs.Headlines.{new, stands}
+use Rattle.ncp_proof_progress_machine.specs.HostsWork.{work, BothFit, one_if_held, held_texts}
+use Rattle.ncp_proof_progress_machine.proofs.HostsWork.{at-fit, at-paid, turned-fit, start-fits, start-work}
+use Rattle.ncp_proof_progress_notes.specs.NotesWork.{notes_move, notes_allow}
+use Rattle.ncp_proof_progress_notes.proofs.Leading.{on-data}
+use Rattle.ncp_proof_progress_notes.proofs.Running.{note-on, starts, from}
+use Rattle.ncp_proof_progress_settled.specs.Settled.{is_held}
 use Rattle.ncp_proof_settling.specs.Settling.{had_at, ByItself, AllByThemselves, GoesOn, IsWithinWork}
 
 -- A wake moves one message at least where one is held.

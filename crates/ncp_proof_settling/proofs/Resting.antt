@@ -9,41 +9,41 @@ use Rattle.ncp_slot.specs.declared.slots.TheConstants.{LAST_LINK}
 use Rattle.ncp_slot.specs.Slot.{kept_message}
 use Rattle.ncp_slot.specs.Slots.{HasSlot, LinkSlot, slot_at}
 use Rattle.ncp_slot.proofs.Places.{slot_at-no_slots}
-use Rattle.ncp_hosts.specs.Hosts.{Node}
-use Rattle.ncp_hosts.specs.Hosts as hosts
+use Rattle.ncp_proof_machine.specs.Hosts.{Node}
+use Rattle.ncp_proof_machine.specs.Hosts as hosts
 use Rattle.ncp_subnet.specs.Transit.{is_accepted, answer_kind}
 use Rattle.ncp_subnet.specs.Messages.{arriving, answer_about}
-use Rattle.ncp_resets.specs.Delivery.{Link}
+use Rattle.ncp_proof_resets.specs.Delivery.{Link}
 use Rattle.ncp_host.specs.PeerState.{PeerState}
 use Rattle.ncp_host.specs.Host.{Host, numbers_of, state_of, is_one_of, if_known}
 use Rattle.ncp_host.specs.Calls.{kept_for}
 use Rattle.ncp_host.specs.Hearing.{is_wrong_link}
 use Rattle.ncp_host.specs.Output.{next_of, message_on, output_by, output_on, links}
 use Rattle.ncp_host.specs.Turns.{next_output}
-use Rattle.ncp_runs.proofs.Ready.{none_is}
+use Rattle.ncp_proof_runs.proofs.Ready.{none_is}
 use Rattle.ncp_transcript.specs.declared.call.Call.TheVariants as calls
 use Rattle.ncp_transcript.specs.declared.note.HostNote.{HostNote}
 use Rattle.ncp_transcript.specs.declared.note.HostNote.TheVariants as of_host
 use Rattle.ncp_transcript.specs.Notes.{done_or_refused}
 use Rattle.ncp_transcript.specs.Noting.{CallNoted, note_of_message}
-use Rattle.ncp_two.specs.Subnet.{Holds, Subnet, Free, Accepted, Delivered, Lost, Dead}
-use Rattle.ncp_two.specs.Tie.{Place, Nowhere, Waits, Goes, Came, Failed, Died, Kept, slot_of, holds_of, OfMessage, Carries, control_bits, text_bits, AreCommands, IsTextOn, Stands}
-use Rattle.ncp_two.specs.declared.side.Side.{Side}
-use Rattle.ncp_two.specs.declared.side.Side.TheVariants.{A, B}
-use Rattle.ncp_two.specs.declared.event.Event.TheVariants as events
-use Rattle.ncp_two.specs.declared.note.Note.{Note}
-use Rattle.ncp_two.specs.declared.note.Note.TheVariants as notes
-use Rattle.ncp_two.specs.Between.{Hosts, other, number_of, host_of, transit_of, after_note, after_notes}
-use Rattle.ncp_two.specs.Happening.{came, answered, Noted}
-use Rattle.ncp_two.specs.Transcript.{began, IsTranscript, Noted_world}
-use Rattle.ncp_two.specs.Seen.{state_or_new, seen}
-use Rattle.ncp_two.proofs.OnePeer.{next-message}
-use Rattle.ncp_two.proofs.SeenSteps.{Stand}
-use Rattle.ncp_two.proofs.SeenRuns.{stand-after}
-use Rattle.ncp_two.proofs.Headlines.{stands, of-model}
-use Rattle.ncp_progress_notes.proofs.Leading.{on-data}
-use Rattle.ncp_progress_settled.specs.Settled.{is_held, IsStill}
-use Rattle.ncp_progress_settled.proofs.OfModel.{a-link, not-ready}
+use Rattle.ncp_transcript_two.specs.Subnet.{Holds, Subnet, Free, Accepted, Delivered, Lost, Dead}
+use Rattle.ncp_transcript_two.specs.Tie.{Place, Nowhere, Waits, Goes, Came, Failed, Died, Kept, slot_of, holds_of, OfMessage, Carries, control_bits, text_bits, AreCommands, IsTextOn, Stands}
+use Rattle.ncp_transcript_two.specs.declared.side.Side.{Side}
+use Rattle.ncp_transcript_two.specs.declared.side.Side.TheVariants.{A, B}
+use Rattle.ncp_transcript_two.specs.declared.event.Event.TheVariants as events
+use Rattle.ncp_transcript_two.specs.declared.note.Note.{Note}
+use Rattle.ncp_transcript_two.specs.declared.note.Note.TheVariants as notes
+use Rattle.ncp_transcript_two.specs.Between.{Hosts, other, number_of, host_of, transit_of, after_note, after_notes}
+use Rattle.ncp_transcript_two.specs.Happening.{came, answered, Noted}
+use Rattle.ncp_transcript_two.specs.Transcript.{began, IsTranscript, Noted_world}
+use Rattle.ncp_transcript_two.specs.Seen.{state_or_new, seen}
+use Rattle.ncp_transcript_two.proofs.OnePeer.{next-message}
+use Rattle.ncp_transcript_two.proofs.SeenSteps.{Stand}
+use Rattle.ncp_transcript_two.proofs.SeenRuns.{stand-after}
+use Rattle.ncp_transcript_two.proofs.Headlines.{stands, of-model}
+use Rattle.ncp_proof_progress_notes.proofs.Leading.{on-data}
+use Rattle.ncp_proof_progress_settled.specs.Settled.{is_held, IsStill}
+use Rattle.ncp_proof_progress_settled.proofs.OfModel.{a-link, not-ready}
 use Rattle.ncp_proof_settling.specs.Settling.{had_at, flow_of, ByItself, GoesOrRestsAt, says_nothing, IsTried}
 
 -- The hosts of a transcript.

@@ -2,23 +2,23 @@
 -- answered, and what is held is asked for again.
 use Rattle.std.specs.Prelude.{◌≡◌, ◌≤◌, ◌+◌, ℕ, Bool, true, false, List, [], ◌∷◌, ◌++◌, length}
 use Rattle.ncp_slot.specs.Slots.{slot_at}
-use Rattle.ncp_hosts.specs.Hosts as hosts
+use Rattle.ncp_proof_machine.specs.Hosts as hosts
 use Rattle.ncp_host.specs.PeerState.{PeerState}
 use Rattle.ncp_transcript.specs.declared.call.Call.TheVariants as calls
 use Rattle.ncp_transcript.specs.declared.note.HostNote.TheVariants as of_host
-use Rattle.ncp_two.specs.Subnet.{Subnet}
-use Rattle.ncp_two.specs.Tie.{Tied}
-use Rattle.ncp_two.specs.declared.side.Side.{Side}
-use Rattle.ncp_two.specs.declared.event.Event.{Event}
-use Rattle.ncp_two.specs.declared.note.Note.{Note}
-use Rattle.ncp_two.specs.declared.note.Note.TheVariants as notes
-use Rattle.ncp_two.specs.Between.{Hosts, other, number_of, host_of, transit_of, after_note, after_notes}
-use Rattle.ncp_two.specs.Happening.{Noted}
-use Rattle.ncp_two.specs.Transcript.{IsSaid, began, Noted_world}
-use Rattle.ncp_two.specs.Seen.{had_for, seen}
-use Rattle.ncp_progress_hosts.specs.HostsWork.{work}
-use Rattle.ncp_progress_notes.specs.NotesWork.{notes_move, notes_allow}
-use Rattle.ncp_progress_settled.specs.Settled.{is_held, IsStill, IsSettled}
+use Rattle.ncp_transcript_two.specs.Subnet.{Subnet}
+use Rattle.ncp_transcript_two.specs.Tie.{Tied}
+use Rattle.ncp_transcript_two.specs.declared.side.Side.{Side}
+use Rattle.ncp_transcript_two.specs.declared.event.Event.{Event}
+use Rattle.ncp_transcript_two.specs.declared.note.Note.{Note}
+use Rattle.ncp_transcript_two.specs.declared.note.Note.TheVariants as notes
+use Rattle.ncp_transcript_two.specs.Between.{Hosts, other, number_of, host_of, transit_of, after_note, after_notes}
+use Rattle.ncp_transcript_two.specs.Happening.{Noted}
+use Rattle.ncp_transcript_two.specs.Transcript.{IsSaid, began, Noted_world}
+use Rattle.ncp_transcript_two.specs.Seen.{had_for, seen}
+use Rattle.ncp_proof_progress_machine.specs.HostsWork.{work}
+use Rattle.ncp_proof_progress_notes.specs.NotesWork.{notes_move, notes_allow}
+use Rattle.ncp_proof_progress_settled.specs.Settled.{is_held, IsStill, IsSettled}
 
 -- what the host of a side has for the other, and what it has in transit
 abbrev pub had_at : Side → Hosts → PeerState

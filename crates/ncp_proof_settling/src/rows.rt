@@ -2,10 +2,10 @@
 ghost use Rattle.std.specs.Prelude.{◌≡◌, ℕ, Bool, List, true, false};
 ghost use Rattle.ncp_transcript.specs.declared.call.Call.TheVariants as calls;
 ghost use Rattle.ncp_transcript.specs.declared.note.HostNote.TheVariants as of_host;
-ghost use Rattle.ncp_two.specs.declared.side.Side.{Side};
-ghost use Rattle.ncp_two.specs.declared.note.Move.{Move};
-ghost use Rattle.ncp_two.specs.declared.note.Note.TheVariants as notes;
-ghost use Rattle.ncp_two.specs.Between.{Hosts};
+ghost use Rattle.ncp_transcript_two.specs.declared.side.Side.{Side};
+ghost use Rattle.ncp_transcript_two.specs.declared.note.Move.{Move};
+ghost use Rattle.ncp_transcript_two.specs.declared.note.Note.TheVariants as notes;
+ghost use Rattle.ncp_transcript_two.specs.Between.{Hosts};
 ghost use Rattle.ncp_proof_settling.specs.Settling.{ByItself, says_nothing};
 
 /// A message goes out, comes and is answered by itself. It is not lost, does not find its destination dead, and no

@@ -1,5 +1,5 @@
 //! How much can happen to two hosts by itself.
-ghost use Rattle.ncp_two.specs.Transcript.{IsTranscript, Noted_world};
+ghost use Rattle.ncp_transcript_two.specs.Transcript.{IsTranscript, Noted_world};
 ghost use Rattle.ncp_proof_settling.specs.Settling.{GoesOn, IsWithinWork};
 
 /// After every transcript of two hosts, what happens by itself is within the work that is left: each message that

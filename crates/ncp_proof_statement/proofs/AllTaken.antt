@@ -9,13 +9,13 @@ use Rattle.ncp_model.specs.End.{End}
 use Rattle.ncp_model.specs.Happenings.{Happening, Outcome, happens}
 use Rattle.ncp_model.specs.Happenings as all
 use Rattle.ncp_model.specs.Leading.{suits}
-use Rattle.ncp_watch.specs.Histories.{Past, no_past, adds, opens, is_accepted, taken_out}
-use Rattle.ncp_watch.specs.Sound.{SoundAt}
-use Rattle.ncp_watch.proofs.SoundEnds.{one_way}
+use Rattle.ncp_proof_watch.specs.Histories.{Past, no_past, adds, opens, is_accepted, taken_out}
+use Rattle.ncp_proof_watch.specs.Sound.{SoundAt}
+use Rattle.ncp_proof_watch.proofs.SoundEnds.{one_way}
 use Rattle.ncp_host.specs.PeerState.{new_state}
 use Rattle.ncp_transcript.specs.declared.note.HostNote.{HostNote}
-use Rattle.ncp_runs.specs.Histories.{past_then, past_of}
-use Rattle.ncp_runs.specs.Peers.{notes_for}
+use Rattle.ncp_proof_runs.specs.Histories.{past_then, past_of}
+use Rattle.ncp_proof_runs.specs.Peers.{notes_for}
 use Rattle.ncp_proof_statement.specs.Since.{use_then, did_run, tallied, Takings, no_takings, takings_with, takings_then, TakenSince}
 use Rattle.ncp_proof_statement.proofs.Taking.{taken-kept}
 use Rattle.ncp_proof_statement.proofs.Receiving.{as-then, no-sender}

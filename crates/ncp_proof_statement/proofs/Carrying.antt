@@ -9,17 +9,17 @@ use Rattle.ncp_subnet.proofs.NewRows.{transit-new}
 use Rattle.ncp_subnet.proofs.Places.{transit_at-same, transit_at-others}
 use Rattle.ncp_transcript.specs.declared.note.HostNote.{HostNote}
 use Rattle.ncp_transcript.specs.declared.note.HostNote.TheVariants as of_host
-use Rattle.ncp_two.specs.declared.side.Side.{Side}
-use Rattle.ncp_two.specs.declared.side.Side.TheVariants.{A, B}
-use Rattle.ncp_two.specs.declared.note.Note.{Note}
-use Rattle.ncp_two.specs.declared.note.Note.TheVariants as notes
-use Rattle.ncp_two.specs.Between.{Hosts, is_taken, taken, transit_of, with_transit_of, after_note, after_notes}
-use Rattle.ncp_two.specs.Seen.{seen, as_rules, told_of, side_of}
-use Rattle.ncp_two.specs.Transcript.{began, IsTranscript}
-use Rattle.ncp_two.proofs.Accepting.{taken_yes, taken_no}
-use Rattle.ncp_two.proofs.Growing.{began_noted}
-use Rattle.ncp_promises.specs.EachNote.{OfTold, OfEachNote}
-use Rattle.ncp_promises.specs.Taking.{IsTaken}
+use Rattle.ncp_transcript_two.specs.declared.side.Side.{Side}
+use Rattle.ncp_transcript_two.specs.declared.side.Side.TheVariants.{A, B}
+use Rattle.ncp_transcript_two.specs.declared.note.Note.{Note}
+use Rattle.ncp_transcript_two.specs.declared.note.Note.TheVariants as notes
+use Rattle.ncp_transcript_two.specs.Between.{Hosts, is_taken, taken, transit_of, with_transit_of, after_note, after_notes}
+use Rattle.ncp_transcript_two.specs.Seen.{seen, as_rules, told_of, side_of}
+use Rattle.ncp_transcript_two.specs.Transcript.{began, IsTranscript}
+use Rattle.ncp_transcript_two.proofs.Accepting.{taken_yes, taken_no}
+use Rattle.ncp_transcript_two.proofs.Growing.{began_noted}
+use Rattle.ncp_proof_promises.specs.EachNote.{OfTold, OfEachNote}
+use Rattle.ncp_proof_promises.specs.Taking.{IsTaken}
 use Rattle.ncp_statement.specs.Statement.{is_same, carried_by, carried_from}
 
 -- Something comes to be in transit on a link.

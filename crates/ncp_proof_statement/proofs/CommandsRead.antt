@@ -4,26 +4,26 @@ use Rattle.ncp_model.specs.declared.outcomes.Took.TheVariants as took
 use Rattle.ncp_host.specs.declared.received.Received.{Received}
 use Rattle.ncp_host.specs.declared.received.Received.TheVariants as received
 use Rattle.ncp_transcript.specs.declared.note.HostNote.TheVariants as of_host
-use Rattle.ncp_two.specs.World.{World, In}
-use Rattle.ncp_two.specs.Refused.{is_refused}
-use Rattle.ncp_two.specs.declared.side.Side.{Side}
-use Rattle.ncp_two.specs.declared.side.Side.TheVariants.{A, B}
-use Rattle.ncp_two.specs.declared.note.Note.{Note}
-use Rattle.ncp_two.specs.declared.note.Note.TheVariants as notes
-use Rattle.ncp_two.specs.Between.{Hosts, after_note}
-use Rattle.ncp_two.specs.Seen.{seen, as_rules, told_of, side_of}
-use Rattle.ncp_promises.specs.EachNote.{OfTold, OfEachNote}
-use Rattle.ncp_promises.specs.Judged.{ActsOnce, MakesNoErr}
+use Rattle.ncp_transcript_two.specs.World.{World, In}
+use Rattle.ncp_transcript_two.specs.Refused.{is_refused}
+use Rattle.ncp_transcript_two.specs.declared.side.Side.{Side}
+use Rattle.ncp_transcript_two.specs.declared.side.Side.TheVariants.{A, B}
+use Rattle.ncp_transcript_two.specs.declared.note.Note.{Note}
+use Rattle.ncp_transcript_two.specs.declared.note.Note.TheVariants as notes
+use Rattle.ncp_transcript_two.specs.Between.{Hosts, after_note}
+use Rattle.ncp_transcript_two.specs.Seen.{seen, as_rules, told_of, side_of}
+use Rattle.ncp_proof_promises.specs.EachNote.{OfTold, OfEachNote}
+use Rattle.ncp_proof_promises.specs.Judged.{ActsOnce, MakesNoErr}
 use Rattle.ncp_statement.specs.Statement.{Each, ReadsAll, HasNoComplaint, is_complaint}
 use Rattle.ncp_proof_statement.specs.Since.{ComesRight}
 use Rattle.std.specs.List.{list_any}
 use Rattle.ncp_terms.specs.declared.command.Command.{Command}
 use Rattle.ncp_terms.specs.declared.command.Command.TheVariants as commands
 use Rattle.ncp_statement.specs.Statement.{is_err as stated_err}
-use Rattle.ncp_promises.specs.Judged.{is_err as judged_err}
-use Rattle.ncp_two.specs.Underway.{commands_of}
-use Rattle.ncp_two.specs.World.{Out}
-use Rattle.ncp_two.specs.Subnet.{link_in}
+use Rattle.ncp_proof_promises.specs.Judged.{is_err as judged_err}
+use Rattle.ncp_transcript_two.specs.Underway.{commands_of}
+use Rattle.ncp_transcript_two.specs.World.{Out}
+use Rattle.ncp_transcript_two.specs.Subnet.{link_in}
 use Rattle.ncp_proof_statement.proofs.ErrFree.{GoesRight}
 
 read-in : (side : Side) (link : ℕ) (m : List Bool) (told : Received) (v next : World) → OfTold ActsOnce (as_rules side) (Some (In link m told)) v next → (link == 0) ≡ true → told ≡ received.Control (length (commands_of m))

@@ -1,25 +1,25 @@
 -- What the notes of a transcript say of the messages on one link is what the notes of the rules say.
 use Rattle.std.proofs.Common.{◌≡◌, ℕ, Bool, true, false, List, [], ◌∷◌, ◌++◌, Option, None, Some, refl, sym, ap, ◌∙◌, subst}
-use Rattle.ncp_resets.specs.Resets as rules
+use Rattle.ncp_proof_resets.specs.Resets as rules
 use Rattle.ncp_transcript.specs.declared.note.HostNote.{HostNote}
 use Rattle.ncp_transcript.specs.declared.note.HostNote.TheVariants as of_host
-use Rattle.ncp_two.specs.World.{Asked}
+use Rattle.ncp_transcript_two.specs.World.{Asked}
 use Rattle.std.proofs.lemmas.List.{append_assoc}
 use Rattle.ncp_terms.specs.declared.answer.Answer.{Answer}
 use Rattle.ncp_host.specs.declared.received.Received.{Received}
-use Rattle.ncp_two.specs.Between.{Hosts, other, number_of}
-use Rattle.ncp_two.specs.Transcript.{IsTranscript}
-use Rattle.ncp_two.specs.Naming.{IsAnswerAbout}
-use Rattle.ncp_two.proofs.Naming.{answered-named}
-use Rattle.ncp_two.specs.Subnet.{from_host}
-use Rattle.ncp_two.specs.World as worlds
-use Rattle.ncp_two.specs.Honest.{Deed, Sent, Comes, Taken, Refused, Other, Place, Clear, Flying, Landed, HonestFrom, sent_from, coming}
-use Rattle.ncp_two.specs.Honest as honest
-use Rattle.ncp_two.specs.declared.side.Side.{Side}
-use Rattle.ncp_two.specs.declared.side.Side.TheVariants.{A, B}
-use Rattle.ncp_two.specs.declared.note.Note.{Note}
-use Rattle.ncp_two.specs.declared.note.Note.TheVariants as notes
-use Rattle.ncp_two.specs.Seen.{as_rules, asked_by, done, told_of, side_of, notes_of, told}
+use Rattle.ncp_transcript_two.specs.Between.{Hosts, other, number_of}
+use Rattle.ncp_transcript_two.specs.Transcript.{IsTranscript}
+use Rattle.ncp_transcript_two.specs.Naming.{IsAnswerAbout}
+use Rattle.ncp_transcript_two.proofs.Naming.{answered-named}
+use Rattle.ncp_transcript_two.specs.Subnet.{from_host}
+use Rattle.ncp_transcript_two.specs.World as worlds
+use Rattle.ncp_transcript_two.specs.Honest.{Deed, Sent, Comes, Taken, Refused, Other, Place, Clear, Flying, Landed, HonestFrom, sent_from, coming}
+use Rattle.ncp_transcript_two.specs.Honest as honest
+use Rattle.ncp_transcript_two.specs.declared.side.Side.{Side}
+use Rattle.ncp_transcript_two.specs.declared.side.Side.TheVariants.{A, B}
+use Rattle.ncp_transcript_two.specs.declared.note.Note.{Note}
+use Rattle.ncp_transcript_two.specs.declared.note.Note.TheVariants as notes
+use Rattle.ncp_transcript_two.specs.Seen.{as_rules, asked_by, done, told_of, side_of, notes_of, told}
 use Rattle.ncp_statement.specs.Statement.{deed_of, deeds}
 
 abbrev strip : List Deed → List Deed

@@ -2,13 +2,13 @@
 use Rattle.std.proofs.Common.{◌≡◌, Bool, true, false, if◌then◌else◌, List, [], ◌++◌, refl, sym, ap, ◌∙◌, arith}
 use Rattle.ncp_model.specs.declared.pair.Pair.{Pair}
 use Rattle.ncp_model.specs.Pairs.{sends, receives, turned}
-use Rattle.ncp_watch.specs.Histories.{Past, IsBeginning}
-use Rattle.ncp_hosts.specs.Hosts.{past_of as past_here}
-use Rattle.ncp_two.specs.declared.side.Side.{Side}
-use Rattle.ncp_two.specs.declared.note.Note.{Note}
-use Rattle.ncp_two.specs.Between.{Hosts, other}
-use Rattle.ncp_two.specs.Transcript.{IsTranscript}
-use Rattle.ncp_two.specs.OfRules.{histories_of}
+use Rattle.ncp_proof_watch.specs.Histories.{Past, IsBeginning}
+use Rattle.ncp_proof_machine.specs.Hosts.{past_of as past_here}
+use Rattle.ncp_transcript_two.specs.declared.side.Side.{Side}
+use Rattle.ncp_transcript_two.specs.declared.note.Note.{Note}
+use Rattle.ncp_transcript_two.specs.Between.{Hosts, other}
+use Rattle.ncp_transcript_two.specs.Transcript.{IsTranscript}
+use Rattle.ncp_transcript_two.specs.OfRules.{histories_of}
 use Rattle.ncp_statement.specs.Statement.{taken, given}
 use Rattle.ncp_proof_statement.proofs.AllTaken.{all-kept}
 use Rattle.ncp_proof_statement.proofs.GoingOn.{agree, Own, taken-told, given-is, none-before}

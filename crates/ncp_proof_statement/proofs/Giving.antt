@@ -7,8 +7,8 @@ use Rattle.ncp_model.specs.Texts as texts
 use Rattle.ncp_model.specs.Happenings.{Happening, Outcome, happens}
 use Rattle.ncp_model.specs.Happenings as all
 use Rattle.ncp_model.specs.Leading.{suits}
-use Rattle.ncp_watch.specs.Histories.{Past, no_past, adds, opens, is_accepted}
-use Rattle.ncp_watch.specs.Sound.{SoundAt}
+use Rattle.ncp_proof_watch.specs.Histories.{Past, no_past, adds, opens, is_accepted}
+use Rattle.ncp_proof_watch.specs.Sound.{SoundAt}
 use Rattle.ncp_proof_statement.specs.Since.{Gifts, gifts_then, GiftsSince, Givings, givings_then, with_none, GivenSince}
 use Rattle.ncp_proof_statement.proofs.Taking.{gifts-kept}
 

@@ -5,35 +5,35 @@ use Rattle.std.specs.FinMap.{get}
 use Rattle.ncp_model.specs.declared.pair.Pair.{Pair}
 use Rattle.ncp_model.specs.Pairs.{sends, receives, turned}
 use Rattle.ncp_model.specs.End.{End, is_live, or_new}
-use Rattle.ncp_watch.specs.Histories.{Past, IsBeginning}
-use Rattle.ncp_hosts.specs.Hosts.{past_of as past_here}
+use Rattle.ncp_proof_watch.specs.Histories.{Past, IsBeginning}
+use Rattle.ncp_proof_machine.specs.Hosts.{past_of as past_here}
 use Rattle.ncp_host.specs.PeerState.{PeerState, new_state}
 use Rattle.ncp_host.specs.Host.{Host, numbers_of, state_of}
 use Rattle.ncp_transcript.specs.declared.note.HostNote.{HostNote}
 use Rattle.ncp_transcript.specs.declared.note.HostNote.TheVariants as of_host
 use Rattle.ncp_transcript.specs.Runs as runs
-use Rattle.ncp_runs.specs.Peers.{notes_of}
-use Rattle.ncp_runs.specs.Histories.{past_of}
-use Rattle.ncp_runs.proofs.Begun.{is_run, is_kept}
-use Rattle.ncp_runs.proofs.InRuns.{kept_as_noted}
-use Rattle.ncp_two.specs.Watch.{Both}
-use Rattle.ncp_two.specs.Seen.{seen, state_or_new}
-use Rattle.ncp_two.specs.Sides.{notes_at}
-use Rattle.ncp_two.specs.declared.side.Side.{Side}
-use Rattle.ncp_two.specs.declared.side.Side.TheVariants.{A, B}
-use Rattle.ncp_two.specs.declared.note.Note.{Note}
-use Rattle.ncp_two.specs.declared.note.Note.TheVariants as notes
-use Rattle.ncp_two.specs.Between.{Hosts, other, number_of, host_of, after_notes}
-use Rattle.ncp_two.specs.Transcript.{began, IsTranscript}
-use Rattle.ncp_two.specs.OfRules.{histories_of}
-use Rattle.ncp_two.proofs.OnePeer.{only-peer}
-use Rattle.ncp_two.proofs.OneSide.{LeadsAt, of_event, by_itself}
-use Rattle.ncp_two.proofs.SeenRuns.{stands-at}
-use Rattle.ncp_two.proofs.Vain.{said_at, run_before}
-use Rattle.ncp_two.proofs.Runs.{new-ties}
-use Rattle.ncp_two.proofs.Headlines.{stands, new}
-use Rattle.ncp_promises.proofs.Standing.{kept-for}
-use Rattle.ncp_promises.proofs.Beginnings.{begins}
+use Rattle.ncp_proof_runs.specs.Peers.{notes_of}
+use Rattle.ncp_proof_runs.specs.Histories.{past_of}
+use Rattle.ncp_proof_runs.proofs.Begun.{is_run, is_kept}
+use Rattle.ncp_proof_runs.proofs.InRuns.{kept_as_noted}
+use Rattle.ncp_transcript_two.specs.Watch.{Both}
+use Rattle.ncp_transcript_two.specs.Seen.{seen, state_or_new}
+use Rattle.ncp_transcript_two.specs.Sides.{notes_at}
+use Rattle.ncp_transcript_two.specs.declared.side.Side.{Side}
+use Rattle.ncp_transcript_two.specs.declared.side.Side.TheVariants.{A, B}
+use Rattle.ncp_transcript_two.specs.declared.note.Note.{Note}
+use Rattle.ncp_transcript_two.specs.declared.note.Note.TheVariants as notes
+use Rattle.ncp_transcript_two.specs.Between.{Hosts, other, number_of, host_of, after_notes}
+use Rattle.ncp_transcript_two.specs.Transcript.{began, IsTranscript}
+use Rattle.ncp_transcript_two.specs.OfRules.{histories_of}
+use Rattle.ncp_transcript_two.proofs.OnePeer.{only-peer}
+use Rattle.ncp_transcript_two.proofs.OneSide.{LeadsAt, of_event, by_itself}
+use Rattle.ncp_transcript_two.proofs.SeenRuns.{stands-at}
+use Rattle.ncp_transcript_two.proofs.Vain.{said_at, run_before}
+use Rattle.ncp_transcript_two.proofs.Runs.{new-ties}
+use Rattle.ncp_transcript_two.proofs.Headlines.{stands, new}
+use Rattle.ncp_proof_promises.proofs.Standing.{kept-for}
+use Rattle.ncp_proof_promises.proofs.Beginnings.{begins}
 use Rattle.ncp_statement.specs.Statement.{Use, taken, given, allowed, WithinAllowance}
 use Rattle.ncp_proof_statement.specs.Since.{uses_by, did_run, tallied, Takings, no_takings, takings_with, TakenSince, no_givings, givings_with}
 use Rattle.ncp_proof_statement.proofs.Noted.{took-known, noted-from}

@@ -12,7 +12,7 @@ use Rattle.ncp_model.specs.Happenings as all
 use Rattle.ncp_model.specs.Phase.{up}
 use Rattle.ncp_model.specs.Sending.{is_full}
 use Rattle.ncp_model.specs.Peers.{Call as Pair_call, Ask_to_send, Ask_to_receive, Give, Take, Allocate, called, comes_of, happened_at, reply, reply_of_take}
-use Rattle.ncp_watch.specs.Histories.{is_accepted}
+use Rattle.ncp_proof_watch.specs.Histories.{is_accepted}
 use Rattle.ncp_host.specs.PeerState.{PeerState, new_state}
 use Rattle.ncp_host.specs.Host.{state_of, new_host, if_known}
 use Rattle.ncp_host.specs.Calls.{sockets}
@@ -22,10 +22,10 @@ use Rattle.ncp_transcript.specs.declared.note.HostNote.{HostNote}
 use Rattle.ncp_transcript.specs.declared.note.HostNote.TheVariants as notes
 use Rattle.ncp_transcript.specs.Notes.{told_or_refused}
 use Rattle.ncp_transcript.specs.After.{after_notes}
-use Rattle.ncp_runs.specs.Peers.{FromBeginning, names, notes_of, note_for, notes_for}
-use Rattle.ncp_runs.proofs.InRuns.{before_note, kept_as_noted}
-use Rattle.ncp_runs.proofs.Given.{done-before}
-use Rattle.ncp_runs.proofs.BooksOfRuns.{same_pair}
+use Rattle.ncp_proof_runs.specs.Peers.{FromBeginning, names, notes_of, note_for, notes_for}
+use Rattle.ncp_proof_runs.proofs.InRuns.{before_note, kept_as_noted}
+use Rattle.ncp_proof_runs.proofs.Given.{done-before}
+use Rattle.ncp_proof_runs.proofs.BooksOfRuns.{same_pair}
 use Rattle.ncp_statement.specs.Statement.{Use, Asked, Gave, Had, Let, Else, on_pair, use_of}
 use Rattle.ncp_proof_statement.specs.Since.{had_out, use_then, did_at, did_called, did_by, did_run, uses_by}
 

@@ -16,15 +16,15 @@ use Rattle.ncp_model.specs.Happenings as all
 use Rattle.ncp_model.specs.Leading.{suits}
 use Rattle.ncp_model.specs.Peers.{Take, comes_of, happened_at, reply_of_take}
 use Rattle.ncp_model.specs.Phase.{up}
-use Rattle.ncp_watch.specs.Histories.{Past, no_past, is_accepted, taken_out}
-use Rattle.ncp_watch.specs.Sound.{SoundAt}
-use Rattle.ncp_watch.specs.Books.{BooksAt}
-use Rattle.ncp_watch.proofs.SoundEnds.{one_way}
-use Rattle.ncp_watch.proofs.BooksKept.{books-kept}
+use Rattle.ncp_proof_watch.specs.Histories.{Past, no_past, is_accepted, taken_out}
+use Rattle.ncp_proof_watch.specs.Sound.{SoundAt}
+use Rattle.ncp_proof_watch.specs.Books.{BooksAt}
+use Rattle.ncp_proof_watch.proofs.SoundEnds.{one_way}
+use Rattle.ncp_proof_watch.proofs.BooksKept.{books-kept}
 use Rattle.ncp_host.specs.PeerState.{PeerState, new_state}
 use Rattle.ncp_transcript.specs.declared.note.HostNote.{HostNote}
-use Rattle.ncp_runs.specs.Histories.{past_then, past_of}
-use Rattle.ncp_runs.specs.Peers.{notes_for}
+use Rattle.ncp_proof_runs.specs.Histories.{past_then, past_of}
+use Rattle.ncp_proof_runs.specs.Peers.{notes_for}
 use Rattle.ncp_statement.specs.Statement.{Use, Asked, Gave, Had, Let, Else, taken_from, allowed_from}
 use Rattle.ncp_proof_statement.specs.Since.{had_out, use_then, did_run, tallied, Takings, no_takings, takings_with, takings_then, TakenSince, Takes}
 use Rattle.ncp_proof_statement.proofs.Taking.{taken-kept}

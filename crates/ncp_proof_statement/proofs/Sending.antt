@@ -7,12 +7,12 @@ use Rattle.ncp_model.specs.End.{End}
 use Rattle.ncp_model.specs.Happenings.{Happening, Outcome, happens}
 use Rattle.ncp_model.specs.Happenings as all
 use Rattle.ncp_model.specs.Leading.{suits}
-use Rattle.ncp_watch.specs.Histories.{Past, no_past, is_accepted}
-use Rattle.ncp_watch.specs.Sound.{SoundAt}
+use Rattle.ncp_proof_watch.specs.Histories.{Past, no_past, is_accepted}
+use Rattle.ncp_proof_watch.specs.Sound.{SoundAt}
 use Rattle.ncp_host.specs.PeerState.{new_state}
 use Rattle.ncp_transcript.specs.declared.note.HostNote.{HostNote}
-use Rattle.ncp_runs.specs.Histories.{past_then, past_of}
-use Rattle.ncp_runs.specs.Peers.{notes_for}
+use Rattle.ncp_proof_runs.specs.Histories.{past_then, past_of}
+use Rattle.ncp_proof_runs.specs.Peers.{notes_for}
 use Rattle.ncp_statement.specs.Statement.{Use, Asked, Gave, Had, Let, Else, given_from}
 use Rattle.ncp_proof_statement.specs.Since.{had_out, use_then, did_run, tallied, Givings, no_givings, givings_with, givings_then, GivenSince, Gives}
 use Rattle.ncp_proof_statement.proofs.Giving.{given-kept, given-goes, given-freed, other_way}

@@ -8,8 +8,8 @@ use Rattle.ncp_model.specs.End.{End}
 use Rattle.ncp_model.specs.Happenings.{Happening, happens}
 use Rattle.ncp_model.specs.Happenings as all
 use Rattle.ncp_model.specs.Leading.{suits}
-use Rattle.ncp_watch.specs.Histories.{Past, no_past, adds, opens}
-use Rattle.ncp_watch.specs.Sound.{SoundAt}
+use Rattle.ncp_proof_watch.specs.Histories.{Past, no_past, adds, opens}
+use Rattle.ncp_proof_watch.specs.Sound.{SoundAt}
 use Rattle.ncp_proof_statement.specs.Since.{Takings, takings_then, TakenSince, Gifts, gifts_then, GiftsSince}
 
 abbrev pub TakenKept : Pair → Happening → Option End → Past → Takings → Type 0

@@ -1,5 +1,5 @@
 -- What is tallied of what a user did with a pair, beside the history of the pair: what ties the two after each thing that
--- can happen to an end ties them after each note. The walk through a note is the one of BooksOfRuns in ncp_runs.
+-- can happen to an end ties them after each note. The walk through a note is the one of BooksOfRuns in ncp_proof_runs.
 use Rattle.std.proofs.Common.{◌≡◌, ℕ, ◌==◌, Bool, true, false, if◌then◌else◌, List, [], ◌∷◌, take, Option, None, Some, Result, Ok, Err, refl, sym, ap, ◌∙◌, subst}
 use Rattle.std.specs.FinMap.{get, get-empty}
 use Rattle.ncp_numbers.specs.Bytes.{bytes_of}
@@ -32,9 +32,9 @@ use Rattle.ncp_model.specs.Peers.{Peer, Ask_to_send, Ask_to_receive, Close, Give
 use Rattle.ncp_model.specs.Peers as peers
 use Rattle.ncp_model.proofs.EndsAfter.{after-at, after-elsewhere}
 use Rattle.ncp_model.proofs.LinksLead.{led, command-led, cut-led, answered-led, hearer-sends, user-receives, suits-led}
-use Rattle.ncp_watch.specs.Histories.{Past, no_past}
-use Rattle.ncp_watch.specs.Sound.{SoundAt}
-use Rattle.ncp_watch.proofs.SoundEnds.{sound-after}
+use Rattle.ncp_proof_watch.specs.Histories.{Past, no_past}
+use Rattle.ncp_proof_watch.specs.Sound.{SoundAt}
+use Rattle.ncp_proof_watch.proofs.SoundEnds.{sound-after}
 use Rattle.ncp_host.specs.Counting.{one_more}
 use Rattle.ncp_host.specs.PeerState.{PeerState, new_state, control_link, is_answered, answer_taken, answer_comes, frees_on, after_answer}
 use Rattle.ncp_host.specs.Hearing.{control_size, control_after, text_after, is_wrong_link, hears, hears_all, hears_last, message_after}
@@ -44,11 +44,11 @@ use Rattle.ncp_transcript.specs.declared.call.Call.{Call}
 use Rattle.ncp_transcript.specs.declared.call.Call.TheVariants as calls_of
 use Rattle.ncp_transcript.specs.declared.note.HostNote.{HostNote}
 use Rattle.ncp_transcript.specs.declared.note.HostNote.TheVariants as notes
-use Rattle.ncp_runs.specs.Peers.{called_for, bits_for, out_for, note_for, notes_for}
-use Rattle.ncp_runs.specs.Histories.{past_then, past_at, past_called, past_heard, past_heard_all, past_text, past_message, past_bits, past_of_call, past_by, past_from}
+use Rattle.ncp_proof_runs.specs.Peers.{called_for, bits_for, out_for, note_for, notes_for}
+use Rattle.ncp_proof_runs.specs.Histories.{past_then, past_at, past_called, past_heard, past_heard_all, past_text, past_message, past_bits, past_of_call, past_by, past_from}
 use Rattle.ncp_model.specs.Happenings.{Outcome}
-use Rattle.ncp_runs.proofs.HostRuns.{some_same}
-use Rattle.ncp_runs.proofs.BooksOfRuns.{same_pair, another, put_here, put_there, called-suits, comes-led}
+use Rattle.ncp_proof_runs.proofs.HostRuns.{some_same}
+use Rattle.ncp_proof_runs.proofs.BooksOfRuns.{same_pair, another, put_here, put_there, called-suits, comes-led}
 use Rattle.ncp_statement.specs.Statement.{Use, Else}
 use Rattle.ncp_proof_statement.specs.Since.{use_then, did_at, did_called, did_by, did_run, tallied}
 

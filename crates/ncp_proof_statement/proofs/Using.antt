@@ -22,22 +22,22 @@ use Rattle.ncp_transcript.specs.declared.note.HostNote.TheVariants as of_host
 use Rattle.ncp_transcript.specs.Notes.{done_or_refused, told_or_refused}
 use Rattle.ncp_transcript.specs.Answers.{answer_to}
 use Rattle.ncp_transcript.specs.Noting.{CallNoted, answer_in, note_as, note_of_bits, note_of_message}
-use Rattle.ncp_runs.specs.Peers.{names, notes_of}
-use Rattle.ncp_two.specs.Sides.{if_same, note_at, notes_at}
-use Rattle.ncp_two.specs.declared.side.Side.{Side}
-use Rattle.ncp_two.specs.declared.side.Side.TheVariants.{A, B}
-use Rattle.ncp_two.specs.declared.event.Event.{Event}
-use Rattle.ncp_two.specs.declared.event.Event.TheVariants as events
-use Rattle.ncp_two.specs.declared.note.Move.TheVariants as move_kinds
-use Rattle.ncp_two.specs.declared.note.Note.{Note}
-use Rattle.ncp_two.specs.declared.note.Note.TheVariants as notes
-use Rattle.ncp_two.specs.Between.{Hosts, other, number_of, host_of, transit_of, after_note}
-use Rattle.ncp_two.specs.Happening.{Noted, came, answered}
-use Rattle.ncp_two.specs.Transcript.{IsRun, began, IsTranscript}
-use Rattle.ncp_two.proofs.OnePeer.{only-peer}
-use Rattle.ncp_two.proofs.SeenSteps.{Stand}
-use Rattle.ncp_two.proofs.SeenRuns.{stand-after}
-use Rattle.ncp_two.proofs.Headlines.{stands}
+use Rattle.ncp_proof_runs.specs.Peers.{names, notes_of}
+use Rattle.ncp_transcript_two.specs.Sides.{if_same, note_at, notes_at}
+use Rattle.ncp_transcript_two.specs.declared.side.Side.{Side}
+use Rattle.ncp_transcript_two.specs.declared.side.Side.TheVariants.{A, B}
+use Rattle.ncp_transcript_two.specs.declared.event.Event.{Event}
+use Rattle.ncp_transcript_two.specs.declared.event.Event.TheVariants as events
+use Rattle.ncp_transcript_two.specs.declared.note.Move.TheVariants as move_kinds
+use Rattle.ncp_transcript_two.specs.declared.note.Note.{Note}
+use Rattle.ncp_transcript_two.specs.declared.note.Note.TheVariants as notes
+use Rattle.ncp_transcript_two.specs.Between.{Hosts, other, number_of, host_of, transit_of, after_note}
+use Rattle.ncp_transcript_two.specs.Happening.{Noted, came, answered}
+use Rattle.ncp_transcript_two.specs.Transcript.{IsRun, began, IsTranscript}
+use Rattle.ncp_transcript_two.proofs.OnePeer.{only-peer}
+use Rattle.ncp_transcript_two.proofs.SeenSteps.{Stand}
+use Rattle.ncp_transcript_two.proofs.SeenRuns.{stand-after}
+use Rattle.ncp_transcript_two.proofs.Headlines.{stands}
 use Rattle.ncp_statement.specs.Statement.{Use, Asked, Gave, Had, Let, Else, use_of, use_at, uses, taken_from, given_from, allowed_from, taken, given, allowed}
 use Rattle.ncp_proof_statement.specs.Since.{uses_by}
 use Rattle.ncp_proof_statement.proofs.Walking.{only-one}

@@ -5,34 +5,34 @@ use Rattle.std.proofs.lemmas.List.Elements.{filter-append}
 use Rattle.std.specs.FinMap.{empty, get-empty}
 use Rattle.ncp_model.specs.declared.pair.Pair.{Pair}
 use Rattle.ncp_model.specs.Pairs.{pair_cmp}
-use Rattle.ncp_watch.specs.Histories.{Past, no_past}
-use Rattle.ncp_hosts.specs.Hosts.{or_no_past}
-use Rattle.ncp_hosts.specs.Hosts.{past_of as past_here}
+use Rattle.ncp_proof_watch.specs.Histories.{Past, no_past}
+use Rattle.ncp_proof_machine.specs.Hosts.{or_no_past}
+use Rattle.ncp_proof_machine.specs.Hosts.{past_of as past_here}
 use Rattle.ncp_host.specs.PeerState.{PeerState, new_state}
 use Rattle.ncp_host.specs.Host.{Host, state_of, is_one_of}
 use Rattle.ncp_transcript.specs.declared.note.HostNote.{HostNote}
 use Rattle.ncp_transcript.specs.After as after
 use Rattle.ncp_transcript.specs.Runs as runs
-use Rattle.ncp_runs.specs.Peers.{names, notes_of, note_for, notes_for}
-use Rattle.ncp_runs.specs.Histories.{past_by, past_from, past_of}
-use Rattle.ncp_runs.proofs.HostRuns.{Holds}
-use Rattle.ncp_runs.proofs.EachPeer.{apart, holds-after, new-holds}
-use Rattle.ncp_two.specs.Tie.{IsOfModel}
-use Rattle.ncp_two.specs.Watch.{Both, no_histories}
-use Rattle.ncp_two.specs.Seen.{state_or_new, seen, as_rules, told_of, side_of, watched, histories}
-use Rattle.ncp_two.specs.Sides.{note_at, notes_at}
-use Rattle.ncp_two.specs.declared.side.Side.{Side}
-use Rattle.ncp_two.specs.declared.side.Side.TheVariants.{A, B}
-use Rattle.ncp_two.specs.declared.note.Note.{Note}
-use Rattle.ncp_two.specs.Between.{Hosts, other, number_of, host_of, after_note}
-use Rattle.ncp_two.specs.Transcript.{IsRun, began, IsTranscript}
-use Rattle.ncp_two.specs.OfRules.{histories_of}
-use Rattle.ncp_two.proofs.SeenSteps.{Stand}
-use Rattle.ncp_two.proofs.SeenRuns.{stands-at}
-use Rattle.ncp_two.proofs.Runs.{new-ties}
-use Rattle.ncp_two.proofs.Headlines.{stands, new}
-use Rattle.ncp_two.proofs.Growing.{began_noted}
-use Rattle.ncp_two.proofs.OneSide.{of_event}
+use Rattle.ncp_proof_runs.specs.Peers.{names, notes_of, note_for, notes_for}
+use Rattle.ncp_proof_runs.specs.Histories.{past_by, past_from, past_of}
+use Rattle.ncp_proof_runs.proofs.HostRuns.{Holds}
+use Rattle.ncp_proof_runs.proofs.EachPeer.{apart, holds-after, new-holds}
+use Rattle.ncp_transcript_two.specs.Tie.{IsOfModel}
+use Rattle.ncp_transcript_two.specs.Watch.{Both, no_histories}
+use Rattle.ncp_transcript_two.specs.Seen.{state_or_new, seen, as_rules, told_of, side_of, watched, histories}
+use Rattle.ncp_transcript_two.specs.Sides.{note_at, notes_at}
+use Rattle.ncp_transcript_two.specs.declared.side.Side.{Side}
+use Rattle.ncp_transcript_two.specs.declared.side.Side.TheVariants.{A, B}
+use Rattle.ncp_transcript_two.specs.declared.note.Note.{Note}
+use Rattle.ncp_transcript_two.specs.Between.{Hosts, other, number_of, host_of, after_note}
+use Rattle.ncp_transcript_two.specs.Transcript.{IsRun, began, IsTranscript}
+use Rattle.ncp_transcript_two.specs.OfRules.{histories_of}
+use Rattle.ncp_transcript_two.proofs.SeenSteps.{Stand}
+use Rattle.ncp_transcript_two.proofs.SeenRuns.{stands-at}
+use Rattle.ncp_transcript_two.proofs.Runs.{new-ties}
+use Rattle.ncp_transcript_two.proofs.Headlines.{stands, new}
+use Rattle.ncp_transcript_two.proofs.Growing.{began_noted}
+use Rattle.ncp_transcript_two.proofs.OneSide.{of_event}
 use Rattle.ncp_proof_statement.proofs.Walking.{mine, ours, step-here}
 
 -- One list of notes behind another.

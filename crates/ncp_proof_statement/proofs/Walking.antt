@@ -12,11 +12,11 @@ use Rattle.ncp_model.specs.declared.pair.Pair.{Pair}
 use Rattle.ncp_model.specs.Peers.{Ask_to_send, Ask_to_receive, Close, Give, Take, Allocate, Call_back, Interrupt, comes_of, reply, reply_of_take, reply_of_echo}
 use Rattle.ncp_model.specs.Peers.{Call as Pair_call}
 use Rattle.ncp_model.specs.Phase.{reset_answer}
-use Rattle.ncp_watch.specs.Histories.{Past}
-use Rattle.ncp_resets.specs.Resets.{This, That}
-use Rattle.ncp_hosts.specs.Hosts as hosts
-use Rattle.ncp_hosts.specs.Hosts.{Pasts}
-use Rattle.ncp_hosts.specs.Hosts.{past_of as past_here}
+use Rattle.ncp_proof_watch.specs.Histories.{Past}
+use Rattle.ncp_proof_resets.specs.Resets.{This, That}
+use Rattle.ncp_proof_machine.specs.Hosts as hosts
+use Rattle.ncp_proof_machine.specs.Hosts.{Pasts}
+use Rattle.ncp_proof_machine.specs.Hosts.{past_of as past_here}
 use Rattle.ncp_host.specs.PeerState.{PeerState, control_link}
 use Rattle.ncp_host.specs.Hearing.{control_size, is_wrong_link, message_received, control_received, text_received}
 use Rattle.ncp_host.specs.Host.{Host, numbers_of, state_of, if_known}
@@ -36,34 +36,34 @@ use Rattle.ncp_transcript.specs.declared.note.HostNote.TheVariants as of_host
 use Rattle.ncp_transcript.specs.Notes.{done_or_refused, told_or_refused}
 use Rattle.ncp_transcript.specs.Answers.{answer_to}
 use Rattle.ncp_transcript.specs.Noting.{CallNoted, note_of_bits, note_of_message}
-use Rattle.ncp_runs.specs.Peers.{names, is_number, peer_of_leader, notes_of}
-use Rattle.ncp_runs.specs.Histories.{past_called, past_bits, past_by, past_from}
-use Rattle.ncp_two.specs.Subnet.{Holds, Free, Accepted, Delivered, Lost, Dead, from_host}
-use Rattle.ncp_two.specs.World.{World, Asked, Asks, Asks_echo, Asks_reset, Asks_wake, Reply, Told, Called, Nothing, Is_delivered, delivers, moves}
-use Rattle.ncp_two.specs.World as worlds
-use Rattle.ncp_two.specs.Tie.{Tied}
-use Rattle.ncp_two.specs.Refused.{is_refused, refuses}
-use Rattle.ncp_two.specs.Watch.{Both, turn, of_asked, of_message}
-use Rattle.ncp_two.specs.Watch as watch
-use Rattle.ncp_two.specs.Seen.{seen, had_for, as_rules, asked_by, done, told_call, told_of, side_of, watched}
-use Rattle.ncp_two.specs.Sides.{note_at}
-use Rattle.ncp_two.specs.declared.side.Side.{Side}
-use Rattle.ncp_two.specs.declared.side.Side.TheVariants.{A, B}
-use Rattle.ncp_two.specs.declared.event.Event.{Event}
-use Rattle.ncp_two.specs.declared.event.Event.TheVariants as events
-use Rattle.ncp_two.specs.declared.note.Move.TheVariants as move_kinds
-use Rattle.ncp_two.specs.declared.note.Note.{Note}
-use Rattle.ncp_two.specs.declared.note.Note.TheVariants as notes
-use Rattle.ncp_two.specs.Between.{Hosts, other, number_of, host_of}
-use Rattle.ncp_two.specs.Happening.{Noted, came, answered}
-use Rattle.ncp_two.specs.Naming.{IsAnswerAbout}
-use Rattle.ncp_two.proofs.OnePeer.{only-peer, noted-message}
-use Rattle.ncp_two.proofs.SeenSteps.{Stand}
-use Rattle.ncp_two.proofs.SeenMoves.{sent-led}
-use Rattle.ncp_two.proofs.SeenRuns.{turned, stand-turned}
-use Rattle.ncp_two.proofs.Ties.{tied-swapped}
-use Rattle.ncp_two.proofs.Refusals.{none-refused}
-use Rattle.ncp_two.proofs.Naming.{AnswerNamed, answer-named}
+use Rattle.ncp_proof_runs.specs.Peers.{names, is_number, peer_of_leader, notes_of}
+use Rattle.ncp_proof_runs.specs.Histories.{past_called, past_bits, past_by, past_from}
+use Rattle.ncp_transcript_two.specs.Subnet.{Holds, Free, Accepted, Delivered, Lost, Dead, from_host}
+use Rattle.ncp_transcript_two.specs.World.{World, Asked, Asks, Asks_echo, Asks_reset, Asks_wake, Reply, Told, Called, Nothing, Is_delivered, delivers, moves}
+use Rattle.ncp_transcript_two.specs.World as worlds
+use Rattle.ncp_transcript_two.specs.Tie.{Tied}
+use Rattle.ncp_transcript_two.specs.Refused.{is_refused, refuses}
+use Rattle.ncp_transcript_two.specs.Watch.{Both, turn, of_asked, of_message}
+use Rattle.ncp_transcript_two.specs.Watch as watch
+use Rattle.ncp_transcript_two.specs.Seen.{seen, had_for, as_rules, asked_by, done, told_call, told_of, side_of, watched}
+use Rattle.ncp_transcript_two.specs.Sides.{note_at}
+use Rattle.ncp_transcript_two.specs.declared.side.Side.{Side}
+use Rattle.ncp_transcript_two.specs.declared.side.Side.TheVariants.{A, B}
+use Rattle.ncp_transcript_two.specs.declared.event.Event.{Event}
+use Rattle.ncp_transcript_two.specs.declared.event.Event.TheVariants as events
+use Rattle.ncp_transcript_two.specs.declared.note.Move.TheVariants as move_kinds
+use Rattle.ncp_transcript_two.specs.declared.note.Note.{Note}
+use Rattle.ncp_transcript_two.specs.declared.note.Note.TheVariants as notes
+use Rattle.ncp_transcript_two.specs.Between.{Hosts, other, number_of, host_of}
+use Rattle.ncp_transcript_two.specs.Happening.{Noted, came, answered}
+use Rattle.ncp_transcript_two.specs.Naming.{IsAnswerAbout}
+use Rattle.ncp_transcript_two.proofs.OnePeer.{only-peer, noted-message}
+use Rattle.ncp_transcript_two.proofs.SeenSteps.{Stand}
+use Rattle.ncp_transcript_two.proofs.SeenMoves.{sent-led}
+use Rattle.ncp_transcript_two.proofs.SeenRuns.{turned, stand-turned}
+use Rattle.ncp_transcript_two.proofs.Ties.{tied-swapped}
+use Rattle.ncp_transcript_two.proofs.Refusals.{none-refused}
+use Rattle.ncp_transcript_two.proofs.Naming.{AnswerNamed, answer-named}
 use Rattle.ncp_proof_statement.proofs.Bridging.{call-here, message-here}
 
 abbrev pub mine : Side → Both → Pasts

@@ -1,8 +1,8 @@
 -- The headline of each two of two to eight hosts.
 use Rattle.std.specs.Prelude.{◌≡◌, ◌≢◌, ℕ, true, List}
-use Rattle.ncp_pairs.specs.declared.many_note.ManyNote.{ManyNote}
-use Rattle.ncp_pairs.specs.Crowd.{Crowd, is_there}
-use Rattle.ncp_pairs.specs.Pairs.{notes_between}
+use Rattle.ncp_transcript_many.specs.declared.many_note.ManyNote.{ManyNote}
+use Rattle.ncp_transcript_many.specs.Crowd.{Crowd, is_there}
+use Rattle.ncp_transcript_many.specs.Pairs.{notes_between}
 use Rattle.ncp_statement.specs.Statement.{Headline}
 use Rattle.ncp_proof_statement.specs.Moments.{TakenBegins}
 

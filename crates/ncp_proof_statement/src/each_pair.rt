@@ -1,8 +1,8 @@
 //! The headline as the page says it, of each two of two to eight hosts.
 ghost use Rattle.std.specs.Prelude.{List};
-ghost use Rattle.ncp_pairs.specs.declared.many_note.ManyNote.{ManyNote as Note};
-ghost use Rattle.ncp_pairs.specs.Crowd.{Crowd};
-ghost use Rattle.ncp_pairs.specs.ManyTranscript.{IsManyTranscript};
+ghost use Rattle.ncp_transcript_many.specs.declared.many_note.ManyNote.{ManyNote as Note};
+ghost use Rattle.ncp_transcript_many.specs.Crowd.{Crowd};
+ghost use Rattle.ncp_transcript_many.specs.ManyTranscript.{IsManyTranscript};
 ghost use Rattle.ncp_proof_statement.specs.EachTwo.{HeadlineOfEachTwo, TakenBeginsOfEachTwo};
 
 use crate::headline::transcripts_keep_the_page;

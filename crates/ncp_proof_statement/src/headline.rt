@@ -4,17 +4,17 @@ ghost use Rattle.std.specs.FinMap.{get};
 ghost use Rattle.ncp_model.specs.declared.pair.Pair.{Pair};
 ghost use Rattle.ncp_model.specs.Pairs.{receives, turned};
 ghost use Rattle.ncp_model.specs.End.{is_live, or_new};
-ghost use Rattle.ncp_two.specs.declared.note.Note.{Note};
-ghost use Rattle.ncp_two.specs.declared.side.Side.{Side};
-ghost use Rattle.ncp_two.specs.Between.{Hosts, other, number_of, host_of, transit_of};
-ghost use Rattle.ncp_two.specs.Seen.{had_for};
-ghost use Rattle.ncp_two.specs.Transcript.{IsTranscript};
+ghost use Rattle.ncp_transcript_two.specs.declared.note.Note.{Note};
+ghost use Rattle.ncp_transcript_two.specs.declared.side.Side.{Side};
+ghost use Rattle.ncp_transcript_two.specs.Between.{Hosts, other, number_of, host_of, transit_of};
+ghost use Rattle.ncp_transcript_two.specs.Seen.{had_for};
+ghost use Rattle.ncp_transcript_two.specs.Transcript.{IsTranscript};
 ghost use Rattle.ncp_statement.specs.Statement.{taken, given, TakesGoOn, WithinAllowance, Each, ReadsAll, HasNoComplaint, InOrder, Delivers, carried, TakesWhatGoesOut, Headline};
 ghost use Rattle.ncp_proof_statement.specs.Since.{ComesRight};
 
-use ncp_promises::promises::what_comes_acts_once_and_is_right;
-use ncp_promises::taking::what_goes_out_is_taken as each_out_is_taken;
-use ncp_two::transcripts::{
+use ncp_proof_promises::promises::what_comes_acts_once_and_is_right;
+use ncp_proof_promises::taking::what_goes_out_is_taken as each_out_is_taken;
+use ncp_transcript_two::transcripts::{
     nothing_is_noted_only_where_nothing_can_be, transcripts_are_honest,
     transcripts_keep_the_headline,
 };

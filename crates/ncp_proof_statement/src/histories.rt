@@ -2,16 +2,16 @@
 //! used by the histories of two hosts is that by the notes of each host for the other.
 ghost use Rattle.std.specs.Prelude.{◌≡◌, true, List, []};
 ghost use Rattle.ncp_model.specs.declared.pair.Pair.{Pair};
-ghost use Rattle.ncp_hosts.specs.Hosts.{past_of as past_here};
-ghost use Rattle.ncp_runs.specs.Peers.{notes_of};
-ghost use Rattle.ncp_runs.specs.Histories.{past_of};
-ghost use Rattle.ncp_two.specs.declared.note.Note.{Note};
-ghost use Rattle.ncp_two.specs.declared.side.Side.{Side};
-ghost use Rattle.ncp_two.specs.declared.side.Side.TheVariants.{A, B};
-ghost use Rattle.ncp_two.specs.Between.{Hosts, other, number_of};
-ghost use Rattle.ncp_two.specs.Sides.{notes_at};
-ghost use Rattle.ncp_two.specs.Transcript.{IsTranscript};
-ghost use Rattle.ncp_two.specs.OfRules.{histories_of};
+ghost use Rattle.ncp_proof_machine.specs.Hosts.{past_of as past_here};
+ghost use Rattle.ncp_proof_runs.specs.Peers.{notes_of};
+ghost use Rattle.ncp_proof_runs.specs.Histories.{past_of};
+ghost use Rattle.ncp_transcript_two.specs.declared.note.Note.{Note};
+ghost use Rattle.ncp_transcript_two.specs.declared.side.Side.{Side};
+ghost use Rattle.ncp_transcript_two.specs.declared.side.Side.TheVariants.{A, B};
+ghost use Rattle.ncp_transcript_two.specs.Between.{Hosts, other, number_of};
+ghost use Rattle.ncp_transcript_two.specs.Sides.{notes_at};
+ghost use Rattle.ncp_transcript_two.specs.Transcript.{IsTranscript};
+ghost use Rattle.ncp_transcript_two.specs.OfRules.{histories_of};
 ghost use Rattle.ncp_statement.specs.Statement.{taken_from, given_from, allowed_from, taken, given, allowed};
 ghost use Rattle.ncp_proof_statement.specs.Since.{uses_by};
 

@@ -2,15 +2,15 @@
 ghost use Rattle.std.specs.Prelude.{Bool, true, false, List, [], ◌∷◌};
 ghost use Rattle.ncp_model.specs.Pairs.{sends};
 ghost use Rattle.ncp_model.specs.declared.pair.Pair.{Pair};
-ghost use Rattle.ncp_two.specs.declared.note.Note.{Note};
-ghost use Rattle.ncp_two.specs.Between.{Hosts};
-ghost use Rattle.ncp_two.specs.Transcript.{IsTranscript};
+ghost use Rattle.ncp_transcript_two.specs.declared.note.Note.{Note};
+ghost use Rattle.ncp_transcript_two.specs.Between.{Hosts};
+ghost use Rattle.ncp_transcript_two.specs.Transcript.{IsTranscript};
 ghost use Rattle.ncp_statement.specs.Examples.{asks_send, asks_receive, gives, takes};
 ghost use Rattle.ncp_proof_statement.specs.Moments.{TakenBegins};
 
-use ncp_headline::machines::hosts_are_tied_to_machines;
-use ncp_sharing::sharing::each_loses_and_makes_nothing;
-use ncp_two::transcripts::transcripts_are_of_the_model;
+use ncp_proof_headline::machines::hosts_are_tied_to_machines;
+use ncp_proof_sharing::sharing::each_loses_and_makes_nothing;
+use ncp_transcript_two::transcripts::transcripts_are_of_the_model;
 
 /// After any run, of every pair and at either host, what was taken since the ask is a beginning of what is given at the
 /// other host: also where the end has closed, is gone, was cleared with its request underway, or asks anew.

@@ -7,14 +7,14 @@ ghost use Rattle.ncp_model.specs.Pairs.{sends, receives};
 ghost use Rattle.ncp_model.specs.End.{End};
 ghost use Rattle.ncp_model.specs.Happenings.{Happening, happens};
 ghost use Rattle.ncp_model.specs.Leading.{suits};
-ghost use Rattle.ncp_watch.specs.Histories.{Past};
-ghost use Rattle.ncp_watch.specs.Sound.{SoundAt};
+ghost use Rattle.ncp_proof_watch.specs.Histories.{Past};
+ghost use Rattle.ncp_proof_watch.specs.Sound.{SoundAt};
 ghost use Rattle.ncp_host.specs.PeerState.{PeerState};
 ghost use Rattle.ncp_host.specs.Host.{state_of, new_host};
 ghost use Rattle.ncp_transcript.specs.declared.note.HostNote.{HostNote as Note};
 ghost use Rattle.ncp_transcript.specs.After.{after_notes};
-ghost use Rattle.ncp_runs.specs.Peers.{FromBeginning, notes_of};
-ghost use Rattle.ncp_runs.specs.Histories.{past_then, past_of};
+ghost use Rattle.ncp_proof_runs.specs.Peers.{FromBeginning, notes_of};
+ghost use Rattle.ncp_proof_runs.specs.Histories.{past_then, past_of};
 ghost use Rattle.ncp_statement.specs.Statement.{taken_from, given_from, allowed_from};
 ghost use Rattle.ncp_proof_statement.specs.Since.{Takings, takings_then, TakenSince, Givings, givings_then, GivenSince, uses_by};
 

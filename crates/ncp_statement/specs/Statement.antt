@@ -25,15 +25,15 @@ use Rattle.ncp_transcript.specs.declared.call.Call.{Call}
 use Rattle.ncp_transcript.specs.declared.call.Call.TheVariants as calls
 use Rattle.ncp_transcript.specs.declared.note.HostNote.{HostNote}
 use Rattle.ncp_transcript.specs.declared.note.HostNote.TheVariants as of_host
-use Rattle.ncp_two.specs.declared.side.Side.{Side}
-use Rattle.ncp_two.specs.declared.side.Side.TheVariants.{A, B}
-use Rattle.ncp_two.specs.declared.note.Move.{Move}
-use Rattle.ncp_two.specs.declared.note.Note.{Note}
-use Rattle.ncp_two.specs.declared.note.Note.TheVariants as notes
-use Rattle.ncp_two.specs.Between.{other}
-use Rattle.ncp_two.specs.Honest.{Deed, Sent, Comes, Other, Clear, answer_deed, if_on, HonestFrom, sent_from, coming, IsBeginning}
-use Rattle.ncp_two.specs.Underway.{commands_of}
-use Rattle.ncp_two.specs.Vain.{CannotBe}
+use Rattle.ncp_transcript_two.specs.declared.side.Side.{Side}
+use Rattle.ncp_transcript_two.specs.declared.side.Side.TheVariants.{A, B}
+use Rattle.ncp_transcript_two.specs.declared.note.Move.{Move}
+use Rattle.ncp_transcript_two.specs.declared.note.Note.{Note}
+use Rattle.ncp_transcript_two.specs.declared.note.Note.TheVariants as notes
+use Rattle.ncp_transcript_two.specs.Between.{other}
+use Rattle.ncp_transcript_two.specs.Honest.{Deed, Sent, Comes, Other, Clear, answer_deed, if_on, HonestFrom, sent_from, coming, IsBeginning}
+use Rattle.ncp_transcript_two.specs.Underway.{commands_of}
+use Rattle.ncp_transcript_two.specs.Vain.{CannotBe}
 
 -- 1. What the users of a pair of sockets did.
 

@@ -7,9 +7,9 @@ ghost use Rattle.ncp_model.specs.declared.outcomes.Took.TheVariants as took;
 ghost use Rattle.ncp_host.specs.declared.received.Received.{Received};
 ghost use Rattle.ncp_subnet.specs.Messages.{link_in, from_host};
 ghost use Rattle.ncp_subnet.specs.declared.transit.Transit.TheVariants.{Free};
-ghost use Rattle.ncp_two.specs.declared.side.Side.TheVariants.{A, B};
-ghost use Rattle.ncp_two.specs.declared.note.Move.TheVariants as moves;
-ghost use Rattle.ncp_two.specs.Underway.{commands_of};
+ghost use Rattle.ncp_transcript_two.specs.declared.side.Side.TheVariants.{A, B};
+ghost use Rattle.ncp_transcript_two.specs.declared.note.Move.TheVariants as moves;
+ghost use Rattle.ncp_transcript_two.specs.Underway.{commands_of};
 ghost use Rattle.ncp_statement.specs.Statement.{given, taken, allowed, TakesGoOn, WithinAllowance, Delivers, InOrder, carried, TakesWhatGoesOut, Each, HasNoComplaint, ReadsAll};
 ghost use Rattle.ncp_statement.specs.Examples.{out_pair, in_pair, asks_send, asks_receive, allocates, gives, refused, takes, goes_out, comes, is_lost, is_answered, had_none, text_came, came_read, came_unread};
 

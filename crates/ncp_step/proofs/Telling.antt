@@ -8,11 +8,11 @@ use Rattle.ncp_subnet.specs.Messages.{arriving, answer_about}
 use Rattle.ncp_host.specs.Host.{Host}
 use Rattle.ncp_transcript.specs.declared.note.HostNote.{HostNote}
 use Rattle.ncp_transcript.specs.Noting.{note_of_bits}
-use Rattle.ncp_two.specs.declared.side.Side.{Side}
-use Rattle.ncp_two.specs.declared.note.Move.TheVariants as moves
-use Rattle.ncp_two.specs.declared.note.Note.TheVariants as notes
-use Rattle.ncp_two.specs.Between.{Hosts, other, host_of}
-use Rattle.ncp_two.specs.Happening.{came, answered}
+use Rattle.ncp_transcript_two.specs.declared.side.Side.{Side}
+use Rattle.ncp_transcript_two.specs.declared.note.Move.TheVariants as moves
+use Rattle.ncp_transcript_two.specs.declared.note.Note.TheVariants as notes
+use Rattle.ncp_transcript_two.specs.Between.{Hosts, other, host_of}
+use Rattle.ncp_transcript_two.specs.Happening.{came, answered}
 use Rattle.ncp_step.specs.Told.{told}
 
 said : (bits : List Bool) (h : Host) (n : HostNote) → Some n ≡ told (Some bits) h → n ≡ note_of_bits bits h

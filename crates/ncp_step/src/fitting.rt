@@ -1,6 +1,6 @@
 //! What the types of numbers say of a call.
-ghost use Rattle.ncp_two.specs.Tie.{IsPair};
-ghost use Rattle.ncp_two.specs.Seen.{CallFits};
+ghost use Rattle.ncp_transcript_two.specs.Tie.{IsPair};
+ghost use Rattle.ncp_transcript_two.specs.Seen.{CallFits};
 
 use ncp_host::Pair;
 use ncp_transcript::Call;

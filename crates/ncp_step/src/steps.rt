@@ -6,8 +6,8 @@ ghost use Rattle.ncp_subnet.specs.Subnet.{transit_at};
 ghost use Rattle.ncp_host.specs.Host.{are_peers, new_host};
 ghost use Rattle.ncp_transcript.specs.Noting.{CallNoted, note_of_output};
 ghost use Rattle.ncp_transcript.specs.After.{after_note};
-ghost use Rattle.ncp_two.specs.Seen.{CallFits};
-ghost use Rattle.ncp_two.specs.Between.{after_out};
+ghost use Rattle.ncp_transcript_two.specs.Seen.{CallFits};
+ghost use Rattle.ncp_transcript_two.specs.Between.{after_out};
 ghost use Rattle.ncp_step.specs.Told.{told, after_told, put_told};
 
 use crate::fitting::numbers_fit;

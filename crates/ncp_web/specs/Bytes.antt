@@ -1,13 +1,13 @@
 -- What a page is handed of bytes: what the players and the readers of files say of them.
 use Rattle.std.specs.Prelude.{◌≡◌, ◌≢◌, ℕ, Bool, true, false, List, [], Option, Some, Result, Ok, Err, min, take, length}
-use Rattle.ncp_files.specs.declared.file.FileFault.{FileFault}
-use Rattle.ncp_files.specs.Shown.{Shown}
-use Rattle.ncp_files.specs.Checked.{Checked}
-use Rattle.ncp_play.specs.declared.fault.PlayFault.{PlayFault}
-use Rattle.ncp_host_player.specs.Played.{HostPlayed}
-use Rattle.ncp_world_player.specs.ManyRules.{is_many_script}
-use Rattle.ncp_world_player.specs.Players.{PlaysWorld, PlaysMany}
-use Rattle.ncp_world_player.specs.Tales.{lines_of_script, lines_of_many, recording_of, recording_of_many}
+use Rattle.ncp_play_files.specs.declared.file.FileFault.{FileFault}
+use Rattle.ncp_play_files.specs.Shown.{Shown}
+use Rattle.ncp_play_files.specs.Checked.{Checked}
+use Rattle.ncp_play_notes.specs.declared.fault.PlayFault.{PlayFault}
+use Rattle.ncp_play_host.specs.Played.{HostPlayed}
+use Rattle.ncp_play_world.specs.ManyRules.{is_many_script}
+use Rattle.ncp_play_world.specs.Players.{PlaysWorld, PlaysMany}
+use Rattle.ncp_play_world.specs.Tales.{lines_of_script, lines_of_many, recording_of, recording_of_many}
 use Rattle.ncp_web.specs.declared.answer.TheConstants.{DONE, BAD, FAULT, NO_MEMORY}
 
 -- the lines of a script of two hosts, or of two to eight

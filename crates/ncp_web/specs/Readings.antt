@@ -6,8 +6,8 @@ use Rattle.ncp_transcript.specs.declared.call.Call.TheVariants as calls
 use Rattle.ncp_transcript.specs.declared.note.HostNote.{HostNote}
 use Rattle.ncp_transcript.specs.Answers.{answer_to}
 use Rattle.ncp_numbers.specs.Bytes.{bytes_of, bytes_for}
-use Rattle.ncp_two.specs.declared.ledger.Amount.{Amount}
-use Rattle.ncp_two.specs.declared.ledger.Ledger.{Ledger}
+use Rattle.ncp_transcript_two.specs.declared.ledger.Amount.{Amount}
+use Rattle.ncp_transcript_two.specs.declared.ledger.Ledger.{Ledger}
 use Rattle.ncp_web.specs.declared.readers.Quantity.{Quantity}
 use Rattle.ncp_web.specs.declared.readers.Books.{Books}
 

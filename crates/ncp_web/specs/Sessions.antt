@@ -1,14 +1,14 @@
 -- A session: hosts that are played line by line.
 use Rattle.std.specs.Prelude.{◌≡◌, ℕ, ◌==◌, if◌then◌else◌, List, [], ◌∷◌, ◌++◌, length, min, Option, None, Some, Result, Ok, Err}
 use Rattle.ncp_host.specs.Host.{Host}
-use Rattle.ncp_script.specs.Words.{words_of}
-use Rattle.ncp_script.specs.declared.first_lines.TwoHosts.{TwoHosts}
-use Rattle.ncp_two.specs.declared.side.Side.{Side}
-use Rattle.ncp_two.specs.declared.side.Side.TheVariants.{A, B}
-use Rattle.ncp_two.specs.Between.{host_of}
-use Rattle.ncp_pairs.specs.Numbered.{thing_in}
-use Rattle.ncp_scene.specs.Rules.{Rules}
-use Rattle.ncp_scene.specs.Telling.{Tale}
+use Rattle.ncp_play_script.specs.Words.{words_of}
+use Rattle.ncp_play_script.specs.declared.first_lines.TwoHosts.{TwoHosts}
+use Rattle.ncp_transcript_two.specs.declared.side.Side.{Side}
+use Rattle.ncp_transcript_two.specs.declared.side.Side.TheVariants.{A, B}
+use Rattle.ncp_transcript_two.specs.Between.{host_of}
+use Rattle.ncp_transcript_many.specs.Numbered.{thing_in}
+use Rattle.ncp_play_scene.specs.Rules.{Rules}
+use Rattle.ncp_play_scene.specs.Telling.{Tale}
 use Rattle.ncp_web.specs.declared.stage.Stage.{Stage}
 use Rattle.ncp_web.specs.declared.stage.Stage.TheVariants.{Two, Many}
 use Rattle.ncp_web.specs.declared.stage.Refusal.{Refusal}

@@ -3,8 +3,8 @@ ghost use Rattle.std.specs.Prelude.{◌≡◌, ◌≢◌, min, take, length};
 ghost use Rattle.ncp_web.specs.Bytes.{code_of_played};
 
 use ncp_bits::MAX_BITS;
-use ncp_play::PlayFault;
-use ncp_stream::MemorySink;
+use ncp_play_notes::PlayFault;
+use ncp_play_stream::MemorySink;
 use std::alloc::Global;
 
 /// It was done, and all was good.

@@ -1,6 +1,6 @@
 //! What is wrong, in words for the person who wrote a script: nothing rests on them.
 use crate::answer::{DONE, FULL, NO_MEMORY, NOTHING};
-use ncp_faults::{Player, meaning, wrong_first_line, wrong_line};
+use ncp_play_faults::{Player, meaning, wrong_first_line, wrong_line};
 use std::alloc::{AllocError, Global};
 
 // Copies words into the front of a buffer that has room for them.

@@ -3,9 +3,9 @@ ghost use Rattle.std.specs.Prelude.{◌≡◌, [], false};
 ghost use Rattle.ncp_web.specs.Bytes.{ShowsBytes, ChecksBytes, HandsOut, code_of_shown, code_of_checked};
 
 use crate::answer::{NO_MEMORY, conclude, copy_out};
-use ncp_files::{FileFault, check, show};
-use ncp_play::PlayFault;
-use ncp_stream::{MemorySink, MemorySource};
+use ncp_play_files::{FileFault, check, show};
+use ncp_play_notes::PlayFault;
+use ncp_play_stream::{MemorySink, MemorySource};
 use std::alloc::Global;
 
 // Shows the bytes of a message file in an empty sink.

@@ -10,16 +10,16 @@ use crate::session::code_of_refusal;
 use crate::stage::{ManyStage, Refusal, Stage, TwoStage, side_of};
 use crate::stepping::number_of;
 use ncp_bits::Bits;
-use ncp_files::{LONGEST_LINE, push_item};
 use ncp_host::Pair;
 use ncp_many::{ManyEvent, ManyNote};
-use ncp_page::Page;
-use ncp_script::Words;
-use ncp_stream::{Failed, MemorySink};
+use ncp_play_files::{LONGEST_LINE, push_item};
+use ncp_play_page::Page;
+use ncp_play_script::Words;
+use ncp_play_stream::{Failed, MemorySink};
+use ncp_play_world_lines::{many_line, say_many_note, say_world_note, world_line};
 use ncp_terms::Command;
 use ncp_transcript::{HostNote, Message};
 use ncp_world::{Amount, Event, Ledger, Note};
-use ncp_world_lines::{many_line, say_many_note, say_world_note, world_line};
 use std::alloc::Global;
 
 /// So many messages, and so many bits.

@@ -4,10 +4,10 @@ ghost use Rattle.ncp_web.specs.Bytes.{PlaysBytes, RecordsBytes, PlaysHostBytes, 
 
 use crate::answer::{NO_MEMORY, conclude, copy_out};
 use ncp_bits::PackedStore;
-use ncp_host_player::play_host;
-use ncp_play::PlayFault;
-use ncp_stream::{MemorySink, MemorySource};
-use ncp_world_player::{play_world, record_world};
+use ncp_play_host::play_host;
+use ncp_play_notes::PlayFault;
+use ncp_play_stream::{MemorySink, MemorySource};
+use ncp_play_world::{play_world, record_world};
 use std::alloc::Global;
 
 // Plays the bytes of a script of several hosts into an empty sink.

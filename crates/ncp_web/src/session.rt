@@ -5,7 +5,7 @@ ghost use Rattle.std.specs.declared.option.Option.TheVariants.{None};
 use crate::answer::{DONE, FULL, NO_LINE, NO_MEMORY, NO_SESSION, copy_out};
 use crate::handle::{Handle, Held, put, take};
 use crate::stage::{Refusal, Stage};
-use ncp_stream::MemorySink;
+use ncp_play_stream::MemorySink;
 use std::alloc::Global;
 
 // The code of a refusal.

@@ -6,10 +6,10 @@ ghost use Rattle.ncp_web.specs.Sessions.{Begins, side_at, host_at};
 use ncp_bits::PackedStore;
 use ncp_host::Host;
 use ncp_many::Many;
-use ncp_scene::Scene;
-use ncp_script::{TwoHosts, Words, is_many};
+use ncp_play_scene::Scene;
+use ncp_play_script::{TwoHosts, Words, is_many};
+use ncp_play_world::{FirstLine, ManyHosts, ManyPlayed, TwoPlayed};
 use ncp_world::{Side, World};
-use ncp_world_player::{FirstLine, ManyHosts, ManyPlayed, TwoPlayed};
 use std::alloc::Global;
 
 /// Two hosts, with the first line of their script.

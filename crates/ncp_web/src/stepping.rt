@@ -4,11 +4,11 @@ ghost use Rattle.ncp_web.specs.Sessions.{number_of};
 
 use crate::stage::{Refusal, Stage};
 use ncp_bits::PackedStore;
-use ncp_page::Page;
-use ncp_scene::{Scene, Teller};
-use ncp_script::Words;
-use ncp_stream::{Failed, MemorySink};
-use ncp_world_player::{ManyPlayed, NoteLines, TwoPlayed};
+use ncp_play_page::Page;
+use ncp_play_scene::{Scene, Teller};
+use ncp_play_script::Words;
+use ncp_play_stream::{Failed, MemorySink};
+use ncp_play_world::{ManyPlayed, NoteLines, TwoPlayed};
 use std::alloc::Global;
 
 // The number of the last of so many notes. It stays at the largest.

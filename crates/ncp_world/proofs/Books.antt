@@ -9,22 +9,22 @@ use Rattle.ncp_host.specs.PeerState.{PeerState}
 use Rattle.ncp_host.specs.Host.{Host, numbers_of}
 use Rattle.ncp_transcript.specs.declared.note.HostNote.{HostNote}
 use Rattle.ncp_transcript.specs.Runs as runs
-use Rattle.ncp_runs.specs.Marks.{Marks}
-use Rattle.ncp_runs.proofs.Begun.{is_run, is_kept}
-use Rattle.ncp_runs.proofs.Recorded.{stored-there}
-use Rattle.ncp_two.specs.World.{World, swap}
-use Rattle.ncp_two.specs.Underway.{sender_at, receiver_at}
-use Rattle.ncp_two.specs.Ledgers.{amount, ledger_in, are_open, ledger_from, ledger_of}
-use Rattle.ncp_two.specs.declared.ledger.Ledger.{Ledger}
-use Rattle.ncp_two.specs.declared.note.Note.{Note}
-use Rattle.ncp_two.specs.declared.side.Side.{Side}
-use Rattle.ncp_two.specs.declared.side.Side.TheVariants.{A, B}
-use Rattle.ncp_two.specs.Between.{Hosts, other, number_of, host_of}
-use Rattle.ncp_two.specs.Sides.{notes_at}
-use Rattle.ncp_two.specs.Transcript.{IsTranscript}
-use Rattle.ncp_two.specs.Seen.{seen, had_for}
-use Rattle.ncp_two.proofs.OneSide.{by_itself}
-use Rattle.ncp_promises.proofs.Standing.{kept-for}
+use Rattle.ncp_proof_runs.specs.Marks.{Marks}
+use Rattle.ncp_proof_runs.proofs.Begun.{is_run, is_kept}
+use Rattle.ncp_proof_runs.proofs.Recorded.{stored-there}
+use Rattle.ncp_transcript_two.specs.World.{World, swap}
+use Rattle.ncp_transcript_two.specs.Underway.{sender_at, receiver_at}
+use Rattle.ncp_transcript_two.specs.Ledgers.{amount, ledger_in, are_open, ledger_from, ledger_of}
+use Rattle.ncp_transcript_two.specs.declared.ledger.Ledger.{Ledger}
+use Rattle.ncp_transcript_two.specs.declared.note.Note.{Note}
+use Rattle.ncp_transcript_two.specs.declared.side.Side.{Side}
+use Rattle.ncp_transcript_two.specs.declared.side.Side.TheVariants.{A, B}
+use Rattle.ncp_transcript_two.specs.Between.{Hosts, other, number_of, host_of}
+use Rattle.ncp_transcript_two.specs.Sides.{notes_at}
+use Rattle.ncp_transcript_two.specs.Transcript.{IsTranscript}
+use Rattle.ncp_transcript_two.specs.Seen.{seen, had_for}
+use Rattle.ncp_transcript_two.proofs.OneSide.{by_itself}
+use Rattle.ncp_proof_promises.proofs.Standing.{kept-for}
 use Rattle.ncp_world.specs.Booked.{marks_at, Remains, IsBooked}
 
 -- What an end has is what remains as its host's notes say.

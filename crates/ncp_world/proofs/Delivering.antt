@@ -5,11 +5,11 @@ use Rattle.ncp_subnet.specs.Messages.{arriving}
 use Rattle.ncp_subnet.specs.Subnet.{Subnet, transit_at}
 use Rattle.ncp_host.specs.Host.{Host}
 use Rattle.ncp_transcript.specs.declared.note.HostNote.{HostNote}
-use Rattle.ncp_two.specs.declared.side.Side.{Side}
-use Rattle.ncp_two.specs.declared.side.Side.TheVariants.{A, B}
-use Rattle.ncp_two.specs.declared.note.Note.TheVariants as notes
-use Rattle.ncp_two.specs.Between.{Hosts, other, number_of, transit_of, after_note}
-use Rattle.ncp_two.specs.Happening.{note_of_delivery}
+use Rattle.ncp_transcript_two.specs.declared.side.Side.{Side}
+use Rattle.ncp_transcript_two.specs.declared.side.Side.TheVariants.{A, B}
+use Rattle.ncp_transcript_two.specs.declared.note.Note.TheVariants as notes
+use Rattle.ncp_transcript_two.specs.Between.{Hosts, other, number_of, transit_of, after_note}
+use Rattle.ncp_transcript_two.specs.Happening.{note_of_delivery}
 use Rattle.ncp_step.specs.Told.{told, after_told, put_told}
 use Rattle.ncp_step.proofs.Telling.{came-noted}
 

@@ -17,40 +17,40 @@ use Rattle.ncp_model.specs.declared.limits.TheConstants.{MAX_WAITING}
 use Rattle.ncp_model.specs.Pairs.{pair_cmp, is_send, sends, is_proper, turned}
 use Rattle.ncp_model.specs.End.{End, is_open, or_new}
 use Rattle.ncp_model.specs.Peers.{Peer}
-use Rattle.ncp_resets.specs.Delivery.{Link}
-use Rattle.ncp_headline.specs.Headline.{sum_on}
+use Rattle.ncp_proof_resets.specs.Delivery.{Link}
+use Rattle.ncp_proof_headline.specs.Headline.{sum_on}
 use Rattle.ncp_model.specs.Amounts.{granted_messages, granted_bits, returned_messages, returned_bits}
-use Rattle.ncp_hosts.specs.Hosts.{Node, Event}
-use Rattle.ncp_hosts.specs.Hosts as hosts
-use Rattle.ncp_headline.proofs.HostsHeld.{ever}
+use Rattle.ncp_proof_machine.specs.Hosts.{Node, Event}
+use Rattle.ncp_proof_machine.specs.Hosts as hosts
+use Rattle.ncp_proof_headline.proofs.HostsHeld.{ever}
 use Rattle.ncp_conn.specs.declared.record.Record.{Record}
 use Rattle.ncp_conn.specs.Records.{record_of, record_if_any, record_in}
 use Rattle.ncp_host.specs.PeerState.{PeerState}
 use Rattle.ncp_host.specs.Host.{state_of, if_known}
 use Rattle.ncp_host.specs.Calls.{record_answer, kept_for}
 use Rattle.ncp_subnet.specs.Transit.{is_delivered}
-use Rattle.ncp_two.specs.Subnet.{Holds, Subnet}
-use Rattle.ncp_two.specs.World.{World, swap}
-use Rattle.ncp_two.specs.Watch.{Both, turn}
-use Rattle.ncp_two.specs.Tie.{Place, Nowhere, Waits, Goes, Came, Failed, Died, Kept, slot_of, holds_of, OfMessage, Carries, control_bits, text_bits, AreCommands, IsTextOn, Stands, Reached}
-use Rattle.ncp_two.specs.Underway.{text_read, commands_of, not_come, commands_out, underway, how_many, bits_out, sender_at, receiver_at}
-use Rattle.ncp_two.specs.Ledgers.{amount, ledger_in, are_open, ledger_from, ledger_of, IsBalanced}
+use Rattle.ncp_transcript_two.specs.Subnet.{Holds, Subnet}
+use Rattle.ncp_transcript_two.specs.World.{World, swap}
+use Rattle.ncp_transcript_two.specs.Watch.{Both, turn}
+use Rattle.ncp_transcript_two.specs.Tie.{Place, Nowhere, Waits, Goes, Came, Failed, Died, Kept, slot_of, holds_of, OfMessage, Carries, control_bits, text_bits, AreCommands, IsTextOn, Stands, Reached}
+use Rattle.ncp_transcript_two.specs.Underway.{text_read, commands_of, not_come, commands_out, underway, how_many, bits_out, sender_at, receiver_at}
+use Rattle.ncp_transcript_two.specs.Ledgers.{amount, ledger_in, are_open, ledger_from, ledger_of, IsBalanced}
 use Rattle.ncp_world.specs.Reckoning.{control_commands, commands_kept, waiting_of, unless_came, kept_from, commands_from, if_open, ledger_with, ledger_if, ledger_read}
-use Rattle.ncp_two.specs.declared.ledger.Ledger.{Ledger}
-use Rattle.ncp_two.specs.declared.side.Side.{Side}
-use Rattle.ncp_two.specs.declared.side.Side.TheVariants.{A, B}
-use Rattle.ncp_two.specs.declared.note.Note.{Note}
-use Rattle.ncp_two.specs.Between.{Hosts, other, number_of, host_of, transit_of}
-use Rattle.ncp_two.specs.Transcript.{IsTranscript}
-use Rattle.ncp_two.specs.Seen.{state_or_new, seen}
-use Rattle.ncp_two.specs.OfRules.{histories_of}
-use Rattle.ncp_two.proofs.Written.{read, control_text}
-use Rattle.ncp_two.proofs.Reaching.{of-reached}
-use Rattle.ncp_two.proofs.Runs.{OfModelWith}
-use Rattle.ncp_two.proofs.Carried.{turned-over}
-use Rattle.ncp_two.proofs.Underway.{messages-carried, bits-carried}
-use Rattle.ncp_two.proofs.Headlines.{watched-all}
-use Rattle.ncp_two.proofs.Waiting.{few-wait}
+use Rattle.ncp_transcript_two.specs.declared.ledger.Ledger.{Ledger}
+use Rattle.ncp_transcript_two.specs.declared.side.Side.{Side}
+use Rattle.ncp_transcript_two.specs.declared.side.Side.TheVariants.{A, B}
+use Rattle.ncp_transcript_two.specs.declared.note.Note.{Note}
+use Rattle.ncp_transcript_two.specs.Between.{Hosts, other, number_of, host_of, transit_of}
+use Rattle.ncp_transcript_two.specs.Transcript.{IsTranscript}
+use Rattle.ncp_transcript_two.specs.Seen.{state_or_new, seen}
+use Rattle.ncp_transcript_two.specs.OfRules.{histories_of}
+use Rattle.ncp_transcript_two.proofs.Written.{read, control_text}
+use Rattle.ncp_transcript_two.proofs.Reaching.{of-reached}
+use Rattle.ncp_transcript_two.proofs.Runs.{OfModelWith}
+use Rattle.ncp_transcript_two.proofs.Carried.{turned-over}
+use Rattle.ncp_transcript_two.proofs.Underway.{messages-carried, bits-carried}
+use Rattle.ncp_transcript_two.proofs.Headlines.{watched-all}
+use Rattle.ncp_transcript_two.proofs.Waiting.{few-wait}
 
 -- What a host tells of a peer is what it has for it, or has when it is new.
 

@@ -1,11 +1,11 @@
 -- What happened is noted, or there was no memory for it: either way the notes are a transcript.
 use Rattle.std.proofs.Common.{◌≡◌, List, Result, Ok, Err, sym, subst}
 use Rattle.std.specs.Result.{OnOk, OnErr}
-use Rattle.ncp_two.specs.declared.event.Event.{Event}
-use Rattle.ncp_two.specs.declared.note.Note.{Note}
-use Rattle.ncp_two.specs.Between.{Hosts}
-use Rattle.ncp_two.specs.Transcript.{Noted_world, IsStep, IsTranscript}
-use Rattle.ncp_two.proofs.Growing.{transcript_grows}
+use Rattle.ncp_transcript_two.specs.declared.event.Event.{Event}
+use Rattle.ncp_transcript_two.specs.declared.note.Note.{Note}
+use Rattle.ncp_transcript_two.specs.Between.{Hosts}
+use Rattle.ncp_transcript_two.specs.Transcript.{Noted_world, IsStep, IsTranscript}
+use Rattle.ncp_transcript_two.proofs.Growing.{transcript_grows}
 
 pub transcript-stepped : {E : Type 0} (r : Result (Unit {0}) E) (event : Event) (before now : Noted_world)
     → OnOk r (IsStep event before now) → OnErr r ((now.notes ≡ before.notes) × (now.hosts ≡ before.hosts)) → IsTranscript before.notes before.hosts → IsTranscript now.notes now.hosts

@@ -1,9 +1,9 @@
 -- The numbers of two hosts stay, so the headline is of those with which they began.
 use Rattle.std.proofs.Common.{◌≡◌, ℕ, List, [], ◌∷◌, refl, ap, ◌∙◌, subst}
-use Rattle.ncp_two.specs.declared.note.Note.{Note}
-use Rattle.ncp_two.specs.Between.{Hosts, new_hosts, after_note, after_notes}
-use Rattle.ncp_two.specs.Transcript.{began}
-use Rattle.ncp_two.proofs.Growing.{began_noted}
+use Rattle.ncp_transcript_two.specs.declared.note.Note.{Note}
+use Rattle.ncp_transcript_two.specs.Between.{Hosts, new_hosts, after_note, after_notes}
+use Rattle.ncp_transcript_two.specs.Transcript.{began}
+use Rattle.ncp_transcript_two.proofs.Growing.{began_noted}
 use Rattle.ncp_statement.specs.Statement.{Headline}
 
 began-all : (ns : List Note) (w : Hosts) → began (after_notes ns w) ≡ began w

@@ -5,13 +5,13 @@ use Rattle.ncp_slot.specs.declared.slots.TheConstants.{LAST_LINK}
 use Rattle.ncp_host.specs.Host.{Host, state_of}
 use Rattle.ncp_host.specs.Calls.{kept_for}
 use Rattle.ncp_transcript.specs.declared.call.Call.TheVariants as calls
-use Rattle.ncp_two.specs.declared.side.Side.{Side}
-use Rattle.ncp_two.specs.declared.event.Event.{Event}
-use Rattle.ncp_two.specs.declared.event.Event.TheVariants as events
-use Rattle.ncp_two.specs.declared.note.Note.{Note}
-use Rattle.ncp_two.specs.Between.{Hosts, other, number_of, host_of}
-use Rattle.ncp_two.specs.Transcript.{Noted_world, IsTranscript}
-use Rattle.ncp_two.proofs.Growing.{transcript_grows}
+use Rattle.ncp_transcript_two.specs.declared.side.Side.{Side}
+use Rattle.ncp_transcript_two.specs.declared.event.Event.{Event}
+use Rattle.ncp_transcript_two.specs.declared.event.Event.TheVariants as events
+use Rattle.ncp_transcript_two.specs.declared.note.Note.{Note}
+use Rattle.ncp_transcript_two.specs.Between.{Hosts, other, number_of, host_of}
+use Rattle.ncp_transcript_two.specs.Transcript.{Noted_world, IsTranscript}
+use Rattle.ncp_transcript_two.proofs.Growing.{transcript_grows}
 use Rattle.ncp_proof_settling.specs.Settling.{GoesOnce, GoesOrRestsAt, IsTried}
 use Rattle.ncp_proof_settling.proofs.Going.{OfMessage, tried-once}
 use Rattle.ncp_proof_settling.proofs.Resting.{rests, wakes}

@@ -6,7 +6,7 @@ use Rattle.std.proofs.lemmas.Option.{slice_get_within, get_or_from_slice_get}
 use Rattle.ncp_terms.specs.declared.command.Command.{Command}
 use Rattle.ncp_terms.specs.declared.fault.CommandFault.{CommandFault}
 use Rattle.ncp_control.specs.Texts.{commands_of}
-use Rattle.ncp_headline.specs.Headline.{sum_on}
+use Rattle.ncp_proof_headline.specs.Headline.{sum_on}
 use Rattle.ncp_host.specs.PeerState.{PeerState}
 use Rattle.ncp_host.specs.Calls.{waiting_at}
 use Rattle.ncp_world.specs.Reckoning.{waiting_of}

@@ -3,14 +3,14 @@
 use Rattle.std.specs.Prelude.{◌≡◌, ◌+◌, List}
 use Rattle.ncp_model.specs.declared.pair.Pair.{Pair}
 use Rattle.ncp_model.specs.Pairs.{turned}
-use Rattle.ncp_runs.specs.Peers.{notes_of}
-use Rattle.ncp_runs.specs.Marks.{Marks, marks_of}
-use Rattle.ncp_two.specs.declared.ledger.Amount.{Amount}
-use Rattle.ncp_two.specs.declared.ledger.Ledger.{Ledger}
-use Rattle.ncp_two.specs.declared.note.Note.{Note}
-use Rattle.ncp_two.specs.declared.side.Side.{Side}
-use Rattle.ncp_two.specs.Between.{Hosts, other, number_of}
-use Rattle.ncp_two.specs.Sides.{notes_at}
+use Rattle.ncp_proof_runs.specs.Peers.{notes_of}
+use Rattle.ncp_proof_runs.specs.Marks.{Marks, marks_of}
+use Rattle.ncp_transcript_two.specs.declared.ledger.Amount.{Amount}
+use Rattle.ncp_transcript_two.specs.declared.ledger.Ledger.{Ledger}
+use Rattle.ncp_transcript_two.specs.declared.note.Note.{Note}
+use Rattle.ncp_transcript_two.specs.declared.side.Side.{Side}
+use Rattle.ncp_transcript_two.specs.Between.{Hosts, other, number_of}
+use Rattle.ncp_transcript_two.specs.Sides.{notes_at}
 
 -- what the notes of a side's host say of a pair, in marks and sums
 abbrev pub marks_at : Side → Pair → List Note → Hosts → Marks

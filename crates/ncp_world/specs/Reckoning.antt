@@ -10,7 +10,7 @@ use Rattle.ncp_model.specs.declared.call_fault.CallFault.{CallFault}
 use Rattle.ncp_model.specs.declared.limits.TheConstants.{MAX_WAITING}
 use Rattle.ncp_model.specs.Pairs.{is_send, turned}
 use Rattle.ncp_model.specs.Amounts.{granted_messages, granted_bits, returned_messages, returned_bits}
-use Rattle.ncp_headline.specs.Headline.{sum_on}
+use Rattle.ncp_proof_headline.specs.Headline.{sum_on}
 use Rattle.ncp_conn.specs.declared.record.Record.{Record}
 use Rattle.ncp_host.specs.PeerState.{PeerState, control_link}
 use Rattle.ncp_host.specs.Host.{state_of}
@@ -19,11 +19,11 @@ use Rattle.ncp_host.specs.Calls.{record_told, kept_for}
 use Rattle.ncp_subnet.specs.Transit.{is_delivered}
 use Rattle.ncp_world.specs.declared.carrying.Quantity.{Quantity}
 use Rattle.ncp_world.specs.declared.carrying.Quantity.TheVariants.{GrantedMessages, GrantedBits, ReturnedMessages, ReturnedBits}
-use Rattle.ncp_two.specs.declared.ledger.Ledger.{Ledger}
-use Rattle.ncp_two.specs.declared.side.Side.{Side}
-use Rattle.ncp_two.specs.Between.{Hosts, other, number_of, host_of, transit_of}
-use Rattle.ncp_two.specs.Underway.{how_many, bits_out}
-use Rattle.ncp_two.specs.Ledgers.{amount}
+use Rattle.ncp_transcript_two.specs.declared.ledger.Ledger.{Ledger}
+use Rattle.ncp_transcript_two.specs.declared.side.Side.{Side}
+use Rattle.ncp_transcript_two.specs.Between.{Hosts, other, number_of, host_of, transit_of}
+use Rattle.ncp_transcript_two.specs.Underway.{how_many, bits_out}
+use Rattle.ncp_transcript_two.specs.Ledgers.{amount}
 
 -- what is counted of a command
 abbrev pub counted : Quantity → Command → ℕ

@@ -4,7 +4,7 @@ ghost use Rattle.ncp_numbers.specs.Bytes.{bytes_of};
 ghost use Rattle.ncp_leader.specs.Message.{message_in};
 ghost use Rattle.ncp_control.specs.Reading.{commands_in};
 ghost use Rattle.ncp_model.specs.declared.limits.TheConstants.{MAX_WAITING as Most};
-ghost use Rattle.ncp_headline.specs.Headline.{sum_on};
+ghost use Rattle.ncp_proof_headline.specs.Headline.{sum_on};
 ghost use Rattle.ncp_host.specs.Host.{state_of};
 ghost use Rattle.ncp_world.specs.Reckoning.{counted, control_commands, waiting_of};
 

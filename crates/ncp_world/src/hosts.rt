@@ -1,8 +1,8 @@
 //! `Hosts`: two hosts and the subnet between them.
 ghost use Rattle.std.specs.Prelude.{◌≡◌, ◌≢◌, [], ◌∷◌, IfOk, OnErr};
 ghost use Rattle.ncp_host.specs.Host.{new_host};
-ghost use Rattle.ncp_two.specs.Between.{new_hosts, other, number_of, host_of, after_note};
-ghost use Rattle.ncp_two.specs.Happening.{IsCalled, note_of_out, note_of_delivery, note_of_loss, note_of_death, note_of_answer, Noted};
+ghost use Rattle.ncp_transcript_two.specs.Between.{new_hosts, other, number_of, host_of, after_note};
+ghost use Rattle.ncp_transcript_two.specs.Happening.{IsCalled, note_of_out, note_of_delivery, note_of_loss, note_of_death, note_of_answer, Noted};
 
 mod ledgers;
 
@@ -11,7 +11,7 @@ use ncp_host::Host;
 use ncp_step::{answers, calls, comes, new_host, sends};
 use ncp_subnet::Subnet;
 use ncp_transcript::Call;
-use ncp_two::{Event, Move, Note, Side};
+use ncp_transcript_two::{Event, Move, Note, Side};
 use std::alloc::{AllocError, Global};
 use std::marker::Model;
 
@@ -30,7 +30,7 @@ impl<S: BitStore> Model for Hosts<S> {
     ghost use Rattle.ncp_slot.specs.Slots.{coded_slots};
     ghost use Rattle.ncp_host.specs.Codes.{coded_ends};
     ghost use Rattle.ncp_subnet.specs.Codes.{coded_in_transit};
-    ghost use Rattle.ncp_two.specs.Between.{Hosts as Seen};
+    ghost use Rattle.ncp_transcript_two.specs.Between.{Hosts as Seen};
 
     ghost Value = { Seen };
 

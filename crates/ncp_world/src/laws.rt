@@ -2,14 +2,14 @@
 ghost use Rattle.std.specs.Prelude.{◌≢◌, ◌≤◌, ℕ, List};
 ghost use Rattle.ncp_model.specs.declared.pair.Pair.{Pair};
 ghost use Rattle.ncp_model.specs.Pairs.{turned};
-ghost use Rattle.ncp_runs.specs.Marks.{no_marks, marks_of};
-ghost use Rattle.ncp_runs.specs.Peers.{notes_of};
-ghost use Rattle.ncp_two.specs.declared.ledger.Ledger.{Ledger};
-ghost use Rattle.ncp_two.specs.declared.note.Note.{Note};
-ghost use Rattle.ncp_two.specs.declared.side.Side.TheVariants.{A, B};
-ghost use Rattle.ncp_two.specs.Between.{Hosts};
-ghost use Rattle.ncp_two.specs.Ledgers.{amount};
-ghost use Rattle.ncp_two.specs.Sides.{notes_at};
+ghost use Rattle.ncp_proof_runs.specs.Marks.{no_marks, marks_of};
+ghost use Rattle.ncp_proof_runs.specs.Peers.{notes_of};
+ghost use Rattle.ncp_transcript_two.specs.declared.ledger.Ledger.{Ledger};
+ghost use Rattle.ncp_transcript_two.specs.declared.note.Note.{Note};
+ghost use Rattle.ncp_transcript_two.specs.declared.side.Side.TheVariants.{A, B};
+ghost use Rattle.ncp_transcript_two.specs.Between.{Hosts};
+ghost use Rattle.ncp_transcript_two.specs.Ledgers.{amount};
+ghost use Rattle.ncp_transcript_two.specs.Sides.{notes_at};
 ghost use Rattle.ncp_world.specs.Booked.{Remains, IsBooked};
 
 /// Of 3 messages and 60 bits that were granted, where 1 and 20 were returned and 1 and 24 used, 1 and 16 remain;

@@ -1,12 +1,12 @@
 //! `Transcript`.
 ghost use Rattle.std.specs.Prelude.{◌≡◌, [], OnOk, OnErr};
-ghost use Rattle.ncp_two.specs.Transcript.{IsStep};
+ghost use Rattle.ncp_transcript_two.specs.Transcript.{IsStep};
 
 mod attempting;
 
 use crate::hosts::Hosts;
 use ncp_bits::BitStore;
-use ncp_two::{Event, Note};
+use ncp_transcript_two::{Event, Note};
 use std::alloc::{AllocError, Global};
 use std::marker::Model;
 
@@ -22,7 +22,7 @@ pub(crate) struct Transcript {
 
 impl Model for Transcript {
     ghost use Rattle.std.specs.Prelude.{List};
-    ghost use Rattle.ncp_two.specs.declared.note.Note.{Note};
+    ghost use Rattle.ncp_transcript_two.specs.declared.note.Note.{Note};
 
     ghost Value = { List Note };
 

@@ -1,12 +1,12 @@
 //! `World`.
 ghost use Rattle.std.specs.Prelude.{◌≡◌, ◌≢◌, IfOk, IfSome, OnOk, OnErr};
-ghost use Rattle.ncp_two.specs.Between.{new_hosts, host_of, after_notes};
-ghost use Rattle.ncp_two.specs.Ledgers.{ledger_of, IsBalanced};
-ghost use Rattle.ncp_two.specs.Transcript.{new_world, IsStep, AreNotes, IsTranscript};
-ghost use Rattle.ncp_promises.specs.Taking.{EachOutTaken};
+ghost use Rattle.ncp_transcript_two.specs.Between.{new_hosts, host_of, after_notes};
+ghost use Rattle.ncp_transcript_two.specs.Ledgers.{ledger_of, IsBalanced};
+ghost use Rattle.ncp_transcript_two.specs.Transcript.{new_world, IsStep, AreNotes, IsTranscript};
+ghost use Rattle.ncp_proof_promises.specs.Taking.{EachOutTaken};
 ghost use Rattle.ncp_statement.specs.Statement.{Headline};
-ghost use Rattle.ncp_progress_notes.specs.NotesWork.{MovesArePaidFor};
-ghost use Rattle.ncp_progress_settled.specs.Settled.{EndsFinished};
+ghost use Rattle.ncp_proof_progress_notes.specs.NotesWork.{MovesArePaidFor};
+ghost use Rattle.ncp_proof_progress_settled.specs.Settled.{EndsFinished};
 ghost use Rattle.ncp_world.specs.Booked.{IsBooked};
 
 mod settling;
@@ -15,11 +15,11 @@ use crate::hosts::Hosts;
 use crate::transcript::Transcript;
 use ncp_bits::BitStore;
 use ncp_host::{Host, Pair};
-use ncp_progress_notes::notes::moves_are_paid_for;
-use ncp_progress_settled::settled::where_nothing_can_happen_two_are_finished;
-use ncp_promises::taking::what_goes_out_is_taken;
+use ncp_proof_progress_notes::notes::moves_are_paid_for;
+use ncp_proof_progress_settled::settled::where_nothing_can_happen_two_are_finished;
+use ncp_proof_promises::taking::what_goes_out_is_taken;
 use ncp_proof_statement::headline::transcripts_keep_the_page;
-use ncp_two::{Event, Ledger, Note, Side};
+use ncp_transcript_two::{Event, Ledger, Note, Side};
 use std::alloc::{AllocError, Global};
 use std::marker::Model;
 
@@ -39,7 +39,7 @@ impl<S: BitStore> Model for World<S> {
     ghost use Rattle.ncp_slot.specs.Slots.{coded_slots};
     ghost use Rattle.ncp_host.specs.Codes.{coded_ends};
     ghost use Rattle.ncp_subnet.specs.Codes.{coded_in_transit};
-    ghost use Rattle.ncp_two.specs.Transcript.{IsTranscript, Noted_world as Seen};
+    ghost use Rattle.ncp_transcript_two.specs.Transcript.{IsTranscript, Noted_world as Seen};
 
     ghost Value = { Seen };
 
@@ -100,7 +100,7 @@ impl<S: BitStore> World<S> {
     /// so far, and what the hosts can still bring about, are paid for by what the users asked, by losses and by
     /// deaths (`paid`); that where no message is ready, in transit or held all is finished (`finished`); and that
     /// the notes are a transcript of the hosts (`run`), of which all that is proved of transcripts holds: each
-    /// phrase of the headline by the hosts too (`the_headline` of `ncp_promises`), and its parts (`promises` there).
+    /// phrase of the headline by the hosts too (`the_headline` of `ncp_proof_promises`), and its parts (`promises` there).
     pub fn step(&mut self, event: &Event) -> Result<(), AllocError>
         ensures step { OnOk result (IsStep event.now self.old self.new) }
         ensures err { OnErr result (self.new ≡ self.old) }

@@ -1,9 +1,9 @@
 //! The ledger of an open connection, reckoned from what the hosts and the subnet tell.
 ghost use Rattle.std.specs.Prelude.{◌≡◌, length};
 ghost use Rattle.std.specs.Option.{option_copied};
-ghost use Rattle.ncp_headline.specs.Headline.{sum_on};
-ghost use Rattle.ncp_two.specs.Underway.{text_of, how_many, bits_out};
-ghost use Rattle.ncp_two.specs.Ledgers.{amount};
+ghost use Rattle.ncp_proof_headline.specs.Headline.{sum_on};
+ghost use Rattle.ncp_transcript_two.specs.Underway.{text_of, how_many, bits_out};
+ghost use Rattle.ncp_transcript_two.specs.Ledgers.{amount};
 ghost use Rattle.ncp_world.specs.Reckoning.{counted, kept_from, commands_from, if_open, open_at, ledger_with, ledger_read};
 
 use super::{Hosts, other};
@@ -11,7 +11,7 @@ use crate::carrying::{Quantity, carried_by_message, carried_by_waiting};
 use ncp_bits::{BitStore, Bits};
 use ncp_host::{CallFault, Pair, Record};
 use ncp_leader::read_regular;
-use ncp_two::{Amount, Ledger, Side};
+use ncp_transcript_two::{Amount, Ledger, Side};
 
 /// The link of control messages.
 const CONTROL_LINK: u8 = 0;

@@ -6,7 +6,7 @@ use crate::hosts::Hosts;
 use crate::transcript::Transcript;
 use ncp_bits::BitStore;
 use ncp_transcript::HostNote;
-use ncp_two::{Event, Note};
+use ncp_transcript_two::{Event, Note};
 use std::alloc::AllocError;
 
 // Whether a note says nothing: no link was ready, or the subnet had no message to which this may happen.

@@ -1,12 +1,12 @@
 //! What happens to two hosts by itself, until nothing can but a call.
 ghost use Rattle.std.specs.Prelude.{◌≡◌, ◌+◌, ◌<◌, ◌^◌, true, length, IfOk, OnOk, OnErr};
-ghost use Rattle.ncp_two.specs.Seen.{seen};
-ghost use Rattle.ncp_two.specs.OfRules.{histories_of};
-ghost use Rattle.ncp_two.specs.Transcript.{IsTranscript};
-ghost use Rattle.ncp_promises.specs.Taking.{EachOutTaken};
+ghost use Rattle.ncp_transcript_two.specs.Seen.{seen};
+ghost use Rattle.ncp_transcript_two.specs.OfRules.{histories_of};
+ghost use Rattle.ncp_transcript_two.specs.Transcript.{IsTranscript};
+ghost use Rattle.ncp_proof_promises.specs.Taking.{EachOutTaken};
 ghost use Rattle.ncp_statement.specs.Statement.{Headline};
-ghost use Rattle.ncp_progress_notes.specs.NotesWork.{MovesArePaidFor};
-ghost use Rattle.ncp_progress_settled.specs.Settled.{IsSettled, AreFinished, EndsFinished};
+ghost use Rattle.ncp_proof_progress_notes.specs.NotesWork.{MovesArePaidFor};
+ghost use Rattle.ncp_proof_progress_settled.specs.Settled.{IsSettled, AreFinished, EndsFinished};
 ghost use Rattle.ncp_proof_settling.specs.Settling.{GoesOrRests, GoesOrRestsAt, GoesOn, IsWithinWork, IsTried};
 
 use crate::hosts::other;
@@ -15,7 +15,7 @@ use ncp_bits::BitStore;
 use ncp_proof_settling::settling::what_happens_by_itself_is_within_the_work;
 use ncp_step::first_kept;
 use ncp_transcript::Call;
-use ncp_two::{Event, Side};
+use ncp_transcript_two::{Event, Side};
 use std::alloc::AllocError;
 
 impl<S: BitStore> World<S> {

@@ -1,6 +1,6 @@
 use Rattle.std.proofs.Common.{◌≡◌, map, take, vec_len, vec_capacity}
 use Rattle.ncp_host.specs.Host.{new_host}
-use Rattle.ncp_pairs.specs.Crowd.{others}
+use Rattle.ncp_transcript_many.specs.Crowd.{others}
 use Rattle.ncp_many.proofs.crowd.new_members.Given as goal
 
 abbrev pub invariant-loop-number : goal.invariant-loop-number

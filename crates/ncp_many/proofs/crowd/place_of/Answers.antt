@@ -1,5 +1,5 @@
 use Rattle.std.proofs.Common.{sym, ◌∙◌}
-use Rattle.ncp_pairs.proofs.Places.{place-some}
+use Rattle.ncp_transcript_many.proofs.Places.{place-some}
 use Rattle.ncp_many.proofs.Members.{has-place}
 use Rattle.ncp_many.proofs.crowd.place_of.Goals as goal
 

@@ -1,5 +1,5 @@
 use Rattle.ncp_statement.specs.Statement.{Headline}
-use Rattle.ncp_pairs.proofs.EachPair.{for-two}
+use Rattle.ncp_transcript_many.proofs.EachPair.{for-two}
 use Rattle.ncp_proof_statement.proofs.each_pair.each_pair_keeps_the_page.Goals as goal
 
 pub returns : goal.returns

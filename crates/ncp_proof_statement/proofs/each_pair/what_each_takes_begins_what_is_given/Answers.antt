@@ -1,4 +1,4 @@
-use Rattle.ncp_pairs.proofs.EachPair.{for-two}
+use Rattle.ncp_transcript_many.proofs.EachPair.{for-two}
 use Rattle.ncp_proof_statement.specs.Moments.{TakenBegins}
 use Rattle.ncp_proof_statement.proofs.each_pair.what_each_takes_begins_what_is_given.Goals as goal
 

@@ -1,4 +1,4 @@
-use Rattle.ncp_two.specs.Transcript.{began}
+use Rattle.ncp_transcript_two.specs.Transcript.{began}
 use Rattle.ncp_proof_statement.proofs.CommandsRead.{read-all, right-all}
 use Rattle.ncp_proof_statement.proofs.headline.each_command_is_read.Goals as goal
 

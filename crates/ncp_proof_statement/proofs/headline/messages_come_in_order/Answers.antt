@@ -1,7 +1,7 @@
 use Rattle.std.proofs.Common.{◌≡◌, ℕ, Bool, List, sym, subst}
-use Rattle.ncp_resets.specs.Resets.{This, That}
-use Rattle.ncp_two.specs.Honest.{IsBeginning}
-use Rattle.ncp_two.specs.declared.side.Side.TheVariants.{A, B}
+use Rattle.ncp_proof_resets.specs.Resets.{This, That}
+use Rattle.ncp_transcript_two.specs.Honest.{IsBeginning}
+use Rattle.ncp_transcript_two.specs.declared.side.Side.TheVariants.{A, B}
 use Rattle.ncp_proof_statement.proofs.Delivering.{coming-same, sent-same}
 use Rattle.ncp_proof_statement.proofs.headline.messages_come_in_order.Goals as goal
 

@@ -1,5 +1,5 @@
-use Rattle.ncp_two.specs.Transcript.{began}
-use Rattle.ncp_promises.proofs.Each.{of-each-note}
+use Rattle.ncp_transcript_two.specs.Transcript.{began}
+use Rattle.ncp_proof_promises.proofs.Each.{of-each-note}
 use Rattle.ncp_proof_statement.proofs.CommandsRead.{right-all, whole-all}
 use Rattle.ncp_proof_statement.proofs.ErrFree.{GoesRight, goes-right}
 use Rattle.ncp_proof_statement.proofs.headline.none_complains.Goals as goal

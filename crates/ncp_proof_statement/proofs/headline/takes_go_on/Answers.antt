@@ -1,11 +1,11 @@
 use Rattle.std.proofs.Common.{List, subst}
 use Rattle.ncp_model.specs.Pairs.{turned}
-use Rattle.ncp_two.specs.declared.side.Side.{Side}
-use Rattle.ncp_two.specs.declared.side.Side.TheVariants.{A, B}
-use Rattle.ncp_two.specs.declared.note.Note.{Note}
-use Rattle.ncp_two.specs.Between.{Hosts, after_notes}
-use Rattle.ncp_two.specs.Transcript.{began, IsTranscript}
-use Rattle.ncp_two.specs.OfRules.{histories_of}
+use Rattle.ncp_transcript_two.specs.declared.side.Side.{Side}
+use Rattle.ncp_transcript_two.specs.declared.side.Side.TheVariants.{A, B}
+use Rattle.ncp_transcript_two.specs.declared.note.Note.{Note}
+use Rattle.ncp_transcript_two.specs.Between.{Hosts, after_notes}
+use Rattle.ncp_transcript_two.specs.Transcript.{began, IsTranscript}
+use Rattle.ncp_transcript_two.specs.OfRules.{histories_of}
 use Rattle.ncp_proof_statement.proofs.GoingOn.{Carried, took-goes-on}
 use Rattle.ncp_proof_statement.proofs.headline.takes_go_on.Goals as goal
 

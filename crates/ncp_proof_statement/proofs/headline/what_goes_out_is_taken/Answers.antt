@@ -1,11 +1,11 @@
 use Rattle.std.proofs.Common.{List, ◌∷◌, ◌++◌, sym, subst}
-use Rattle.ncp_two.specs.declared.note.Note.{Note}
-use Rattle.ncp_two.specs.declared.note.Note.TheVariants as notes
-use Rattle.ncp_two.specs.Between.{after_notes}
-use Rattle.ncp_two.specs.Transcript.{began, IsTranscript}
-use Rattle.ncp_two.specs.Vain.{CannotBe}
+use Rattle.ncp_transcript_two.specs.declared.note.Note.{Note}
+use Rattle.ncp_transcript_two.specs.declared.note.Note.TheVariants as notes
+use Rattle.ncp_transcript_two.specs.Between.{after_notes}
+use Rattle.ncp_transcript_two.specs.Transcript.{began, IsTranscript}
+use Rattle.ncp_transcript_two.specs.Vain.{CannotBe}
 use Rattle.ncp_subnet.specs.Ways.{OnLink}
-use Rattle.ncp_promises.proofs.Beginnings.{begins}
+use Rattle.ncp_proof_promises.proofs.Beginnings.{begins}
 use Rattle.ncp_proof_statement.proofs.Carrying.{carried-is}
 use Rattle.ncp_proof_statement.proofs.headline.what_goes_out_is_taken.Goals as goal
 

@@ -1,7 +1,7 @@
 use Rattle.ncp_model.specs.Pairs.{turned}
-use Rattle.ncp_two.specs.declared.side.Side.{Side}
-use Rattle.ncp_two.specs.declared.side.Side.TheVariants.{A, B}
-use Rattle.ncp_two.specs.OfRules.{histories_of}
+use Rattle.ncp_transcript_two.specs.declared.side.Side.{Side}
+use Rattle.ncp_transcript_two.specs.declared.side.Side.TheVariants.{A, B}
+use Rattle.ncp_transcript_two.specs.OfRules.{histories_of}
 use Rattle.ncp_proof_statement.proofs.GoingOn.{Carried, held-begins, turned-sends}
 use Rattle.ncp_proof_statement.proofs.headline.what_is_taken_and_held_begins_what_is_given.Goals as goal
 

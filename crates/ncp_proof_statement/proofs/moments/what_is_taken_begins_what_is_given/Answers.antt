@@ -1,11 +1,11 @@
 use Rattle.std.proofs.Common.{◌≡◌, subst}
 use Rattle.ncp_model.specs.declared.pair.Pair.{Pair}
 use Rattle.ncp_model.specs.Pairs.{turned}
-use Rattle.ncp_watch.specs.Histories.{Watched, IsBeginning}
-use Rattle.ncp_sharing.specs.Sharing.{shared, Shared}
-use Rattle.ncp_hosts.specs.Hosts.{Pasts, World, run, swap, past_of}
-use Rattle.ncp_headline.specs.Tied.{watched, IsTied}
-use Rattle.ncp_two.specs.declared.side.Side.TheVariants.{A, B}
+use Rattle.ncp_proof_watch.specs.Histories.{Watched, IsBeginning}
+use Rattle.ncp_proof_sharing.specs.Sharing.{shared, Shared}
+use Rattle.ncp_proof_machine.specs.Hosts.{Pasts, World, run, swap, past_of}
+use Rattle.ncp_proof_headline.specs.Tied.{watched, IsTied}
+use Rattle.ncp_transcript_two.specs.declared.side.Side.TheVariants.{A, B}
 use Rattle.ncp_proof_statement.proofs.EachMoment.{at-each-moment}
 use Rattle.ncp_proof_statement.proofs.moments.what_is_taken_begins_what_is_given.Goals as goal
 

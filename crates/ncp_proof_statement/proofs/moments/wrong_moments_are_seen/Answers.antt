@@ -1,5 +1,5 @@
 use Rattle.std.proofs.Common.{◌≡◌, Bool, true, false, List, [], ◌∷◌}
-use Rattle.ncp_two.specs.declared.side.Side.TheVariants.{A}
+use Rattle.ncp_transcript_two.specs.declared.side.Side.TheVariants.{A}
 use Rattle.ncp_statement.specs.Examples.{out_pair}
 use Rattle.ncp_proof_statement.proofs.moments.wrong_moments_are_seen.Goals as goal
 

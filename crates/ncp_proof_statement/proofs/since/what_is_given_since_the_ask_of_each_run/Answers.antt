@@ -1,5 +1,5 @@
 use Rattle.std.proofs.Common.{Bool, true, if◌then◌else◌, List, [], sym, ap, ◌∙◌}
-use Rattle.ncp_runs.specs.Peers.{notes_of}
+use Rattle.ncp_proof_runs.specs.Peers.{notes_of}
 use Rattle.ncp_statement.specs.Statement.{Use}
 use Rattle.ncp_proof_statement.specs.Since.{uses_by, tallied, no_givings, givings_with}
 use Rattle.ncp_proof_statement.proofs.Noted.{noted-from}

@@ -7,9 +7,9 @@ use Rattle.ncp_host.specs.PeerState.{PeerState, new_state}
 use Rattle.ncp_host.specs.Host.{state_of, new_host}
 use Rattle.ncp_transcript.specs.declared.note.HostNote.{HostNote as Note}
 use Rattle.ncp_transcript.specs.After.{after_notes}
-use Rattle.ncp_runs.specs.Peers.{FromBeginning, notes_of}
-use Rattle.ncp_runs.specs.Histories.{past_of}
-use Rattle.ncp_runs.proofs.InRuns.{kept_as_noted}
+use Rattle.ncp_proof_runs.specs.Peers.{FromBeginning, notes_of}
+use Rattle.ncp_proof_runs.specs.Histories.{past_of}
+use Rattle.ncp_proof_runs.proofs.InRuns.{kept_as_noted}
 use Rattle.ncp_statement.specs.Statement.{Use, taken_from, allowed_from}
 use Rattle.ncp_proof_statement.specs.Since.{did_run, tallied, Takings, no_takings, takings_with, TakenSince, uses_by}
 use Rattle.ncp_proof_statement.proofs.Noted.{noted-from}

@@ -2,11 +2,11 @@ use Rattle.std.proofs.Common.{◌≡◌, ℕ, ◌==◌, Bool, true, false, if◌
 use Rattle.ncp_subnet.specs.declared.transit.Transit.TheVariants.{Free, Accepted, Delivered, Lost}
 use Rattle.ncp_subnet.specs.Messages.{link_in}
 use Rattle.ncp_subnet.specs.Transit.{is_accepted, answer_kind}
-use Rattle.ncp_two.specs.declared.side.Side.TheVariants.{A}
-use Rattle.ncp_two.specs.declared.note.Move.TheVariants as moves
-use Rattle.ncp_two.specs.declared.note.Note.{Note}
-use Rattle.ncp_two.specs.declared.note.Note.TheVariants as notes
-use Rattle.ncp_two.specs.Vain.{CannotBe}
+use Rattle.ncp_transcript_two.specs.declared.side.Side.TheVariants.{A}
+use Rattle.ncp_transcript_two.specs.declared.note.Move.TheVariants as moves
+use Rattle.ncp_transcript_two.specs.declared.note.Note.{Note}
+use Rattle.ncp_transcript_two.specs.declared.note.Note.TheVariants as notes
+use Rattle.ncp_transcript_two.specs.Vain.{CannotBe}
 use Rattle.ncp_statement.specs.Statement.{carried}
 use Rattle.ncp_statement.specs.Examples.{goes_out, comes, is_lost, had_none}
 use Rattle.ncp_statement.proofs.examples.subnets_that_take_nothing_are_seen.Goals as goal

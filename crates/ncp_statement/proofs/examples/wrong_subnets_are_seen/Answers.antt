@@ -1,7 +1,7 @@
 use Rattle.std.proofs.Common.{◌≡◌, ◌≤◌, ℕ, ◌==◌, Bool, true, false, List, [], ◌∷◌, length, refl, sym, subst, arith}
 use Rattle.ncp_subnet.specs.Messages.{link_in, from_host}
-use Rattle.ncp_two.specs.Honest.{Deed, Sent, Comes, Taken, Refused, Clear, HonestFrom, if_on, sent_from, coming, IsBeginning}
-use Rattle.ncp_two.specs.declared.side.Side.TheVariants.{A, B}
+use Rattle.ncp_transcript_two.specs.Honest.{Deed, Sent, Comes, Taken, Refused, Clear, HonestFrom, if_on, sent_from, coming, IsBeginning}
+use Rattle.ncp_transcript_two.specs.declared.side.Side.TheVariants.{A, B}
 use Rattle.ncp_statement.proofs.examples.wrong_subnets_are_seen.Goals as goal
 
 itself : (n : ℕ) → (n == n) ≡ true

@@ -1,5 +1,5 @@
 use Rattle.std.proofs.Common.{◌≡◌, Bool, true, false, List, [], ◌∷◌, refl, arith}
-use Rattle.ncp_two.specs.declared.side.Side.TheVariants.{B}
+use Rattle.ncp_transcript_two.specs.declared.side.Side.TheVariants.{B}
 use Rattle.ncp_statement.specs.Examples.{in_pair, asks_send, asks_receive, gives, takes}
 use Rattle.ncp_statement.proofs.Moments.{each-take}
 use Rattle.ncp_statement.proofs.examples.wrong_takes_are_seen.Goals as goal

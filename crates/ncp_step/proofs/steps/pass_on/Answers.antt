@@ -1,7 +1,7 @@
 use Rattle.std.proofs.Common.{Bool, List, sym, ap, ◌∙◌}
 use Rattle.ncp_transcript.specs.declared.note.HostNote.{HostNote}
-use Rattle.ncp_two.specs.Between.{taken, after_out}
-use Rattle.ncp_two.proofs.Accepting.{accepting}
+use Rattle.ncp_transcript_two.specs.Between.{taken, after_out}
+use Rattle.ncp_transcript_two.proofs.Accepting.{accepting}
 use Rattle.ncp_step.proofs.steps.pass_on.Goals as goal
 
 pub returns-in-Out : goal.returns-in-Out

@@ -2,7 +2,7 @@ use Rattle.std.proofs.Common.{List, Result, length, ap, arith}
 use Rattle.ncp_terms.specs.declared.command.Command.{Command}
 use Rattle.ncp_terms.specs.declared.fault.CommandFault.{CommandFault}
 use Rattle.ncp_control.specs.Texts.{commands_of}
-use Rattle.ncp_headline.specs.Headline.{sum_on}
+use Rattle.ncp_proof_headline.specs.Headline.{sum_on}
 use Rattle.ncp_world.specs.Reckoning.{counted}
 use Rattle.ncp_world.proofs.Sums.{sum-next, sum-past, fewer}
 use Rattle.ncp_world.proofs.carrying.carried_by_text.Goals as goal

@@ -1,6 +1,6 @@
 use Rattle.std.proofs.Common.{◌≡◌, ◌≤◌, ◌+◌, ◌*◌, ◌^◌, length}
 use Rattle.ncp_control.specs.Texts.{commands_of}
-use Rattle.ncp_headline.specs.Headline.{sum_on}
+use Rattle.ncp_proof_headline.specs.Headline.{sum_on}
 use Rattle.ncp_world.specs.Reckoning.{counted}
 use Rattle.ncp_world.proofs.carrying.carried_by_text.Given as goal
 

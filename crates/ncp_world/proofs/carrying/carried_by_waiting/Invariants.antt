@@ -1,6 +1,6 @@
 use Rattle.std.proofs.Common.{◌≡◌, ◌≤◌, ◌*◌, ◌^◌, take}
 use Rattle.ncp_model.specs.declared.limits.TheConstants.{MAX_WAITING}
-use Rattle.ncp_headline.specs.Headline.{sum_on}
+use Rattle.ncp_proof_headline.specs.Headline.{sum_on}
 use Rattle.ncp_host.specs.Host.{state_of}
 use Rattle.ncp_world.specs.Reckoning.{counted, waiting_of}
 use Rattle.ncp_world.proofs.carrying.carried_by_waiting.Given as goal

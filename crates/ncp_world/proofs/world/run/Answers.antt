@@ -1,4 +1,4 @@
-use Rattle.ncp_two.proofs.Growing.{next_event, all_noted}
+use Rattle.ncp_transcript_two.proofs.Growing.{next_event, all_noted}
 use Rattle.ncp_world.proofs.Numbers.{of-numbers}
 use Rattle.ncp_world.proofs.world.run.Goals as goal
 

@@ -1,5 +1,5 @@
 use Rattle.std.proofs.Common.{drop}
-use Rattle.ncp_two.specs.Transcript.{Noted_world, AreSteps}
+use Rattle.ncp_transcript_two.specs.Transcript.{Noted_world, AreSteps}
 use Rattle.ncp_world.proofs.world.run.Given as goal
 
 -- what the rest does from here, all of it does from the beginning

@@ -2,10 +2,10 @@ use Rattle.std.specs.Box.{boxed_slice_items}
 use Rattle.std.proofs.Common.{◌≡◌, refl, ap, ◌∙◌, subst}
 use Rattle.std.specs.Vec.{with_items}
 use Rattle.std.proofs.lemmas.List.{with_items_is}
-use Rattle.ncp_pairs.specs.declared.many_event.ManyEvent.TheVariants as events
-use Rattle.ncp_pairs.specs.declared.many_note.ManyNote.TheVariants as many
-use Rattle.ncp_pairs.specs.Crowd.{Crowd, is_there, after_many}
-use Rattle.ncp_pairs.specs.ManyHappening.{ManyNoted}
+use Rattle.ncp_transcript_many.specs.declared.many_event.ManyEvent.TheVariants as events
+use Rattle.ncp_transcript_many.specs.declared.many_note.ManyNote.TheVariants as many
+use Rattle.ncp_transcript_many.specs.Crowd.{Crowd, is_there, after_many}
+use Rattle.ncp_transcript_many.specs.ManyHappening.{ManyNoted}
 use Rattle.ncp_many.proofs.Noting.{noted-call, crowd-is, lent, on-err}
 use Rattle.ncp_many.proofs.crowd.Crowd.call.Goals as goal
 

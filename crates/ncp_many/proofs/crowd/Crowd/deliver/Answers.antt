@@ -5,10 +5,10 @@ use Rattle.std.proofs.lemmas.List.{with_items_is}
 use Rattle.ncp_subnet.specs.declared.transit.Transit.{Transit}
 use Rattle.ncp_transcript.specs.declared.note.HostNote.{HostNote}
 use Rattle.ncp_step.specs.Told.{put_told}
-use Rattle.ncp_pairs.specs.declared.many_event.ManyEvent.TheVariants as events
-use Rattle.ncp_pairs.specs.declared.many_note.ManyNote.TheVariants as many
-use Rattle.ncp_pairs.specs.Crowd.{Crowd, after_many}
-use Rattle.ncp_pairs.specs.ManyHappening.{are_two, ManyNoted}
+use Rattle.ncp_transcript_many.specs.declared.many_event.ManyEvent.TheVariants as events
+use Rattle.ncp_transcript_many.specs.declared.many_note.ManyNote.TheVariants as many
+use Rattle.ncp_transcript_many.specs.Crowd.{Crowd, after_many}
+use Rattle.ncp_transcript_many.specs.ManyHappening.{are_two, ManyNoted}
 use Rattle.ncp_many.specs.Found.{at_told}
 use Rattle.ncp_many.proofs.Noting.{noted-came, vain-came, crowd-is, lent, on-err}
 use Rattle.ncp_many.proofs.crowd.Crowd.deliver.Goals.{in-Some, in-None}

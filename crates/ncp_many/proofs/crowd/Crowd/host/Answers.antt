@@ -3,9 +3,9 @@ use Rattle.std.proofs.Common.{◌≡◌, ℕ, ◌==◌, List, None, Some, sym, a
 use Rattle.std.specs.List.{position}
 use Rattle.std.specs.Option.{option_copied}
 use Rattle.ncp_host.specs.Host.{Host}
-use Rattle.ncp_pairs.specs.Numbered.{thing_in}
-use Rattle.ncp_pairs.specs.Crowd.{Crowd}
-use Rattle.ncp_pairs.proofs.Places.{place-none, place-some}
+use Rattle.ncp_transcript_many.specs.Numbered.{thing_in}
+use Rattle.ncp_transcript_many.specs.Crowd.{Crowd}
+use Rattle.ncp_transcript_many.proofs.Places.{place-none, place-some}
 use Rattle.ncp_many.proofs.Members.{place-inside, host-read}
 use Rattle.ncp_many.proofs.crowd.Crowd.host.Goals as goal
 

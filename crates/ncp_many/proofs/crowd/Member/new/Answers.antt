@@ -1,6 +1,6 @@
 use Rattle.std.proofs.Common.{ap, ◌∙◌}
 use Rattle.ncp_host.specs.Host.{are_peers}
-use Rattle.ncp_pairs.proofs.Others.{others-fit}
+use Rattle.ncp_transcript_many.proofs.Others.{others-fit}
 use Rattle.ncp_many.proofs.crowd.Member.new.Goals as goal
 
 pub new_host-requires : goal.new_host-requires

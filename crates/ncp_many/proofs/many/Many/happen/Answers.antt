@@ -1,6 +1,6 @@
 use Rattle.std.proofs.Common.{subst}
 use Rattle.std.specs.Result.{OnOk}
-use Rattle.ncp_pairs.specs.ManyTranscript.{Noted_many, IsManyStep}
+use Rattle.ncp_transcript_many.specs.ManyTranscript.{Noted_many, IsManyStep}
 use Rattle.ncp_many.proofs.Stepping.{transcript-stepped}
 use Rattle.ncp_many.proofs.many.Many.happen.Goals as goal
 

@@ -1,6 +1,6 @@
 use Rattle.std.proofs.Common.{sym, ap, ◌∙◌, is_some}
-use Rattle.ncp_pairs.specs.Crowd.{is_there}
-use Rattle.ncp_pairs.specs.ManyTranscript.{Noted_many}
+use Rattle.ncp_transcript_many.specs.Crowd.{is_there}
+use Rattle.ncp_transcript_many.specs.ManyTranscript.{Noted_many}
 use Rattle.ncp_many.proofs.Members.{some-there, copied-some}
 use Rattle.ncp_many.proofs.many.Many.host.Goals as goal
 

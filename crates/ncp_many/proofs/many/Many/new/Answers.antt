@@ -1,7 +1,7 @@
 use Rattle.std.proofs.Common.{◌≡◌, ◌<◌, ℕ, true, [], get_or, sym, ◌∙◌, arith}
 use Rattle.ncp_transcript.proofs.Beginning.{one_fits}
-use Rattle.ncp_pairs.specs.Crowd.{are_hosts}
-use Rattle.ncp_pairs.proofs.ManyRuns.{transcript-new}
+use Rattle.ncp_transcript_many.specs.Crowd.{are_hosts}
+use Rattle.ncp_transcript_many.proofs.ManyRuns.{transcript-new}
 use Rattle.ncp_many.proofs.many.Many.new.Goals as goal
 
 pub invariant_of-result : goal.invariant_of-result

@@ -1,4 +1,4 @@
-use Rattle.ncp_pairs.proofs.ManyRuns.{next-event, all-noted}
+use Rattle.ncp_transcript_many.proofs.ManyRuns.{next-event, all-noted}
 use Rattle.ncp_many.proofs.many.Many.run.Goals as goal
 
 pub loop-event-init : goal.loop-event-init

@@ -1,5 +1,5 @@
 use Rattle.std.proofs.Common.{drop}
-use Rattle.ncp_pairs.specs.ManyTranscript.{Noted_many, AreManySteps}
+use Rattle.ncp_transcript_many.specs.ManyTranscript.{Noted_many, AreManySteps}
 use Rattle.ncp_many.proofs.many.Many.run.Given as goal
 
 -- what the rest does from here, all of it does from the beginning

@@ -1,5 +1,5 @@
 use Rattle.std.proofs.Common.{ap, ◌∙◌}
-use Rattle.ncp_pairs.specs.ManyTranscript.{Noted_many}
+use Rattle.ncp_transcript_many.specs.ManyTranscript.{Noted_many}
 use Rattle.ncp_many.proofs.many.Many.transcript.Goals as goal
 
 pub returns-clause-notes : goal.returns-clause-notes

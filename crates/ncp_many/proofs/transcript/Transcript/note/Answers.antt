@@ -1,6 +1,6 @@
 use Rattle.std.proofs.Common.{◌≡◌, List, [], ◌∷◌, ◌++◌, refl, ap, ◌∙◌, subst}
-use Rattle.ncp_pairs.specs.declared.many_note.ManyNote.{ManyNote}
-use Rattle.ncp_pairs.specs.ManyTranscript.{IsManyStep}
+use Rattle.ncp_transcript_many.specs.declared.many_note.ManyNote.{ManyNote}
+use Rattle.ncp_transcript_many.specs.ManyTranscript.{IsManyStep}
 use Rattle.ncp_transcript.proofs.Growing.{if_err}
 use Rattle.ncp_many.proofs.transcript.Transcript.note.Goals as goal
 

@@ -1,5 +1,5 @@
 use Rattle.std.proofs.Common.{sym, ◌∙◌}
-use Rattle.ncp_two.specs.Between.{Hosts}
+use Rattle.ncp_transcript_two.specs.Between.{Hosts}
 use Rattle.ncp_world.proofs.Delivering.{noted-at-a, noted-at-b, came-at-a, came-at-b}
 use Rattle.ncp_world.proofs.hosts.Hosts.deliver.Goals.{in-A+in_ok-told-in-A, in-B+in_ok-told-in-B}
 use Rattle.ncp_world.proofs.hosts.Hosts.deliver.Goals as goal

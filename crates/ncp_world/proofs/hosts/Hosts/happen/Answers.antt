@@ -1,6 +1,6 @@
 use Rattle.std.proofs.Common.{IfOk, sym, subst}
-use Rattle.ncp_two.specs.declared.event.Event.{Event}
-use Rattle.ncp_two.specs.Happening.{Noted}
+use Rattle.ncp_transcript_two.specs.declared.event.Event.{Event}
+use Rattle.ncp_transcript_two.specs.Happening.{Noted}
 use Rattle.ncp_world.proofs.hosts.Hosts.happen.Goals as goal
 
 pub returns-in-Out-clause-note : goal.returns-in-Out-clause-note

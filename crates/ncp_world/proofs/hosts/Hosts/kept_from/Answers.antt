@@ -2,8 +2,8 @@ use Rattle.std.proofs.Common.{◌≡◌, Bool, sym, ap, ◌∙◌}
 use Rattle.ncp_subnet.specs.Transit.{is_delivered}
 use Rattle.ncp_host.specs.Host.{state_of}
 use Rattle.ncp_host.specs.Calls.{kept_for}
-use Rattle.ncp_two.specs.declared.side.Side.{Side}
-use Rattle.ncp_two.specs.Between.{Hosts, other, number_of, host_of}
+use Rattle.ncp_transcript_two.specs.declared.side.Side.{Side}
+use Rattle.ncp_transcript_two.specs.Between.{Hosts, other, number_of, host_of}
 use Rattle.ncp_world.specs.Reckoning.{unless_came}
 use Rattle.ncp_world.proofs.Delivering.{transit-is}
 use Rattle.ncp_world.proofs.hosts.Hosts.kept_from.Goals as goal

@@ -1,6 +1,6 @@
 use Rattle.std.proofs.Common.{◌≡◌, List, [], ◌∷◌, ◌++◌, refl, ap, ◌∙◌, subst}
-use Rattle.ncp_two.specs.declared.note.Note.{Note}
-use Rattle.ncp_two.specs.Transcript.{IsStep}
+use Rattle.ncp_transcript_two.specs.declared.note.Note.{Note}
+use Rattle.ncp_transcript_two.specs.Transcript.{IsStep}
 use Rattle.ncp_transcript.proofs.Growing.{if_err}
 use Rattle.ncp_world.proofs.transcript.Transcript.note.Goals as goal
 

@@ -1,6 +1,6 @@
 use Rattle.std.proofs.Common.{subst}
 use Rattle.std.specs.Result.{OnOk}
-use Rattle.ncp_two.specs.Transcript.{Noted_world, IsStep}
+use Rattle.ncp_transcript_two.specs.Transcript.{Noted_world, IsStep}
 use Rattle.ncp_world.proofs.Noting.{transcript-stepped}
 use Rattle.ncp_world.proofs.world.World.happen.Goals as goal
 

@@ -1,6 +1,6 @@
 use Rattle.std.proofs.Common.{ap, ◌∙◌}
-use Rattle.ncp_two.specs.Transcript.{Noted_world}
-use Rattle.ncp_two.specs.Between.{host_of}
+use Rattle.ncp_transcript_two.specs.Transcript.{Noted_world}
+use Rattle.ncp_transcript_two.specs.Between.{host_of}
 use Rattle.ncp_world.proofs.world.World.host.Goals as goal
 
 pub returns : goal.returns

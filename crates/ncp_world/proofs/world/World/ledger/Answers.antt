@@ -1,6 +1,6 @@
 use Rattle.std.proofs.Common.{IfSome, sym, ap, ◌∙◌, subst}
-use Rattle.ncp_two.specs.Transcript.{Noted_world}
-use Rattle.ncp_two.specs.Ledgers.{ledger_of, IsBalanced}
+use Rattle.ncp_transcript_two.specs.Transcript.{Noted_world}
+use Rattle.ncp_transcript_two.specs.Ledgers.{ledger_of, IsBalanced}
 use Rattle.ncp_world.specs.Booked.{IsBooked}
 use Rattle.ncp_world.proofs.Ledgers.{ledger-is, ledger-balanced, if-some}
 use Rattle.ncp_world.proofs.Books.{ledger-booked}

@@ -1,6 +1,6 @@
 use Rattle.std.proofs.Common.{◌<◌, ◌^◌, [], arith, subst}
-use Rattle.ncp_two.specs.Between.{Hosts}
-use Rattle.ncp_two.proofs.Growing.{transcript_new}
+use Rattle.ncp_transcript_two.specs.Between.{Hosts}
+use Rattle.ncp_transcript_two.proofs.Growing.{transcript_new}
 use Rattle.ncp_statement.specs.Statement.{Headline}
 use Rattle.ncp_world.proofs.world.World.new.Goals as goal
 

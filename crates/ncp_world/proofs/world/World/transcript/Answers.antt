@@ -1,5 +1,5 @@
 use Rattle.std.proofs.Common.{ap, ◌∙◌}
-use Rattle.ncp_two.specs.Transcript.{Noted_world}
+use Rattle.ncp_transcript_two.specs.Transcript.{Noted_world}
 use Rattle.ncp_world.proofs.world.World.transcript.Goals as goal
 
 pub returns-clause-notes : goal.returns-clause-notes

@@ -1,5 +1,0 @@
-use Rattle.ncp_files.proofs.Returning.{files_come_back}
-use Rattle.ncp_files.proofs.laws.files_return.Goals as goal
-
-pub returns : goal.returns
-returns c = files_come_back

@@ -1,5 +1,0 @@
-use Rattle.std.proofs.Common.{refl}
-use Rattle.ncp_files.proofs.writing.byte_of.Goals as goal
-
-pub returns-in-FromImp : goal.returns-in-FromImp
-returns-in-FromImp c = rw c.in-FromImp.is refl

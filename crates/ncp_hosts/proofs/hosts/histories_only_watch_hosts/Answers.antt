@@ -1,8 +1,0 @@
-use Rattle.ncp_hosts.proofs.Watches.{watches_agree, other_watches_stay}
-use Rattle.ncp_hosts.proofs.hosts.histories_only_watch_hosts.Goals as goal
-
-pub returns-clause-steps : goal.returns-clause-steps
-returns-clause-steps c = watches_agree
-
-pub returns-clause-others : goal.returns-clause-others
-returns-clause-others c = other_watches_stay

@@ -1,8 +1,0 @@
-use Rattle.ncp_pairs.proofs.EveryPair.{pairs-same, pair-alone}
-use Rattle.ncp_pairs.proofs.events.others_change_nothing_of_a_pair.Goals as goal
-
-pub returns-clause-same : goal.returns-clause-same
-returns-clause-same c = pairs-same
-
-pub returns-clause-alone : goal.returns-clause-alone
-returns-clause-alone c = pair-alone

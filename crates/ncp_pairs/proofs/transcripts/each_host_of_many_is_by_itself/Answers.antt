@@ -1,5 +1,0 @@
-use Rattle.ncp_pairs.proofs.ByItself.{by-itself}
-use Rattle.ncp_pairs.proofs.transcripts.each_host_of_many_is_by_itself.Goals as goal
-
-pub returns : goal.returns
-returns c ns m t k there = by-itself ns m k t there

@@ -1,6 +1,0 @@
-use Rattle.std.proofs.Common.{ap}
-use Rattle.ncp_play.specs.Faults.{name_of}
-use Rattle.ncp_play.proofs.fault.PlayFault.name.Goals as goal
-
-pub returns-in-Feed : goal.returns-in-Feed
-returns-in-Feed c = let named = ap name_of c.in-Feed.is in cc

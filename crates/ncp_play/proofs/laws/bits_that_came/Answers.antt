@@ -1,7 +1,0 @@
-use Rattle.std.proofs.Common.{refl}
-use Rattle.std.specs.Fmt.{digits}
-use Rattle.ncp_play.proofs.laws.bits_that_came.Goals as goal
-
-pub returns : goal.returns
-unfolding digits
-returns c = refl

@@ -1,7 +1,0 @@
-use Rattle.std.proofs.Common.{refl}
-use Rattle.std.specs.Fmt.{digits}
-use Rattle.ncp_play.proofs.laws.faults.Goals as goal
-
-pub returns-clause-lines : goal.returns-clause-lines
-unfolding digits
-returns-clause-lines c = refl

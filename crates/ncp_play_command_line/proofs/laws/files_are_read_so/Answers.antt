@@ -1,0 +1,17 @@
+use Rattle.std.proofs.Common.{refl}
+use Rattle.clap.proofs.OnLiterals.{clap_on_literals}
+use Rattle.ncp_play_command_line.proofs.laws.files_are_read_so.Goals as goal
+
+pub returns : goal.returns
+unfolding clap_on_literals
+returns c = record {
+  order = refl;
+  file = refl;
+  standard = refl;
+  none = refl;
+  converted = refl;
+  behind = refl;
+  more = refl;
+  explained = refl;
+  unnamed = refl;
+}

@@ -1,0 +1,90 @@
+-- The command line of the program, in clap's words.
+use Rattle.std.specs.Prelude.{ℕ, true, List, [], Option, Some, None, option_and_then, pos, codes, if◌then◌else◌}
+use Rattle.std.specs.Option.{option_map_or}
+use Rattle.std.specs.Str.{bytes_eq}
+use Rattle.clap.specs.Simple.{App, Shape, new_app, new_rule, new_shape, with_rule, with_subcommand, subcommand_of}
+use Rattle.clap.specs.Walk.{Row, Rule, Text, byte_or_zero, one_of, first_of}
+use Rattle.clap.specs.declared.builder.value_parser.ValueParser.TheVariants.{Signed}
+use Rattle.ncp_play_command_line.specs.declared.orders.Order.{Order}
+use Rattle.ncp_play_command_line.specs.declared.orders.Order.TheVariants.{Show, Check, Convert, Host, World, Record, Explain}
+
+-- `--at H`, which is required: a number from 0 to 255
+abbrev pub number_wanted : Rule
+number_wanted = record (new_rule (codes "at")) {
+  long = Some (codes "at");
+  value_names = 1;
+  parser = Some (Signed (pos 0) (pos 255));
+  required = true;
+}
+
+-- the word behind a subcommand: the name of a file, which need not be there
+abbrev pub file_named : Rule
+file_named = record (new_rule (codes "word")) { value_names = 1 }
+
+-- or the name of a fault or of a refusal, which has to be there
+abbrev pub name_wanted : Rule
+name_wanted = record file_named { required = true }
+
+-- a subcommand of this name that reads a file
+abbrev pub reading : Text → Shape
+reading name = (with_rule (new_app name) file_named).top
+
+-- `convert`, with that number, and a file
+abbrev pub converting : Shape
+converting = (with_rule (with_rule (new_app (codes "convert")) number_wanted) file_named).top
+
+-- `explain`, with a name
+abbrev pub explaining : Shape
+explaining = (with_rule (new_app (codes "explain")) name_wanted).top
+
+-- the program with no subcommand yet: its name, and `--version`
+abbrev pub bare_program : App
+bare_program = record { top = record (new_shape (codes "ncp")) { has_version = true }; subs = [] }
+
+-- the program with the subcommands that read message files
+abbrev pub of_files : App
+of_files = with_subcommand (with_subcommand (with_subcommand bare_program (reading (codes "show"))) (reading (codes "check"))) converting
+
+-- and with those that play scripts
+abbrev pub of_players : App
+of_players = with_subcommand (with_subcommand of_files (reading (codes "host"))) (reading (codes "world"))
+
+-- and with the one that records
+abbrev pub of_recorders : App
+of_recorders = with_subcommand of_players (reading (codes "record"))
+
+-- and with the one that explains
+abbrev pub program : App
+program = with_subcommand of_recorders explaining
+
+-- the number of `--at` among the arguments that clap found; 0 stands for none, which clap refuses
+abbrev pub number_in : List Row → ℕ
+number_in given = option_map_or byte_or_zero (one_of (codes "at") given) 0
+
+-- the order that a subcommand with these arguments is
+abbrev pub named : Text → List Row → Order
+named name given =
+    if bytes_eq name (codes "check") then Check
+    else if bytes_eq name (codes "convert") then Convert (number_in given)
+    else if bytes_eq name (codes "host") then Host
+    else if bytes_eq name (codes "world") then World
+    else if bytes_eq name (codes "record") then Record
+    else if bytes_eq name (codes "explain") then Explain
+    else Show
+
+-- the order that a subcommand is, with its arguments: `show` where there is none
+abbrev pub order_of : Option (Text × List Row) → Order
+order_of None = Show
+order_of (Some found) = named found.0 found.1
+
+-- the order that clap reads in words
+abbrev pub order_in : List Text → Order
+order_in words = order_of (subcommand_of program words)
+
+-- the word behind a subcommand
+abbrev pub word_of : Option (Text × List Row) → Option Text
+word_of found = option_and_then (λ f. first_of (codes "word") f.1) found
+
+-- the word behind the subcommand that clap reads in words
+abbrev pub word_in : List Text → Option Text
+word_in words = word_of (subcommand_of program words)

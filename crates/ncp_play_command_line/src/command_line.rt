@@ -1,0 +1,246 @@
+//! The command line of the program `ncp`.
+ghost use Rattle.std.specs.Prelude.{◌≡◌, IfOk, map, option_map, false};
+ghost use Rattle.ncp_play_command_line.specs.CommandLine.{bare_program, converting, explaining, named, number_in, of_files, of_players, of_recorders, order_in, order_of, program, reading, file_named, word_in, word_of};
+ghost use Rattle.clap.specs.Faults.{fault_of};
+ghost use Rattle.clap.specs.Kinds.{FailsBy};
+ghost use Rattle.clap.specs.Simple.{app_of, shape_of, subcommand_rows_of, with_subcommand};
+ghost use Rattle.clap.specs.Matches.{found_of};
+ghost use Rattle.clap.specs.declared.builder.command.Command.TheViews.{out-Command as fields_of};
+ghost use Rattle.clap.specs.Walk.{first_of, rows_of, rule_of};
+
+use crate::help::{
+    CHECKED, CONVERTED, EXPLAINED, PLAYED, PLAYED_HOST, PROGRAM_HELP, RECORDED, SHOWN,
+};
+use crate::orders::{Order, Request};
+use clap::{Arg, ArgMatches, Command, Error};
+use std::alloc::{AllocError, Global};
+use std::convert::AsStr;
+
+// The program's name, and what `--version` says of it.
+const PROGRAM: &str = "ncp";
+
+const VERSION: &str = "1.1.0";
+
+// The names of its subcommands, of the argument of `convert`, and of the word behind a subcommand.
+const SHOW: &str = "show";
+
+const CHECK: &str = "check";
+
+const CONVERT: &str = "convert";
+
+const HOST: &str = "host";
+
+const WORLD: &str = "world";
+
+const RECORD: &str = "record";
+
+const EXPLAIN: &str = "explain";
+
+const AT: &str = "at";
+
+const WORD: &str = "word";
+
+// The number of `--at`. clap wants one, so it is never the 0 that stands for none.
+fn number_in(given: &ArgMatches) -> u8
+    ensures { result ≡ number_in (rows_of (found_of given.now)) }
+{
+    given.get_one::<u8>(AT).unwrap_or(0)
+}
+
+// The order that a subcommand with these arguments is.
+fn order_named(name: &str, given: &ArgMatches) -> Order
+    ensures { result ≡ named name.now (rows_of (found_of given.now)) }
+{
+    match name {
+        _ if name == CHECK => Order::Check,
+        _ if name == CONVERT => Order::Convert(number_in(given)),
+        _ if name == HOST => Order::Host,
+        _ if name == WORLD => Order::World,
+        _ if name == RECORD => Order::Record,
+        _ if name == EXPLAIN => Order::Explain,
+        _ => Order::Show,
+    }
+}
+
+// The word behind a subcommand with these arguments.
+fn word_in<'a>(given: &ArgMatches<'a>) -> Option<&'a str>
+    ensures { option_map (λ word. word.now) result ≡ first_of WORD.now (rows_of (found_of given.now)) }
+{
+    given.get_str(WORD)
+}
+
+// What clap found: `show` and no word where there is no subcommand.
+fn request_of<'a>(matches: &ArgMatches<'a>) -> Request<'a>
+    ensures order { result.order ≡ order_of (subcommand_rows_of matches.now) }
+    ensures word { option_map (λ word. word.now) result.word ≡ word_of (subcommand_rows_of matches.now) }
+{
+    match matches.subcommand() {
+        Some((name, given)) => Request {
+            order: order_named(name, given),
+            word: word_in(given),
+        },
+        None => Request {
+            order: Order::Show,
+            word: None,
+        },
+    }
+}
+
+// A file that may be named behind a subcommand.
+fn file<'a>(alloc: Global) -> Arg<'a>
+    ensures rule { rule_of result ≡ file_named }
+    ensures local { result.global ≡ false }
+{
+    Arg::new(alloc, WORD).value_name("FILE").help(
+        "What is read: standard input where no file is named, or where it is -",
+    )
+}
+
+// A subcommand that reads a file.
+fn reading<'a>(
+    alloc: Global,
+    name: &'static str,
+    about: &'static str,
+    more: &'static str,
+) -> Result<Command<'a>, AllocError>
+    ensures shape { IfOk result (λ command. shape_of command ≡ reading name.now) }
+    ensures local { IfOk result (λ command. (fields_of command).has_globals ≡ false) }
+{
+    Command::new(alloc, name)
+        .about(about)
+        .after_help(more)
+        .arg(file(alloc))
+}
+
+// `convert`, with the number of a host that it wants.
+fn converting<'a>(alloc: Global) -> Result<Command<'a>, AllocError>
+    ensures shape { IfOk result (λ command. shape_of command ≡ converting) }
+    ensures local { IfOk result (λ command. (fields_of command).has_globals ≡ false) }
+{
+    let at = Arg::new(alloc, AT)
+        .long(AT)
+        .value_name("H")
+        .required(true)
+        .value_parser(clap::value_parser!(u8))
+        .help("The number of the host at whose interface the messages stand");
+    Command::new(alloc, CONVERT)
+        .about("Turns a message file of one version into the other")
+        .after_help(CONVERTED)
+        .arg(at)?
+        .arg(file(alloc))
+}
+
+// `explain`, with the name that it wants.
+fn explaining<'a>(alloc: Global) -> Result<Command<'a>, AllocError>
+    ensures shape { IfOk result (λ command. shape_of command ≡ explaining) }
+    ensures local { IfOk result (λ command. (fields_of command).has_globals ≡ false) }
+{
+    let name = Arg::new(alloc, WORD).value_name("NAME").required(true).help(
+        "The name of a fault or of a refusal, as the program prints it",
+    );
+    Command::new(alloc, EXPLAIN)
+        .about("Says what the name of a fault or of a refusal means")
+        .after_help(EXPLAINED)
+        .arg(name)
+}
+
+// The program as clap knows it, with no subcommand yet.
+fn bare_program<'a>(alloc: Global) -> Command<'a>
+    ensures { app_of result ≡ bare_program }
+{
+    Command::new(alloc, PROGRAM)
+        .version(VERSION)
+        .about("Reads the messages of an ARPANET host, and plays hosts")
+        .after_help(PROGRAM_HELP)
+}
+
+// The program with one more subcommand that reads a file.
+fn and_reading<'a>(
+    program: Command<'a>,
+    alloc: Global,
+    name: &'static str,
+    about: &'static str,
+    more: &'static str,
+) -> Result<Command<'a>, AllocError>
+    ensures { IfOk result (λ command. app_of command ≡ with_subcommand (app_of program.entry) (reading name.now)) }
+{
+    program.subcommand(reading(alloc, name, about, more)?)
+}
+
+// The program with `convert` too.
+fn and_convert<'a>(program: Command<'a>, alloc: Global) -> Result<Command<'a>, AllocError>
+    ensures { IfOk result (λ command. app_of command ≡ with_subcommand (app_of program.entry) converting) }
+{
+    program.subcommand(converting(alloc)?)
+}
+
+// The program with `explain` too.
+fn and_explain<'a>(program: Command<'a>, alloc: Global) -> Result<Command<'a>, AllocError>
+    ensures { IfOk result (λ command. app_of command ≡ with_subcommand (app_of program.entry) explaining) }
+{
+    program.subcommand(explaining(alloc)?)
+}
+
+// The program with the subcommands that read message files.
+fn with_files<'a>(alloc: Global) -> Result<Command<'a>, AllocError>
+    ensures { IfOk result (λ command. app_of command ≡ of_files) }
+{
+    let show = "Shows each message of a message file";
+    let check = "Counts the messages of a message file, and says whether all are well formed";
+    let program = and_reading(bare_program(alloc), alloc, SHOW, show, SHOWN)?;
+    let program = and_reading(program, alloc, CHECK, check, CHECKED)?;
+    and_convert(program, alloc)
+}
+
+// The program with the subcommands that play scripts too.
+fn with_players<'a>(alloc: Global) -> Result<Command<'a>, AllocError>
+    ensures { IfOk result (λ command. app_of command ≡ of_players) }
+{
+    let host = "Plays a script of one host";
+    let world = "Plays a script of two to eight hosts and the subnet between them";
+    let program = and_reading(with_files(alloc)?, alloc, HOST, host, PLAYED_HOST)?;
+    and_reading(program, alloc, WORLD, world, PLAYED)
+}
+
+// The program with the subcommand that records too.
+fn with_recorders<'a>(alloc: Global) -> Result<Command<'a>, AllocError>
+    ensures { IfOk result (λ command. app_of command ≡ of_recorders) }
+{
+    let record = "Plays a script of two to eight hosts, and writes its messages as a message file";
+    and_reading(with_players(alloc)?, alloc, RECORD, record, RECORDED)
+}
+
+// The program with all its subcommands: the one that explains too.
+fn command_line<'a>(alloc: Global) -> Result<Command<'a>, AllocError>
+    ensures { IfOk result (λ command. app_of command ≡ program) }
+{
+    and_explain(with_recorders(alloc)?, alloc)
+}
+
+/// Reads the words of a command line, the program's name first: the order, and the word behind the subcommand, which
+/// names a file or what is to be explained. Without a subcommand it is `show`.
+///
+/// The error is clap's: a command-line fault, help that was asked for, or want of memory.
+pub fn request<'a, S: AsStr>(alloc: Global, words: &'a [S]) -> Result<Request<'a>, Error>
+    ensures named { IfOk result (λ request. request.order ≡ order_in (map S.text words.entry.now)) }
+    ensures word { IfOk result (λ request. option_map (λ word. word.now) request.word ≡ word_in (map S.text words.entry.now)) }
+
+    // Ok comes only where clap finds no fault in the words, and an error is one of those that it
+    // finds, or want of memory.
+    ensures kinds { FailsBy (fault_of program (map S.text words.entry.now)) result }
+{
+    let program = command_line(alloc)?;
+    let matches = program.try_get_matches_from(words)?;
+    Ok(request_of(&matches))
+}
+
+/// The order of a command line ([`request`]).
+pub fn order<'a, S: AsStr>(alloc: Global, words: &'a [S]) -> Result<Order, Error>
+    ensures named { IfOk result (λ order. order ≡ order_in (map S.text words.entry.now)) }
+    ensures kinds { FailsBy (fault_of program (map S.text words.entry.now)) result }
+{
+    match request(alloc, words) {
+        Ok(request) => Ok(request.order),
+        Err(error) => Err(error),
+    }
+}

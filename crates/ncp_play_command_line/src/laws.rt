@@ -1,0 +1,51 @@
+//! Laws about orders and the command line: the contracts of functions.
+ghost use Rattle.std.specs.Prelude.{◌≡◌, ◌↔◌, ◌∷◌, [], None, Some, IsTrue, codes};
+ghost use Rattle.clap.specs.Faults.{fault_of};
+ghost use Rattle.clap.specs.declared.error.kind.ErrorKind.TheVariants as kind;
+ghost use Rattle.ncp_play_command_line.specs.CommandLine.{order_in, program, word_in};
+ghost use Rattle.ncp_play_command_line.specs.Examples.{after_convert, after_ncp};
+ghost use Rattle.ncp_play_command_line.specs.declared.orders.Order.TheVariants.{Convert, Explain, Record, Show, World};
+
+use crate::orders::Order;
+
+/// Two orders compare as equal exactly where they are the same.
+pub fn same_order(one: Order, other: Order) -> bool
+    ensures { IsTrue result ↔ one ≡ other }
+{
+    one == other
+}
+
+/// Worked command lines, computed from the definitions: a subcommand is its order, and `show` is meant
+/// where there is none. `--version` is told, and is no order.
+pub fn words_are_read_so()
+    ensures nothing { order_in (after_ncp []) ≡ Show }
+    ensures world { order_in (after_ncp (codes "world" ∷ [])) ≡ World }
+    ensures recorded { order_in (after_ncp (codes "record" ∷ [])) ≡ Record }
+    ensures version { fault_of program (after_ncp (codes "--version" ∷ [])) ≡ kind.DisplayVersion ∷ [] }
+{}
+
+/// Worked command lines of `convert`: it has the number of `--at`, from 0 to 255. A number that is
+/// missing, too great, or given twice is a fault.
+pub fn numbers_are_read_so()
+    ensures seven { order_in (after_convert (codes "--at" ∷ codes "7" ∷ [])) ≡ Convert 7 }
+    ensures most { order_in (after_convert (codes "--at=255" ∷ [])) ≡ Convert 255 }
+    ensures sound { fault_of program (after_convert (codes "--at=255" ∷ [])) ≡ [] }
+    ensures missing { fault_of program (after_convert []) ≡ kind.MissingRequiredArgument ∷ [] }
+    ensures great { fault_of program (after_convert (codes "--at=256" ∷ [])) ≡ kind.ValueValidation ∷ [] }
+    ensures negative { fault_of program (after_convert (codes "--at=-1" ∷ [])) ≡ kind.ValueValidation ∷ [] }
+    ensures twice { fault_of program (after_convert (codes "--at=7" ∷ codes "--at=7" ∷ [])) ≡ kind.ArgumentConflict ∷ [] }
+{}
+
+/// Worked words behind a subcommand: a file leaves the order as it is, `-` is a word as any other, there is one at most,
+/// and of `explain` there has to be one.
+pub fn files_are_read_so()
+    ensures order { order_in (after_ncp (codes "world" ∷ codes "first.script" ∷ [])) ≡ World }
+    ensures file { word_in (after_ncp (codes "world" ∷ codes "first.script" ∷ [])) ≡ Some (codes "first.script") }
+    ensures standard { word_in (after_ncp (codes "show" ∷ codes "-" ∷ [])) ≡ Some (codes "-") }
+    ensures none { word_in (after_ncp (codes "show" ∷ [])) ≡ None }
+    ensures converted { order_in (after_convert (codes "--at" ∷ codes "7" ∷ codes "first.ncp" ∷ [])) ≡ Convert 7 }
+    ensures behind { word_in (after_convert (codes "--at" ∷ codes "7" ∷ codes "first.ncp" ∷ [])) ≡ Some (codes "first.ncp") }
+    ensures more { fault_of program (after_ncp (codes "show" ∷ codes "a" ∷ codes "b" ∷ [])) ≡ kind.UnknownArgument ∷ [] }
+    ensures explained { order_in (after_ncp (codes "explain" ∷ codes "BadLine" ∷ [])) ≡ Explain }
+    ensures unnamed { fault_of program (after_ncp (codes "explain" ∷ [])) ≡ kind.MissingRequiredArgument ∷ [] }
+{}

@@ -1,0 +1,134 @@
+-- What the parts of a feed do.
+use Rattle.std.specs.Prelude.{◌≡◌, ◌⊎◌, ℕ, Bool, true, false, List, [], ◌∷◌, ◌++◌, length, map, replicate, drop, Option, Some, None, Result, Ok, Err}
+use Rattle.ncp_transcript.specs.declared.input.Input.TheVariants as inputs
+use Rattle.ncp_transcript.specs.declared.note.HostNote.{HostNote}
+use Rattle.ncp_transcript.specs.declared.note.HostNote.TheVariants as notes
+use Rattle.ncp_transcript.specs.Alone.{Alone, IsStep, AreSteps}
+use Rattle.ncp_play_stream.specs.Streams.{Ahead}
+use Rattle.ncp_play_files.specs.declared.file.Direction.{Direction}
+use Rattle.ncp_play_files.specs.declared.file.Direction.TheVariants.{ToImp, FromImp}
+use Rattle.ncp_play_files.specs.declared.file.FileFault.{FileFault}
+use Rattle.ncp_play_files.specs.declared.file.FileFault.TheVariants.{BadHeader}
+use Rattle.ncp_play_files.specs.File.{direction_of, next_record, Holds}
+use Rattle.ncp_play_files.specs.Results.{MatchFault}
+use Rattle.ncp_play_files.specs.Steps.{CutInHeader, CutOff, IsInside}
+use Rattle.ncp_play_notes.specs.declared.fault.PlayFault.{PlayFault}
+use Rattle.ncp_play_notes.specs.declared.fault.PlayFault.TheVariants.{BadLine, LineTooLong, BadHosts, Feed, ReadFailed, WriteFailed, OutOfMemory}
+use Rattle.ncp_play_feed.specs.Feeds.{Came, all_output}
+
+-- no header of a file from an IMP
+abbrev pub IsOtherHeader : Option Direction → Type 0
+IsOtherHeader (Some FromImp) = ⊥
+IsOtherHeader (Some ToImp) = Unit {0}
+IsOtherHeader None = Unit {0}
+
+-- the header of a file from an IMP was read, or another stands there
+abbrev pub ReadsFeedHeader : List ℕ → Result Unit FileFault → List ℕ → Option (List ℕ) → Type 0
+ReadsFeedHeader bytes (Ok done) window left = (direction_of bytes ≡ Some FromImp) × Ahead window left (drop 4 bytes)
+ReadsFeedHeader bytes (Err fault) window left = MatchFault (λ f. (f ≡ BadHeader) × IsOtherHeader (direction_of bytes)) (CutInHeader bytes window left) ⊥ fault
+
+-- ---- messages that come
+
+-- the next message came, or there is none; or a fault stands there, or there was no memory, and nothing has
+-- happened; or the message came, and a write failed
+abbrev pub HearsNext : List ℕ → Alone → Result Bool PlayFault → Alone → List ℕ → Option (List ℕ) → Type 0
+HearsNext bytes before (Ok true) now window left =
+    (message : List Bool) × (rest : List ℕ) × (next_record bytes ≡ Ok (Some (message, rest))) × Ahead window left rest × IsStep (inputs.In message) before now
+HearsNext bytes before (Ok false) now window left = (next_record bytes ≡ Ok None) × (now ≡ before)
+HearsNext bytes before (Err (Feed fault)) now window left = MatchFault (λ f. next_record bytes ≡ Err f) (CutOff bytes window left) ⊥ fault × (now ≡ before)
+HearsNext bytes before (Err OutOfMemory) now window left = (message : List Bool) × (rest : List ℕ) × (next_record bytes ≡ Ok (Some (message, rest))) × (now ≡ before)
+HearsNext bytes before (Err WriteFailed) now window left =
+    (message : List Bool) × (rest : List ℕ) × (next_record bytes ≡ Ok (Some (message, rest))) × IsStep (inputs.In message) before now
+HearsNext bytes before (Err ReadFailed) now window left = ⊥
+HearsNext bytes before (Err BadHosts) now window left = ⊥
+HearsNext bytes before (Err (BadLine line)) now window left = ⊥
+HearsNext bytes before (Err (LineTooLong line)) now window left = ⊥
+
+-- these messages came, and then the bytes end, or the fault stands there
+abbrev pub Hears : List ℕ → Option FileFault → Alone → Alone → Type 0
+Hears bytes fault before now = (messages : List (List Bool)) × Holds bytes messages fault × Came messages before now
+
+-- of the bytes that were read before a read failed
+abbrev pub HearsCut : List ℕ → Option (List ℕ) → Alone → Alone → Type 0
+HearsCut bytes left before now =
+    (given : List ℕ) × (rest : List ℕ) × (fault : Option FileFault) × (bytes ≡ given ++ rest) × (left ≡ Some rest) × IsInside fault × Hears given fault before now
+
+-- the first of them came
+abbrev pub HearsFirst : List ℕ → Alone → Alone → Type 0
+HearsFirst bytes before now =
+    (messages : List (List Bool)) × (more : List (List Bool)) × (fault : Option FileFault) × Holds bytes (messages ++ more) fault × Came messages before now
+
+abbrev pub HearsFrom : List ℕ → Alone → Result Unit PlayFault → Alone → Option (List ℕ) → Type 0
+HearsFrom bytes before (Ok done) now left = Hears bytes None before now
+HearsFrom bytes before (Err (Feed fault)) now left = MatchFault (λ f. Hears bytes (Some f) before now) (HearsCut bytes left before now) ⊥ fault
+HearsFrom bytes before (Err OutOfMemory) now left = HearsFirst bytes before now
+HearsFrom bytes before (Err WriteFailed) now left = HearsFirst bytes before now
+HearsFrom bytes before (Err ReadFailed) now left = ⊥
+HearsFrom bytes before (Err BadHosts) now left = ⊥
+HearsFrom bytes before (Err (BadLine line)) now left = ⊥
+HearsFrom bytes before (Err (LineTooLong line)) now left = ⊥
+
+-- ---- messages that go out
+
+-- the host was asked for output once, and this was noted
+abbrev pub Asked : HostNote → Alone → Alone → Type 0
+Asked note before now = IsStep inputs.Out before now × (now.notes ≡ before.notes ++ note ∷ [])
+
+-- a message went out
+abbrev pub SentOne : Alone → Alone → Type 0
+SentOne before now = (message : List Bool) × Asked (notes.Out message) before now
+
+-- a message went out, or no link was ready; or there was no memory, and nothing has happened; or it was done, and a
+-- write failed
+abbrev pub SendsNext : Alone → Result Bool PlayFault → Alone → Type 0
+SendsNext before (Ok true) now = SentOne before now
+SendsNext before (Ok false) now = Asked notes.Nothing before now
+SendsNext before (Err OutOfMemory) now = now ≡ before
+SendsNext before (Err WriteFailed) now = SentOne before now ⊎ Asked notes.Nothing before now
+SendsNext before (Err (Feed fault)) now = ⊥
+SendsNext before (Err ReadFailed) now = ⊥
+SendsNext before (Err BadHosts) now = ⊥
+SendsNext before (Err (BadLine line)) now = ⊥
+SendsNext before (Err (LineTooLong line)) now = ⊥
+
+-- the host was asked for output, once for each of these notes
+abbrev pub AskedFor : List HostNote → Alone → Alone → Type 0
+AskedFor asked before now = AreSteps (replicate (length asked) inputs.Out) before now × (now.notes ≡ before.notes ++ asked)
+
+-- these messages went out, and then no link was ready
+abbrev pub SentAll : Alone → Alone → Type 0
+SentAll before now = (sent : List (List Bool)) × AskedFor (all_output sent) before now
+
+-- these went out
+abbrev pub SentSome : Alone → Alone → Type 0
+SentSome before now = (sent : List (List Bool)) × AskedFor (map notes.Out sent) before now
+
+abbrev pub SendsFrom : Alone → Result Unit PlayFault → Alone → Type 0
+SendsFrom before (Ok done) now = SentAll before now
+SendsFrom before (Err OutOfMemory) now = SentSome before now
+SendsFrom before (Err WriteFailed) now = SentSome before now ⊎ SentAll before now
+SendsFrom before (Err (Feed fault)) now = ⊥
+SendsFrom before (Err ReadFailed) now = ⊥
+SendsFrom before (Err BadHosts) now = ⊥
+SendsFrom before (Err (BadLine line)) now = ⊥
+SendsFrom before (Err (LineTooLong line)) now = ⊥
+
+-- ---- what a note says
+
+-- whether it is of a message that went out
+abbrev pub is_out : HostNote → Bool
+is_out (notes.Out message) = true
+is_out (notes.Refused call fault) = false
+is_out (notes.Done call) = false
+is_out (notes.Took peer pair bytes text) = false
+is_out (notes.State peer pair r) = false
+is_out (notes.Phase peer flags) = false
+is_out (notes.Echoed peer byte) = false
+is_out (notes.Errors peer errors) = false
+is_out (notes.Counts peer counts) = false
+is_out (notes.Waiting peer place command) = false
+is_out (notes.Kept peer link message) = false
+is_out (notes.Ignored ignored) = false
+is_out notes.Nothing = false
+is_out (notes.In message received) = false
+is_out (notes.Answered peer link answer received) = false

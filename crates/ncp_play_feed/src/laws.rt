@@ -1,0 +1,31 @@
+//! Laws about feeds, each the contract of a function that does nothing.
+ghost use Rattle.std.specs.Prelude.{◌≡◌, ◌↔◌, ℕ, List, [], ◌∷◌, ◌++◌, Bool, Option, Some, None, codes};
+ghost use Rattle.ncp_numbers.specs.Bytes.{bits_of_bytes};
+ghost use Rattle.ncp_play_files.specs.declared.file.FileFault.{FileFault as Fault};
+ghost use Rattle.ncp_play_files.specs.declared.file.FileFault.TheVariants.{BadHeader, Truncated};
+ghost use Rattle.ncp_play_files.specs.File.{Holds};
+ghost use Rattle.ncp_play_feed.specs.Feeds.{FeedHolds};
+ghost use Rattle.ncp_play_feed.specs.Examples.{first_feed, rst, stray};
+
+/// Bytes are a feed in exactly one way: these messages, and then its end or this fault.
+pub fn feeds_have_one_reading()
+    ensures some { (bytes : List ℕ) → (messages : List (List Bool)) × (fault : Option Fault) × FeedHolds bytes messages fault }
+    ensures only { (bytes : List ℕ) (messages others : List (List Bool)) (fault other : Option Fault)
+        → FeedHolds bytes messages fault → FeedHolds bytes others other → (messages ≡ others) × (fault ≡ other) }
+{}
+
+/// Only a file from an IMP is fed: behind its header stand the records of a message file. A file to an
+/// IMP has a bad header, and so has one that ends inside of it.
+pub fn feeds_are_files_from_an_imp()
+    ensures from_imp { (bytes : List ℕ) (messages : List (List Bool)) (fault : Option Fault)
+        → FeedHolds (codes "NCPI" ++ bytes) messages fault ↔ Holds bytes messages fault }
+    ensures to_imp { (bytes : List ℕ) → FeedHolds (codes "NCPH" ++ bytes) [] (Some BadHeader) }
+    ensures short { FeedHolds (codes "NCP") [] (Some BadHeader) }
+{}
+
+/// The worked feed: RST from host 2, and an RFNM to no message. With a byte more it is cut off behind
+/// both messages.
+pub fn worked_feed()
+    ensures whole { FeedHolds first_feed (rst ∷ stray ∷ []) None }
+    ensures cut { FeedHolds (first_feed ++ 0 ∷ []) (rst ∷ stray ∷ []) (Some Truncated) }
+{}

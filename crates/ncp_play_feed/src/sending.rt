@@ -1,0 +1,60 @@
+//! What a host has goes out.
+ghost use Rattle.std.specs.Prelude.{◌≡◌, ℕ, ◌+◌, ◌<◌, ◌≤◌, ◌||◌, ◌++◌, ◌∷◌, [], List, true, IfOk};
+ghost use Rattle.ncp_play_stream.specs.Pieces.{bytes_and_writes, lost_pieces};
+ghost use Rattle.ncp_transcript.specs.declared.note.HostNote.{HostNote as Note};
+ghost use Rattle.ncp_play_notes.specs.Faults.{is_write_failed};
+ghost use Rattle.ncp_play_notes.specs.Playing.{Tells, TellsAs};
+ghost use Rattle.ncp_play_notes.specs.declared.heading.Heading.{Heading as Beginning};
+ghost use Rattle.ncp_play_feed.specs.Steps.{SendsNext, SendsFrom, is_out};
+ghost use Rattle.ncp_play_feed.specs.Going.{open_links};
+
+use ncp_bits::BitStore;
+use ncp_play_notes::{Heading, PlayFault, play_input};
+use ncp_play_page::Page;
+use ncp_play_stream::Sink;
+use ncp_transcript::{Alone, HostNote, Input};
+
+// Whether a note is of a message that went out.
+fn is_out(note: &HostNote) -> bool
+    ensures { result ≡ is_out note.now }
+{
+    matches!(note, HostNote::Out { .. })
+}
+
+// Asks the host for output. Answers whether a message went out: then it is one link fewer on which
+// the host may send.
+fn send_next<S: BitStore, W: Sink>(
+    alone: &mut Alone<S>,
+    heading: &mut Heading,
+    page: &mut Page,
+    sink: &mut W,
+) -> Result<bool, PlayFault>
+    ensures events { SendsNext alone.old result alone.new }
+    ensures told { (was : List ℕ) (first : Beginning) → Tells was first alone.old.notes heading.old page.old (W.written sink.old)
+        → TellsAs was first alone.new.notes result heading.new page.new (W.written sink.new) }
+    ensures fewer { IfOk result (λ more. more ≡ true → open_links alone.new.host < open_links alone.old.host) }
+    ensures sink_mark { W.has_failed sink.new ≡ (W.has_failed sink.old || is_write_failed result) }
+    ensures writes { bytes_and_writes W.takes_all (W.writes sink.old) (W.written sink.old) ≤ bytes_and_writes W.takes_all (W.writes sink.new) (W.written sink.new) + lost_pieces (is_write_failed result) }
+{
+    play_input(alone, &Input::Out, heading, page, sink)?;
+    let notes = alone.transcript();
+    Ok(is_out(&notes[notes.len() - 1]))
+}
+
+/// The host is asked for output until it has none. It ends, since each message takes a link on which
+/// the host may send.
+pub(crate) fn send_all<S: BitStore, W: Sink>(
+    alone: &mut Alone<S>,
+    heading: &mut Heading,
+    page: &mut Page,
+    sink: &mut W,
+) -> Result<(), PlayFault>
+    ensures events { SendsFrom alone.old result alone.new }
+    ensures told { (was : List ℕ) (first : Beginning) → Tells was first alone.old.notes heading.old page.old (W.written sink.old)
+        → TellsAs was first alone.new.notes result heading.new page.new (W.written sink.new) }
+    ensures sink_mark { W.has_failed sink.new ≡ (W.has_failed sink.old || is_write_failed result) }
+    ensures writes { bytes_and_writes W.takes_all (W.writes sink.old) (W.written sink.old) ≤ bytes_and_writes W.takes_all (W.writes sink.new) (W.written sink.new) + lost_pieces (is_write_failed result) }
+{
+    while send_next(alone, heading, page, sink)? {}
+    Ok(())
+}

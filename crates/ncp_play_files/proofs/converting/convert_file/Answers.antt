@@ -1,0 +1,66 @@
+use Rattle.std.proofs.Common.{◌++◌, ◌∙◌, ◌||◌, List, [], ℕ, Some, drop, sym, ap, subst, le-add_right}
+use Rattle.std.proofs.Math.Bool.{or-false}
+use Rattle.std.proofs.lemmas.List.{append-nil}
+use Rattle.std.proofs.lemmas.Result.{err_from_is_err_and}
+use Rattle.ncp_play_stream.specs.Streams.{Ahead, SaidSoFar}
+use Rattle.ncp_play_files.specs.Converted.{other_version, passage_in, next_at}
+use Rattle.ncp_play_files.specs.Turning.{SaysTurned}
+use Rattle.ncp_play_files.proofs.ConvertedFiles.{turns_nothing, turns_no_more, file_turned}
+use Rattle.ncp_play_files.specs.Results.{is_read, is_read_failed}
+use Rattle.ncp_play_files.proofs.converting.convert_file.Goals as goal
+
+pub returns-in_err-version-clause-told : goal.returns-in_err-version-clause-told
+returns-in_err-version-clause-told g c = λ bytes was e f.
+    let p = err_from_is_err_and c.from_residual.result c.from_residual.ensures.1 in
+    let ahead : Ahead c.new-window.result (g.S.Source.left c.args.source.now) bytes = (bytes, e, ap (λ (w : List ℕ). w ++ bytes) c.new-window.ensures) in
+    let said : SaidSoFar was c.args.page.now (g.W.Sink.written c.args.sink.now) [] = ([], f ∙ ap Some (sym (append-nil was)), c.requires) in
+    rw (p.1, p.2) (
+    turns_nothing c.args.at bytes was c.read_version.new.window c.args.page.now (g.S.Source.left c.read_version.new.source) (g.W.Sink.written c.args.sink.now) c.in_err-version.field-0.0
+    (c.in_err-version.ensures.told bytes ahead) said)
+
+pub returns-in_err-direction-clause-told : goal.returns-in_err-direction-clause-told
+returns-in_err-direction-clause-told g c = λ bytes was e f.
+    let p = err_from_is_err_and c.from_residual-in_err-direction.result c.from_residual-in_err-direction.ensures.1 in
+    let ahead : Ahead c.new-window.result (g.S.Source.left c.args.source.now) bytes = (bytes, e, ap (λ (w : List ℕ). w ++ bytes) c.new-window.ensures) in
+    let said : SaidSoFar was c.args.page.now (g.W.Sink.written c.args.sink.now) [] = ([], f ∙ ap Some (sym (append-nil was)), c.requires) in
+    let head = c.in_ok-version.ensures.told bytes ahead in
+    rw (p.1, p.2) (
+    turns_no_more c.args.at bytes was c.find_direction.new.window c.args.page.now (g.S.Source.left c.find_direction.new.source) (g.W.Sink.written c.args.sink.now) c.in_ok-version.version c.in_err-direction.field-0.0 head.0
+    (c.in_err-direction.ensures.told (drop 4 bytes) head.1) said)
+
+pub returns-clause-told : goal.returns-clause-told
+returns-clause-told g c = λ bytes was e f.
+    let ahead : Ahead c.new-window.result (g.S.Source.left c.args.source.now) bytes = (bytes, e, ap (λ (w : List ℕ). w ++ bytes) c.new-window.ensures) in
+    let version = c.in_ok-version.version in
+    let left = g.S.Source.left c.convert_messages.new.source in let written = g.W.Sink.written c.convert_messages.new.sink in let page = c.convert_messages.new.page in
+    let head = c.in_ok-version.ensures.told bytes ahead in
+    let found = c.in_ok-direction.ensures.told (drop 4 bytes) head.1 in
+    let turned = rw (c.turn_of.ensures.from, c.turn_of.ensures.wanted, c.turn_of.ensures.to, c.turn_of.ensures.given) at (c.convert_messages.ensures.told (drop 4 bytes) was found.1 f) in
+    file_turned c.args.at bytes was version head.0 c.convert_messages.result left page written
+    (subst (λ direction. SaysTurned (other_version version direction) (passage_in (other_version version direction) direction c.args.at) (next_at version (passage_in version direction c.args.at)) (drop 4 bytes) was c.convert_messages.result left page written)
+    found.0 turned)
+
+pub returns-in_err-version-clause-writes : goal.returns-in_err-version-clause-writes
+returns-in_err-version-clause-writes g c = le-add_right _ _
+
+pub returns-in_err-version-clause-sink_mark : goal.returns-in_err-version-clause-sink_mark
+returns-in_err-version-clause-sink_mark g c =
+    let p = err_from_is_err_and c.from_residual.result c.from_residual.ensures.1 in
+    rw (p.1, p.2) (sym (or-false _) ∙ ap (λ b. g.W.Sink.has_failed c.args.sink.now || b) (sym c.in_err-version.ensures.other))
+
+pub returns-in_err-direction-clause-source_mark : goal.returns-in_err-direction-clause-source_mark
+returns-in_err-direction-clause-source_mark g c =
+    let p = err_from_is_err_and c.from_residual-in_err-direction.result c.from_residual-in_err-direction.ensures.1 in
+    rw (p.1, p.2) (c.in_err-direction.ensures.mark ∙ ap (λ b. b || is_read c.in_err-direction.field-0.0) (c.in_ok-version.ensures.mark ∙ or-false _))
+
+pub returns-in_err-direction-clause-writes : goal.returns-in_err-direction-clause-writes
+returns-in_err-direction-clause-writes g c = le-add_right _ _
+
+pub returns-in_err-direction-clause-sink_mark : goal.returns-in_err-direction-clause-sink_mark
+returns-in_err-direction-clause-sink_mark g c =
+    let p = err_from_is_err_and c.from_residual-in_err-direction.result c.from_residual-in_err-direction.ensures.1 in
+    rw (p.1, p.2) (sym (or-false _) ∙ ap (λ b. g.W.Sink.has_failed c.args.sink.now || b) (sym c.in_err-direction.ensures.other))
+
+pub returns-clause-source_mark : goal.returns-clause-source_mark
+returns-clause-source_mark g c =
+    c.convert_messages.ensures.source_mark ∙ ap (λ b. b || is_read_failed c.convert_messages.result) (c.in_ok-direction.ensures.mark ∙ or-false _ ∙ c.in_ok-version.ensures.mark ∙ or-false _)

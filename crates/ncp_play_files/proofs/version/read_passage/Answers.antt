@@ -1,0 +1,91 @@
+use Rattle.std.proofs.Common.{◌≡◌, ◌++◌, ◌∙◌, ◌||◌, true, None, Some, Ok, drop, slice_index_or, refl, sym, ap, le_trans}
+use Rattle.std.proofs.Math.Bool.{or-false}
+use Rattle.std.proofs.lemmas.Result.{err_from_is_err_and}
+use Rattle.ncp_play_files.specs.Versions.{placed, direction_by, next_passage}
+use Rattle.ncp_play_files.specs.declared.file.FileFault.TheVariants.{Truncated}
+use Rattle.ncp_play_files.proofs.Files.{ahead_at_end, effort_dropped}
+use Rattle.ncp_play_files.proofs.Placing.{passage_none, first_stays, longer, passage_bad, passage_cut, passage_read}
+use Rattle.ncp_play_files.proofs.version.read_passage.Goals as goal
+
+pub returns-in_err-need-clause-told : goal.returns-in_err-need-clause-told
+returns-in_err-need-clause-told g c = λ bytes a.
+    let p = err_from_is_err_and c.from_residual.result c.from_residual.ensures.1 in
+    let ahead = c.in_err-need.ensures.moved bytes a in
+    rw (p.1, p.2) (c.need.new.self, ahead.0, None, sym ahead.2, ahead.1, tt, passage_none c.need.new.self c.in_err-need.ensures.err)
+
+pub returns-then-not-branch-clause-told : goal.returns-then-not-branch-clause-told
+returns-then-not-branch-clause-told g c = λ bytes a.
+    let short = c.in_ok-need.ensures.short c.if-not-branch.true in
+    ap next_passage (ahead_at_end c.need.new.self bytes (g.S.Source.left c.need.new.source) (c.in_ok-need.ensures.moved bytes a) short.1) ∙ passage_none c.need.new.self short.0
+
+pub returns-in_default-clause-told : goal.returns-in_default-clause-told
+returns-in_default-clause-told g c = λ bytes a.
+    let ahead = c.in_ok-need.ensures.moved bytes a in
+    let named : direction_by (slice_index_or c.need.new.self 0 0) ≡ None = ap (λ w. direction_by (slice_index_or w 0 0)) (sym c.unread.ensures.bytes) ∙ sym c.direction_by.ensures ∙ c.in_default.is in
+    ap next_passage (sym ahead.2) ∙ passage_bad c.need.new.self ahead.0 (c.in_ok-need.ensures.there c.if-not-branch.false) named
+
+pub returns-in_err-need-2-clause-told : goal.returns-in_err-need-2-clause-told
+returns-in_err-need-2-clause-told g c = λ bytes a.
+    let p = err_from_is_err_and c.from_residual-in_err-need-2.result c.from_residual-in_err-need-2.ensures.1 in
+    let ahead = c.in_err-need-2.ensures.moved bytes (c.in_ok-need.ensures.moved bytes a) in
+    let there = c.in_ok-need.ensures.there c.if-not-branch.false in
+    let grows = c.in_err-need-2.ensures.grows in
+    let named : direction_by (slice_index_or c.need.new.self 0 0) ≡ Some c.in-Some.direction = ap (λ w. direction_by (slice_index_or w 0 0)) (sym c.unread.ensures.bytes) ∙ sym c.direction_by.ensures ∙ c.in-Some.is in
+    let first = ap direction_by (first_stays c.need.new.self grows.0 c.need-2.new.self grows.1 there) ∙ named in
+    rw (p.1, p.2) (c.need-2.new.self, ahead.0, Some Truncated, sym ahead.2, ahead.1, refl, passage_cut c.need-2.new.self c.in-Some.direction (longer c.need.new.self grows.0 c.need-2.new.self grows.1 there) c.in_err-need-2.ensures.err first)
+
+pub returns-then-not-branch-2-clause-told : goal.returns-then-not-branch-2-clause-told
+returns-then-not-branch-2-clause-told g c = λ bytes a.
+    let short = c.in_ok-need-2.ensures.short c.if-not-branch-2.true in
+    let there = c.in_ok-need.ensures.there c.if-not-branch.false in
+    let grows = c.in_ok-need-2.ensures.grows in
+    let named : direction_by (slice_index_or c.need.new.self 0 0) ≡ Some c.in-Some.direction = ap (λ w. direction_by (slice_index_or w 0 0)) (sym c.unread.ensures.bytes) ∙ sym c.direction_by.ensures ∙ c.in-Some.is in
+    let first = ap direction_by (first_stays c.need.new.self grows.0 c.need-2.new.self grows.1 there) ∙ named in
+    ap next_passage (ahead_at_end c.need-2.new.self bytes (g.S.Source.left c.need-2.new.source) (c.in_ok-need-2.ensures.moved bytes (c.in_ok-need.ensures.moved bytes a)) short.1)
+    ∙ passage_cut c.need-2.new.self c.in-Some.direction (longer c.need.new.self grows.0 c.need-2.new.self grows.1 there) short.0 first
+
+pub returns-clause-told : goal.returns-clause-told
+returns-clause-told g c = λ bytes a.
+    let ahead = c.in_ok-need-2.ensures.moved bytes (c.in_ok-need.ensures.moved bytes a) in
+    let there = c.in_ok-need.ensures.there c.if-not-branch.false in
+    let grows = c.in_ok-need-2.ensures.grows in
+    let named : direction_by (slice_index_or c.need.new.self 0 0) ≡ Some c.in-Some.direction = ap (λ w. direction_by (slice_index_or w 0 0)) (sym c.unread.ensures.bytes) ∙ sym c.direction_by.ensures ∙ c.in-Some.is in
+    let first = ap direction_by (first_stays c.need.new.self grows.0 c.need-2.new.self grows.1 there) ∙ named in (
+      drop 2 c.need-2.new.self ++ ahead.0,
+      ap next_passage (sym ahead.2) ∙ passage_read c.need-2.new.self ahead.0 c.in-Some.direction (c.in_ok-need-2.ensures.there c.if-not-branch-2.false) first
+          ∙ ap (λ w. Ok (Some (placed c.in-Some.direction (slice_index_or w 1 0), drop 2 c.need-2.new.self ++ ahead.0))) (sym c.unread-2.ensures.bytes),
+      (ahead.0, ahead.1, ap (λ w. w ++ ahead.0) c.skip.ensures),
+    )
+
+pub returns-in_err-need-2-clause-mark : goal.returns-in_err-need-2-clause-mark
+returns-in_err-need-2-clause-mark g c =
+    let p = err_from_is_err_and c.from_residual-in_err-need-2.result c.from_residual-in_err-need-2.ensures.1 in
+    rw (p.1, p.2) (c.in_err-need-2.ensures.mark ∙ ap (λ b. b || true) (c.in_ok-need.ensures.mark ∙ or-false _))
+
+pub returns-in_err-need-2-clause-reads : goal.returns-in_err-need-2-clause-reads
+returns-in_err-need-2-clause-reads g c = le_trans (c.in_ok-need.ensures.taken c.if-not-branch.false) c.in_err-need-2.ensures.reads
+
+pub returns-in_err-need-2-clause-effort : goal.returns-in_err-need-2-clause-effort
+returns-in_err-need-2-clause-effort g c = le_trans c.in_err-need-2.ensures.effort c.in_ok-need.ensures.effort
+
+pub returns-then-not-branch-2-clause-mark : goal.returns-then-not-branch-2-clause-mark
+returns-then-not-branch-2-clause-mark g c = c.in_ok-need-2.ensures.mark ∙ or-false _ ∙ c.in_ok-need.ensures.mark
+
+pub returns-then-not-branch-2-clause-reads : goal.returns-then-not-branch-2-clause-reads
+returns-then-not-branch-2-clause-reads g c = le_trans (c.in_ok-need.ensures.taken c.if-not-branch.false) c.in_ok-need-2.ensures.reads
+
+pub returns-then-not-branch-2-clause-effort : goal.returns-then-not-branch-2-clause-effort
+returns-then-not-branch-2-clause-effort g c = le_trans c.in_ok-need-2.ensures.effort c.in_ok-need.ensures.effort
+
+pub returns-clause-mark : goal.returns-clause-mark
+returns-clause-mark g c = c.in_ok-need-2.ensures.mark ∙ or-false _ ∙ c.in_ok-need.ensures.mark
+
+pub returns-clause-reads : goal.returns-clause-reads
+returns-clause-reads g c = le_trans (c.in_ok-need.ensures.taken c.if-not-branch.false) c.in_ok-need-2.ensures.reads
+
+pub returns-clause-taken : goal.returns-clause-taken
+returns-clause-taken g c = λ found. le_trans (c.in_ok-need.ensures.taken c.if-not-branch.false) (c.in_ok-need-2.ensures.taken c.if-not-branch-2.false)
+
+pub returns-clause-effort : goal.returns-clause-effort
+returns-clause-effort g c =
+    le_trans (effort_dropped (g.S.Source.reads c.need-2.new.source) 2 c.need-2.new.self c.skip.new.self c.skip.ensures) (le_trans c.in_ok-need-2.ensures.effort c.in_ok-need.ensures.effort)

@@ -1,0 +1,107 @@
+-- What `convert` writes: a file of version 1 as one of version 2, each message at the interface of the host that is
+-- given, and a file of version 2 as one of version 1, if all messages have one direction and stand at that host.
+use Rattle.std.specs.Prelude.{◌≡◌, ◌<◌, ℕ, ◌==◌, ◌&&◌, Bool, true, false, List, [], ◌∷◌, ◌++◌, length, drop, Option, Some, None, Result, Ok, Err, MatchOption, if◌then◌else◌}
+use Rattle.std.specs.List.{flat_map}
+use Rattle.ncp_play_files.specs.declared.file.Direction.{Direction}
+use Rattle.ncp_play_files.specs.declared.file.Direction.TheVariants.{ToImp, FromImp}
+use Rattle.ncp_play_files.specs.declared.file.FileFault.{FileFault}
+use Rattle.ncp_play_files.specs.declared.file.FileFault.TheVariants.{BadHeader, ReadFailed, Mixed}
+use Rattle.ncp_play_files.specs.declared.version.Version.{Version}
+use Rattle.ncp_play_files.specs.declared.version.Version.TheVariants.{One, Two}
+use Rattle.ncp_play_files.specs.declared.version.Passage.{Passage}
+use Rattle.ncp_play_files.specs.File.{Next, version_of, HoldsBy, IsCut}
+use Rattle.ncp_play_files.specs.Versions.{NextRecorded, plain, placed, direction_by, next_in, header_of, bytes_at}
+use Rattle.ncp_play_files.specs.Writing.{Writes}
+
+-- ---- the two versions
+
+-- the direction that a byte names; toward the IMP where it names none
+abbrev pub or_to_imp : Option Direction → Direction
+or_to_imp None = ToImp
+or_to_imp (Some direction) = direction
+
+-- the direction of a file: in version 2 that of its first record, and toward the IMP where there is none
+abbrev pub direction_behind : Version → List ℕ → Direction
+direction_behind (One direction) bytes = direction
+direction_behind Two [] = ToImp
+direction_behind Two (byte ∷ bytes) = or_to_imp (direction_by byte)
+
+-- the other version, for a file of this direction
+abbrev pub other_version : Version → Direction → Version
+other_version (One from) direction = Two
+other_version Two direction = One direction
+
+-- the passage that a message has in a file of this version, if the file has this direction and its host is given
+abbrev pub passage_in : Version → Direction → ℕ → Passage
+passage_in (One from) direction host = plain direction
+passage_in Two direction host = placed direction host
+
+-- ---- the messages that are converted
+
+abbrev pub same_direction : Direction → Direction → Bool
+same_direction ToImp ToImp = true
+same_direction ToImp FromImp = false
+same_direction FromImp ToImp = false
+same_direction FromImp FromImp = true
+
+abbrev pub same_host : Option ℕ → Option ℕ → Bool
+same_host None None = true
+same_host None (Some host) = false
+same_host (Some host) None = false
+same_host (Some host) (Some other) = host == other
+
+abbrev pub same_passage : Passage → Passage → Bool
+same_passage one other = same_direction one.direction other.direction && same_host one.at other.at
+
+-- the message of a record, if it has this passage
+abbrev pub message_at : Passage → Result NextRecorded FileFault → Result Next FileFault
+message_at passage (Ok None) = Ok None
+message_at passage (Ok (Some (found, rest))) = if same_passage found.passage passage then Ok (Some (found.message, rest)) else Err Mixed
+message_at passage (Err fault) = Err fault
+
+-- the message at the front of bytes, or the fault that stands there: a record that has no other fault, but another
+-- passage, is one too many
+abbrev pub next_at : Version → Passage → List ℕ → Result Next FileFault
+next_at version passage bytes = message_at passage (next_in version bytes)
+
+-- the messages behind a header that are converted, and the fault behind them, if there is one
+abbrev pub HoldsAt : Version → ℕ → List ℕ → List (List Bool) → Option FileFault → Type 0
+HoldsAt version host bytes messages fault =
+    HoldsBy (next_at version (passage_in version (direction_behind version bytes) host)) bytes messages fault
+
+-- ---- the file that is written
+
+-- the records of messages that all have this passage
+abbrev pub all_at : Passage → List (List Bool) → List ℕ
+all_at passage messages = flat_map (bytes_at passage) messages
+
+-- a file of these messages, which has its header with the first of them, or at the end; nothing stands in front of a fault
+-- at the first record
+abbrev pub file_to : Version → Passage → List (List Bool) → Option FileFault → List ℕ
+file_to version passage [] None = header_of version
+file_to version passage [] (Some fault) = []
+file_to version passage (message ∷ messages) fault = header_of version ++ all_at passage (message ∷ messages)
+
+-- the messages of a file of one version as one of the other
+abbrev pub converted : Version → Direction → ℕ → List (List Bool) → Option FileFault → List ℕ
+converted version direction host messages fault =
+    let other = other_version version direction in file_to other (passage_in other direction host) messages fault
+
+-- what becomes of a file, and its first fault, if there is one
+abbrev pub ConvertedAs : ℕ → List ℕ → List ℕ → Option FileFault → Type 0
+ConvertedAs host bytes text fault =
+    MatchOption (version_of bytes) ((text ≡ []) × (fault ≡ Some BadHeader)) (λ version.
+    (messages : List (List Bool)) × HoldsAt version host (drop 4 bytes) messages fault
+    × (text ≡ converted version (direction_behind version (drop 4 bytes)) host messages fault))
+
+-- what becomes of bytes that came before a failed read: of the records that are whole in them; nothing where they end
+-- inside the header
+abbrev pub ConvertedCut : ℕ → List ℕ → List ℕ → Type 0
+ConvertedCut host given text =
+    MatchOption (version_of given) ((length given < 4) × (text ≡ [])) (λ version.
+    (messages : List (List Bool)) × (fault : Option FileFault) × IsCut given fault × HoldsAt version host (drop 4 given) messages fault
+    × (text ≡ converted version (direction_behind version (drop 4 given)) host messages (Some ReadFailed)))
+
+-- what was written of a file, and what is answered
+abbrev pub Converted : ℕ → List ℕ → List ℕ → Option (List ℕ) → Option (List ℕ) → Result Unit FileFault → Type 0
+Converted host bytes was left written result = Writes (ConvertedAs host) (ConvertedCut host) bytes was left written result

@@ -1,0 +1,179 @@
+-- What the parts of `show` and `convert` do to the bytes that are to come and to the text that was said.
+use Rattle.std.specs.Prelude.{◌≡◌, ◌+◌, ◌<◌, ◌≤◌, ℕ, Bool, true, false, List, length, drop, ◌++◌, Option, Some, None, Result, Ok, Err}
+use Rattle.byteorder.specs.Endian.{big_number}
+use Rattle.ncp_numbers.specs.Bytes.{bytes_for}
+use Rattle.ncp_bits.specs.declared.bits.TheConstants.{MAX_BITS}
+use Rattle.ncp_play_files.specs.declared.file.Direction.{Direction}
+use Rattle.ncp_play_files.specs.declared.file.FileFault.{FileFault}
+use Rattle.ncp_play_files.specs.declared.file.FileFault.TheVariants.{BadHeader, Truncated}
+use Rattle.ncp_play_files.specs.Results.{MatchFault}
+use Rattle.ncp_play_files.specs.declared.version.Version.{Version}
+use Rattle.ncp_play_files.specs.declared.version.Passage.{Passage}
+use Rattle.ncp_play_files.specs.declared.version.Found.{Found}
+use Rattle.ncp_play_files.specs.File.{direction_of, version_of, next_record, ending, HoldsBy}
+use Rattle.ncp_play_files.specs.Versions.{NextRecorded, recorded, next_in}
+use Rattle.ncp_play_files.specs.Lines.{told_from}
+use Rattle.ncp_play_files.specs.Writing.{Told, ToldCut}
+use Rattle.ncp_play_stream.specs.Streams.{Ahead, SaidSoFar}
+
+-- a read failed inside the header: no byte is lost
+abbrev pub CutInHeader : List ℕ → List ℕ → Option (List ℕ) → Type 0
+CutInHeader bytes window left = (length window < 4) × Ahead window left bytes
+
+-- a header was read, or none stands there
+abbrev pub ReadsVersion : List ℕ → Result Version FileFault → List ℕ → Option (List ℕ) → Type 0
+ReadsVersion bytes (Ok version) window left = (version_of bytes ≡ Some version) × Ahead window left (drop 4 bytes)
+ReadsVersion bytes (Err fault) window left =
+    MatchFault (λ f. (f ≡ BadHeader) × (version_of bytes ≡ None)) (CutInHeader bytes window left) ⊥ fault
+
+-- a header of version 1 was read, or none stands there
+abbrev pub ReadsHeader : List ℕ → Result Direction FileFault → List ℕ → Option (List ℕ) → Type 0
+ReadsHeader bytes (Ok direction) window left = (direction_of bytes ≡ Some direction) × Ahead window left (drop 4 bytes)
+ReadsHeader bytes (Err fault) window left =
+    MatchFault (λ f. (f ≡ BadHeader) × (direction_of bytes ≡ None)) (CutInHeader bytes window left) ⊥ fault
+
+-- bytes end between records, or inside a record
+abbrev pub IsInside : Option FileFault → Type 0
+IsInside None = Unit {0}
+IsInside (Some fault) = fault ≡ Truncated
+
+-- a read failed: no byte is lost, and those in the window are no whole record
+abbrev pub CutOff : List ℕ → List ℕ → Option (List ℕ) → Type 0
+CutOff bytes window left =
+    (fault : Option FileFault) × IsInside fault × (next_record window ≡ ending fault) × Ahead window left bytes
+
+-- a record stands at the front of a window with all its bytes, and its message has so many bits
+pub record StandsWhole (window : List ℕ) (len : ℕ) : Type 0 where
+  pub number : len ≡ big_number 2 window
+  pub fits : len ≤ MAX_BITS
+  pub inside : 2 + bytes_for len ≤ length window
+
+-- no byte was lost in looking for a record, or none was there, or the fault stands there
+abbrev pub FindsRecord : List ℕ → Result (Option ℕ) FileFault → List ℕ → Option (List ℕ) → Type 0
+FindsRecord bytes (Ok (Some len)) window left = Ahead window left bytes
+FindsRecord bytes (Ok None) window left = next_record bytes ≡ Ok None
+FindsRecord bytes (Err fault) window left = MatchFault (λ f. next_record bytes ≡ Err f) (CutOff bytes window left) ⊥ fault
+
+-- the fault of a record stands there, and no read or write has failed
+abbrev pub HasFaultInFront : List ℕ → FileFault → Type 0
+HasFaultInFront bytes fault = MatchFault (λ f. next_record bytes ≡ Err f) ⊥ ⊥ fault
+
+-- this message was taken, or the fault stands there
+abbrev pub TakesRecord : List ℕ → Result Unit FileFault → List Bool → List ℕ → Option (List ℕ) → Type 0
+TakesRecord bytes (Ok done) message window left =
+    (rest : List ℕ) × (next_record bytes ≡ Ok (Some (message, rest))) × Ahead window left rest
+TakesRecord bytes (Err fault) message window left = HasFaultInFront bytes fault
+
+-- this message was read, or no record was there, or the fault stands there
+abbrev pub ReadsRecord : List ℕ → Result Bool FileFault → List Bool → List ℕ → Option (List ℕ) → Type 0
+ReadsRecord bytes (Ok true) message window left =
+    (rest : List ℕ) × (next_record bytes ≡ Ok (Some (message, rest))) × Ahead window left rest
+ReadsRecord bytes (Ok false) message window left = next_record bytes ≡ Ok None
+ReadsRecord bytes (Err fault) message window left = MatchFault (λ f. next_record bytes ≡ Err f) (CutOff bytes window left) ⊥ fault
+
+-- ---- records of both versions
+
+-- how the record at the front of bytes is read, and what is told of a record with its number
+abbrev pub Reader : Type 0 → Type 0
+Reader X = List ℕ → Result (Option (X × List ℕ)) FileFault
+
+abbrev pub Telling : Type 0 → Type 0
+Telling X = ℕ → X → List ℕ
+
+-- a read failed: no byte is lost, and those that came are no whole record
+abbrev pub StopsShort : {X : Type 0} → Reader X → List ℕ → Option (List ℕ) → Type 0
+StopsShort next bytes left =
+    (given : List ℕ) × (rest : List ℕ) × (fault : Option FileFault) × (bytes ≡ given ++ rest) × (left ≡ Some rest) × IsInside fault
+    × (next given ≡ ending fault)
+
+-- none was read: the fault stands there, or a read failed
+abbrev pub Stops : {X : Type 0} → Reader X → List ℕ → Option (List ℕ) → FileFault → Type 0
+Stops next bytes left fault = MatchFault (λ f. next bytes ≡ Err f) (StopsShort next bytes left) ⊥ fault
+
+-- this was read, or none was there, or the fault stands there
+abbrev pub ReadsOne : {X : Type 0} → Reader X → List ℕ → Result (Option X) FileFault → List ℕ → Option (List ℕ) → Type 0
+ReadsOne next bytes (Ok (Some first)) window left = (rest : List ℕ) × (next bytes ≡ Ok (Some (first, rest))) × Ahead window left rest
+ReadsOne next bytes (Ok None) window left = next bytes ≡ Ok None
+ReadsOne next bytes (Err fault) window left = Stops next bytes left fault
+
+-- a record of this passage was found, whose message has still to be taken, or no record was there, or the fault stands there
+abbrev pub FindsNext : Version → List ℕ → Result (Option Found) FileFault → List ℕ → Option (List ℕ) → Type 0
+FindsNext version bytes (Ok (Some found)) window left =
+    (behind : List ℕ) × (none : Result NextRecorded FileFault) × (next_in version bytes ≡ recorded found.passage none (next_record behind)) × Ahead window left behind
+FindsNext version bytes (Ok None) window left = next_in version bytes ≡ Ok None
+FindsNext version bytes (Err fault) window left = Stops (next_in version) bytes left fault
+
+-- this message was read and has this passage, or no record was there, or the fault stands there
+abbrev pub ReadsNext : Version → List ℕ → Result (Option Passage) FileFault → List Bool → List ℕ → Option (List ℕ) → Type 0
+ReadsNext version bytes (Ok (Some passage)) message window left =
+    (rest : List ℕ) × (next_in version bytes ≡ Ok (Some (record { passage = passage; message = message }, rest))) × Ahead window left rest
+ReadsNext version bytes (Ok None) message window left = next_in version bytes ≡ Ok None
+ReadsNext version bytes (Err fault) message window left = Stops (next_in version) bytes left fault
+
+-- nothing was said, since no record begins
+abbrev pub EndsWith : {X : Type 0} → Reader X → List ℕ → Option FileFault → List ℕ → List ℕ → List ℕ → Option (List ℕ) → Type 0
+EndsWith next bytes fault was said page written = (next bytes ≡ ending fault) × SaidSoFar was page written said
+
+-- what is told of the next record was said
+abbrev pub SaysRecord : {X : Type 0} → Reader X → Telling X → ℕ → List ℕ → List ℕ → List ℕ → List ℕ → Option (List ℕ) → List ℕ → Option (List ℕ) → Type 0
+SaysRecord {X} next lines number bytes was said window left page written =
+    (first : X) × (rest : List ℕ) × (next bytes ≡ Ok (Some (first, rest))) × Ahead window left rest
+    × SaidSoFar was page written (said ++ lines number first)
+
+-- a beginning of it was said
+abbrev pub BreaksRecord : {X : Type 0} → Reader X → Telling X → ℕ → List ℕ → List ℕ → List ℕ → Option (List ℕ) → Type 0
+BreaksRecord {X} next lines number bytes was said written =
+    (first : X) × (rest : List ℕ) × (lost : List ℕ) × (next bytes ≡ Ok (Some (first, rest)))
+    × SaidSoFar was lost written (said ++ lines number first)
+
+-- what is told of the next record was said, or there is none, or a fault stands there
+abbrev pub SaysNext : {X : Type 0} → Reader X → Telling X → ℕ → List ℕ → List ℕ → List ℕ → Result Bool FileFault → List ℕ → Option (List ℕ) → List ℕ → Option (List ℕ) → Type 0
+SaysNext next lines number bytes was said (Ok true) window left page written = SaysRecord next lines number bytes was said window left page written
+SaysNext next lines number bytes was said (Ok false) window left page written = EndsWith next bytes None was said page written
+SaysNext next lines number bytes was said (Err fault) window left page written =
+    MatchFault (λ f. EndsWith next bytes (Some f) was said page written) (StopsShort next bytes left × SaidSoFar was page written said)
+    (BreaksRecord next lines number bytes was said written) fault
+
+-- it was said of all records, and then the bytes end, or the fault stands there
+abbrev pub SaysLines : {X : Type 0} → Reader X → Telling X → ℕ → List ℕ → List ℕ → List ℕ → Option FileFault → List ℕ → Option (List ℕ) → Type 0
+SaysLines {X} next lines number bytes was said fault page written =
+    (records : List X) × HoldsBy next bytes records fault × SaidSoFar was page written (said ++ told_from lines number records)
+
+-- it was said of those records that came whole before a read failed
+abbrev pub SaysCut : {X : Type 0} → Reader X → Telling X → ℕ → List ℕ → List ℕ → List ℕ → Option (List ℕ) → List ℕ → Option (List ℕ) → Type 0
+SaysCut next lines number bytes was said left page written =
+    (given : List ℕ) × (rest : List ℕ) × (fault : Option FileFault) × (bytes ≡ given ++ rest) × (left ≡ Some rest) × IsInside fault
+    × SaysLines next lines number given was said fault page written
+
+-- a beginning was said
+abbrev pub BreaksLines : {X : Type 0} → Reader X → Telling X → ℕ → List ℕ → List ℕ → List ℕ → Option (List ℕ) → Type 0
+BreaksLines next lines number bytes was said written =
+    (fault : Option FileFault) × (lost : List ℕ) × SaysLines next lines number bytes was said fault lost written
+
+-- what was said of records from this number on, and what is answered
+abbrev pub SaysFrom : {X : Type 0} → Reader X → Telling X → ℕ → List ℕ → List ℕ → List ℕ → Result Unit FileFault → Option (List ℕ) → List ℕ → Option (List ℕ) → Type 0
+SaysFrom next lines number bytes was said (Ok done) left page written = SaysLines next lines number bytes was said None page written
+SaysFrom next lines number bytes was said (Err fault) left page written =
+    MatchFault (λ f. SaysLines next lines number bytes was said (Some f) page written) (SaysCut next lines number bytes was said left page written)
+    (BreaksLines next lines number bytes was said written) fault
+
+-- ---- files
+
+-- all that is told of a file was said
+abbrev pub SaysFile : Told → List ℕ → List ℕ → Option FileFault → List ℕ → Option (List ℕ) → Type 0
+SaysFile told bytes was fault page written = (text : List ℕ) × told bytes text fault × SaidSoFar was page written text
+
+-- what is told of the bytes that came before a failed read was said
+abbrev pub SaysCutFile : ToldCut → List ℕ → List ℕ → Option (List ℕ) → List ℕ → Option (List ℕ) → Type 0
+SaysCutFile cut bytes was left page written =
+    (given : List ℕ) × (rest : List ℕ) × (text : List ℕ) × (bytes ≡ given ++ rest) × (left ≡ Some rest) × cut given text × SaidSoFar was page written text
+
+-- a beginning of what is told of a file was said
+abbrev pub BreaksFile : Told → List ℕ → List ℕ → Option (List ℕ) → Type 0
+BreaksFile told bytes was written = (fault : Option FileFault) × (lost : List ℕ) × SaysFile told bytes was fault lost written
+
+-- what was said of a file, and what is answered
+abbrev pub Says : Told → ToldCut → List ℕ → List ℕ → Result Unit FileFault → Option (List ℕ) → List ℕ → Option (List ℕ) → Type 0
+Says told cut bytes was (Ok done) left page written = SaysFile told bytes was None page written
+Says told cut bytes was (Err fault) left page written =
+    MatchFault (λ f. SaysFile told bytes was (Some f) page written) (SaysCutFile cut bytes was left page written) (BreaksFile told bytes was written) fault

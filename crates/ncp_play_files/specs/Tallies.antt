@@ -1,0 +1,83 @@
+-- What the parts of `check` do.
+use Rattle.std.specs.Prelude.{◌≡◌, ℕ, Bool, List, [], ◌∷◌, ◌++◌, Option, Some, None, Result, Ok, Err, if◌then◌else◌}
+use Rattle.ncp_play_files.specs.declared.file.FileFault.{FileFault}
+use Rattle.ncp_play_files.specs.declared.tally.Verdict.{Verdict}
+use Rattle.ncp_play_files.specs.declared.tally.Tally.{Tally}
+use Rattle.ncp_play_files.specs.Results.{MatchFault}
+use Rattle.ncp_play_files.specs.declared.version.Version.{Version}
+use Rattle.ncp_play_files.specs.File.{next_record, HoldsBy, IsCut}
+use Rattle.ncp_play_files.specs.Versions.{Recorded, next_in}
+use Rattle.ncp_play_files.specs.Steps.{IsInside, HasFaultInFront, Stops}
+use Rattle.ncp_play_page.specs.Lines.{number_after}
+use Rattle.ncp_play_stream.specs.Streams.{Ahead}
+use Rattle.ncp_play_files.specs.Checked.{verdict_of, verdict_of_record, is_short, is_of_type_0, is_faulty, is_bad, tally_of, FileHolds}
+
+-- ---- one message
+
+-- a message was judged and its record used up, or the fault stands there
+abbrev pub JudgesRecord : List ℕ → Result Verdict FileFault → List ℕ → Option (List ℕ) → Type 0
+JudgesRecord bytes (Ok verdict) window left =
+    (message : List Bool) × (rest : List ℕ) × (next_record bytes ≡ Ok (Some (message, rest))) × (verdict ≡ verdict_of message) × Ahead window left rest
+JudgesRecord bytes (Err fault) window left = HasFaultInFront bytes fault
+
+-- and one of either version, or no record was there, or the fault stands there
+abbrev pub JudgesNext : Version → List ℕ → Result (Option Verdict) FileFault → List ℕ → Option (List ℕ) → Type 0
+JudgesNext version bytes (Ok (Some verdict)) window left =
+    (found : Recorded) × (rest : List ℕ) × (next_in version bytes ≡ Ok (Some (found, rest))) × (verdict ≡ verdict_of_record found) × Ahead window left rest
+JudgesNext version bytes (Ok None) window left = next_in version bytes ≡ Ok None
+JudgesNext version bytes (Err fault) window left = Stops (next_in version) bytes left fault
+
+-- ---- the counts
+
+-- one more, where a test passes
+abbrev pub one_more : Bool → ℕ → ℕ
+one_more passes number = if passes then number_after number else number
+
+-- the counts with one message more
+abbrev pub tally_with : Tally → Verdict → Tally
+tally_with tally verdict = record {
+  messages = number_after tally.messages;
+  short = one_more (is_short verdict) tally.short;
+  regular = one_more (is_of_type_0 verdict) tally.regular;
+  faults = one_more (is_faulty verdict) tally.faults;
+  bad = one_more (is_bad verdict) tally.bad;
+}
+
+-- and with these records more
+abbrev pub tally_from : Tally → List Recorded → Tally
+tally_from tally [] = tally
+tally_from tally (found ∷ records) = tally_from (tally_with tally (verdict_of_record found)) records
+
+-- bytes behind a header hold records and then have this fault
+abbrev pub EndsInFault : Version → List ℕ → FileFault → Type 0
+EndsInFault version bytes fault = (records : List Recorded) × HoldsBy (next_in version) bytes records (Some fault)
+
+-- a read failed: no byte is lost, and those that came before have no fault but that they end
+abbrev pub StopsInRecords : Version → List ℕ → Option (List ℕ) → Type 0
+StopsInRecords version bytes left =
+    (given : List ℕ) × (rest : List ℕ) × (records : List Recorded) × (fault : Option FileFault)
+    × (bytes ≡ given ++ rest) × (left ≡ Some rest) × IsInside fault × HoldsBy (next_in version) given records fault
+
+-- the records from here on were counted, or there is a fault
+abbrev pub TalliesFrom : Version → List ℕ → Tally → Result Tally FileFault → Option (List ℕ) → Type 0
+TalliesFrom version bytes tally (Ok counted) left = (records : List Recorded) × HoldsBy (next_in version) bytes records None × (counted ≡ tally_from tally records)
+TalliesFrom version bytes tally (Err fault) left = MatchFault (EndsInFault version bytes) (StopsInRecords version bytes left) ⊥ fault
+
+-- nothing was counted
+abbrev pub no_messages : Tally
+no_messages = record { messages = 0; short = 0; regular = 0; faults = 0; bad = 0 }
+
+-- a file has this fault
+abbrev pub HasFault : List ℕ → FileFault → Type 0
+HasFault bytes fault = (records : List Recorded) × FileHolds bytes records (Some fault)
+
+-- a read failed in a file: no byte is lost, and those that came before have no fault but that they end
+abbrev pub StopsInFile : List ℕ → Option (List ℕ) → Type 0
+StopsInFile bytes left =
+    (given : List ℕ) × (rest : List ℕ) × (records : List Recorded) × (fault : Option FileFault)
+    × (bytes ≡ given ++ rest) × (left ≡ Some rest) × IsCut given fault × FileHolds given records fault
+
+-- the records of a file were counted, or the file has a fault
+abbrev pub TalliesFile : List ℕ → Result Tally FileFault → Option (List ℕ) → Type 0
+TalliesFile bytes (Ok counted) left = (records : List Recorded) × FileHolds bytes records None × (counted ≡ tally_of records)
+TalliesFile bytes (Err fault) left = MatchFault (HasFault bytes) (StopsInFile bytes left) ⊥ fault

@@ -1,0 +1,282 @@
+//! `convert`: a message file of one version as one of the other.
+ghost use Rattle.std.specs.Prelude.{◌≡◌, ℕ, ◌+◌, ◌-◌, ◌/◌, ◌<◌, ◌≤◌, ◌||◌, [], List, Bool, Some, true, false, length, IfOk, OnOk};
+ghost use Rattle.ncp_play_stream.specs.Pieces.{reads_for, reads_beyond, bytes_and_writes, lost_pieces};
+ghost use Rattle.ncp_play_stream.specs.Streams.{Ahead, SaidSoFar};
+ghost use Rattle.ncp_play_files.specs.Results.{is_read_failed, is_write_failed};
+ghost use Rattle.ncp_play_page.specs.Windows.{effort};
+ghost use Rattle.ncp_play_files.specs.Steps.{SaysNext, SaysFrom, Says};
+ghost use Rattle.ncp_play_files.specs.Converted.{other_version, passage_in, next_at, ConvertedAs, ConvertedCut, Converted};
+ghost use Rattle.ncp_play_files.specs.Turning.{ReadsMessage, FindsDirection, message_told, SaysTurned};
+
+use crate::file::{Direction, FileFault};
+use crate::version::{Passage, Version, direction_by, read_next, read_version};
+use crate::writing::{push_header, say_message};
+use ncp_bits::Bits;
+use ncp_play_page::{Page, Window};
+use ncp_play_stream::{LEAST_PIECE, Sink, Source};
+
+// The other version, for a file of this direction.
+fn other_version(version: Version, direction: Direction) -> Version
+    ensures { result ≡ other_version version direction }
+{
+    match version {
+        Version::One(_) => Version::Two,
+        Version::Two => Version::One(direction),
+    }
+}
+
+// The passage of each message in a file of this version.
+fn passage_in(version: Version, direction: Direction, host: u8) -> Passage
+    ensures { result ≡ passage_in version direction host }
+{
+    match version {
+        Version::One(_) => Passage {
+            direction,
+            at: None,
+        },
+        Version::Two => Passage {
+            direction,
+            at: Some(host),
+        },
+    }
+}
+
+// How a file is turned into one of the other version.
+#[derive(Clone, Copy, Drop)]
+struct Turn {
+    // The version that is read, and the passage that each message has to have in it.
+    from: Version,
+    wanted: Passage,
+    // The version that is written, and the passage of each message in it.
+    to: Version,
+    given: Passage,
+}
+
+// How a file of this version and direction is turned.
+fn turn_of(version: Version, direction: Direction, host: u8) -> Turn
+    ensures from { result.from ≡ version }
+    ensures wanted { result.wanted ≡ passage_in version direction host }
+    ensures to { result.to ≡ other_version version direction }
+    ensures given { result.given ≡ passage_in (other_version version direction) direction host }
+{
+    let to = other_version(version, direction);
+    Turn {
+        from: version,
+        wanted: passage_in(version, direction, host),
+        to,
+        given: passage_in(to, direction, host),
+    }
+}
+
+// The direction that the first byte ahead names, if there is one; else toward the IMP.
+fn peek_direction<S: Source>(window: &mut Window, source: &mut S) -> Result<Direction, FileFault>
+    ensures told { (bytes : List ℕ) → Ahead window.old (S.left source.old) bytes → FindsDirection Version.Two bytes result window.new (S.left source.new) }
+    ensures mark { S.has_failed source.new ≡ (S.has_failed source.old || is_read_failed result) }
+    ensures other { is_write_failed result ≡ false }
+    ensures reads { reads_beyond S.gives_all (S.reads source.old) (S.left source.old) ≤ reads_beyond S.gives_all (S.reads source.new) (S.left source.new) + 1 }
+{
+    if !window.need(source, 1)? {
+        return Ok(Direction::ToImp);
+    }
+    match direction_by(window.unread()[0]) {
+        Some(direction) => Ok(direction),
+        None => Ok(Direction::ToImp),
+    }
+}
+
+// The direction of the messages ahead: in a file of version 2 that of the first record.
+fn find_direction<S: Source>(
+    window: &mut Window,
+    source: &mut S,
+    version: Version,
+) -> Result<Direction, FileFault>
+    ensures told { (bytes : List ℕ) → Ahead window.old (S.left source.old) bytes → FindsDirection version bytes result window.new (S.left source.new) }
+    ensures mark { S.has_failed source.new ≡ (S.has_failed source.old || is_read_failed result) }
+    ensures other { is_write_failed result ≡ false }
+    ensures reads { reads_beyond S.gives_all (S.reads source.old) (S.left source.old) ≤ reads_beyond S.gives_all (S.reads source.new) (S.left source.new) + 1 }
+{
+    match version {
+        Version::One(direction) => Ok(direction),
+        Version::Two => peek_direction(window, source),
+    }
+}
+
+// Reads the next message into `message`, and answers whether there was one. A record with another
+// passage is one too many.
+fn take_next<S: Source>(
+    window: &mut Window,
+    source: &mut S,
+    turn: Turn,
+    message: &mut Bits,
+) -> Result<bool, FileFault>
+    ensures told { (bytes : List ℕ) → Ahead window.old (S.left source.old) bytes → ReadsMessage (next_at turn.from turn.wanted) bytes result message.new window.new (S.left source.new) }
+    ensures mark { S.has_failed source.new ≡ (S.has_failed source.old || is_read_failed result) }
+    ensures other { is_write_failed result ≡ false }
+    ensures reads { reads_beyond S.gives_all (S.reads source.old) (S.left source.old) ≤ reads_beyond S.gives_all (S.reads source.new) (S.left source.new) + 1 }
+    ensures taken { IfOk result (λ more. more ≡ true → reads_beyond S.gives_all (S.reads source.old) (S.left source.old) ≤ reads_beyond S.gives_all (S.reads source.new) (S.left source.new)) }
+    ensures effort { IfOk result (λ more. more ≡ true → effort (S.reads source.new) window.new < effort (S.reads source.old) window.old) }
+{
+    let Some(passage) = read_next(window, source, turn.from, message)? else {
+        return Ok(false);
+    };
+    if passage != turn.wanted {
+        return Err(FileFault::Mixed);
+    }
+    Ok(true)
+}
+
+// Converts the next message, and answers whether there was one.
+fn convert_next<S: Source, W: Sink>(
+    window: &mut Window,
+    source: &mut S,
+    message: &mut Bits,
+    page: &mut Page,
+    sink: &mut W,
+    turn: Turn,
+) -> Result<bool, FileFault>
+    ensures told { (number : ℕ) (bytes : List ℕ) (was : List ℕ) (said : List ℕ)
+        → Ahead window.old (S.left source.old) bytes → SaidSoFar was page.old (W.written sink.old) said
+        → SaysNext (next_at turn.from turn.wanted) (message_told turn.given) number bytes was said result window.new (S.left source.new) page.new (W.written sink.new) }
+    ensures source_mark { S.has_failed source.new ≡ (S.has_failed source.old || is_read_failed result) }
+    ensures writes { bytes_and_writes W.takes_all (W.writes sink.old) (W.written sink.old) ≤ bytes_and_writes W.takes_all (W.writes sink.new) (W.written sink.new) + lost_pieces (is_write_failed result) }
+    ensures sink_mark { W.has_failed sink.new ≡ (W.has_failed sink.old || is_write_failed result) }
+    ensures reads { reads_beyond S.gives_all (S.reads source.old) (S.left source.old) ≤ reads_beyond S.gives_all (S.reads source.new) (S.left source.new) + 1 }
+    ensures taken { IfOk result (λ more. more ≡ true → reads_beyond S.gives_all (S.reads source.old) (S.left source.old) ≤ reads_beyond S.gives_all (S.reads source.new) (S.left source.new)) }
+    ensures effort { IfOk result (λ more. more ≡ true → effort (S.reads source.new) window.new < effort (S.reads source.old) window.old) }
+{
+    if !take_next(window, source, turn, message)? {
+        return Ok(false);
+    }
+    match say_message(page, sink, turn.given, message) {
+        Ok(()) => Ok(true),
+        Err(_) => Err(FileFault::WriteFailed),
+    }
+}
+
+// Converts all messages that are left.
+fn convert_rest<S: Source, W: Sink>(
+    window: &mut Window,
+    source: &mut S,
+    message: &mut Bits,
+    page: &mut Page,
+    sink: &mut W,
+    turn: Turn,
+) -> Result<(), FileFault>
+    ensures told { (number : ℕ) (bytes : List ℕ) (was : List ℕ) (said : List ℕ)
+        → Ahead window.old (S.left source.old) bytes → SaidSoFar was page.old (W.written sink.old) said
+        → SaysFrom (next_at turn.from turn.wanted) (message_told turn.given) number bytes was said result (S.left source.new) page.new (W.written sink.new) }
+    ensures source_mark { S.has_failed source.new ≡ (S.has_failed source.old || is_read_failed result) }
+    ensures writes { bytes_and_writes W.takes_all (W.writes sink.old) (W.written sink.old) ≤ bytes_and_writes W.takes_all (W.writes sink.new) (W.written sink.new) + lost_pieces (is_write_failed result) }
+    ensures sink_mark { W.has_failed sink.new ≡ (W.has_failed sink.old || is_write_failed result) }
+    ensures reads { reads_beyond S.gives_all (S.reads source.old) (S.left source.old) ≤ reads_beyond S.gives_all (S.reads source.new) (S.left source.new) + 1 }
+{
+    while convert_next(window, source, message, page, sink, turn)? {}
+    Ok(())
+}
+
+// Converts the messages behind the header. The header that is written waits for the first of them, or
+// for the end.
+fn convert_messages<S: Source, W: Sink>(
+    window: &mut Window,
+    source: &mut S,
+    page: &mut Page,
+    sink: &mut W,
+    turn: Turn,
+) -> Result<(), FileFault>
+    requires { page.old ≡ [] }
+    ensures told { (bytes : List ℕ) (was : List ℕ)
+        → Ahead window.old (S.left source.old) bytes → W.written sink.old ≡ Some was
+        → SaysTurned turn.to turn.given (next_at turn.from turn.wanted) bytes was result (S.left source.new) page.new (W.written sink.new) }
+    ensures source_mark { S.has_failed source.new ≡ (S.has_failed source.old || is_read_failed result) }
+    ensures writes { bytes_and_writes W.takes_all (W.writes sink.old) (W.written sink.old) ≤ bytes_and_writes W.takes_all (W.writes sink.new) (W.written sink.new) + lost_pieces (is_write_failed result) }
+    ensures sink_mark { W.has_failed sink.new ≡ (W.has_failed sink.old || is_write_failed result) }
+    ensures reads { reads_beyond S.gives_all (S.reads source.old) (S.left source.old) ≤ reads_beyond S.gives_all (S.reads source.new) (S.left source.new) + 1 }
+{
+    let mut message = Bits::new();
+    let found = take_next(window, source, turn, &mut message)?;
+    push_header(page, turn.to);
+    if !found {
+        return Ok(());
+    }
+    match say_message(page, sink, turn.given, &message) {
+        Ok(()) => convert_rest(window, source, &mut message, page, sink, turn),
+        Err(_) => Err(FileFault::WriteFailed),
+    }
+}
+
+// Converts a file, but for what stays on the page.
+fn convert_file<S: Source, W: Sink>(
+    source: &mut S,
+    page: &mut Page,
+    sink: &mut W,
+    at: u8,
+) -> Result<(), FileFault>
+    requires { page.old ≡ [] }
+    ensures told { (bytes : List ℕ) (was : List ℕ)
+        → S.left source.old ≡ Some bytes → W.written sink.old ≡ Some was
+        → Says (ConvertedAs at) (ConvertedCut at) bytes was result (S.left source.new) page.new (W.written sink.new) }
+    ensures source_mark { S.has_failed source.new ≡ (S.has_failed source.old || is_read_failed result) }
+    ensures writes { bytes_and_writes W.takes_all (W.writes sink.old) (W.written sink.old) ≤ bytes_and_writes W.takes_all (W.writes sink.new) (W.written sink.new) + lost_pieces (is_write_failed result) }
+    ensures sink_mark { W.has_failed sink.new ≡ (W.has_failed sink.old || is_write_failed result) }
+    ensures reads { reads_beyond S.gives_all (S.reads source.old) (S.left source.old) ≤ reads_beyond S.gives_all (S.reads source.new) (S.left source.new) + 2 }
+{
+    let mut window = Window::new();
+    let version = read_version(&mut window, source)?;
+    let direction = find_direction(&mut window, source, version)?;
+    convert_messages(
+        &mut window,
+        source,
+        page,
+        sink,
+        turn_of(version, direction, at),
+    )
+}
+
+/// Turns a message file of version 1 into one of version 2, with each message at the interface of host
+/// `at`; and one of version 2 into one of version 1, where each record has the direction of the first
+/// and host `at`.
+///
+/// The messages before the first fault are written, and the fault is answered. The first record of
+/// version 2 that has no other fault, but another direction or host, is `Mixed`. The header is written
+/// with the first record that is not refused. A file without records becomes a header alone: one of
+/// version 2, or that of version 1 toward the IMP.
+///
+/// It allocates nothing, and reads and writes in pieces of at least 4 KiB, the last one written
+/// apart. After a failed read the messages that were read whole are written; after a failed write a
+/// beginning of the file is.
+pub fn convert<S: Source, W: Sink>(source: &mut S, sink: &mut W, at: u8) -> Result<(), FileFault>
+    requires source_clean { S.has_failed source.old ≡ false }
+    requires sink_clean { W.has_failed sink.old ≡ false }
+
+    // Of bytes that are told, the file of the other version with the messages before the first fault
+    // is written, and nothing else.
+    ensures told { (bytes : List ℕ) (was : List ℕ)
+        → S.left source.old ≡ Some bytes → W.written sink.old ≡ Some was
+        → Converted at bytes was (S.left source.new) (W.written sink.new) result }
+
+    // Reading and writing are blamed only where they failed.
+    ensures read_failed { is_read_failed result ≡ true → S.has_failed source.new ≡ true }
+    ensures write_failed { W.has_failed sink.new ≡ is_write_failed result }
+    ensures blamed { S.has_failed source.new ≡ true → (is_read_failed result || is_write_failed result) ≡ true }
+
+    // A source that gives all that it can is read no more than once for each 4 KiB, and twice more;
+    // any source no more than once for each byte, and twice more.
+    ensures reads { (bytes : List ℕ) → S.left source.old ≡ Some bytes
+        → S.reads source.old ≤ S.reads source.new + reads_for S.gives_all (length bytes) + 2 }
+
+    // A sink that takes all that it can is written to no more than once for each 4 KiB, and twice
+    // more.
+    ensures writes { (was : List ℕ) (now : List ℕ) → W.takes_all ≡ true
+        → W.written sink.old ≡ Some was → W.written sink.new ≡ Some now
+        → W.writes sink.old ≤ W.writes sink.new + (length now - length was) / LEAST_PIECE + 2 }
+{
+    let mut page = Page::new();
+    let converted = convert_file(source, &mut page, sink, at);
+    if sink.failed() {
+        return converted;
+    }
+    match page.flush(sink) {
+        Ok(()) => converted,
+        Err(_) => Err(FileFault::WriteFailed),
+    }
+}

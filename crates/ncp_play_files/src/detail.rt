@@ -1,0 +1,298 @@
+//! The detail lines of a regular message.
+ghost use Rattle.std.specs.Prelude.{◌≡◌, ◌+◌, ◌≤◌, ◌||◌, ◌++◌, ◌/◌, ◌%◌, length, codes, is_err};
+ghost use Rattle.ncp_numbers.specs.Bytes.{bytes_of};
+ghost use Rattle.ncp_leader.specs.Message.{message_in};
+ghost use Rattle.ncp_play_page.specs.Lines.{field, hex_of};
+ghost use Rattle.ncp_play_files.specs.Lines.{command_words, item_line, control_lines, text_word, text_line, size_line, fault_line, text_lines, message_lines};
+ghost use Rattle.ncp_play_stream.specs.Pieces.{bytes_and_writes, lost_pieces};
+ghost use Rattle.ncp_play_stream.specs.Streams.{SaysTextOrBeginning};
+
+use crate::control::is_of_control;
+use crate::line::LONGEST_LINE;
+use ncp_bits::{Bits, MAX_BITS, Part};
+use ncp_control::Commands;
+use ncp_leader::{MessageFault, Regular, read_regular};
+use ncp_play_page::{PAGE_SIZE, Page, push_field};
+use ncp_play_stream::{Failed, Sink};
+use ncp_terms::{Command, CommandFault, ERROR_DATA};
+
+// How many bytes the words of a command have at most.
+const LONGEST_WORDS: usize = 100;
+
+// How many bytes the line of a text has at most.
+const LONGEST_TEXT_LINE: usize = LONGEST_LINE + MAX_BITS / 4;
+
+// How many bytes the name of a field has at most.
+const LONGEST_NAME: usize = 10;
+
+// Appends a command's name and its only field. It is inlined, so that the field's name is of a known
+// length and copied in one or two moves.
+#[inline(always)]
+fn push_one(page: &mut Page, name: &[u8; 3], word: &[u8], number: u8)
+    requires word { length word.now ≤ LONGEST_NAME }
+    requires room { length page.old + LONGEST_WORDS ≤ PAGE_SIZE }
+    ensures bytes { page.new ≡ page.old ++ (name.now ++ field word.now number) }
+    ensures len { length page.new ≤ length page.old + LONGEST_WORDS }
+{
+    page.push_text(name);
+    push_field(page, word, u32::from(number));
+}
+
+// Appends the words of an RTS.
+fn push_rts(page: &mut Page, receive: u32, send: u32, link: u8)
+    requires { length page.old + LONGEST_WORDS ≤ PAGE_SIZE }
+    ensures bytes { page.new ≡ page.old ++ command_words (Command.Rts receive send link) }
+    ensures len { length page.new ≤ length page.old + LONGEST_WORDS }
+{
+    page.push_text(b"RTS");
+    push_field(page, b" receive=", receive);
+    push_field(page, b" send=", send);
+    push_field(page, b" link=", u32::from(link));
+}
+
+// Appends the words of an STR.
+fn push_str(page: &mut Page, send: u32, receive: u32, size: u8)
+    requires { length page.old + LONGEST_WORDS ≤ PAGE_SIZE }
+    ensures bytes { page.new ≡ page.old ++ command_words (Command.Str send receive size) }
+    ensures len { length page.new ≤ length page.old + LONGEST_WORDS }
+{
+    page.push_text(b"STR");
+    push_field(page, b" send=", send);
+    push_field(page, b" receive=", receive);
+    push_field(page, b" size=", u32::from(size));
+}
+
+// Appends the words of a CLS.
+fn push_cls(page: &mut Page, my: u32, your: u32)
+    requires { length page.old + LONGEST_WORDS ≤ PAGE_SIZE }
+    ensures bytes { page.new ≡ page.old ++ command_words (Command.Cls my your) }
+    ensures len { length page.new ≤ length page.old + LONGEST_WORDS }
+{
+    page.push_text(b"CLS");
+    push_field(page, b" my=", my);
+    push_field(page, b" your=", your);
+}
+
+// Appends the name and the amounts of an ALL or a RET.
+fn push_amounts(page: &mut Page, name: &[u8; 3], link: u8, messages: u16, bits: u32)
+    requires { length page.old + LONGEST_WORDS ≤ PAGE_SIZE }
+    ensures bytes { page.new ≡ page.old ++ (name.now ++ field (codes " link=") link ++ field (codes " messages=") messages ++ field (codes " bits=") bits) }
+    ensures len { length page.new ≤ length page.old + LONGEST_WORDS }
+{
+    page.push_text(name);
+    push_field(page, b" link=", u32::from(link));
+    push_field(page, b" messages=", u32::from(messages));
+    push_field(page, b" bits=", bits);
+}
+
+// Appends the words of a GVB.
+fn push_gvb(page: &mut Page, link: u8, fm: u8, fb: u8)
+    requires { length page.old + LONGEST_WORDS ≤ PAGE_SIZE }
+    ensures bytes { page.new ≡ page.old ++ command_words (Command.Gvb link fm fb) }
+    ensures len { length page.new ≤ length page.old + LONGEST_WORDS }
+{
+    page.push_text(b"GVB");
+    push_field(page, b" link=", u32::from(link));
+    push_field(page, b" fm=", u32::from(fm));
+    push_field(page, b" fb=", u32::from(fb));
+}
+
+// Appends a name of three letters, a code and data.
+fn push_error(page: &mut Page, name: &[u8; 3], code: u8, bytes: &[u8; ERROR_DATA])
+    requires { length page.old + LONGEST_WORDS ≤ PAGE_SIZE }
+    ensures bytes { page.new ≡ page.old ++ (name.now ++ field (codes " code=") code ++ codes " data=" ++ hex_of bytes.now) }
+    ensures len { length page.new ≤ length page.old + LONGEST_WORDS }
+{
+    page.push_text(name);
+    push_field(page, b" code=", u32::from(code));
+    page.push_text(b" data=");
+    page.push_hex(bytes);
+}
+
+// Appends a command's name and fields.
+fn push_command(page: &mut Page, command: &Command)
+    requires { length page.old + LONGEST_WORDS ≤ PAGE_SIZE }
+    ensures bytes { page.new ≡ page.old ++ command_words command.now }
+    ensures len { length page.new ≤ length page.old + LONGEST_WORDS }
+{
+    match *command {
+        Command::Nop => page.push_text(b"NOP"),
+        Command::Rts {
+            receive,
+            send,
+            link,
+        } => push_rts(page, receive, send, link),
+        Command::Str {
+            send,
+            receive,
+            size,
+        } => push_str(page, send, receive, size),
+        Command::Cls { my, your } => push_cls(page, my, your),
+        Command::All {
+            link,
+            messages,
+            bits,
+        } => push_amounts(page, b"ALL", link, messages, bits),
+        Command::Gvb { link, fm, fb } => push_gvb(page, link, fm, fb),
+        Command::Ret {
+            link,
+            messages,
+            bits,
+        } => push_amounts(page, b"RET", link, messages, bits),
+        Command::Inr { link } => push_one(page, b"INR", b" link=", link),
+        Command::Ins { link } => push_one(page, b"INS", b" link=", link),
+        Command::Eco { byte } => push_one(page, b"ECO", b" data=", byte),
+        Command::Erp { byte } => push_one(page, b"ERP", b" data=", byte),
+        Command::Err { code, ref bytes } => push_error(page, b"ERR", code, bytes),
+        Command::Rst => page.push_text(b"RST"),
+        Command::Rrp => page.push_text(b"RRP"),
+    }
+}
+
+/// Appends the line of a command, or of the fault behind the last one. There has to be room for
+/// [`LONGEST_LINE`].
+pub fn push_item(page: &mut Page, item: &Result<Command, CommandFault>)
+    requires { length page.old + LONGEST_LINE ≤ PAGE_SIZE }
+    ensures { page.new ≡ page.old ++ item_line item.now }
+{
+    page.push_text(b"  ");
+    match item {
+        Ok(command) => push_command(page, command),
+        Err(fault) => push_error(page, b"bad", fault.code, &fault.bytes),
+    }
+    page.push(b'\n');
+}
+
+// Says a line for each command of a control text, and one for its fault.
+fn say_commands<W: Sink>(page: &mut Page, sink: &mut W, text: Part<'_>) -> Result<(), Failed>
+    requires { length text % 8 ≡ 0 }
+    ensures told { SaysTextOrBeginning page.old (W.written sink.old) (control_lines (bytes_of text.entry)) result page.new (W.written sink.new) }
+    ensures writes { bytes_and_writes W.takes_all (W.writes sink.old) (W.written sink.old) ≤ bytes_and_writes W.takes_all (W.writes sink.new) (W.written sink.new) + lost_pieces (is_err result) }
+    ensures mark { W.has_failed sink.new ≡ (W.has_failed sink.old || is_err result) }
+{
+    for item in Commands::new(text) {
+        page.make_room(sink, LONGEST_LINE)?;
+        push_item(page, &item);
+    }
+    Ok(())
+}
+
+// Appends the bytes of a text that have to be copied first. It is a function of its own, so that a
+// text whose bytes need no copy does not pay for the room of one.
+fn push_copied(page: &mut Page, text: &Part<'_>)
+    requires { length page.old + MAX_BITS / 4 ≤ PAGE_SIZE }
+    ensures bytes { page.new ≡ page.old ++ hex_of (bytes_of text.now) }
+    ensures len { length page.new ≤ length page.old + MAX_BITS / 4 }
+{
+    let mut bytes = [0u8; MAX_BITS / 8];
+    let used = &mut bytes[..text.len().div_ceil(8)];
+    text.to_bytes(used);
+    page.push_hex(used);
+}
+
+/// Appends a space and a text in hexadecimal, if it has a bit. There has to be room for those of the
+/// longest text: a space, and a digit for each four of [`MAX_BITS`].
+pub fn push_text_word(page: &mut Page, text: &Part<'_>)
+    requires { length page.old + 1 + MAX_BITS / 4 ≤ PAGE_SIZE }
+    ensures bytes { page.new ≡ page.old ++ text_word text.now }
+    ensures len { length page.new ≤ length page.old + 1 + MAX_BITS / 4 }
+{
+    if text.is_empty() {
+        return;
+    }
+    page.push(b' ');
+    match text.whole_bytes() {
+        Some(bytes) => page.push_hex(bytes),
+        None => push_copied(page, text),
+    }
+}
+
+// Appends the line of a text.
+fn push_text_line(page: &mut Page, text: &Part<'_>)
+    requires { length page.old + LONGEST_TEXT_LINE ≤ PAGE_SIZE }
+    ensures { page.new ≡ page.old ++ text_line text.now }
+{
+    push_field(page, b"  text bits=", text.len() as u32);
+    push_text_word(page, text);
+    page.push(b'\n');
+}
+
+// Appends the line of a message's size and count.
+fn push_size(page: &mut Page, message: &Regular<'_>)
+    requires { length page.old + LONGEST_LINE ≤ PAGE_SIZE }
+    ensures { page.new ≡ page.old ++ size_line message.now }
+{
+    push_field(page, b"  size=", u32::from(message.size()));
+    push_field(page, b" count=", u32::from(message.count()));
+    page.push(b'\n');
+}
+
+// Appends the line of a message's fault.
+fn push_fault(page: &mut Page, fault: MessageFault)
+    requires { length page.old + LONGEST_LINE ≤ PAGE_SIZE }
+    ensures { page.new ≡ page.old ++ fault_line fault }
+{
+    page.push_text(b"  fault ");
+    page.push_text(fault.name().as_bytes());
+    page.push(b'\n');
+}
+
+// Says the line of a text.
+fn say_text<W: Sink>(page: &mut Page, sink: &mut W, text: &Part<'_>) -> Result<(), Failed>
+    ensures told { SaysTextOrBeginning page.old (W.written sink.old) (text_line text.now) result page.new (W.written sink.new) }
+    ensures writes { bytes_and_writes W.takes_all (W.writes sink.old) (W.written sink.old) ≤ bytes_and_writes W.takes_all (W.writes sink.new) (W.written sink.new) + lost_pieces (is_err result) }
+    ensures mark { W.has_failed sink.new ≡ (W.has_failed sink.old || is_err result) }
+{
+    page.make_room(sink, LONGEST_TEXT_LINE)?;
+    push_text_line(page, text);
+    Ok(())
+}
+
+// Says the line of a message's size and count.
+fn say_size<W: Sink>(page: &mut Page, sink: &mut W, message: &Regular<'_>) -> Result<(), Failed>
+    ensures told { SaysTextOrBeginning page.old (W.written sink.old) (size_line message.now) result page.new (W.written sink.new) }
+    ensures writes { bytes_and_writes W.takes_all (W.writes sink.old) (W.written sink.old) ≤ bytes_and_writes W.takes_all (W.writes sink.new) (W.written sink.new) + lost_pieces (is_err result) }
+    ensures mark { W.has_failed sink.new ≡ (W.has_failed sink.old || is_err result) }
+{
+    page.make_room(sink, LONGEST_LINE)?;
+    push_size(page, message);
+    Ok(())
+}
+
+// Says the line of a message's fault.
+fn say_fault<W: Sink>(page: &mut Page, sink: &mut W, fault: MessageFault) -> Result<(), Failed>
+    ensures told { SaysTextOrBeginning page.old (W.written sink.old) (fault_line fault) result page.new (W.written sink.new) }
+    ensures writes { bytes_and_writes W.takes_all (W.writes sink.old) (W.written sink.old) ≤ bytes_and_writes W.takes_all (W.writes sink.new) (W.written sink.new) + lost_pieces (is_err result) }
+    ensures mark { W.has_failed sink.new ≡ (W.has_failed sink.old || is_err result) }
+{
+    page.make_room(sink, LONGEST_LINE)?;
+    push_fault(page, fault);
+    Ok(())
+}
+
+// Says the lines of a message that has no fault.
+fn say_message<W: Sink>(page: &mut Page, sink: &mut W, message: &Regular<'_>) -> Result<(), Failed>
+    ensures told { SaysTextOrBeginning page.old (W.written sink.old) (size_line message.now ++ text_lines message.now) result page.new (W.written sink.new) }
+    ensures writes { bytes_and_writes W.takes_all (W.writes sink.old) (W.written sink.old) ≤ bytes_and_writes W.takes_all (W.writes sink.new) (W.written sink.new) + lost_pieces (is_err result) }
+    ensures mark { W.has_failed sink.new ≡ (W.has_failed sink.old || is_err result) }
+{
+    say_size(page, sink, message)?;
+    if is_of_control(message) {
+        say_commands(page, sink, message.text())
+    } else {
+        say_text(page, sink, &message.text())
+    }
+}
+
+/// Says the detail lines of a regular message: appends them to the page, and writes it where they do
+/// not fit.
+pub fn say_details<W: Sink>(page: &mut Page, sink: &mut W, bits: &Bits) -> Result<(), Failed>
+    ensures told { SaysTextOrBeginning page.old (W.written sink.old) (message_lines (message_in bits.now)) result page.new (W.written sink.new) }
+    ensures writes { bytes_and_writes W.takes_all (W.writes sink.old) (W.written sink.old) ≤ bytes_and_writes W.takes_all (W.writes sink.new) (W.written sink.new) + lost_pieces (is_err result) }
+    ensures mark { W.has_failed sink.new ≡ (W.has_failed sink.old || is_err result) }
+{
+    match read_regular(bits) {
+        Ok(message) => say_message(page, sink, &message),
+        Err(fault) => say_fault(page, sink, fault),
+    }
+}

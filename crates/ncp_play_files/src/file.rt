@@ -1,0 +1,200 @@
+//! A message file: its faults, and the header and the records of version 1.
+ghost use Rattle.std.specs.Prelude.{◌≡◌, ℕ, Option, ◌+◌, ◌<◌, ◌≤◌, ◌||◌, List, true, false, length, drop, slice_range, is_some, IfSome, IfOk, OnOk};
+ghost use Rattle.ncp_numbers.specs.Bytes.{bytes_for};
+ghost use Rattle.ncp_bits.specs.declared.bits.TheConstants.{MAX_BITS};
+ghost use Rattle.ncp_play_files.specs.File.{name_of_fault, fault_of_bits};
+ghost use Rattle.ncp_play_stream.specs.Pieces.{reads_beyond};
+ghost use Rattle.ncp_play_files.specs.Results.{is_read_failed, is_write_failed};
+ghost use Rattle.ncp_play_files.specs.Steps.{ReadsHeader, StandsWhole, FindsRecord, TakesRecord, ReadsRecord};
+ghost use Rattle.ncp_play_page.specs.Windows.{effort};
+ghost use Rattle.ncp_play_stream.specs.Streams.{Ahead};
+ghost use Rattle.ncp_play_files.specs.declared.file.TheConstants.{LENGTH};
+
+use crate::version::{Version, read_version};
+use byteorder::{BigEndian, ByteOrder};
+use ncp_bits::{Bits, BitsFault, MAX_BITS};
+use ncp_play_page::Window;
+use ncp_play_stream::{Failed, Source};
+use thiserror::Error;
+
+/// Which way the messages of a file go.
+#[derive(Clone, Copy, Debug, Drop, PartialEq, Eq)]
+pub enum Direction {
+    /// From a host to its IMP.
+    ToImp,
+    /// From an IMP to its host.
+    FromImp,
+}
+
+/// Why bytes are no message file, or could not be read or written.
+#[derive(Clone, Copy, Debug, Drop, PartialEq, Eq, Error)]
+pub enum FileFault {
+    #[error("not the header of a message file")]
+    BadHeader = 1,
+    #[error("the file ends inside a record")]
+    Truncated = 2,
+    #[error("a record of more than {MAX_BITS} bits")]
+    TooLong = 3,
+    #[error("a spare bit behind a message is set")]
+    SpareNotZero = 4,
+    #[error("a read failed")]
+    ReadFailed = 5,
+    #[error("a write failed")]
+    WriteFailed = 6,
+    #[error("a record has neither direction")]
+    BadDirection = 7,
+    #[error("a record has another direction or host than the file can have")]
+    Mixed = 8,
+}
+
+impl FileFault {
+    /// The name that a program prints.
+    pub fn name(self) -> &'static str
+        ensures { result.now ≡ name_of_fault self }
+    {
+        match self {
+            FileFault::BadHeader => "BadHeader",
+            FileFault::Truncated => "Truncated",
+            FileFault::TooLong => "TooLong",
+            FileFault::SpareNotZero => "SpareNotZero",
+            FileFault::ReadFailed => "ReadFailed",
+            FileFault::WriteFailed => "WriteFailed",
+            FileFault::BadDirection => "BadDirection",
+            FileFault::Mixed => "Mixed",
+        }
+    }
+}
+
+impl From<Failed> for FileFault {
+    ghost use Rattle.ncp_play_files.specs.declared.file.FileFault.TheVariants.{ReadFailed};
+
+    ghost from_gives = { λ _ fault. fault ≡ ReadFailed };
+
+    // Only a failed read is passed on by `?`; a failed write is named where it happens.
+    fn from(_failed: Failed) -> Self {
+        FileFault::ReadFailed
+    }
+}
+
+// How many bytes the length of a record has.
+const LENGTH: usize = 2;
+
+/// Reads the header of a file of version 1. That of another version is a bad one.
+pub fn read_header<S: Source>(window: &mut Window, source: &mut S) -> Result<Direction, FileFault>
+    ensures told { (bytes : List ℕ) → Ahead window.old (S.left source.old) bytes → ReadsHeader bytes result window.new (S.left source.new) }
+    ensures mark { S.has_failed source.new ≡ (S.has_failed source.old || is_read_failed result) }
+    ensures other { is_write_failed result ≡ false }
+    ensures reads { reads_beyond S.gives_all (S.reads source.old) (S.left source.old) ≤ reads_beyond S.gives_all (S.reads source.new) (S.left source.new) + 1 }
+    ensures taken { OnOk result (reads_beyond S.gives_all (S.reads source.old) (S.left source.old) ≤ reads_beyond S.gives_all (S.reads source.new) (S.left source.new)) }
+{
+    match read_version(window, source)? {
+        Version::One(direction) => Ok(direction),
+        Version::Two => Err(FileFault::BadHeader),
+    }
+}
+
+/// A fault of bits, as a fault of a file.
+pub(crate) fn fault_of(fault: BitsFault) -> FileFault
+    ensures { result ≡ fault_of_bits fault }
+{
+    match fault {
+        BitsFault::TooLong => FileFault::TooLong,
+        BitsFault::ShortBytes => FileFault::Truncated,
+        BitsFault::SpareNotZero => FileFault::SpareNotZero,
+    }
+}
+
+/// Reads until the window has the next record of a file of version 1, and answers how many bits its
+/// message has; `None` where no record begins. The record is not used up.
+// It stands in the loops that read, where most records take no more than this.
+#[inline(always)]
+pub(crate) fn need_record<S: Source>(
+    window: &mut Window,
+    source: &mut S,
+) -> Result<Option<usize>, FileFault>
+    ensures told { (bytes : List ℕ) → Ahead window.old (S.left source.old) bytes → FindsRecord bytes result window.new (S.left source.new) }
+    ensures stands { IfOk result (λ found. IfSome found (λ len. StandsWhole window.new len)) }
+    ensures mark { S.has_failed source.new ≡ (S.has_failed source.old || is_read_failed result) }
+    ensures other { is_write_failed result ≡ false }
+    ensures reads { reads_beyond S.gives_all (S.reads source.old) (S.left source.old) ≤ reads_beyond S.gives_all (S.reads source.new) (S.left source.new) + 1 }
+    ensures taken { IfOk result (λ found. is_some found ≡ true → reads_beyond S.gives_all (S.reads source.old) (S.left source.old) ≤ reads_beyond S.gives_all (S.reads source.new) (S.left source.new)) }
+    ensures effort { effort (S.reads source.new) window.new ≤ effort (S.reads source.old) window.old }
+{
+    if !window.need(source, LENGTH)? {
+        return if window.unread().is_empty() {
+            Ok(None)
+        } else {
+            Err(FileFault::Truncated)
+        };
+    }
+    let len = usize::from(BigEndian::read_u16(window.unread()));
+    if len > MAX_BITS {
+        return Err(FileFault::TooLong);
+    }
+    if !window.need(source, LENGTH + len.div_ceil(8))? {
+        return Err(FileFault::Truncated);
+    }
+    Ok(Some(len))
+}
+
+/// The bytes of the message of a record that stands in a window, which has so many bits.
+#[inline(always)]
+pub(crate) fn message_bytes(window: &[u8], len: usize) -> &[u8]
+    requires { StandsWhole window.now len }
+    ensures { result.now ≡ slice_range window.now LENGTH (LENGTH + bytes_for len) }
+{
+    &window[LENGTH..LENGTH + len.div_ceil(8)]
+}
+
+/// Uses up a record that stands in a window, whose message has so many bits.
+#[inline(always)]
+pub(crate) fn skip_record(window: &mut Window, len: usize)
+    requires { StandsWhole window.old len }
+    ensures rest { window.new ≡ drop (LENGTH + bytes_for len) window.old }
+    ensures shorter { length window.new < length window.old }
+{
+    window.skip(LENGTH + len.div_ceil(8));
+}
+
+/// Takes a record that stands in a window, whose message has so many bits, into `message`.
+#[inline(always)]
+pub(crate) fn take_record(
+    window: &mut Window,
+    len: usize,
+    message: &mut Bits,
+) -> Result<(), FileFault>
+    requires { StandsWhole window.old len }
+    ensures told { (bytes : List ℕ) (left : Option (List ℕ)) → Ahead window.old left bytes → TakesRecord bytes result message.new window.new left }
+    ensures shorter { OnOk result (length window.new < length window.old) }
+    ensures read { is_read_failed result ≡ false }
+    ensures write { is_write_failed result ≡ false }
+{
+    match message.copy_from_bytes(message_bytes(window.unread(), len), len) {
+        Ok(()) => {
+            skip_record(window, len);
+            Ok(())
+        }
+        Err(fault) => Err(fault_of(fault)),
+    }
+}
+
+/// Reads the next record of a file of version 1 into `message`, and answers whether there was one.
+#[inline(always)]
+pub fn read_record<S: Source>(
+    window: &mut Window,
+    source: &mut S,
+    message: &mut Bits,
+) -> Result<bool, FileFault>
+    ensures told { (bytes : List ℕ) → Ahead window.old (S.left source.old) bytes → ReadsRecord bytes result message.new window.new (S.left source.new) }
+    ensures mark { S.has_failed source.new ≡ (S.has_failed source.old || is_read_failed result) }
+    ensures other { is_write_failed result ≡ false }
+    ensures reads { reads_beyond S.gives_all (S.reads source.old) (S.left source.old) ≤ reads_beyond S.gives_all (S.reads source.new) (S.left source.new) + 1 }
+    ensures taken { IfOk result (λ found. found ≡ true → reads_beyond S.gives_all (S.reads source.old) (S.left source.old) ≤ reads_beyond S.gives_all (S.reads source.new) (S.left source.new)) }
+    ensures effort { IfOk result (λ found. found ≡ true → effort (S.reads source.new) window.new < effort (S.reads source.old) window.old) }
+{
+    let Some(len) = need_record(window, source)? else {
+        return Ok(false);
+    };
+    take_record(window, len, message)?;
+    Ok(true)
+}

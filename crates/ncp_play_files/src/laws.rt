@@ -1,0 +1,82 @@
+//! Laws about message files, each the contract of a function that does nothing.
+ghost use Rattle.std.specs.Prelude.{◌≡◌, ◌≤◌, ◌<◌, ◌↔◌, ℕ, List, [], ◌∷◌, ◌++◌, length, All, Bool, IsTrue, Option, Some, None, Ok, Err};
+ghost use Rattle.ncp_play_files.specs.File.{HoldsBy, next_record, version_of, record_bytes};
+ghost use Rattle.ncp_play_files.specs.Versions.{Recorded, plain, next_in, IsOf, bytes_of_record, file_bytes};
+ghost use Rattle.ncp_play_files.specs.Converted.{ConvertedAs, file_to};
+ghost use Rattle.ncp_play_files.specs.Reasons.{first_of, reasons_at, placed_reasons_at};
+ghost use Rattle.ncp_play_files.specs.Checked.{FileHolds};
+
+use crate::file::{Direction, FileFault};
+use crate::version::{Passage, Version};
+use ncp_bits::MAX_BITS;
+
+/// The bytes behind a header hold records, and then end or have a fault, in exactly one way.
+pub fn files_have_one_reading()
+    ensures some { (version : Version) (bytes : List ℕ) → (records : List Recorded) × (fault : Option FileFault) × HoldsBy (next_in version) bytes records fault }
+    ensures only { (version : Version) (bytes : List ℕ) (records others : List Recorded) (fault other : Option FileFault)
+        → HoldsBy (next_in version) bytes records fault → HoldsBy (next_in version) bytes others other → (records ≡ others) × (fault ≡ other) }
+{}
+
+/// What is written is read again, in both versions. A record is read whatever stands behind it. A
+/// file holds the records that it was written of and no others, and has no fault.
+pub fn written_files_are_read()
+    ensures record { (version : Version) (written : Recorded) (rest : List ℕ)
+        → IsOf version written → next_in version (bytes_of_record written ++ rest) ≡ Ok (Some (written, rest)) }
+    ensures version { (version : Version) (records : List Recorded) → version_of (file_bytes version records) ≡ Some version }
+    ensures file { (version : Version) (records : List Recorded)
+        → All (IsOf version) records → FileHolds (file_bytes version records) records None }
+    ensures only { (version : Version) (records others : List Recorded) (fault : Option FileFault)
+        → All (IsOf version) records → FileHolds (file_bytes version records) others fault → (others ≡ records) × (fault ≡ None) }
+{}
+
+/// Where a record of version 1 begins, and why none does. A record stands at the front of bytes exactly where they
+/// are the written form of a message of at most 8,192 bits, and what follows. Where there are bytes and
+/// none begins, the first reason that holds is answered: no two bytes of a length, a length over the
+/// limit, fewer bytes than it says, a spare bit that is set. In version 2 two reasons stand before these: a
+/// first byte that names no direction, no byte of a host behind it.
+pub fn records_are_told_apart()
+    ensures record { (bytes : List ℕ) (rest : List ℕ) (message : List Bool) → All (λ byte. byte < 256) bytes
+        → (next_record bytes ≡ Ok (Some (message, rest))) ↔ ((length message ≤ MAX_BITS) × (bytes ≡ record_bytes message ++ rest)) }
+    ensures end { (bytes : List ℕ) → (next_record bytes ≡ Ok None) ↔ (bytes ≡ []) }
+    ensures fault { (bytes : List ℕ) (fault : FileFault) → 0 < length bytes
+        → (next_record bytes ≡ Err fault) ↔ (first_of (reasons_at bytes) ≡ Some fault) }
+    ensures placed { (bytes : List ℕ) (fault : FileFault) → 0 < length bytes
+        → (next_in Version.Two bytes ≡ Err fault) ↔ (first_of (placed_reasons_at bytes) ≡ Some fault) }
+{}
+
+/// A file of version 1 with at least one message, turned into one of version 2 and back with the same
+/// host, is the same bytes.
+pub fn files_return()
+    ensures { (direction : Direction) (host : ℕ) (message : List Bool) (messages : List (List Bool)) (there back : List ℕ) (fault other : Option FileFault)
+        → All (λ m. length m ≤ MAX_BITS) (message ∷ messages)
+        → ConvertedAs host (file_to (Version.One direction) (plain direction) (message ∷ messages) None) there fault → ConvertedAs host there back other
+        → (fault ≡ None) × (other ≡ None) × (back ≡ file_to (Version.One direction) (plain direction) (message ∷ messages) None) }
+{}
+
+/// Two faults compare as equal exactly where they are the same.
+pub fn same_fault(one: FileFault, other: FileFault) -> bool
+    ensures { IsTrue result ↔ one ≡ other }
+{
+    one == other
+}
+
+/// Two directions compare as equal exactly where they are the same.
+pub fn same_direction(one: Direction, other: Direction) -> bool
+    ensures { IsTrue result ↔ one ≡ other }
+{
+    one == other
+}
+
+/// Two versions compare as equal exactly where they are the same.
+pub fn same_version(one: Version, other: Version) -> bool
+    ensures { IsTrue result ↔ one ≡ other }
+{
+    one == other
+}
+
+/// Two passages compare as equal exactly where they are the same.
+pub fn same_passage(one: Passage, other: Passage) -> bool
+    ensures { IsTrue result ↔ one ≡ other }
+{
+    one == other
+}

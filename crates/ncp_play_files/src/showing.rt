@@ -1,0 +1,137 @@
+//! `show`: what a message file holds, line by line.
+ghost use Rattle.std.specs.Prelude.{◌≡◌, ℕ, ◌+◌, ◌-◌, ◌/◌, ◌<◌, ◌≤◌, ◌||◌, [], List, Some, true, false, length, IfOk};
+ghost use Rattle.ncp_play_stream.specs.Pieces.{reads_for, reads_beyond, bytes_and_writes, lost_pieces};
+ghost use Rattle.ncp_play_files.specs.Results.{is_read_failed, is_write_failed};
+ghost use Rattle.ncp_play_stream.specs.Streams.{Ahead, SaidSoFar};
+ghost use Rattle.ncp_play_page.specs.Windows.{effort};
+ghost use Rattle.ncp_play_files.specs.Versions.{next_in};
+ghost use Rattle.ncp_play_files.specs.Lines.{record_lines};
+ghost use Rattle.ncp_play_files.specs.Steps.{SaysNext, SaysFrom, Says};
+ghost use Rattle.ncp_play_files.specs.Shown.{ShownAs, ShownCut, Shown};
+
+use crate::file::FileFault;
+use crate::record::say_record;
+use crate::version::{PlacedRecords, PlainRecords, Records, Version, read_next_of, read_version};
+use ncp_bits::Bits;
+use ncp_play_page::{Page, Window};
+use ncp_play_stream::{LEAST_PIECE, Sink, Source};
+
+// Reads the next record into `message` and shows it, and answers whether there was one.
+fn show_next<S: Source, W: Sink, R: Records>(
+    window: &mut Window,
+    source: &mut S,
+    message: &mut Bits,
+    page: &mut Page,
+    sink: &mut W,
+    records: R,
+    number: u32,
+) -> Result<bool, FileFault>
+    ensures told { (bytes : List ℕ) (was : List ℕ) (said : List ℕ)
+        → Ahead window.old (S.left source.old) bytes → SaidSoFar was page.old (W.written sink.old) said
+        → SaysNext (next_in (R.version records)) record_lines number bytes was said result window.new (S.left source.new) page.new (W.written sink.new) }
+    ensures source_mark { S.has_failed source.new ≡ (S.has_failed source.old || is_read_failed result) }
+    ensures writes { bytes_and_writes W.takes_all (W.writes sink.old) (W.written sink.old) ≤ bytes_and_writes W.takes_all (W.writes sink.new) (W.written sink.new) + lost_pieces (is_write_failed result) }
+    ensures sink_mark { W.has_failed sink.new ≡ (W.has_failed sink.old || is_write_failed result) }
+    ensures reads { reads_beyond S.gives_all (S.reads source.old) (S.left source.old) ≤ reads_beyond S.gives_all (S.reads source.new) (S.left source.new) + 1 }
+    ensures taken { IfOk result (λ more. more ≡ true → reads_beyond S.gives_all (S.reads source.old) (S.left source.old) ≤ reads_beyond S.gives_all (S.reads source.new) (S.left source.new)) }
+    ensures effort { IfOk result (λ more. more ≡ true → effort (S.reads source.new) window.new < effort (S.reads source.old) window.old) }
+{
+    let Some(passage) = read_next_of(window, source, records, message)? else {
+        return Ok(false);
+    };
+    match say_record(page, sink, passage, number, message) {
+        Ok(()) => Ok(true),
+        Err(_) => Err(FileFault::WriteFailed),
+    }
+}
+
+// Shows the records behind the header.
+fn show_records<S: Source, W: Sink, R: Records>(
+    window: &mut Window,
+    source: &mut S,
+    page: &mut Page,
+    sink: &mut W,
+    records: R,
+) -> Result<(), FileFault>
+    ensures told { (bytes : List ℕ) (was : List ℕ) (said : List ℕ)
+        → Ahead window.old (S.left source.old) bytes → SaidSoFar was page.old (W.written sink.old) said
+        → SaysFrom (next_in (R.version records)) record_lines 1 bytes was said result (S.left source.new) page.new (W.written sink.new) }
+    ensures source_mark { S.has_failed source.new ≡ (S.has_failed source.old || is_read_failed result) }
+    ensures writes { bytes_and_writes W.takes_all (W.writes sink.old) (W.written sink.old) ≤ bytes_and_writes W.takes_all (W.writes sink.new) (W.written sink.new) + lost_pieces (is_write_failed result) }
+    ensures sink_mark { W.has_failed sink.new ≡ (W.has_failed sink.old || is_write_failed result) }
+    ensures reads { reads_beyond S.gives_all (S.reads source.old) (S.left source.old) ≤ reads_beyond S.gives_all (S.reads source.new) (S.left source.new) + 1 }
+{
+    let mut message = Bits::new();
+    let mut number = 1u32;
+    while show_next(window, source, &mut message, page, sink, records, number)? {
+        number = number.saturating_add(1);
+    }
+    Ok(())
+}
+
+// Shows a file, but for what stays on the page.
+fn show_file<S: Source, W: Sink>(
+    source: &mut S,
+    page: &mut Page,
+    sink: &mut W,
+) -> Result<(), FileFault>
+    requires { page.old ≡ [] }
+    ensures told { (bytes : List ℕ) (was : List ℕ)
+        → S.left source.old ≡ Some bytes → W.written sink.old ≡ Some was
+        → Says ShownAs ShownCut bytes was result (S.left source.new) page.new (W.written sink.new) }
+    ensures source_mark { S.has_failed source.new ≡ (S.has_failed source.old || is_read_failed result) }
+    ensures writes { bytes_and_writes W.takes_all (W.writes sink.old) (W.written sink.old) ≤ bytes_and_writes W.takes_all (W.writes sink.new) (W.written sink.new) + lost_pieces (is_write_failed result) }
+    ensures sink_mark { W.has_failed sink.new ≡ (W.has_failed sink.old || is_write_failed result) }
+    ensures reads { reads_beyond S.gives_all (S.reads source.old) (S.left source.old) ≤ reads_beyond S.gives_all (S.reads source.new) (S.left source.new) + 1 }
+{
+    let mut window = Window::new();
+    match read_version(&mut window, source)? {
+        Version::One(direction) => {
+            show_records(&mut window, source, page, sink, PlainRecords { direction })
+        }
+        Version::Two => show_records(&mut window, source, page, sink, PlacedRecords),
+    }
+}
+
+/// Writes the lines of each record of a message file, up to its first fault, and answers that
+/// fault.
+///
+/// It allocates nothing, and reads and writes in pieces of at least 4 KiB, the last one written
+/// apart. After a failed read the lines of the records that were read whole are written; after a
+/// failed write a beginning of the lines is.
+pub fn show<S: Source, W: Sink>(source: &mut S, sink: &mut W) -> Result<(), FileFault>
+    requires source_clean { S.has_failed source.old ≡ false }
+    requires sink_clean { W.has_failed sink.old ≡ false }
+
+    // Of bytes that are told, the lines of the records before the first fault are written, and
+    // nothing else.
+    ensures told { (bytes : List ℕ) (was : List ℕ)
+        → S.left source.old ≡ Some bytes → W.written sink.old ≡ Some was
+        → Shown bytes was (S.left source.new) (W.written sink.new) result }
+
+    // Reading and writing are blamed only where they failed.
+    ensures read_failed { is_read_failed result ≡ true → S.has_failed source.new ≡ true }
+    ensures write_failed { W.has_failed sink.new ≡ is_write_failed result }
+    ensures blamed { S.has_failed source.new ≡ true → (is_read_failed result || is_write_failed result) ≡ true }
+
+    // A source that gives all that it can is read no more than once for each 4 KiB, and once more;
+    // any source no more than once for each byte, and once more.
+    ensures reads { (bytes : List ℕ) → S.left source.old ≡ Some bytes
+        → S.reads source.old ≤ S.reads source.new + reads_for S.gives_all (length bytes) + 1 }
+
+    // A sink that takes all that it can is written to no more than once for each 4 KiB, and twice
+    // more.
+    ensures writes { (was : List ℕ) (now : List ℕ) → W.takes_all ≡ true
+        → W.written sink.old ≡ Some was → W.written sink.new ≡ Some now
+        → W.writes sink.old ≤ W.writes sink.new + (length now - length was) / LEAST_PIECE + 2 }
+{
+    let mut page = Page::new();
+    let shown = show_file(source, &mut page, sink);
+    if sink.failed() {
+        return shown;
+    }
+    match page.flush(sink) {
+        Ok(()) => shown,
+        Err(_) => Err(FileFault::WriteFailed),
+    }
+}

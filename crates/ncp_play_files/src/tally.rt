@@ -1,0 +1,144 @@
+//! `Tally`: how many messages of which kinds there are.
+ghost use Rattle.std.specs.Prelude.{◌≡◌, ◌+◌, ◌≤◌, ◌++◌, length};
+ghost use Rattle.ncp_leader.specs.Message.{message_in};
+ghost use Rattle.ncp_play_files.specs.Checked.{is_bad_text, verdict_of_message, verdict_of, is_sound, tally_line};
+ghost use Rattle.ncp_play_files.specs.Tallies.{no_messages, tally_with, one_more};
+
+use crate::control::{is_of_control, is_on_control_link};
+use crate::line::LONGEST_LINE;
+use ncp_bits::Part;
+use ncp_control::find_fault;
+use ncp_leader::{REGULAR, Regular, read_leader_in, read_regular_in};
+use ncp_play_page::{PAGE_SIZE, Page, push_field};
+
+/// What is found of a message.
+#[derive(Clone, Copy, Debug, Drop, PartialEq, Eq)]
+pub(crate) enum Verdict {
+    /// It is too short for a leader.
+    Short,
+    /// It is of another type than 0.
+    Other,
+    /// It is of type 0, and nothing is wrong.
+    Sound,
+    /// It is of type 0, and has a fault.
+    Faulty,
+    /// It is of type 0 and on the control link, and its size or its text is wrong.
+    Bad,
+}
+
+/// How many messages there are, and how many of each kind. A count stays at the largest number.
+#[derive(Clone, Copy, Debug, Drop, PartialEq, Eq)]
+pub(crate) struct Tally {
+    pub messages: u32,
+    pub short: u32,
+    pub regular: u32,
+    pub faults: u32,
+    pub bad: u32,
+}
+
+// Whether something is wrong with a message of the control link.
+fn is_bad(message: &Regular<'_>) -> bool
+    ensures { result ≡ is_bad_text message.now }
+{
+    if !is_on_control_link(message) {
+        return false;
+    }
+    !is_of_control(message) || find_fault(&message.text()).is_some()
+}
+
+// What is found of a message of type 0.
+#[inline(always)]
+fn judge_regular(message: &Part<'_>) -> Verdict
+    ensures { result ≡ verdict_of_message (message_in message.now) }
+{
+    match read_regular_in(message) {
+        Err(_) => Verdict::Faulty,
+        Ok(regular) => {
+            if is_bad(&regular) {
+                Verdict::Bad
+            } else {
+                Verdict::Sound
+            }
+        }
+    }
+}
+
+/// What is found of a message.
+// It stands in the loop that judges, where it is seen that a message begins with a byte.
+#[inline(always)]
+pub(crate) fn judge(message: &Part<'_>) -> Verdict
+    ensures { result ≡ verdict_of message.now }
+{
+    match read_leader_in(message) {
+        Err(_) => Verdict::Short,
+        Ok(leader) => {
+            if leader.kind == REGULAR {
+                judge_regular(message)
+            } else {
+                Verdict::Other
+            }
+        }
+    }
+}
+
+// One more, where a test passes.
+fn count_if(number: u32, passes: bool) -> u32
+    ensures { result ≡ one_more passes number }
+{
+    if passes {
+        number.saturating_add(1)
+    } else {
+        number
+    }
+}
+
+impl Tally {
+    /// Nothing is counted.
+    pub(crate) fn new() -> Self
+        ensures { result ≡ no_messages }
+    {
+        Tally {
+            messages: 0,
+            short: 0,
+            regular: 0,
+            faults: 0,
+            bad: 0,
+        }
+    }
+
+    /// Counts a message.
+    pub(crate) fn count(&self, verdict: Verdict) -> Tally
+        ensures { result ≡ tally_with self.now verdict }
+    {
+        Tally {
+            messages: self.messages.saturating_add(1),
+            short: count_if(self.short, verdict == Verdict::Short),
+            regular: count_if(
+                self.regular,
+                matches!(verdict, Verdict::Sound | Verdict::Faulty | Verdict::Bad),
+            ),
+            faults: count_if(self.faults, verdict == Verdict::Faulty),
+            bad: count_if(self.bad, verdict == Verdict::Bad),
+        }
+    }
+
+    /// Whether no message is short or faulty.
+    pub(crate) fn is_sound(&self) -> bool
+        ensures { result ≡ is_sound self.now }
+    {
+        self.short == 0 && self.faults == 0 && self.bad == 0
+    }
+}
+
+/// Appends the line of the counts.
+pub(crate) fn push_tally(page: &mut Page, tally: &Tally)
+    requires { length page.old + LONGEST_LINE ≤ PAGE_SIZE }
+    ensures { page.new ≡ page.old ++ tally_line tally.now }
+{
+    push_field(page, b"messages=", tally.messages);
+    push_field(page, b" short=", tally.short);
+    push_field(page, b" regular=", tally.regular);
+    push_field(page, b" faults=", tally.faults);
+    push_field(page, b" bad=", tally.bad);
+    page.push(b'\n');
+}

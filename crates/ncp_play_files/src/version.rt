@@ -1,0 +1,247 @@
+//! The two versions of a message file: their headers, and the records of both.
+ghost use Rattle.std.specs.Prelude.{◌≡◌, ℕ, ◌+◌, ◌<◌, ◌≤◌, ◌||◌, List, true, false, length, is_some, IfSome, IfOk, OnOk};
+ghost use Rattle.ncp_play_files.specs.File.{version_of};
+ghost use Rattle.ncp_play_files.specs.Versions.{direction_by, next_passage, next_in};
+ghost use Rattle.ncp_play_files.specs.Results.{is_read_failed, is_write_failed};
+ghost use Rattle.ncp_play_files.specs.Steps.{ReadsVersion, ReadsOne, StandsWhole, FindsNext, ReadsNext};
+ghost use Rattle.ncp_play_page.specs.Windows.{effort};
+ghost use Rattle.ncp_play_stream.specs.Pieces.{reads_beyond};
+ghost use Rattle.ncp_play_stream.specs.Streams.{Ahead};
+
+use crate::file::{Direction, FileFault, need_record, take_record};
+use ncp_bits::Bits;
+use ncp_play_page::Window;
+use ncp_play_stream::Source;
+
+/// The version of a message file.
+#[derive(Clone, Copy, Debug, Drop, PartialEq, Eq)]
+pub enum Version {
+    /// Version 1: all messages go the same way.
+    One(Direction),
+    /// Version 2: each record begins with the passage of its message.
+    Two,
+}
+
+/// The passage of a message between a host and its IMP.
+#[derive(Clone, Copy, Debug, Drop, PartialEq, Eq)]
+pub struct Passage {
+    /// Which way it went.
+    pub direction: Direction,
+    /// The number of the host, where the file names it.
+    pub at: Option<u8>,
+}
+
+/// A record that stands in a window, and has still to be taken.
+#[derive(Clone, Copy, Drop)]
+pub(crate) struct Found {
+    /// The passage of its message.
+    pub passage: Passage,
+    /// How many bits its message has.
+    pub len: usize,
+}
+
+/// How many bytes a header has.
+pub const HEADER: usize = 4;
+
+// How many bytes a passage has.
+const PASSAGE: usize = 2;
+
+// The version that a header names.
+fn version_in(head: &[u8]) -> Option<Version>
+    requires { length head.now ≡ HEADER }
+    ensures { result ≡ version_of head.now }
+{
+    if head == b"NCPH".as_slice() {
+        Some(Version::One(Direction::ToImp))
+    } else if head == b"NCPI".as_slice() {
+        Some(Version::One(Direction::FromImp))
+    } else if head == b"NCPJ".as_slice() {
+        Some(Version::Two)
+    } else {
+        None
+    }
+}
+
+/// Reads the header of a file of either version.
+pub fn read_version<S: Source>(window: &mut Window, source: &mut S) -> Result<Version, FileFault>
+    ensures told { (bytes : List ℕ) → Ahead window.old (S.left source.old) bytes → ReadsVersion bytes result window.new (S.left source.new) }
+    ensures mark { S.has_failed source.new ≡ (S.has_failed source.old || is_read_failed result) }
+    ensures other { is_write_failed result ≡ false }
+    ensures reads { reads_beyond S.gives_all (S.reads source.old) (S.left source.old) ≤ reads_beyond S.gives_all (S.reads source.new) (S.left source.new) + 1 }
+    ensures taken { OnOk result (reads_beyond S.gives_all (S.reads source.old) (S.left source.old) ≤ reads_beyond S.gives_all (S.reads source.new) (S.left source.new)) }
+{
+    if !window.need(source, HEADER)? {
+        return Err(FileFault::BadHeader);
+    }
+    let Some(version) = version_in(&window.unread()[..HEADER]) else {
+        return Err(FileFault::BadHeader);
+    };
+    window.skip(HEADER);
+    Ok(version)
+}
+
+/// The direction that a byte names.
+pub(crate) fn direction_by(byte: u8) -> Option<Direction>
+    ensures { result ≡ direction_by byte }
+{
+    match byte {
+        b'H' => Some(Direction::ToImp),
+        b'I' => Some(Direction::FromImp),
+        _ => None,
+    }
+}
+
+// Reads the passage in front of a message, if one begins there. The direction is judged before the
+// host is read.
+#[inline(always)]
+fn read_passage<S: Source>(
+    window: &mut Window,
+    source: &mut S,
+) -> Result<Option<Passage>, FileFault>
+    ensures told { (bytes : List ℕ) → Ahead window.old (S.left source.old) bytes → ReadsOne next_passage bytes result window.new (S.left source.new) }
+    ensures mark { S.has_failed source.new ≡ (S.has_failed source.old || is_read_failed result) }
+    ensures other { is_write_failed result ≡ false }
+    ensures reads { reads_beyond S.gives_all (S.reads source.old) (S.left source.old) ≤ reads_beyond S.gives_all (S.reads source.new) (S.left source.new) + 1 }
+    ensures taken { IfOk result (λ found. is_some found ≡ true → reads_beyond S.gives_all (S.reads source.old) (S.left source.old) ≤ reads_beyond S.gives_all (S.reads source.new) (S.left source.new)) }
+    ensures effort { effort (S.reads source.new) window.new ≤ effort (S.reads source.old) window.old }
+{
+    if !window.need(source, 1)? {
+        return Ok(None);
+    }
+    let Some(direction) = direction_by(window.unread()[0]) else {
+        return Err(FileFault::BadDirection);
+    };
+    if !window.need(source, PASSAGE)? {
+        return Err(FileFault::Truncated);
+    }
+    let host = window.unread()[1];
+    window.skip(PASSAGE);
+    Ok(Some(Passage {
+        direction,
+        at: Some(host),
+    }))
+}
+
+/// The records of a file of one version, and how the next one is found.
+pub(crate) trait Records: Copy {
+    ghost use Rattle.ncp_play_files.specs.declared.version.Version.{Version};
+
+    /// The version of the file.
+    ghost version: { Self → Version };
+
+    /// Reads until the window has the message of the next record, if there is one. What is in front of
+    /// the message is used up.
+    fn find_next<S: Source>(
+        self,
+        window: &mut Window,
+        source: &mut S,
+    ) -> Result<Option<Found>, FileFault>
+        ensures told { (bytes : List ℕ) → Ahead window.old (S.left source.old) bytes → FindsNext (version self) bytes result window.new (S.left source.new) }
+        ensures stands { IfOk result (λ next. IfSome next (λ found. StandsWhole window.new found.len)) }
+        ensures mark { S.has_failed source.new ≡ (S.has_failed source.old || is_read_failed result) }
+        ensures other { is_write_failed result ≡ false }
+        ensures reads { reads_beyond S.gives_all (S.reads source.old) (S.left source.old) ≤ reads_beyond S.gives_all (S.reads source.new) (S.left source.new) + 1 }
+        ensures taken { IfOk result (λ next. is_some next ≡ true → reads_beyond S.gives_all (S.reads source.old) (S.left source.old) ≤ reads_beyond S.gives_all (S.reads source.new) (S.left source.new)) }
+        ensures effort { effort (S.reads source.new) window.new ≤ effort (S.reads source.old) window.old };
+}
+
+/// The records of a file of version 1, whose messages all go this way.
+#[derive(Clone, Copy, Drop)]
+pub(crate) struct PlainRecords {
+    pub direction: Direction,
+}
+
+impl Records for PlainRecords {
+    ghost use Rattle.ncp_play_files.specs.declared.version.Version.TheVariants.{One};
+
+    ghost version = { λ records. One records.direction };
+
+    #[inline(always)]
+    fn find_next<S: Source>(
+        self,
+        window: &mut Window,
+        source: &mut S,
+    ) -> Result<Option<Found>, FileFault> {
+        let Some(len) = need_record(window, source)? else {
+            return Ok(None);
+        };
+        let passage = Passage {
+            direction: self.direction,
+            at: None,
+        };
+        Ok(Some(Found { passage, len }))
+    }
+}
+
+/// The records of a file of version 2. A byte that names no direction is judged before the host behind
+/// it is read, then the message as in version 1.
+#[derive(Clone, Copy, Drop)]
+pub(crate) struct PlacedRecords;
+
+impl Records for PlacedRecords {
+    ghost use Rattle.ncp_play_files.specs.declared.version.Version.TheVariants.{Two};
+
+    ghost version = { λ _. Two };
+
+    #[inline(always)]
+    fn find_next<S: Source>(
+        self,
+        window: &mut Window,
+        source: &mut S,
+    ) -> Result<Option<Found>, FileFault> {
+        let Some(passage) = read_passage(window, source)? else {
+            return Ok(None);
+        };
+        let Some(len) = need_record(window, source)? else {
+            return Err(FileFault::Truncated);
+        };
+        Ok(Some(Found { passage, len }))
+    }
+}
+
+/// Reads the next of these records into `message`, and answers the passage of the message, if there
+/// was one.
+#[inline(always)]
+pub(crate) fn read_next_of<S: Source, R: Records>(
+    window: &mut Window,
+    source: &mut S,
+    records: R,
+    message: &mut Bits,
+) -> Result<Option<Passage>, FileFault>
+    ensures told { (bytes : List ℕ) → Ahead window.old (S.left source.old) bytes → ReadsNext (R.version records) bytes result message.new window.new (S.left source.new) }
+    ensures mark { S.has_failed source.new ≡ (S.has_failed source.old || is_read_failed result) }
+    ensures other { is_write_failed result ≡ false }
+    ensures reads { reads_beyond S.gives_all (S.reads source.old) (S.left source.old) ≤ reads_beyond S.gives_all (S.reads source.new) (S.left source.new) + 1 }
+    ensures taken { IfOk result (λ found. is_some found ≡ true → reads_beyond S.gives_all (S.reads source.old) (S.left source.old) ≤ reads_beyond S.gives_all (S.reads source.new) (S.left source.new)) }
+    ensures effort { IfOk result (λ found. is_some found ≡ true → effort (S.reads source.new) window.new < effort (S.reads source.old) window.old) }
+{
+    let Some(found) = records.find_next(window, source)? else {
+        return Ok(None);
+    };
+    take_record(window, found.len, message)?;
+    Ok(Some(found.passage))
+}
+
+/// Reads the next record of a file of this version into `message`, and answers the passage of the
+/// message, if there was one. In version 2 a byte that names no direction is judged before the host
+/// behind it is read, then the message as in version 1.
+pub fn read_next<S: Source>(
+    window: &mut Window,
+    source: &mut S,
+    version: Version,
+    message: &mut Bits,
+) -> Result<Option<Passage>, FileFault>
+    ensures told { (bytes : List ℕ) → Ahead window.old (S.left source.old) bytes → ReadsNext version bytes result message.new window.new (S.left source.new) }
+    ensures mark { S.has_failed source.new ≡ (S.has_failed source.old || is_read_failed result) }
+    ensures other { is_write_failed result ≡ false }
+    ensures reads { reads_beyond S.gives_all (S.reads source.old) (S.left source.old) ≤ reads_beyond S.gives_all (S.reads source.new) (S.left source.new) + 1 }
+    ensures taken { IfOk result (λ found. is_some found ≡ true → reads_beyond S.gives_all (S.reads source.old) (S.left source.old) ≤ reads_beyond S.gives_all (S.reads source.new) (S.left source.new)) }
+    ensures effort { IfOk result (λ found. is_some found ≡ true → effort (S.reads source.new) window.new < effort (S.reads source.old) window.old) }
+{
+    match version {
+        Version::One(direction) => {
+            read_next_of(window, source, PlainRecords { direction }, message)
+        }
+        Version::Two => read_next_of(window, source, PlacedRecords, message),
+    }
+}

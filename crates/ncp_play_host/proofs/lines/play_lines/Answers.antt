@@ -1,0 +1,45 @@
+use Rattle.std.proofs.Common.{◌∙◌, Option, Ok}
+use Rattle.std.proofs.Math.Bool.{or-false}
+use Rattle.std.proofs.lemmas.Result.{err_from_is_err_and}
+use Rattle.ncp_play_host.specs.declared.lines.LinesEnd.{LinesEnd}
+use Rattle.ncp_play_host.proofs.Does.{does_behind}
+use Rattle.ncp_play_host.proofs.Telling.{tells_end, none_is}
+use Rattle.ncp_play_host.proofs.lines.play_lines.Goals as goal
+
+pub returns-in_err-end-clause-events : goal.returns-in_err-end-clause-events
+returns-in_err-end-clause-events g c = λ bytes ahead.
+    let before = c.loop-end.invariant.events bytes ahead in
+    let p = err_from_is_err_and c.from_residual.result c.from_residual.ensures.1 in
+    before.2 c.from_residual.result c.play_next.new.alone c.play_next.new.lines.window (g.R.Source.left c.play_next.new.source) (rw (p.1, p.2) (c.in_err-end.ensures.events before.0 before.1))
+
+pub returns-in_err-end-clause-told : goal.returns-in_err-end-clause-told
+returns-in_err-end-clause-told g c = λ was first tells.
+    let p = err_from_is_err_and c.from_residual.result c.from_residual.ensures.1 in
+    tells_end (Option LinesEnd) LinesEnd was first c.play_next.new.alone.notes c.from_residual.result p.0 c.play_next.new.heading c.play_next.new.page (g.W.Sink.written c.play_next.new.sink) p.1
+    (rw p.2 (c.in_err-end.ensures.told was first (c.loop-end.invariant.told was first tells)))
+
+pub returns-in-Some-clause-events : goal.returns-in-Some-clause-events
+returns-in-Some-clause-events g c = λ bytes ahead.
+    let before = c.loop-end.invariant.events bytes ahead in
+    before.2 (Ok c.in-Some.end) c.play_next.new.alone c.play_next.new.lines.window (g.R.Source.left c.play_next.new.source) (rw c.in-Some.is at (c.in_ok-end.ensures.events before.0 before.1))
+
+pub returns-in-Some-clause-told : goal.returns-in-Some-clause-told
+returns-in-Some-clause-told g c = λ was first tells. c.in_ok-end.ensures.told was first (c.loop-end.invariant.told was first tells)
+
+pub loop-end-preserved : goal.loop-end-preserved
+loop-end-preserved g c =
+    record {
+      events = λ bytes ahead.
+          let before = c.loop-end.invariant.events bytes ahead in
+          let one = rw (none_is c.in_ok-end.field-0 c.in_default.not-Some) at (c.in_ok-end.ensures.events before.0 before.1) in
+          let asks = one.1 in (
+            asks.0,
+            asks.2,
+            λ r alone window left does.
+                before.2 r alone window left
+                (does_behind c.loop-end.lines.number before.0 one.0 c.loop-end.alone c.play_next.new.alone c.play_next.new.lines (g.R.Source.left c.play_next.new.source) asks one.2 r alone window left does),
+          );
+      told = λ was first tells. c.in_ok-end.ensures.told was first (c.loop-end.invariant.told was first tells);
+      source_mark = c.in_ok-end.ensures.source_mark ∙ or-false _ ∙ c.loop-end.invariant.source_mark;
+      sink_mark = c.in_ok-end.ensures.sink_mark ∙ or-false _ ∙ c.loop-end.invariant.sink_mark;
+    }

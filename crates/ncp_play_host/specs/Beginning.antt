@@ -1,0 +1,52 @@
+-- How a script of one host begins: its first line names the host.
+use Rattle.std.specs.Prelude.{◌≡◌, ℕ, Bool, true, false, List, [], Option, Some, None, Result, Ok, Err}
+use Rattle.ncp_play_stream.specs.Streams.{Ahead}
+use Rattle.ncp_host.specs.Host.{new_host}
+use Rattle.ncp_transcript.specs.declared.input.Input.{Input}
+use Rattle.ncp_transcript.specs.Alone.{Alone}
+use Rattle.ncp_transcript.specs.Runs.{IsTranscript}
+use Rattle.ncp_play_script.specs.FirstLines.{Named, first_of_host}
+use Rattle.ncp_play_script.specs.HostScripts.{host_script}
+use Rattle.ncp_play_script.specs.Scripts as scripts
+use Rattle.ncp_play_script.specs.Scripts.{Course, NoHosts, Plays, lines_of}
+use Rattle.ncp_play_reader.specs.declared.lines.Lines.{Lines}
+use Rattle.ncp_play_reader.specs.NextLines.{next_from, ended_lines, CameBefore}
+use Rattle.ncp_play_notes.specs.declared.fault.PlayFault.{PlayFault}
+use Rattle.ncp_play_notes.specs.declared.fault.PlayFault.TheVariants.{BadLine, LineTooLong, BadHosts, Feed, ReadFailed, WriteFailed, OutOfMemory}
+use Rattle.ncp_play_host.specs.Asking.{course_of, script_of_lines}
+
+-- the host that a first line names, before anything is done to it
+abbrev pub begun_by : Named → Alone
+begun_by named = record { host = new_host named.me named.peers; notes = [] }
+
+-- the host that the words of a first line name; or they name none; or there was no memory
+abbrev pub IsHostOf : List (List ℕ) → Result Alone PlayFault → Type 0
+IsHostOf words (Ok alone) = (named : Named) × (first_of_host words ≡ Some named) × (alone ≡ begun_by named)
+IsHostOf words (Err BadHosts) = first_of_host words ≡ None
+IsHostOf words (Err OutOfMemory) = (named : Named) × (first_of_host words ≡ Some named)
+IsHostOf words (Err (BadLine line)) = ⊥
+IsHostOf words (Err (LineTooLong line)) = ⊥
+IsHostOf words (Err (Feed fault)) = ⊥
+IsHostOf words (Err ReadFailed) = ⊥
+IsHostOf words (Err WriteFailed) = ⊥
+
+-- the first line names this host, and the lines behind it follow; one that no LF ends is the last. Where a read fails
+-- behind it, the lines that came whole name the same host, and ask for what those behind it do
+abbrev pub IsBegun : List ℕ → Alone → Bool → Lines → Option (List ℕ) → Type 0
+IsBegun bytes alone ended now left =
+    (named : Named) × (behind : List ℕ) × (host_script bytes ≡ Plays named (course_of now.number (lines_of behind))) × (alone ≡ begun_by named) × Ahead now.window left behind
+    × (ended ≡ false → behind ≡ [])
+    × (ended ≡ true → (left' : Option (List ℕ)) (given : List ℕ) → CameBefore behind left' given
+    → (came : List ℕ) × CameBefore bytes left' came × (script_of_lines (ended_lines (lines_of came)) ≡ Plays named (course_of now.number (ended_lines (lines_of given)))))
+
+-- how the script that bytes are begins, by the answer; where there was no memory for the host, the empty list is
+-- a transcript of it; where a read failed, the lines that came whole are skipped
+abbrev pub Begins : List ℕ → Result (Alone × Bool) PlayFault → Lines → Option (List ℕ) → Type 0
+Begins bytes (Ok (alone, ended)) now left = IsBegun bytes alone ended now left
+Begins bytes (Err BadHosts) now left = host_script bytes ≡ NoHosts scripts.BadHosts
+Begins bytes (Err (LineTooLong line)) now left = host_script bytes ≡ NoHosts (scripts.LineTooLong line)
+Begins bytes (Err OutOfMemory) now left = (named : Named) × (course : Course Input) × (host_script bytes ≡ Plays named course) × IsTranscript [] (begun_by named).host
+Begins bytes (Err ReadFailed) now left = (given : List ℕ) × CameBefore bytes left given × (next_from 1 (ended_lines (lines_of given)) ≡ None)
+Begins bytes (Err (BadLine line)) now left = ⊥
+Begins bytes (Err (Feed fault)) now left = ⊥
+Begins bytes (Err WriteFailed) now left = ⊥

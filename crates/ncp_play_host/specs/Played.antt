@@ -1,0 +1,126 @@
+-- What the player of a script of one host does and writes, by its answer (this profile).
+use Rattle.std.specs.Prelude.{◌≡◌, ◌⊎◌, ℕ, Bool, not, List, [], ◌++◌, Option, Some, None, Result, Ok, Err}
+use Rattle.std.specs.List.{list_any}
+use Rattle.ncp_transcript.specs.declared.input.Input.{Input}
+use Rattle.ncp_transcript.specs.declared.note.HostNote.{HostNote}
+use Rattle.ncp_transcript.specs.Alone.{Alone, AreSteps}
+use Rattle.ncp_transcript.specs.Notes.{is_refusal}
+use Rattle.ncp_transcript.specs.Runs.{IsTranscript}
+use Rattle.ncp_play_script.specs.FirstLines.{Named}
+use Rattle.ncp_play_script.specs.HostScripts.{host_script}
+use Rattle.ncp_play_script.specs.Scripts as scripts
+use Rattle.ncp_play_script.specs.Scripts.{Line, Course, Ending, ScriptFault, Script, NoHosts, Plays, Over, Fed, Faulty, lines_of}
+use Rattle.ncp_play_reader.specs.NextLines.{next_from, ended_lines, CameBefore}
+use Rattle.ncp_play_feed.specs.Feeds.{FeedDoes}
+use Rattle.ncp_play_notes.specs.declared.fault.PlayFault.{PlayFault}
+use Rattle.ncp_play_notes.specs.declared.fault.PlayFault.TheVariants.{BadLine, LineTooLong, BadHosts, Feed, ReadFailed, WriteFailed, OutOfMemory}
+use Rattle.ncp_play_notes.specs.declared.heading.Speaker.TheVariants.{Host}
+use Rattle.ncp_play_notes.specs.declared.heading.Heading.{Heading}
+use Rattle.ncp_play_notes.specs.NoteLines.{lines_from}
+use Rattle.ncp_play_notes.specs.Playing.{TellsAs}
+use Rattle.ncp_play_host.specs.Asking.{course_of, script_of_lines}
+use Rattle.ncp_play_host.specs.Doing.{DoesAll, DoesFirst}
+use Rattle.ncp_play_host.specs.Beginning.{begun_by}
+
+-- ---- what is done to the host
+
+-- a fault of a script, as the player answers it
+abbrev pub fault_of : ScriptFault → PlayFault
+fault_of (scripts.BadLine line) = BadLine line
+fault_of (scripts.LineTooLong line) = LineTooLong line
+fault_of scripts.BadHosts = BadHosts
+
+-- what the end of the lines asks for: nothing, that the bytes behind them be fed, or that their fault be answered
+abbrev pub EndDoes : Ending → Alone → Result Unit PlayFault → Alone → Option (List ℕ) → Type 0
+EndDoes Over before r now left = (r ≡ Ok tt) × (now ≡ before)
+EndDoes (Fed feed) before r now left = FeedDoes feed before r now left
+EndDoes (Faulty fault) before r now left = (r ≡ Err (fault_of fault)) × (now ≡ before)
+
+-- all inputs were done that lines ask for, one after the other, and then what their end asks for
+abbrev pub CourseDoes : Course Input → Alone → Result Unit PlayFault → Alone → Option (List ℕ) → Type 0
+CourseDoes course before r now left = (mid : Alone) × AreSteps course.events before mid × EndDoes course.ending mid r now left
+
+-- what the lines of bytes did to a host, the first of this number, and what their end did, by the answer. Where there
+-- was no memory for a line, or a write failed, the first inputs were done; where a read failed, those of the lines that
+-- came whole
+abbrev pub BehindDoes : ℕ → List ℕ → Alone → Result Unit PlayFault → Alone → Option (List ℕ) → Type 0
+BehindDoes first bytes before (Err ReadFailed) now left = (given : List ℕ) × CameBefore bytes left given × DoesAll (course_of first (ended_lines (lines_of given))) Over before now
+BehindDoes first bytes before (Err OutOfMemory) now left = CourseDoes (course_of first (lines_of bytes)) before (Err OutOfMemory) now left ⊎ DoesFirst (course_of first (lines_of bytes)) before now
+BehindDoes first bytes before (Err WriteFailed) now left = CourseDoes (course_of first (lines_of bytes)) before (Err WriteFailed) now left ⊎ DoesFirst (course_of first (lines_of bytes)) before now
+BehindDoes first bytes before (Ok done) now left = CourseDoes (course_of first (lines_of bytes)) before (Ok done) now left
+BehindDoes first bytes before (Err (BadLine line)) now left = CourseDoes (course_of first (lines_of bytes)) before (Err (BadLine line)) now left
+BehindDoes first bytes before (Err (LineTooLong line)) now left = CourseDoes (course_of first (lines_of bytes)) before (Err (LineTooLong line)) now left
+BehindDoes first bytes before (Err BadHosts) now left = CourseDoes (course_of first (lines_of bytes)) before (Err BadHosts) now left
+BehindDoes first bytes before (Err (Feed fault)) now left = CourseDoes (course_of first (lines_of bytes)) before (Err (Feed fault)) now left
+
+-- ---- its transcript
+
+-- the notes of all that a script asks for: a transcript of the host that its first line names
+abbrev pub ScriptDoes : Script Named Input → Result Unit PlayFault → List HostNote → Option (List ℕ) → Type 0
+ScriptDoes (NoHosts fault) r notes left = (r ≡ Err (fault_of fault)) × (notes ≡ [])
+ScriptDoes (Plays named course) r notes left = (now : Alone) × CourseDoes course (begun_by named) r now left × (notes ≡ now.notes) × IsTranscript notes now.host
+
+-- the notes of the first inputs that it asks for
+abbrev pub ScriptBegins : Script Named Input → List HostNote → Type 0
+ScriptBegins (NoHosts fault) notes = ⊥
+ScriptBegins (Plays named course) notes = (now : Alone) × DoesFirst course (begun_by named) now × (notes ≡ now.notes) × IsTranscript notes now.host
+
+-- the notes of a script that names its host, and in which no fault is
+abbrev pub WholeDoes : Script Named Input → List HostNote → Type 0
+WholeDoes (NoHosts fault) notes = ⊥
+WholeDoes (Plays named course) notes = (now : Alone) × DoesAll course Over (begun_by named) now × (notes ≡ now.notes) × IsTranscript notes now.host
+
+-- the notes of the lines of a script that came whole, in which no fault is; where all of them are skipped, there is none
+abbrev pub LinesCame : List Line → List HostNote → Type 0
+LinesCame lines notes = ((next_from 1 lines ≡ None) × (notes ≡ [])) ⊎ WholeDoes (script_of_lines lines) notes
+
+-- the notes of the script that bytes are, by the answer
+abbrev pub HostDoes : List ℕ → Result Unit PlayFault → List HostNote → Option (List ℕ) → Type 0
+HostDoes bytes (Err ReadFailed) notes left = (given : List ℕ) × CameBefore bytes left given × LinesCame (ended_lines (lines_of given)) notes
+HostDoes bytes (Err OutOfMemory) notes left = ScriptDoes (host_script bytes) (Err OutOfMemory) notes left ⊎ ScriptBegins (host_script bytes) notes
+HostDoes bytes (Err WriteFailed) notes left = ScriptDoes (host_script bytes) (Err WriteFailed) notes left ⊎ ScriptBegins (host_script bytes) notes
+HostDoes bytes (Ok done) notes left = ScriptDoes (host_script bytes) (Ok done) notes left
+HostDoes bytes (Err (BadLine line)) notes left = ScriptDoes (host_script bytes) (Err (BadLine line)) notes left
+HostDoes bytes (Err (LineTooLong line)) notes left = ScriptDoes (host_script bytes) (Err (LineTooLong line)) notes left
+HostDoes bytes (Err BadHosts) notes left = ScriptDoes (host_script bytes) (Err BadHosts) notes left
+HostDoes bytes (Err (Feed fault)) notes left = ScriptDoes (host_script bytes) (Err (Feed fault)) notes left
+
+-- a call was refused
+abbrev pub has_refusal : List HostNote → Bool
+has_refusal notes = list_any is_refusal notes
+
+-- the notes, by the answer; where all was done it is that no call was refused
+abbrev pub Answers : List ℕ → Result Bool PlayFault → List HostNote → Option (List ℕ) → Type 0
+Answers bytes (Ok good) notes left = HostDoes bytes (Ok tt) notes left × (good ≡ not (has_refusal notes))
+Answers bytes (Err fault) notes left = HostDoes bytes (Err fault) notes left
+
+-- ---- what is written
+
+-- the first line has the number 1, and no line names the host
+abbrev pub first_heading : Heading
+first_heading = record { number = 1; speaker = Host }
+
+-- what was said of a script before the page is written
+abbrev pub Says : List ℕ → List ℕ → Result Bool PlayFault → Option (List ℕ) → List ℕ → Option (List ℕ) → Type 0
+Says bytes was r left page written = (notes : List HostNote) × (heading : Heading) × Answers bytes r notes left × TellsAs was first_heading notes r heading page written
+
+-- the lines of all notes were written behind what was there, and nothing else
+abbrev pub WritesAll : List ℕ → List ℕ → Result Bool PlayFault → Option (List ℕ) → Option (List ℕ) → Type 0
+WritesAll bytes was r left written = (notes : List HostNote) × Answers bytes r notes left × (written ≡ Some (was ++ lines_from first_heading notes))
+
+-- a beginning of them was, whatever else there was to answer
+abbrev pub WritesBeginning : List ℕ → List ℕ → Option (List ℕ) → Option (List ℕ) → Type 0
+WritesBeginning bytes was left written =
+    (r : Result Bool PlayFault) × (notes : List HostNote) × (text : List ℕ) × (more : List ℕ) × Answers bytes r notes left
+    × (text ++ more ≡ lines_from first_heading notes) × (written ≡ Some (was ++ text))
+
+-- what the player writes of bytes, by its answer
+abbrev pub HostPlayed : List ℕ → List ℕ → Result Bool PlayFault → Option (List ℕ) → Option (List ℕ) → Type 0
+HostPlayed bytes was (Ok good) left written = WritesAll bytes was (Ok good) left written
+HostPlayed bytes was (Err WriteFailed) left written = WritesBeginning bytes was left written
+HostPlayed bytes was (Err (BadLine line)) left written = WritesAll bytes was (Err (BadLine line)) left written
+HostPlayed bytes was (Err (LineTooLong line)) left written = WritesAll bytes was (Err (LineTooLong line)) left written
+HostPlayed bytes was (Err BadHosts) left written = WritesAll bytes was (Err BadHosts) left written
+HostPlayed bytes was (Err (Feed fault)) left written = WritesAll bytes was (Err (Feed fault)) left written
+HostPlayed bytes was (Err ReadFailed) left written = WritesAll bytes was (Err ReadFailed) left written
+HostPlayed bytes was (Err OutOfMemory) left written = WritesAll bytes was (Err OutOfMemory) left written

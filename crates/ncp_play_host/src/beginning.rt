@@ -1,0 +1,54 @@
+//! The first line of a script of one host.
+ghost use Rattle.std.specs.Prelude.{◌≡◌, ℕ, List, ◌||◌, false};
+ghost use Rattle.ncp_play_stream.specs.Streams.{Ahead};
+ghost use Rattle.ncp_play_notes.specs.Faults.{is_read_failed, is_write_failed};
+ghost use Rattle.ncp_play_host.specs.Beginning.{IsHostOf, Begins};
+
+use ncp_bits::BitStore;
+use ncp_host::HostFault;
+use ncp_play_notes::PlayFault;
+use ncp_play_reader::{Lines, NextLine, next_played};
+use ncp_play_script::{Words, host_named};
+use ncp_play_stream::Source;
+use ncp_transcript::Alone;
+use std::alloc::Global;
+
+// The host that the words of a first line name.
+fn host_of_words<S: BitStore>(alloc: Global, words: &mut Words<'_>) -> Result<Alone<S>, PlayFault>
+    ensures told { IsHostOf words.old result }
+    ensures read { is_read_failed result ≡ false }
+    ensures write { is_write_failed result ≡ false }
+{
+    let Some(hosts) = host_named(words) else {
+        return Err(PlayFault::BadHosts);
+    };
+    match Alone::new(alloc, hosts.me, hosts.peers.as_slice()) {
+        Ok(alone) => Ok(alone),
+        Err(HostFault::BadPeers) => Err(PlayFault::BadHosts),
+        Err(HostFault::OutOfMemory) => Err(PlayFault::OutOfMemory),
+    }
+}
+
+/// Reads the first line of a script, and makes the host that it names. It answers too whether an LF ended the
+/// line: else it is the last.
+pub(crate) fn begin<S: BitStore, R: Source>(
+    alloc: Global,
+    lines: &mut Lines,
+    source: &mut R,
+) -> Result<(Alone<S>, bool), PlayFault>
+    requires { lines.old.number ≡ 1 }
+    ensures told { (bytes : List ℕ) → Ahead lines.old.window (R.left source.old) bytes → Begins bytes result lines.new (R.left source.new) }
+    ensures mark { R.has_failed source.new ≡ (R.has_failed source.old || is_read_failed result) }
+    ensures other { is_write_failed result ≡ false }
+{
+    match next_played(lines, source) {
+        Ok(NextLine::Over) => Err(PlayFault::BadHosts),
+        Ok(NextLine::TooLong(number)) => Err(PlayFault::LineTooLong(number)),
+        Ok(NextLine::Played { ended, .. }) => {
+            let mut words = Words::new(lines.line.text(ended));
+            let alone = host_of_words(alloc, &mut words)?;
+            Ok((alone, ended))
+        }
+        Err(_) => Err(PlayFault::ReadFailed),
+    }
+}

@@ -1,0 +1,113 @@
+//! `play_host`: a script of one host, played.
+ghost use Rattle.std.specs.Prelude.{◌≡◌, ℕ, List, ◌||◌, [], Some, true, false};
+ghost use Rattle.ncp_play_stream.specs.Streams.{Ahead, SaidSoFar};
+ghost use Rattle.ncp_play_notes.specs.Faults.{is_read_failed, is_write_failed};
+ghost use Rattle.ncp_play_notes.specs.Playing.{TellsAs};
+ghost use Rattle.ncp_play_notes.specs.declared.heading.Heading.{Heading as Beginning};
+ghost use Rattle.ncp_play_host.specs.Played.{has_refusal, first_heading, BehindDoes, Says, HostPlayed};
+
+use crate::beginning::begin;
+use crate::lines::{LinesEnd, play_lines};
+use ncp_bits::BitStore;
+use ncp_play_feed::feed;
+use ncp_play_notes::{Heading, PlayFault, Speaker};
+use ncp_play_page::Page;
+use ncp_play_reader::Lines;
+use ncp_play_stream::{Sink, Source};
+use ncp_transcript::{Alone, HostNote};
+use std::alloc::Global;
+
+// Whether a call was refused.
+fn has_refusal(notes: &[HostNote]) -> bool
+    ensures { result ≡ has_refusal notes.now }
+{
+    notes.iter().any(|note| note.is_refusal())
+}
+
+// Plays the lines behind the first, and the feed behind them. Where no LF `ended` the first line there is none.
+fn play_behind<S: BitStore, R: Source, W: Sink>(
+    alloc: Global,
+    alone: &mut Alone<S>,
+    ended: bool,
+    lines: &mut Lines,
+    source: &mut R,
+    page: &mut Page,
+    sink: &mut W,
+) -> Result<(), PlayFault>
+    ensures events { (bytes : List ℕ) → Ahead lines.old.window (R.left source.old) bytes → (ended ≡ false → bytes ≡ []) → BehindDoes lines.old.number bytes alone.old result alone.new (R.left source.new) }
+    ensures whole { ended ≡ false → is_read_failed result ≡ false }
+    ensures told { (was : List ℕ) → alone.old.notes ≡ [] → SaidSoFar was page.old (W.written sink.old) [] → (heading : Beginning) × TellsAs was first_heading alone.new.notes result heading page.new (W.written sink.new) }
+    ensures source_mark { R.has_failed source.new ≡ (R.has_failed source.old || is_read_failed result) }
+    ensures sink_mark { W.has_failed sink.new ≡ (W.has_failed sink.old || is_write_failed result) }
+{
+    if !ended {
+        return Ok(());
+    }
+    let mut heading = Heading {
+        number: 1,
+        speaker: Speaker::Host,
+    };
+    match play_lines(alloc, alone, &mut heading, lines, source, page, sink)? {
+        LinesEnd::Over => Ok(()),
+        LinesEnd::FeedBehind => feed(alone, &mut heading, &mut lines.window, source, page, sink),
+    }
+}
+
+// Plays a script, but for what stays on the page.
+fn play_script<S: BitStore, R: Source, W: Sink>(
+    alloc: Global,
+    source: &mut R,
+    page: &mut Page,
+    sink: &mut W,
+) -> Result<bool, PlayFault>
+    ensures told { (bytes : List ℕ) (was : List ℕ) → R.left source.old ≡ Some bytes → SaidSoFar was page.old (W.written sink.old) [] → Says bytes was result (R.left source.new) page.new (W.written sink.new) }
+    ensures source_mark { R.has_failed source.new ≡ (R.has_failed source.old || is_read_failed result) }
+    ensures sink_mark { W.has_failed sink.new ≡ (W.has_failed sink.old || is_write_failed result) }
+{
+    let mut lines = Lines::new();
+    let (mut alone, ended) = begin::<S, R>(alloc, &mut lines, source)?;
+    let played = play_behind(alloc, &mut alone, ended, &mut lines, source, page, sink);
+    let good = !has_refusal(alone.transcript());
+    played?;
+    Ok(good)
+}
+
+/// Plays a script of one host, and writes the lines of what it did, one for each line that is played and each
+/// message that is fed. It answers whether no call was refused, or why the script was not played to its end:
+/// what was played before stays written.
+///
+/// `BadHosts` is answered too where a host cannot have the peers that the first line names. After `ReadFailed`
+/// the lines that came whole were played, after `Feed(ReadFailed)` the messages that came whole; after
+/// `OutOfMemory` the first inputs; after `WriteFailed` a beginning of the lines is written. It reads and writes in
+/// pieces, in time linear in the script and in what the host does, and its memory grows with the notes alone
+/// (measured, not proved).
+pub fn play_host<S: BitStore, R: Source, W: Sink>(
+    alloc: Global,
+    source: &mut R,
+    sink: &mut W,
+) -> Result<bool, PlayFault>
+    requires source_clean { R.has_failed source.old ≡ false }
+    requires sink_clean { W.has_failed sink.old ≡ false }
+
+    // Of bytes that are told, the lines of the notes of one host are written, and nothing else: of the host that
+    // the first line names, and of the inputs that the lines behind it ask for. The notes are a transcript of that
+    // host, so all that is proved of transcripts holds of them.
+    ensures told { (bytes : List ℕ) (was : List ℕ)
+        → R.left source.old ≡ Some bytes → W.written sink.old ≡ Some was
+        → HostPlayed bytes was result (R.left source.new) (W.written sink.new) }
+
+    // Reading and writing are blamed only where they failed.
+    ensures read_failed { is_read_failed result ≡ true → R.has_failed source.new ≡ true }
+    ensures write_failed { W.has_failed sink.new ≡ is_write_failed result }
+    ensures blamed { R.has_failed source.new ≡ true → (is_read_failed result || is_write_failed result) ≡ true }
+{
+    let mut page = Page::new();
+    let played = play_script::<S, R, W>(alloc, source, &mut page, sink);
+    if sink.failed() {
+        return played;
+    }
+    match page.flush(sink) {
+        Ok(()) => played,
+        Err(_) => Err(PlayFault::WriteFailed),
+    }
+}

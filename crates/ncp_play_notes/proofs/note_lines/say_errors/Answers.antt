@@ -1,0 +1,41 @@
+use Rattle.std.proofs.Common.{◌∙◌, List, [], take, drop, get_or, refl, sym, subst, arith}
+use Rattle.std.proofs.Math.Bool.{or-false}
+use Rattle.std.proofs.Math.ListN.{drop_of_length-le}
+use Rattle.std.proofs.lemmas.List.{take-append-drop, take_more}
+use Rattle.ncp_model.specs.declared.outcomes.Error.{Error}
+use Rattle.ncp_play_stream.specs.Streams.{SaysText}
+use Rattle.ncp_play_stream.proofs.Saying.{answers_broken, says_none, says_item, says_items, says_items_broken}
+use Rattle.ncp_play_notes.specs.Results.{error_line, error_lines}
+use Rattle.ncp_play_notes.proofs.note_lines.say_errors.Goals as goal
+
+pub loop-error-init : goal.loop-error-init
+loop-error-init g c = record {
+  said = says_none error_line c.args.page.now (g.W.Sink.written c.args.sink.now);
+  writes = omega arith;
+  mark = refl;
+}
+
+pub returns-in_err-make_room-clause-told : goal.returns-in_err-make_room-clause-told
+returns-in_err-make_room-clause-told g c =
+    let w = g.W.Sink in let errors = c.args.errors.now in let i = c.loop-error.error-index in
+    answers_broken c.args.page.now (error_lines errors) (w.written c.args.sink.now) (w.written c.make_room.new.sink) c.make_room.new.self c.from_residual.result c.from_residual.ensures.0
+    (says_items_broken error_line c.args.page.now c.loop-error.page (w.written c.args.sink.now) (w.written c.loop-error.sink) (w.written c.make_room.new.sink) (take i errors) (drop i errors) errors c.loop-error.invariant.said
+    c.in_err-make_room.ensures.err (take-append-drop i errors))
+
+pub loop-error-preserved : goal.loop-error-preserved
+loop-error-preserved g c =
+    let w = g.W.Sink in let errors = c.args.errors.now in let i = c.loop-error.error-index in
+    let item : Error = get_or errors i (record { code = 0; bytes = [] }) in
+    record {
+      said = subst (λ (done : List Error). SaysText c.args.page.now (w.written c.args.sink.now) (error_lines done) c.push_error_line.new.page (w.written c.make_room.new.sink)) (sym (take_more errors i (record { code = 0; bytes = [] }) c.loop-error-test.true))
+          (says_item error_line c.args.page.now c.loop-error.page c.make_room.new.self c.push_error_line.new.page (w.written c.args.sink.now) (w.written c.loop-error.sink) (w.written c.make_room.new.sink) (take i errors) item
+          c.loop-error.invariant.said c.in_ok-make_room.ensures.ok c.push_error_line.ensures);
+      writes = let one = c.in_ok-make_room.ensures.writes in omega (arith, one, c.loop-error.invariant.writes);
+      mark = c.in_ok-make_room.ensures.mark ∙ or-false _ ∙ c.loop-error.invariant.mark;
+    }
+
+pub returns-clause-told : goal.returns-clause-told
+returns-clause-told g c =
+    let w = g.W.Sink in let errors = c.args.errors.now in let i = c.loop-error.error-index in
+    says_items error_line c.args.page.now c.loop-error.page (w.written c.args.sink.now) (w.written c.loop-error.sink) (take i errors) (drop i errors) errors c.loop-error.invariant.said (take-append-drop i errors)
+    (drop_of_length-le errors c.loop-error-test.false)

@@ -1,0 +1,45 @@
+-- What a player of one host has said, and what it does with one input.
+use Rattle.std.specs.Prelude.{◌≡◌, ℕ, List, Option, Result, Ok, Err}
+use Rattle.ncp_transcript.specs.declared.input.Input.{Input}
+use Rattle.ncp_transcript.specs.declared.note.HostNote.{HostNote}
+use Rattle.ncp_transcript.specs.Alone.{Alone, IsStep}
+use Rattle.ncp_play_stream.specs.Streams.{SaidSoFar}
+use Rattle.ncp_play_notes.specs.declared.fault.PlayFault.{PlayFault}
+use Rattle.ncp_play_notes.specs.declared.fault.PlayFault.TheVariants.{BadLine, LineTooLong, BadHosts, Feed, ReadFailed, WriteFailed, OutOfMemory}
+use Rattle.ncp_play_notes.specs.declared.heading.Heading.{Heading}
+use Rattle.ncp_play_notes.specs.NoteLines.{lines_from, heading_after}
+
+-- the lines of these notes were said since the sink held `was`, and nothing else; the next note has this heading
+abbrev pub Tells : List ℕ → Heading → List HostNote → Heading → List ℕ → Option (List ℕ) → Type 0
+Tells was first notes heading page written = (heading ≡ heading_after first notes) × SaidSoFar was page written (lines_from first notes)
+
+-- a beginning of them was written
+abbrev pub TellsBeginning : List ℕ → Heading → List HostNote → Option (List ℕ) → Type 0
+TellsBeginning was first notes written = (lost : List ℕ) × SaidSoFar was lost written (lines_from first notes)
+
+-- ---- one input
+
+-- what was done to a host, by the answer: the input; or there was no memory, and nothing has happened; or the
+-- input, and a write failed
+abbrev pub Does : Input → Alone → Result Unit PlayFault → Alone → Type 0
+Does input before (Ok done) now = IsStep input before now
+Does input before (Err OutOfMemory) now = now ≡ before
+Does input before (Err WriteFailed) now = IsStep input before now
+Does input before (Err (Feed fault)) now = ⊥
+Does input before (Err ReadFailed) now = ⊥
+Does input before (Err BadHosts) now = ⊥
+Does input before (Err (BadLine line)) now = ⊥
+Does input before (Err (LineTooLong line)) now = ⊥
+
+-- ---- what is told
+
+-- the lines of all notes were told; where a write failed a beginning of them was written
+abbrev pub TellsAs : {X : Type 0} → List ℕ → Heading → List HostNote → Result X PlayFault → Heading → List ℕ → Option (List ℕ) → Type 0
+TellsAs was first notes (Ok x) heading page written = Tells was first notes heading page written
+TellsAs was first notes (Err WriteFailed) heading page written = TellsBeginning was first notes written
+TellsAs was first notes (Err OutOfMemory) heading page written = Tells was first notes heading page written
+TellsAs was first notes (Err (Feed fault)) heading page written = Tells was first notes heading page written
+TellsAs was first notes (Err ReadFailed) heading page written = Tells was first notes heading page written
+TellsAs was first notes (Err BadHosts) heading page written = Tells was first notes heading page written
+TellsAs was first notes (Err (BadLine line)) heading page written = Tells was first notes heading page written
+TellsAs was first notes (Err (LineTooLong line)) heading page written = Tells was first notes heading page written

@@ -1,0 +1,124 @@
+-- What a line says of a call: its result, behind the words that name the call (this profile).
+use Rattle.std.specs.Prelude.{ℕ, Bool, not, ◌||◌, List, [], ◌++◌, length, Option, Some, None, codes, if◌then◌else◌}
+use Rattle.std.specs.Int.{from_bool}
+use Rattle.std.specs.List.{flat_map}
+use Rattle.ncp_terms.specs.declared.command.Command.TheVariants.{Err as Error_of}
+use Rattle.std.specs.declared.result.Result.TheVariants.{Ok}
+use Rattle.ncp_model.specs.declared.call_fault.CallFault.{CallFault}
+use Rattle.ncp_model.specs.declared.outcomes.Error.{Error}
+use Rattle.ncp_model.specs.Faults.{name_of}
+use Rattle.ncp_conn.specs.declared.record.End.{End}
+use Rattle.ncp_conn.specs.declared.record.End.TheVariants.{Send, Receive}
+use Rattle.ncp_conn.specs.declared.record.Record.{Record}
+use Rattle.ncp_host.specs.declared.counts.Counts.{Counts}
+use Rattle.ncp_host.specs.declared.counts.Ignored.{Ignored}
+use Rattle.ncp_host.specs.declared.flags.Flags.{Flags}
+use Rattle.ncp_transcript.specs.declared.note.HostNote.{HostNote}
+use Rattle.ncp_transcript.specs.declared.note.HostNote.TheVariants as notes
+use Rattle.ncp_play_page.specs.Lines.{field}
+use Rattle.ncp_play_files.specs.Lines.{text_word, item_line}
+use Rattle.ncp_play_files.specs.Checked.{capped}
+
+abbrev pub refused_words : CallFault → List ℕ
+refused_words fault = codes " refused " ++ name_of fault
+
+-- a text that was taken, as a line of a text has it
+abbrev pub took_words : List Bool → List ℕ
+took_words text = field (codes " ok bits=") (length text) ++ text_word text
+
+-- ---- the state of a connection
+
+abbrev pub end_name : End → List ℕ
+end_name Send = codes "send"
+end_name Receive = codes "receive"
+
+-- 1 where it is set, else 0
+abbrev pub flag : List ℕ → Bool → List ℕ
+flag name set = field name (from_bool set)
+
+-- a number, or `-` where it is not known yet
+abbrev pub field_known : List ℕ → Bool → ℕ → List ℕ
+field_known name known number = if known then field name number else name ++ codes "-"
+
+-- the receiver chooses the link: it is known there once that end asked, and at the sender once this was heard
+abbrev pub is_link_known : End → Record → Bool
+is_link_known Receive r = r.asked
+is_link_known Send r = r.heard
+
+-- the sender chooses the size
+abbrev pub is_size_known : End → Record → Bool
+is_size_known Send r = r.asked
+is_size_known Receive r = r.heard
+
+abbrev pub mark_words : Record → List ℕ
+mark_words r =
+    flag (codes " asked=") r.asked ++ flag (codes " heard=") r.heard ++ flag (codes " opened=") r.opened ++ flag (codes " leaving=") r.leaving
+    ++ flag (codes " left=") r.left ++ flag (codes " cls=") r.cls
+
+abbrev pub number_words : Record → List ℕ
+number_words r =
+    field_known (codes " link=") (is_link_known r.end r) r.link ++ field_known (codes " size=") (is_size_known r.end r) r.size
+    ++ field (codes " messages=") r.messages ++ field (codes " bits=") r.bits ++ field (codes " stored=") r.stored
+    ++ field (codes " interrupts=") r.interrupts
+
+abbrev pub state_words : Record → List ℕ
+state_words r = codes " ok end=" ++ end_name r.end ++ mark_words r ++ number_words r
+
+-- ---- what is kept of a peer
+
+-- a word where a flag is set
+abbrev pub word_if : Bool → List ℕ → List ℕ
+word_if set word = if set then word else []
+
+abbrev pub set_flags : Flags → List ℕ
+set_flags flags =
+    word_if flags.down (codes " down") ++ word_if flags.want (codes " want") ++ word_if flags.owe (codes " owe") ++ word_if flags.wait (codes " wait")
+
+-- the flags that are set, or that the host is up
+abbrev pub flag_words : Flags → List ℕ
+flag_words flags = if not (flags.down || flags.want || flags.owe || flags.wait) then codes " up" else set_flags flags
+
+abbrev pub phase_words : Flags → List ℕ
+phase_words flags = codes " ok" ++ flag_words flags
+
+-- the byte that an echo last brought back, if one has
+abbrev pub echoed_words : Option ℕ → List ℕ
+echoed_words None = codes " ok none"
+echoed_words (Some byte) = field (codes " ok ") byte
+
+-- how many ERRs there are; the number stays at the largest
+abbrev pub errors_words : List Error → List ℕ
+errors_words errors = field (codes " ok ") (capped (length errors))
+
+-- and a line for each, as the detail line of a command
+abbrev pub error_line : Error → List ℕ
+error_line error = item_line (Ok (Error_of error.code error.bytes))
+
+abbrev pub error_lines : List Error → List ℕ
+error_lines errors = flat_map error_line errors
+
+-- ---- counts
+
+abbrev pub counts_words : Counts → List ℕ
+counts_words counts =
+    field (codes " ok stray=") counts.stray ++ field (codes " faults=") counts.faults ++ field (codes " wrong-link=") counts.wrong_link
+    ++ field (codes " wrong-size=") counts.wrong_size ++ field (codes " not-up=") counts.not_up ++ field (codes " late=") counts.late
+    ++ field (codes " over=") counts.over
+
+abbrev pub ignored_words : Ignored → List ℕ
+ignored_words ignored =
+    field (codes " ok short=") ignored.short ++ field (codes " other=") ignored.other ++ field (codes " unknown=") ignored.unknown
+
+-- ---- the result of the call that a note is of
+
+abbrev pub result_words : HostNote → List ℕ
+result_words (notes.Refused call fault) = refused_words fault
+result_words (notes.Done call) = codes " ok"
+result_words (notes.Took peer pair bytes text) = took_words text
+result_words (notes.State peer pair r) = state_words r
+result_words (notes.Phase peer flags) = phase_words flags
+result_words (notes.Echoed peer byte) = echoed_words byte
+result_words (notes.Errors peer errors) = errors_words errors
+result_words (notes.Counts peer counts) = counts_words counts
+result_words (notes.Ignored ignored) = ignored_words ignored
+result_words other = []

@@ -1,0 +1,36 @@
+//! What became of bits that came, in words.
+ghost use Rattle.std.specs.Prelude.{◌≡◌, ◌+◌, ◌≤◌, ◌++◌, length};
+ghost use Rattle.ncp_play_notes.specs.Arrived.{received_words};
+
+use ncp_host::Received;
+use ncp_play_page::{LONGEST_NUMBER, PAGE_SIZE, Page, push_field};
+
+/// How many bytes the words have at most that say what became of bits.
+pub const LONGEST_RECEIVED: usize = 8 + LONGEST_NUMBER;
+
+/// Appends what became of bits that came, in words. There has to be room for [`LONGEST_RECEIVED`].
+pub fn push_received(page: &mut Page, received: Received)
+    requires { length page.old + LONGEST_RECEIVED ≤ PAGE_SIZE }
+    ensures bytes { page.new ≡ page.old ++ received_words received }
+    ensures len { length page.new ≤ length page.old + LONGEST_RECEIVED }
+{
+    match received {
+        Received::Short => page.push_text(b"short"),
+        Received::Other(kind) => push_field(page, b"other ", u32::from(kind)),
+        Received::Unknown => page.push_text(b"unknown"),
+        Received::Stray => page.push_text(b"stray"),
+        Received::Answered => page.push_text(b"answered"),
+        Received::Fault(fault) => {
+            page.push_text(b"fault ");
+            page.push_text(fault.name().as_bytes());
+        }
+        Received::WrongLink => page.push_text(b"wrong-link"),
+        Received::WrongSize => page.push_text(b"wrong-size"),
+        Received::Control(commands) => push_field(page, b"control ", commands),
+        Received::Text(took) => {
+            page.push_text(b"text ");
+            page.push_text(took.name().as_bytes());
+        }
+        Received::NotUp => page.push_text(b"text not-up"),
+    }
+}

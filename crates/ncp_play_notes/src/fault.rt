@@ -1,0 +1,110 @@
+//! `PlayFault`.
+ghost use Rattle.std.specs.Prelude.{◌≡◌, ◌+◌, ◌*◌, ◌≤◌, ◌||◌, ◌++◌, ℕ, List, Some, length, is_err};
+ghost use Rattle.ncp_play_notes.specs.Faults.{number_of, name_of, line_of, place_words, fault_line, Wrote};
+
+use ncp_play_files::{FileFault, LONGEST_LINE};
+use ncp_play_page::{PAGE_SIZE, Page, push_field};
+use ncp_play_script::MAX_LINE;
+use ncp_play_stream::{Failed, Sink};
+use thiserror::Error;
+
+/// Why a script was not played to its end.
+#[derive(Clone, Copy, Debug, Drop, PartialEq, Eq, Error)]
+pub enum PlayFault {
+    /// This line, counted from 1 with all lines, says nothing that can be played, or is a `feed` that no
+    /// LF ends.
+    #[error("line {0} says nothing that can be played")]
+    BadLine(u32),
+    /// This line, which is not skipped, has more than [`MAX_LINE`] bytes. It is judged before `BadLine` and
+    /// `BadHosts`.
+    #[error("line {0} has more than {MAX_LINE} bytes")]
+    LineTooLong(u32),
+    /// The first line that is not skipped names no proper hosts, or there is none.
+    #[error("the first line names no proper hosts")]
+    BadHosts,
+    /// A fault of the message file in the script.
+    #[error("in the feed: {0}")]
+    Feed(FileFault),
+    #[error("a read failed")]
+    ReadFailed,
+    #[error("a write failed")]
+    WriteFailed,
+    #[error("out of memory")]
+    OutOfMemory,
+}
+
+impl PlayFault {
+    /// The number.
+    pub fn number(self) -> u8
+        ensures { result ≡ number_of self }
+    {
+        match self {
+            PlayFault::BadLine(_) => 1,
+            PlayFault::LineTooLong(_) => 2,
+            PlayFault::BadHosts => 3,
+            PlayFault::Feed(_) => 4,
+            PlayFault::ReadFailed => 5,
+            PlayFault::WriteFailed => 6,
+            PlayFault::OutOfMemory => 7,
+        }
+    }
+
+    /// The name that a program prints.
+    pub fn name(self) -> &'static str
+        ensures { result.now ≡ name_of self }
+    {
+        match self {
+            PlayFault::BadLine(_) => "BadLine",
+            PlayFault::LineTooLong(_) => "LineTooLong",
+            PlayFault::BadHosts => "BadHosts",
+            PlayFault::Feed(fault) => fault.name(),
+            PlayFault::ReadFailed => "ReadFailed",
+            PlayFault::WriteFailed => "WriteFailed",
+            PlayFault::OutOfMemory => "OutOfMemory",
+        }
+    }
+
+    /// The line that is at fault, counted from 1, if it is one.
+    pub fn line(self) -> Option<u32>
+        ensures { result ≡ line_of self }
+    {
+        match self {
+            PlayFault::BadLine(line) => Some(line),
+            PlayFault::LineTooLong(line) => Some(line),
+            _ => None,
+        }
+    }
+
+    /// Writes what a program prints on standard error: `ncp: line 3: BadLine`, or `ncp: BadHosts`.
+    pub fn tell<W: Sink>(self, sink: &mut W) -> Result<(), Failed>
+        ensures told { (was : List ℕ) → W.written sink.old ≡ Some was → Wrote was (fault_line self) result (W.written sink.new) }
+        ensures mark { W.has_failed sink.new ≡ (W.has_failed sink.old || is_err result) }
+    {
+        let mut page = Page::new();
+        push_fault(&mut page, self);
+        page.flush(sink)
+    }
+}
+
+// Appends where a script is at fault.
+fn push_place(page: &mut Page, line: Option<u32>)
+    requires { length page.old + LONGEST_LINE ≤ PAGE_SIZE }
+    ensures bytes { page.new ≡ page.old ++ place_words line }
+    ensures len { length page.new ≤ length page.old + LONGEST_LINE }
+{
+    if let Some(line) = line {
+        push_field(page, b"line ", line);
+        page.push_text(b": ");
+    }
+}
+
+// Appends what a program prints.
+fn push_fault(page: &mut Page, fault: PlayFault)
+    requires { length page.old + 2 * LONGEST_LINE ≤ PAGE_SIZE }
+    ensures { page.new ≡ page.old ++ fault_line fault }
+{
+    page.push_text(b"ncp: ");
+    push_place(page, fault.line());
+    page.push_text(fault.name().as_bytes());
+    page.push(b'\n');
+}

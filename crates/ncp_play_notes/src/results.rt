@@ -1,0 +1,236 @@
+//! The result of a call, as its line has it.
+ghost use Rattle.std.specs.Prelude.{◌≡◌, ◌+◌, ◌≤◌, ◌++◌, length};
+ghost use Rattle.ncp_play_notes.specs.Results.{refused_words, took_words, end_name, field_known, is_link_known, is_size_known, mark_words, number_words, state_words, word_if, set_flags, phase_words, echoed_words, errors_words, counts_words, ignored_words, result_words};
+
+use ncp_bits::MAX_BITS;
+use ncp_host::{CallFault, Counts, End, Flags, Ignored, Record};
+use ncp_play_files::push_text_word;
+use ncp_play_page::{LONGEST_NUMBER, PAGE_SIZE, Page, push_field};
+use ncp_transcript::{ErrorList, HostNote, Message};
+
+/// How many bytes the result of a call has at most.
+pub(crate) const LONGEST_RESULT: usize = LONGEST_TOLD + MAX_BITS / 4;
+
+// How many bytes it has at most, but for a text that was taken.
+const LONGEST_TOLD: usize = 256;
+
+// How many bytes the flags of a peer have at most.
+const LONGEST_FLAGS: usize = 20;
+
+// How many bytes the flags of a connection have at most.
+const LONGEST_MARKS: usize = 112;
+
+// How many bytes the numbers of a connection have at most.
+const LONGEST_NUMBERS: usize = 112;
+
+// Appends why a call was refused.
+fn push_refused(page: &mut Page, fault: CallFault)
+    requires { length page.old + LONGEST_TOLD ≤ PAGE_SIZE }
+    ensures bytes { page.new ≡ page.old ++ refused_words fault }
+    ensures len { length page.new ≤ length page.old + LONGEST_TOLD }
+{
+    page.push_text(b" refused ");
+    page.push_text(fault.name().as_bytes());
+}
+
+// Appends that a text was taken.
+fn push_took(page: &mut Page, text: &Message)
+    requires { length page.old + LONGEST_RESULT ≤ PAGE_SIZE }
+    ensures bytes { page.new ≡ page.old ++ took_words text.now }
+    ensures len { length page.new ≤ length page.old + LONGEST_RESULT }
+{
+    let bits = text.to_bits();
+    push_field(page, b" ok bits=", bits.len() as u32);
+    push_text_word(page, &bits.whole());
+}
+
+// Appends which end a connection has here.
+fn push_end(page: &mut Page, end: End)
+    requires { length page.old + 7 ≤ PAGE_SIZE }
+    ensures bytes { page.new ≡ page.old ++ end_name end }
+    ensures len { length page.new ≤ length page.old + 7 }
+{
+    match end {
+        End::Send => page.push_text(b"send"),
+        End::Receive => page.push_text(b"receive"),
+    }
+}
+
+// Appends a number behind its name, if it is known.
+fn push_if_known(page: &mut Page, name: &[u8], known: bool, number: u32)
+    requires { length page.old + length name.now + LONGEST_NUMBER ≤ PAGE_SIZE }
+    ensures bytes { page.new ≡ page.old ++ field_known name.now known number }
+    ensures len { length page.new ≤ length page.old + length name.now + LONGEST_NUMBER }
+{
+    if known {
+        push_field(page, name, number);
+    } else {
+        page.push_text(name);
+        page.push(b'-');
+    }
+}
+
+// Whether the link of a connection is known here.
+fn is_link_known(known: &Record) -> bool
+    ensures { result ≡ is_link_known known.now.end known.now }
+{
+    match known.end {
+        End::Receive => known.asked,
+        End::Send => known.heard,
+    }
+}
+
+// Whether its size is known here.
+fn is_size_known(known: &Record) -> bool
+    ensures { result ≡ is_size_known known.now.end known.now }
+{
+    match known.end {
+        End::Send => known.asked,
+        End::Receive => known.heard,
+    }
+}
+
+// Appends the flags of a connection.
+fn push_marks(page: &mut Page, known: &Record)
+    requires { length page.old + LONGEST_MARKS ≤ PAGE_SIZE }
+    ensures bytes { page.new ≡ page.old ++ mark_words known.now }
+    ensures len { length page.new ≤ length page.old + LONGEST_MARKS }
+{
+    push_field(page, b" asked=", u32::from(known.asked));
+    push_field(page, b" heard=", u32::from(known.heard));
+    push_field(page, b" opened=", u32::from(known.opened));
+    push_field(page, b" leaving=", u32::from(known.leaving));
+    push_field(page, b" left=", u32::from(known.left));
+    push_field(page, b" cls=", u32::from(known.cls));
+}
+
+// Appends the numbers of a connection.
+fn push_numbers(page: &mut Page, known: &Record)
+    requires { length page.old + LONGEST_NUMBERS ≤ PAGE_SIZE }
+    ensures bytes { page.new ≡ page.old ++ number_words known.now }
+    ensures len { length page.new ≤ length page.old + LONGEST_NUMBERS }
+{
+    push_if_known(page, b" link=", is_link_known(known), u32::from(known.link));
+    push_if_known(page, b" size=", is_size_known(known), u32::from(known.size));
+    push_field(page, b" messages=", u32::from(known.messages));
+    push_field(page, b" bits=", known.bits);
+    push_field(page, b" stored=", known.stored);
+    push_field(page, b" interrupts=", known.interrupts);
+}
+
+// Appends the state of a connection.
+fn push_state(page: &mut Page, known: &Record)
+    requires { length page.old + LONGEST_TOLD ≤ PAGE_SIZE }
+    ensures bytes { page.new ≡ page.old ++ state_words known.now }
+    ensures len { length page.new ≤ length page.old + LONGEST_TOLD }
+{
+    page.push_text(b" ok end=");
+    push_end(page, known.end);
+    push_marks(page, known);
+    push_numbers(page, known);
+}
+
+// Appends a word where a flag is set.
+fn push_word_if(page: &mut Page, set: bool, word: &[u8])
+    requires { length page.old + length word.now ≤ PAGE_SIZE }
+    ensures bytes { page.new ≡ page.old ++ word_if set word.now }
+    ensures len { length page.new ≤ length page.old + length word.now }
+{
+    if set {
+        page.push_text(word);
+    }
+}
+
+// Appends the flags that are set.
+fn push_set_flags(page: &mut Page, flags: Flags)
+    requires { length page.old + LONGEST_FLAGS ≤ PAGE_SIZE }
+    ensures bytes { page.new ≡ page.old ++ set_flags flags }
+    ensures len { length page.new ≤ length page.old + LONGEST_FLAGS }
+{
+    push_word_if(page, flags.down, b" down");
+    push_word_if(page, flags.want, b" want");
+    push_word_if(page, flags.owe, b" owe");
+    push_word_if(page, flags.wait, b" wait");
+}
+
+// Appends the flags of a peer.
+fn push_phase(page: &mut Page, flags: Flags)
+    requires { length page.old + LONGEST_TOLD ≤ PAGE_SIZE }
+    ensures bytes { page.new ≡ page.old ++ phase_words flags }
+    ensures len { length page.new ≤ length page.old + LONGEST_TOLD }
+{
+    page.push_text(b" ok");
+    if flags.up() {
+        page.push_text(b" up");
+    } else {
+        push_set_flags(page, flags);
+    }
+}
+
+// Appends the byte that was echoed.
+fn push_echoed(page: &mut Page, byte: Option<u8>)
+    requires { length page.old + LONGEST_TOLD ≤ PAGE_SIZE }
+    ensures bytes { page.new ≡ page.old ++ echoed_words byte }
+    ensures len { length page.new ≤ length page.old + LONGEST_TOLD }
+{
+    match byte {
+        None => page.push_text(b" ok none"),
+        Some(byte) => push_field(page, b" ok ", u32::from(byte)),
+    }
+}
+
+// Appends how many ERRs there are.
+fn push_errors(page: &mut Page, errors: &ErrorList)
+    requires { length page.old + LONGEST_TOLD ≤ PAGE_SIZE }
+    ensures bytes { page.new ≡ page.old ++ errors_words errors.now }
+    ensures len { length page.new ≤ length page.old + LONGEST_TOLD }
+{
+    let count = u32::try_from(errors.as_slice().len()).unwrap_or(u32::MAX);
+    push_field(page, b" ok ", count);
+}
+
+// Appends the counts of a peer.
+fn push_counts(page: &mut Page, counts: &Counts)
+    requires { length page.old + LONGEST_TOLD ≤ PAGE_SIZE }
+    ensures bytes { page.new ≡ page.old ++ counts_words counts.now }
+    ensures len { length page.new ≤ length page.old + LONGEST_TOLD }
+{
+    push_field(page, b" ok stray=", counts.stray);
+    push_field(page, b" faults=", counts.faults);
+    push_field(page, b" wrong-link=", counts.wrong_link);
+    push_field(page, b" wrong-size=", counts.wrong_size);
+    push_field(page, b" not-up=", counts.not_up);
+    push_field(page, b" late=", counts.late);
+    push_field(page, b" over=", counts.over);
+}
+
+// Appends the counts of messages that are of no peer.
+fn push_ignored(page: &mut Page, ignored: &Ignored)
+    requires { length page.old + LONGEST_TOLD ≤ PAGE_SIZE }
+    ensures bytes { page.new ≡ page.old ++ ignored_words ignored.now }
+    ensures len { length page.new ≤ length page.old + LONGEST_TOLD }
+{
+    push_field(page, b" ok short=", ignored.short);
+    push_field(page, b" other=", ignored.other);
+    push_field(page, b" unknown=", ignored.unknown);
+}
+
+/// Appends the result of the call that a note is of.
+pub(crate) fn push_result(page: &mut Page, note: &HostNote)
+    requires { length page.old + LONGEST_RESULT ≤ PAGE_SIZE }
+    ensures bytes { page.new ≡ page.old ++ result_words note.now }
+    ensures len { length page.new ≤ length page.old + LONGEST_RESULT }
+{
+    match *note {
+        HostNote::Refused { fault, .. } => push_refused(page, fault),
+        HostNote::Done { .. } => page.push_text(b" ok"),
+        HostNote::Took { ref text, .. } => push_took(page, text),
+        HostNote::State { ref record, .. } => push_state(page, record),
+        HostNote::Phase { flags, .. } => push_phase(page, flags),
+        HostNote::Echoed { byte, .. } => push_echoed(page, byte),
+        HostNote::Errors { ref errors, .. } => push_errors(page, errors),
+        HostNote::Counts { ref counts, .. } => push_counts(page, counts),
+        HostNote::Ignored { ref ignored } => push_ignored(page, ignored),
+        _ => {}
+    }
+}

@@ -1,0 +1,52 @@
+use Rattle.std.proofs.Common.{length, ap, sym, ◌∙◌, arith}
+use Rattle.std.proofs.Math.Bool.{or-false}
+use Rattle.ncp_play_page.proofs.Windows.{moves_more, grows_more}
+use Rattle.ncp_play_page.proofs.window.Window.need.Goals as goal
+
+pub returns-in_err-refill-clause-moved : goal.returns-in_err-refill-clause-moved
+returns-in_err-refill-clause-moved g c =
+    moves_more c.args.self.now c.loop-self.self c.refill.new.self (g.S.Source.left c.args.source.now) (g.S.Source.left c.loop-self.source) (g.S.Source.left c.refill.new.source) c.loop-self.invariant.moved c.refill.ensures.moved
+
+pub returns-in_err-refill-clause-grows : goal.returns-in_err-refill-clause-grows
+returns-in_err-refill-clause-grows g c = grows_more c.args.self.now c.loop-self.self c.refill.new.self c.loop-self.invariant.grows c.refill.ensures.grows
+
+pub returns-in_err-refill-clause-reads : goal.returns-in_err-refill-clause-reads
+returns-in_err-refill-clause-reads g c = omega (arith, c.loop-self.invariant.reads, c.refill.ensures.reads)
+
+pub returns-in_err-refill-clause-effort : goal.returns-in_err-refill-clause-effort
+returns-in_err-refill-clause-effort g c = omega (arith, c.loop-self.invariant.effort, c.refill.ensures.effort)
+
+pub returns-then-not-branch-clause-moved : goal.returns-then-not-branch-clause-moved
+returns-then-not-branch-clause-moved g c =
+    moves_more c.args.self.now c.loop-self.self c.refill.new.self (g.S.Source.left c.args.source.now) (g.S.Source.left c.loop-self.source) (g.S.Source.left c.refill.new.source) c.loop-self.invariant.moved c.refill.ensures.moved
+
+pub returns-then-not-branch-clause-grows : goal.returns-then-not-branch-clause-grows
+returns-then-not-branch-clause-grows g c = grows_more c.args.self.now c.loop-self.self c.refill.new.self c.loop-self.invariant.grows c.refill.ensures.grows
+
+pub returns-then-not-branch-clause-reads : goal.returns-then-not-branch-clause-reads
+returns-then-not-branch-clause-reads g c = omega (arith, c.loop-self.invariant.reads, c.refill.ensures.reads)
+
+pub returns-then-not-branch-clause-effort : goal.returns-then-not-branch-clause-effort
+returns-then-not-branch-clause-effort g c = omega (arith, c.loop-self.invariant.effort, c.refill.ensures.effort)
+
+pub loop-self-preserved : goal.loop-self-preserved
+loop-self-preserved g c =
+    record {
+      moved = moves_more c.args.self.now c.loop-self.self c.refill.new.self (g.S.Source.left c.args.source.now) (g.S.Source.left c.loop-self.source) (g.S.Source.left c.refill.new.source) c.loop-self.invariant.moved c.refill.ensures.moved;
+      grows = grows_more c.args.self.now c.loop-self.self c.refill.new.self c.loop-self.invariant.grows c.refill.ensures.grows;
+      effort = omega (arith, c.loop-self.invariant.effort, c.refill.ensures.effort);
+      reads = omega (arith, c.loop-self.invariant.reads, c.in_ok-refill.ensures.taken c.if-not-branch.false);
+      mark = c.in_ok-refill.ensures.mark ∙ or-false _ ∙ c.loop-self.invariant.mark;
+    }
+
+pub returns-clause-there : goal.returns-clause-there
+returns-clause-there g c = λ _. omega (arith, ap length c.unread.ensures.bytes)
+
+pub returns-clause-reads : goal.returns-clause-reads
+returns-clause-reads g c = omega (arith, c.loop-self.invariant.reads)
+
+pub returns-clause-taken : goal.returns-clause-taken
+returns-clause-taken g c = λ _. c.loop-self.invariant.reads
+
+pub returns-clause-mark : goal.returns-clause-mark
+returns-clause-mark g c = c.loop-self.invariant.mark ∙ sym (or-false _)

@@ -1,0 +1,15 @@
+//! A number behind its name.
+ghost use Rattle.std.specs.Prelude.{◌≡◌, ◌+◌, ◌≤◌, ◌++◌, length};
+ghost use Rattle.ncp_play_page.specs.Lines.{field};
+
+use crate::page::{LONGEST_NUMBER, PAGE_SIZE, Page};
+
+/// Appends a number behind its name. There has to be room for the name and the longest number.
+pub fn push_field(page: &mut Page, name: &[u8], number: u32)
+    requires { length page.old + length name.now + LONGEST_NUMBER ≤ PAGE_SIZE }
+    ensures bytes { page.new ≡ page.old ++ field name.now number }
+    ensures len { length page.new ≤ length page.old + length name.now + LONGEST_NUMBER }
+{
+    page.push_text(name);
+    page.push_decimal(number);
+}

@@ -1,0 +1,74 @@
+-- What the program does with the words of a command line, what it tells of it, and the status with which it ends (this
+-- profile).
+use Rattle.std.specs.Prelude.{◌≡◌, ◌⊎◌, ℕ, Bool, true, false, ◌||◌, List, [], Option, Some, Result, Ok, Err, is_err}
+use Rattle.clap.specs.Faults.{fault_of}
+use Rattle.clap.specs.Kinds.{HasKind}
+use Rattle.clap.specs.Values.{kind_of}
+use Rattle.clap.specs.Walk.{Text}
+use Rattle.clap.specs.declared.error.Error.{Error}
+use Rattle.clap.specs.declared.error.kind.ErrorKind.{ErrorKind}
+use Rattle.clap.specs.declared.error.kind.ErrorKind.TheVariants.{DisplayHelp, DisplayVersion}
+use Rattle.ncp_play_command_line.specs.CommandLine.{order_in, program}
+use Rattle.ncp_play_stream.specs.declared.source.Failed.{Failed}
+use Rattle.ncp_play_notes.specs.declared.fault.PlayFault.{PlayFault}
+use Rattle.ncp_play_notes.specs.Faults.{fault_line, Wrote}
+use Rattle.ncp_play_program.specs.Orders.{Streams, Does}
+
+-- what is seen of what is told of faults: its bytes, where they are told, and whether a write of it has failed
+pub record Telling : Type 0 where
+  pub told : Option (List ℕ)
+  pub failed : Bool
+
+abbrev pub heard : Option (List ℕ) → Bool → Telling
+heard told failed = record { told = told; failed = failed }
+
+-- an answer is told: of a fault its line, or where a write of it fails a beginning; of others nothing
+abbrev pub Tells : Result Bool PlayFault → Telling → Telling → Type 0
+Tells (Ok good) before now = now ≡ before
+Tells (Err fault) before now = (r : Result Unit Failed) × ((was : List ℕ) → before.told ≡ Some was → Wrote was (fault_line fault) r now.told) × (now.failed ≡ (before.failed || is_err r))
+
+-- 0 where all is good, 1 where the answer is no, 2 after a fault
+abbrev pub status_of : Result Bool Unit → ℕ
+status_of (Ok true) = 0
+status_of (Ok false) = 1
+status_of (Err fault) = 2
+
+-- the status after an answer: all faults have the same
+abbrev pub status_after : Result Bool PlayFault → ℕ
+status_after (Ok good) = status_of (Ok good)
+status_after (Err fault) = status_of (Err tt)
+
+-- the status after what clap says of words: 0 where it was asked for help or the version, else that of a fault
+abbrev pub status_of_kind : ErrorKind → ℕ
+status_of_kind DisplayHelp = 0
+status_of_kind DisplayVersion = 0
+status_of_kind other = status_of (Err tt)
+
+module _ (words : List Text) (before : Streams) (status : ℕ) (now : Streams) where
+  -- clap finds no fault in the words; the order that it reads in them was carried out, and the status is that of its
+  -- answer
+  abbrev pub EndsCarried : Type 0
+  EndsCarried = (fault_of program words ≡ []) × (answer : Result Bool PlayFault) × Does before answer now (order_in words) × (status ≡ status_after answer)
+
+  -- the status is that of a fault that clap finds in the words, or of want of memory for them, and nothing was read or
+  -- written
+  abbrev pub EndsDeclined : Type 0
+  EndsDeclined = (error : Error) × HasKind (fault_of program words) error × (status ≡ status_of_kind (kind_of error)) × (now ≡ before)
+
+  -- with which status the words end, whatever is told of a fault
+  abbrev pub Ends : Type 0
+  Ends = EndsCarried ⊎ EndsDeclined
+
+module _ (words : List Text) (before : Streams) (told : Telling) (status : ℕ) (now : Streams) (told_now : Telling) where
+  -- clap finds no fault in the words; the order that it reads in them was carried out, its answer told, and the status
+  -- is that of the answer
+  abbrev pub CarriesOut : Type 0
+  CarriesOut = (fault_of program words ≡ []) × (answer : Result Bool PlayFault) × Does before answer now (order_in words) × Tells answer told told_now × (status ≡ status_after answer)
+
+  -- the status is that of a fault that clap finds in the words, or of want of memory for them; and nothing was read,
+  -- written or told
+  abbrev pub Declines : Type 0
+  Declines = (error : Error) × HasKind (fault_of program words) error × (status ≡ status_of_kind (kind_of error)) × (now ≡ before) × (told_now ≡ told)
+
+  abbrev pub Obeys : Type 0
+  Obeys = CarriesOut ⊎ Declines

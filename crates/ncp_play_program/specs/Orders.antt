@@ -1,0 +1,81 @@
+-- What the program does of each order: what the subcommand promises of the bytes that it is to read and of what it
+-- writes, by its answer (this profile).
+use Rattle.std.specs.Prelude.{◌≡◌, ℕ, Bool, true, false, ◌||◌, List, Option, Some, Result, Ok, Err}
+use Rattle.ncp_play_command_line.specs.declared.orders.Order.{Order}
+use Rattle.ncp_play_command_line.specs.declared.orders.Order.TheVariants.{Show, Check, Convert, Host, World, Record, Explain}
+use Rattle.ncp_play_files.specs.declared.file.FileFault.{FileFault}
+use Rattle.ncp_play_files.specs.Results as files
+use Rattle.ncp_play_files.specs.Shown.{Shown}
+use Rattle.ncp_play_files.specs.Checked.{Checked}
+use Rattle.ncp_play_files.specs.Converted.{Converted}
+use Rattle.ncp_play_notes.specs.declared.fault.PlayFault.{PlayFault}
+use Rattle.ncp_play_notes.specs.declared.fault.PlayFault.TheVariants.{Feed}
+use Rattle.ncp_play_notes.specs.Faults.{is_read_failed, is_write_failed}
+use Rattle.ncp_play_host.specs.Played.{HostPlayed}
+use Rattle.ncp_play_world.specs.ManyRules.{is_many_script}
+use Rattle.ncp_play_world.specs.Players.{PlaysWorld, PlaysMany}
+use Rattle.ncp_play_world.specs.Tales.{lines_of_script, lines_of_many, recording_of, recording_of_many}
+
+-- what is seen of what the program reads and writes: the bytes that are left to read and those that were written,
+-- where they are told, and whether a read or a write has failed
+pub record Streams : Type 0 where
+  pub left : Option (List ℕ)
+  pub read_failed : Bool
+  pub written : Option (List ℕ)
+  pub write_failed : Bool
+
+abbrev pub seen : Option (List ℕ) → Bool → Option (List ℕ) → Bool → Streams
+seen left read_failed written write_failed = record { left = left; read_failed = read_failed; written = written; write_failed = write_failed }
+
+-- of bytes that are told before: all that is to be read, and all that was written
+abbrev pub OfBytes : Streams → (List ℕ → List ℕ → Type 0) → Type 0
+OfBytes before P = (bytes : List ℕ) (was : List ℕ) → before.left ≡ Some bytes → before.written ≡ Some was → P bytes was
+
+-- reading and writing are blamed only where they failed, and a failure is never hidden
+abbrev pub Blames : Bool → Bool → Streams → Type 0
+Blames read write now = record {
+  read_failed : read ≡ true → now.read_failed ≡ true;
+  write_failed : now.write_failed ≡ write;
+  blamed : now.read_failed ≡ true → (read || write) ≡ true;
+}
+
+-- the answer of what reads message files, as the program has it: that all is good, or the fault
+abbrev pub of_file : Result Unit FileFault → Result Bool PlayFault
+of_file (Ok done) = Ok true
+of_file (Err fault) = Err (Feed fault)
+
+-- the answer of a check
+abbrev pub of_check : Result Bool FileFault → Result Bool PlayFault
+of_check (Ok sound) = Ok sound
+of_check (Err fault) = Err (Feed fault)
+
+module _ (before : Streams) (answer : Result Bool PlayFault) (now : Streams) where
+  -- a subcommand of message files gave this answer, and kept what it promises by it
+  abbrev pub DoesFile : (Result Unit FileFault → List ℕ → List ℕ → Type 0) → Type 0
+  DoesFile P =
+      (done : Result Unit FileFault) × (answer ≡ of_file done) × Blames (files.is_read_failed done) (files.is_write_failed done) now × OfBytes before (λ bytes was. P done bytes was)
+
+  abbrev pub DoesCheck : Type 0
+  DoesCheck =
+      (checked : Result Bool FileFault) × (answer ≡ of_check checked) × Blames (files.is_read_failed checked) (files.is_write_failed checked) now
+      × OfBytes before (λ bytes was. Checked bytes was now.left now.written checked)
+
+  -- a player kept what it promises by this answer
+  abbrev pub Plays : (List ℕ → List ℕ → Type 0) → Type 0
+  Plays P = Blames (is_read_failed answer) (is_write_failed answer) now × OfBytes before P
+
+  -- nothing was read, and a write is blamed exactly where it failed
+  abbrev pub DoesExplain : Type 0
+  DoesExplain = Blames false (is_write_failed answer) now × (now.left ≡ before.left) × (now.read_failed ≡ before.read_failed)
+
+  -- what was done of an order, by the answer
+  abbrev pub Does : Order → Type 0
+  Does Show = DoesFile (λ done bytes was. Shown bytes was now.left now.written done)
+  Does Check = DoesCheck
+  Does (Convert at) = DoesFile (λ done bytes was. Converted at bytes was now.left now.written done)
+  Does Host = Plays (λ bytes was. HostPlayed bytes was answer now.left now.written)
+  Does World = Plays (λ bytes was. (is_many_script bytes ≡ false → PlaysWorld lines_of_script bytes was answer now.left now.written)
+      × (is_many_script bytes ≡ true → PlaysMany lines_of_many bytes was answer now.left now.written))
+  Does Record = Plays (λ bytes was. (is_many_script bytes ≡ false → PlaysWorld recording_of bytes was answer now.left now.written)
+      × (is_many_script bytes ≡ true → PlaysMany recording_of_many bytes was answer now.left now.written))
+  Does Explain = DoesExplain

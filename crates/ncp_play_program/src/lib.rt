@@ -1,0 +1,19 @@
+//! The program `ncp`: what it does with the words of its command line, and with message files and scripts of ARPANET
+//! hosts, read from the file that is named, or from standard input. It stands in a library so that more than one run of the program can be stored:
+//! each is a crate with a thin `main`.
+#![tactic(auto)]
+
+pub mod examples;
+mod kept;
+mod origin;
+mod output;
+mod program;
+mod put;
+mod running;
+mod telling;
+mod watched;
+
+pub use ncp_play_command_line::{Order, order};
+pub use output::Output;
+pub use program::{obey, status};
+pub use running::run;

@@ -1,0 +1,145 @@
+//! What the program does with the words of its command line.
+ghost use Rattle.std.specs.Prelude.{◌≡◌, map, true, false, IsErr};
+ghost use Rattle.ncp_play_notes.specs.Faults.{is_read_failed, is_write_failed};
+ghost use Rattle.ncp_play_program.specs.Orders.{seen, Does};
+ghost use Rattle.ncp_play_program.specs.Obeying.{heard, Tells, status_of, status_after, Obeys};
+
+use crate::put::put;
+use crate::telling::explanation;
+use ncp_bits::PackedStore;
+use ncp_play_command_line::{Order, request};
+use ncp_play_files::{check, convert, show};
+use ncp_play_host::play_host;
+use ncp_play_notes::PlayFault;
+use ncp_play_stream::{Sink, Source};
+use ncp_play_world::{play_world, record_world};
+use std::alloc::{AllocGlobal, Global};
+use std::convert::AsStr;
+
+// Says what a name means, and answers whether it is the name of a fault or a refusal.
+fn explain<W: Sink>(alloc: Global, name: &str, sink: &mut W) -> Result<bool, PlayFault>
+    requires sink_clean { W.has_failed sink.old ≡ false }
+    ensures read { is_read_failed result ≡ false }
+    ensures mark { W.has_failed sink.new ≡ is_write_failed result }
+{
+    let Ok((text, known)) = explanation(alloc, name) else {
+        return Err(PlayFault::OutOfMemory);
+    };
+    match put(sink, text.as_bytes()) {
+        Ok(()) => Ok(known),
+        Err(_) => Err(PlayFault::WriteFailed),
+    }
+}
+
+/// Carries out an order with the word behind the subcommand, and answers whether all was good. A fault of a message
+/// file is told as one of a feed is.
+pub(crate) fn carry_out<S: Source, W: Sink>(
+    alloc: Global,
+    order: Order,
+    word: Option<&str>,
+    source: &mut S,
+    sink: &mut W,
+) -> Result<bool, PlayFault>
+    requires source_clean { S.has_failed source.old ≡ false }
+    requires sink_clean { W.has_failed sink.old ≡ false }
+    ensures does { Does
+        (seen (S.left source.old) (S.has_failed source.old) (W.written sink.old) (W.has_failed sink.old)) result
+        (seen (S.left source.new) (S.has_failed source.new) (W.written sink.new) (W.has_failed sink.new)) order }
+    ensures read_failed { S.has_failed source.new ≡ true → IsErr result }
+    ensures write_failed { W.has_failed sink.new ≡ true → IsErr result }
+{
+    match order {
+        Order::Show => match show(source, sink) {
+            Ok(()) => Ok(true),
+            Err(fault) => Err(PlayFault::Feed(fault)),
+        },
+        Order::Check => match check(source, sink) {
+            Ok(sound) => Ok(sound),
+            Err(fault) => Err(PlayFault::Feed(fault)),
+        },
+        Order::Convert(at) => match convert(source, sink, at) {
+            Ok(()) => Ok(true),
+            Err(fault) => Err(PlayFault::Feed(fault)),
+        },
+        Order::Host => play_host::<PackedStore, _, _>(alloc, source, sink),
+        Order::World => play_world::<PackedStore, _, _>(alloc, source, sink),
+        Order::Record => record_world::<PackedStore, _, _>(alloc, source, sink),
+        Order::Explain => explain(alloc, word.unwrap_or(""), sink),
+    }
+}
+
+/// The program's exit status: 0 where all is good, 1 where a check or a player answered false, or a name that is to be
+/// explained is none, 2 where a fault was answered.
+pub fn status(outcome: Result<bool, ()>) -> u8
+    ensures { result ≡ status_of outcome }
+{
+    match outcome {
+        Ok(true) => 0,
+        Ok(false) => 1,
+        Err(()) => 2,
+    }
+}
+
+/// The status after an answer.
+pub(crate) fn status_after(answer: &Result<bool, PlayFault>) -> u8
+    ensures { result ≡ status_after answer.now }
+{
+    match answer {
+        Ok(good) => status(Ok(*good)),
+        Err(_) => status(Err(())),
+    }
+}
+
+/// Tells the fault of an answer, if it has one, and gives the status after it.
+pub(crate) fn conclude<E: Sink>(answer: Result<bool, PlayFault>, errors: &mut E) -> u8
+    ensures told { Tells answer (heard (E.written errors.old) (E.has_failed errors.old)) (heard (E.written errors.new) (E.has_failed errors.new)) }
+    ensures status { result ≡ status_after answer }
+{
+    match answer {
+        Ok(good) => status(Ok(good)),
+        Err(fault) => {
+            // The status tells the fault, even where nothing can be told on standard error.
+            let _untold = fault.tell(errors);
+            status(Err(()))
+        }
+    }
+}
+
+/// Does what the words of a command line say, the program's name first, and answers the status with which
+/// the program ends: 0 where all is good, 1 where a check or a player answered that it is not, or a name that is to be
+/// explained is none, 2 after a fault, which is told on `errors`. It opens no file: what is read is `source`.
+///
+/// What `clap` says of the words goes where the runtime prints; after help the status is 0.
+pub fn obey<R, T, S, W, E>(rt: &R, words: &[T], source: &mut S, sink: &mut W, errors: &mut E) -> u8
+where
+    R: AllocGlobal + Print + Eprint,
+    T: AsStr,
+    S: Source,
+    W: Sink,
+    E: Sink,
+    requires source_clean { S.has_failed source.old ≡ false }
+    requires sink_clean { W.has_failed sink.old ≡ false }
+
+    // The words are an order, which was carried out, and its fault told; or they are none, and nothing was read,
+    // written or told.
+    ensures obeyed { Obeys (map T.text words.entry.now)
+        (seen (S.left source.old) (S.has_failed source.old) (W.written sink.old) (W.has_failed sink.old))
+        (heard (E.written errors.old) (E.has_failed errors.old)) result
+        (seen (S.left source.new) (S.has_failed source.new) (W.written sink.new) (W.has_failed sink.new))
+        (heard (E.written errors.new) (E.has_failed errors.new)) }
+
+    // A read or a write that failed is never hidden.
+    ensures read_failed { S.has_failed source.new ≡ true → result ≡ 2 }
+    ensures write_failed { W.has_failed sink.new ≡ true → result ≡ 2 }
+{
+    let alloc = rt.alloc();
+    let request = match request(alloc, words) {
+        Ok(request) => request,
+        Err(error) => {
+            let _untold = error.print(rt);
+            return error.exit_code() as u8;
+        }
+    };
+    let answer = carry_out(alloc, request.order, request.word, source, sink);
+    conclude(answer, errors)
+}

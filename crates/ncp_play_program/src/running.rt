@@ -1,0 +1,186 @@
+//! `run`: the program with the streams of the system.
+ghost use Rattle.std.specs.Prelude.{◌≡◌, ◌≤◌, map, false};
+ghost use Rattle.std.specs.Process.{exit_status};
+ghost use Rattle.ncp_play_program.specs.Orders.{seen};
+ghost use Rattle.ncp_play_program.specs.Obeying.{Ends, status_after};
+
+use crate::kept::Kept;
+use crate::origin::Origin;
+use crate::output::Output;
+use crate::program::{carry_out, conclude, status_after};
+use crate::put::put;
+use crate::telling::explained;
+use crate::watched::Watched;
+use anyhow::Result;
+use ncp_play_command_line::{Order, request};
+use ncp_play_notes::PlayFault;
+use ncp_play_stream::{FromRead, Sink, Source, ToWrite};
+use std::alloc::{AllocGlobal, Global};
+use std::convert::AsStr;
+use std::env::{self, Env};
+use std::fs::{File, Files};
+use std::io::{IsTerminal, Read, Write};
+use std::process::ExitCode;
+
+// The status where the words of the command line cannot be had, or the file cannot be opened.
+const FAULT: u8 = 2;
+
+// The word for standard input.
+const STANDARD: &str = "-";
+
+// What is told where standard input is a terminal.
+const NOTICE: &[u8] =
+    b"ncp: reading from the terminal; Ctrl-D ends it, and 'ncp --help' says more\n";
+
+// The words of the command line, which are text.
+fn words_in<R: Env + AllocGlobal>(rt: &R) -> Result<Vec<String>> {
+    Ok(env::args(rt)?.collect(rt.alloc())?)
+}
+
+// Whether an order plays a script.
+fn plays(order: Order) -> bool {
+    matches!(order, Order::Host | Order::World | Order::Record)
+}
+
+// Tells what is wrong behind the line of a fault, as far as there is memory for it.
+fn tell_more<E: Sink>(alloc: Global, order: Order, kept: &Kept, fault: PlayFault, errors: &mut E) {
+    if let Ok(text) = explained(alloc, order, kept, fault) {
+        let _untold = put(errors, text.as_bytes());
+    }
+}
+
+// Tells the fault of an answer, if it has one, with what is wrong, and gives the status after it. Where nobody reads any
+// more what is written, nothing is told.
+fn finish<O: Write, E: Sink>(
+    alloc: Global,
+    order: Order,
+    kept: &Kept,
+    answer: Result<bool, PlayFault>,
+    output: &Output<O>,
+    errors: &mut E,
+) -> u8
+    ensures { result ≡ status_after answer }
+{
+    if output.is_closed() {
+        return status_after(&answer);
+    }
+    let status = conclude(answer, errors);
+    if let Err(fault) = answer {
+        tell_more(alloc, order, kept, fault, errors);
+    }
+    status
+}
+
+// Does what the words of a command line say, tells a fault, and answers the status with which the program ends.
+fn perform<R, T, S, O, E>(
+    rt: &R,
+    words: &[T],
+    source: &mut Watched<S>,
+    output: &mut Output<O>,
+    errors: &mut E,
+) -> ExitCode
+where
+    R: AllocGlobal + Print + Eprint,
+    T: AsStr,
+    S: Source,
+    O: Write,
+    E: Sink,
+    requires source_clean { S.has_failed source.old.source ≡ false }
+    requires sink_clean { output.old.failed ≡ false }
+
+    // The status is that of the order that the words are, or of their fault, as obey tells it.
+    ensures ended { Ends (map T.text words.entry.now)
+        (seen (S.left source.old.source) (S.has_failed source.old.source) (O.contents output.old.writer) output.old.failed)
+        (exit_status result)
+        (seen (S.left source.new.source) (S.has_failed source.new.source) (O.contents output.new.writer) output.new.failed) }
+{
+    let alloc = rt.alloc();
+    let request = match request(alloc, words) {
+        Ok(request) => request,
+        Err(error) => {
+            let _untold = error.print(rt);
+            return ExitCode::from(error.exit_code() as u8);
+        }
+    };
+    let answer = carry_out(alloc, request.order, request.word, source, output);
+    ExitCode::from(finish(alloc, request.order, &source.kept, answer, output, errors))
+}
+
+// The file that the words name, if they name one that is to be read; and whether it is a script.
+fn file_in<'a>(alloc: Global, words: &'a [String]) -> (Option<&'a str>, bool) {
+    match request(alloc, words) {
+        Ok(request) if request.order != Order::Explain => {
+            let file = request.word.filter(|word| *word != STANDARD);
+            (file, plays(request.order))
+        }
+        _ => (None, false),
+    }
+}
+
+// Whether the words are an order that reads.
+fn reads(alloc: Global, words: &[String]) -> bool {
+    match request(alloc, words) {
+        Ok(request) => request.order != Order::Explain,
+        Err(_) => false,
+    }
+}
+
+// Opens a file; where that fails the reason is told.
+fn open<R, E>(rt: &R, path: &str, errors: &mut E) -> Option<R::File>
+where
+    R: AllocGlobal + Files,
+    E: Sink,
+{
+    match File::open(rt, path) {
+        Ok(file) => Some(file),
+        Err(error) => {
+            if let Ok(text) = format!(in rt.alloc(); "ncp: cannot open {path}: {error}\n") {
+                let _untold = put(errors, text.as_bytes());
+            }
+            None
+        }
+    }
+}
+
+/// Does what the words of the command line say with what is read: the file that they name, or standard input. It answers
+/// the status with which the program ends.
+///
+/// A file that cannot be opened is told, and the status is 2. Where a terminal is read, standard error says so. Behind
+/// the line of a fault what is wrong is told. Where nobody reads any more what is written, the program ends in silence.
+pub fn run<R, I, O, E>(rt: &R, input: I, output: O, errors: E) -> ExitCode
+where
+    R: Env + AllocGlobal + Files + Print + Eprint,
+    I: Read + IsTerminal + Drop,
+    O: Write + Drop,
+    E: Write + Drop,
+    ensures { exit_status result ≤ 2 }
+{
+    let words = match words_in(rt) {
+        Ok(words) => words,
+        Err(error) => {
+            let _untold = eprintln!(rt; "ncp: {error}");
+            return ExitCode::from(FAULT);
+        }
+    };
+    let alloc = rt.alloc();
+    let mut output = Output::new(output);
+    let mut errors = ToWrite::new(errors);
+    let (file, is_script) = file_in(alloc, words.as_slice());
+    let origin = match file {
+        Some(path) => match open(rt, path, &mut errors) {
+            Some(file) => Origin::Named(file),
+            None => return ExitCode::from(FAULT),
+        },
+        None => {
+            if input.is_terminal() && reads(alloc, words.as_slice()) {
+                let _untold = put(&mut errors, NOTICE);
+            }
+            Origin::Standard(input)
+        }
+    };
+    let mut source = Watched {
+        source: FromRead::new(origin),
+        kept: Kept::new(alloc, is_script),
+    };
+    perform(rt, words.as_slice(), &mut source, &mut output, &mut errors)
+}

@@ -1,0 +1,149 @@
+//! What is told of a fault behind its line: what is wrong, and where.
+ghost use Rattle.std.specs.Prelude.{◌≡◌, ◌||◌, ◌++◌, ℕ, List, Some, is_err};
+
+use crate::kept::Kept;
+use ncp_play_command_line::Order;
+use ncp_play_faults::{
+    NAMES, Player, meaning, nearest, wrong_first_line, wrong_header, wrong_line,
+};
+use ncp_play_files::FileFault;
+use ncp_play_notes::PlayFault;
+use std::alloc::{AllocError, Global};
+
+// How many signs of a line are shown.
+const SHOWN: usize = 100;
+
+// Which scripts an order plays.
+fn player_of(order: Order) -> Player {
+    match order {
+        Order::Host => Player::Host,
+        _ => Player::World,
+    }
+}
+
+// A line as it can be shown on any terminal: other signs by their numbers, and no more than the first of them.
+fn shown(alloc: Global, line: &[u8]) -> Result<String, AllocError> {
+    let mut text = String::new(alloc);
+    for byte in line.iter().take(SHOWN) {
+        if byte.is_ascii_graphic() || *byte == b' ' {
+            text.push(char::from(*byte))?;
+        } else {
+            text.push_str(format!(in alloc; "\\x{byte:02x}")?.as_str())?;
+        }
+    }
+    if line.len() > SHOWN {
+        text.push_str(" ..")?;
+    }
+    Ok(text)
+}
+
+// A number in groups of three digits.
+fn grouped(alloc: Global, number: u64) -> Result<String, AllocError> {
+    let digits = format!(in alloc; "{number}")?;
+    let mut text = String::new(alloc);
+    let mut left = digits.len();
+    for digit in digits.chars() {
+        text.push(digit)?;
+        left = left.saturating_sub(1);
+        if left > 0 && left % 3 == 0 {
+            text.push(',')?;
+        }
+    }
+    Ok(text)
+}
+
+// What a name means; each name has its meaning.
+fn meaning_of(name: &str) -> &'static str {
+    meaning(name).unwrap_or("")
+}
+
+// What is wrong with a line that asks for nothing.
+fn of_line(alloc: Global, order: Order, kept: &Kept, number: u32) -> Result<String, AllocError> {
+    let line = kept.line(number)?;
+    let text = shown(alloc, line.as_slice())?;
+    let wrong = wrong_line(alloc, player_of(order), kept.first(), line.as_slice())?;
+    format!(in alloc; "  {text}\n  {wrong}\n")
+}
+
+// What is wrong with the first line.
+fn of_first_line(alloc: Global, order: Order, kept: &Kept) -> Result<String, AllocError> {
+    let first = kept.first();
+    let wrong = wrong_first_line(alloc, player_of(order), first)?;
+    if first.is_empty() {
+        return format!(in alloc; "  {wrong}\n");
+    }
+    let text = shown(alloc, first)?;
+    format!(in alloc; "  {text}\n  {wrong}\n")
+}
+
+// What is wrong with a message file.
+fn of_file(
+    alloc: Global,
+    order: Order,
+    kept: &Kept,
+    fault: FileFault,
+) -> Result<String, AllocError> {
+    let meant = meaning_of(fault.name());
+    if order == Order::Host {
+        return format!(in alloc; "  in the message file behind 'feed': {meant}\n");
+    }
+    match fault {
+        FileFault::BadHeader => {
+            let wrong = wrong_header(alloc, kept.first())?;
+            format!(in alloc; "  {wrong}\n")
+        }
+        FileFault::Truncated => {
+            let bytes = grouped(alloc, kept.bytes())?;
+            format!(in alloc; "  behind all {bytes} bytes: {meant}\n")
+        }
+        _ => format!(in alloc; "  {meant}\n"),
+    }
+}
+
+/// What is told of a fault behind its line, each line indented.
+pub(crate) fn explained(
+    alloc: Global,
+    order: Order,
+    kept: &Kept,
+    fault: PlayFault,
+) -> Result<String, AllocError> {
+    match fault {
+        PlayFault::BadLine(number) => of_line(alloc, order, kept, number),
+        PlayFault::BadHosts => of_first_line(alloc, order, kept),
+        PlayFault::Feed(fault) => of_file(alloc, order, kept, fault),
+        other => {
+            let meant = meaning_of(other.name());
+            format!(in alloc; "  {meant}\n")
+        }
+    }
+}
+
+// All names, in the order of their table.
+fn all_names(alloc: Global) -> Result<String, AllocError> {
+    let mut text = String::new(alloc);
+    for (name, _) in NAMES {
+        text.push_str(" ")?;
+        text.push_str(name)?;
+    }
+    Ok(text)
+}
+
+// What is said of a name that is none.
+fn unknown(alloc: Global, name: &str) -> Result<String, AllocError> {
+    let word = shown(alloc, name.as_bytes())?;
+    let names: Vec<&str> = NAMES.iter().map(|known| known.0).collect(alloc)?;
+    let near = match nearest(name, names.as_slice()) {
+        Some(near) => format!(in alloc; "; did you mean '{near}'?")?,
+        None => String::new(alloc),
+    };
+    let all = all_names(alloc)?;
+    format!(in alloc; "'{word}' is no name of a fault or a refusal{near}\nThe names are{all}\n")
+}
+
+/// What is said of a name, and whether it is one.
+pub(crate) fn explanation(alloc: Global, name: &str) -> Result<(String, bool), AllocError> {
+    match meaning(name) {
+        Some(text) => Ok((format!(in alloc; "{name}\n  {text}\n")?, true)),
+        None => Ok((unknown(alloc, name)?, false)),
+    }
+}

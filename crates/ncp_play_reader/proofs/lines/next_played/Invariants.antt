@@ -1,0 +1,22 @@
+use Rattle.std.proofs.Common.{◌≡◌, ℕ, List, Option, Result, ◌≤◌}
+use Rattle.ncp_play_stream.specs.declared.source.Failed.{Failed}
+use Rattle.ncp_play_stream.specs.Streams.{Ahead}
+use Rattle.ncp_play_page.specs.Windows.{effort}
+use Rattle.ncp_play_reader.specs.declared.lines.Lines.{Lines}
+use Rattle.ncp_play_reader.specs.declared.lines.NextLine.{NextLine}
+use Rattle.ncp_play_reader.specs.NextLines.{ReadsNext}
+use Rattle.ncp_play_reader.proofs.lines.next_played.Given as goal
+
+-- what is read of the bytes that are to come now is read of all
+abbrev pub invariant-loop-ended : goal.invariant-loop-ended
+invariant-loop-ended g l =
+    let s = g.S.Source in
+    record {
+      told : (bytes : List ℕ) → Ahead l.initial.lines.window (s.left l.initial.source) bytes → (now : List ℕ) × Ahead l.lines.window (s.left l.source) now
+          × ((r : Result NextLine Failed) (lines : Lines) (left : Option (List ℕ)) → ReadsNext l.lines.number now r lines left → ReadsNext l.initial.lines.number bytes r lines left);
+      effort : effort (s.reads l.source) l.lines.window ≤ effort (s.reads l.initial.source) l.initial.lines.window;
+      mark : s.has_failed l.source ≡ s.has_failed l.initial.source;
+    }
+
+abbrev pub decreases-loop-ended : goal.decreases-loop-ended
+decreases-loop-ended g l = effort (g.S.Source.reads l.source) l.lines.window

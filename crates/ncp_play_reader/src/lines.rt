@@ -1,0 +1,65 @@
+//! `Lines`, and `next_played`.
+ghost use Rattle.std.specs.Prelude.{◌≡◌, ℕ, List, ◌<◌, ◌||◌, is_err, IfOk, [], true};
+ghost use Rattle.ncp_play_stream.specs.Streams.{Ahead};
+ghost use Rattle.ncp_play_page.specs.Windows.{effort};
+ghost use Rattle.ncp_play_reader.specs.NextLines.{ReadsNext, goes_on};
+
+use crate::reading::next_line;
+use ncp_play_page::Window;
+use ncp_play_script::{LineBuffer, LineKind};
+use ncp_play_stream::{Failed, Source};
+
+/// Where a reader of a script is.
+#[derive(Drop)]
+pub struct Lines {
+    /// The bytes that were read ahead.
+    pub window: Window,
+    /// The line that was read last.
+    pub line: LineBuffer,
+    /// The number of the next line, among all lines; it stays at the largest.
+    pub number: u32,
+}
+
+/// What stands next in a script, behind lines that are skipped.
+#[derive(Clone, Copy, Debug, Drop)]
+pub enum NextLine {
+    /// No line.
+    Over,
+    /// The line of this number, which has too many bytes.
+    TooLong(u32),
+    /// A line that is to be played: its number, and whether an LF ended it.
+    Played { number: u32, ended: bool },
+}
+
+impl Lines {
+    /// The lines of a script of which no byte is read.
+    pub fn new() -> Lines
+        ensures { result ≡ record { window = []; line = []; number = 1 } }
+    {
+        Lines {
+            window: Window::new(),
+            line: LineBuffer::new(),
+            number: 1,
+        }
+    }
+}
+
+/// Reads the next line of a script that is not skipped, and keeps what it says in `lines.line`. Empty lines
+/// and remarks are skipped, and all lines are counted. Behind a last line without LF nothing is read.
+pub fn next_played<S: Source>(lines: &mut Lines, source: &mut S) -> Result<NextLine, Failed>
+    ensures told { (bytes : List ℕ) → Ahead lines.old.window (S.left source.old) bytes → ReadsNext lines.old.number bytes result lines.new (S.left source.new) }
+    ensures effort { IfOk result (λ next. goes_on next ≡ true → effort (S.reads source.new) lines.new.window < effort (S.reads source.old) lines.old.window) }
+    ensures mark { S.has_failed source.new ≡ (S.has_failed source.old || is_err result) }
+{
+    while let Some(ended) = next_line(&mut lines.window, source, &mut lines.line)? {
+        let number = lines.number;
+        lines.number = number.saturating_add(1);
+        match lines.line.kind(ended) {
+            LineKind::Skipped if ended => {}
+            LineKind::Skipped => return Ok(NextLine::Over),
+            LineKind::TooLong => return Ok(NextLine::TooLong(number)),
+            LineKind::Played => return Ok(NextLine::Played { number, ended }),
+        }
+    }
+    Ok(NextLine::Over)
+}

@@ -1,0 +1,36 @@
+//! `next_line`.
+ghost use Rattle.std.specs.Prelude.{◌≡◌, ℕ, List, ◌<◌, ◌||◌, is_err, IfOk, Some, true};
+ghost use Rattle.ncp_play_stream.specs.Streams.{Ahead};
+ghost use Rattle.ncp_play_page.specs.Windows.{effort};
+ghost use Rattle.ncp_play_reader.specs.Reading.{ReadsLine};
+
+use ncp_play_page::Window;
+use ncp_play_script::LineBuffer;
+use ncp_play_stream::{Failed, Source};
+
+/// Reads the next line, and answers whether an LF ended it; none where no byte is left. Of the line
+/// the beginning is kept that tells what it is.
+pub fn next_line<S: Source>(
+    window: &mut Window,
+    source: &mut S,
+    line: &mut LineBuffer,
+) -> Result<Option<bool>, Failed>
+    ensures told { (bytes : List ℕ) → Ahead window.old (S.left source.old) bytes → ReadsLine bytes result line.new window.new (S.left source.new) }
+    ensures effort { IfOk result (λ found. found ≡ Some true → effort (S.reads source.new) window.new < effort (S.reads source.old) window.old) }
+    ensures mark { S.has_failed source.new ≡ (S.has_failed source.old || is_err result) }
+{
+    line.clear();
+    while window.need(source, 1)? {
+        match line.take(window.unread()) {
+            Some(used) => {
+                window.skip(used);
+                return Ok(Some(true));
+            }
+            None => window.skip(window.unread().len()),
+        }
+    }
+    if line.text(false).is_empty() {
+        return Ok(None);
+    }
+    Ok(Some(false))
+}

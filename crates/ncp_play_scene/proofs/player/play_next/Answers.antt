@@ -1,0 +1,43 @@
+use Rattle.std.proofs.Common.{Bool}
+use Rattle.std.proofs.lemmas.Result.{err_from_is_err_and}
+use Rattle.ncp_play_scene.proofs.PlayedLines.{asks_err, asks_none, event_err, event_ok, tells_any, tells_err}
+use Rattle.ncp_play_scene.proofs.player.play_next.Goals as goal
+
+pub returns-in_err-event-clause-events : goal.returns-in_err-event-clause-events
+returns-in_err-event-clause-events g c = λ bytes ahead.
+    let p = err_from_is_err_and c.from_residual.result c.from_residual.ensures.1 in
+    rw (p.1, p.2) (asks_err g.C.Scene.rules c.args.first.now c.args.lines.now.number bytes c.args.player.now.hosts c.next_event.new.lines (g.R.Source.left c.next_event.new.source) c.in_err-event.field-0.0 (c.in_err-event.ensures.told bytes ahead))
+
+pub returns-in_default-clause-events : goal.returns-in_default-clause-events
+returns-in_default-clause-events g c = λ bytes ahead.
+    asks_none g.C.Scene.rules c.args.first.now c.args.lines.now.number bytes c.args.player.now.hosts c.next_event.new.lines (g.R.Source.left c.next_event.new.source) (rw c.in_default.is at (c.in_ok-event.ensures.told bytes ahead))
+
+pub returns-in_err-play_on-clause-events : goal.returns-in_err-play_on-clause-events
+returns-in_err-play_on-clause-events g c = λ bytes ahead.
+    let p = err_from_is_err_and c.from_residual-in_err-play_on.result c.from_residual-in_err-play_on.ensures.1 in
+    rw (p.1, p.2) (
+    event_err g.C.Scene.rules c.args.first.now c.args.lines.now.number bytes c.args.player.now.hosts c.in-Some.event c.in-Some.ended c.next_event.new.lines (g.R.Source.left c.next_event.new.source) c.play_on.new.hosts c.in_err-play_on.field-0.0
+    (rw c.in-Some.is at (c.in_ok-event.ensures.told bytes ahead)) c.in_err-play_on.ensures.event)
+
+pub returns-clause-events : goal.returns-clause-events
+returns-clause-events g c = λ bytes ahead.
+    event_ok g.C.Scene.rules c.args.first.now c.args.lines.now.number bytes c.args.player.now.hosts c.in-Some.event c.in-Some.ended c.next_event.new.lines (g.R.Source.left c.next_event.new.source) c.play_on.new.hosts
+    (rw c.in-Some.is at (c.in_ok-event.ensures.told bytes ahead)) c.in_ok-play_on.ensures.event
+
+pub returns-in_err-event-clause-told : goal.returns-in_err-event-clause-told
+returns-in_err-event-clause-told g c = λ began was told.
+    let player = c.args.player.now in
+    tells_any g.C.Scene.rules (g.T.Teller.tale c.args.first.now) began was player.hosts player.number player.page (g.W.Sink.written c.args.sink.now) c.from_residual.result told
+
+pub returns-in_default-clause-told : goal.returns-in_default-clause-told
+returns-in_default-clause-told g c = λ began was told. told
+
+pub returns-in_err-play_on-clause-told : goal.returns-in_err-play_on-clause-told
+returns-in_err-play_on-clause-told g c = λ began was told.
+    let p = err_from_is_err_and c.from_residual-in_err-play_on.result c.from_residual-in_err-play_on.ensures.1 in
+    rw (p.1, p.2) (
+    tells_err g.C.Scene.rules (g.T.Teller.tale c.args.first.now) began was c.play_on.new.hosts (Unit {0}) Bool c.play_on.new.number c.play_on.new.page (g.W.Sink.written c.play_on.new.sink) c.in_err-play_on.field-0.0
+    (c.in_err-play_on.ensures.told began was told))
+
+pub returns-clause-told : goal.returns-clause-told
+returns-clause-told g c = λ began was told. c.in_ok-play_on.ensures.told began was told

@@ -1,0 +1,40 @@
+-- What a player of hosts has said, and what it does with one event.
+use Rattle.std.specs.Prelude.{◌≡◌, ℕ, List, Option, Result, Ok, Err}
+use Rattle.ncp_play_stream.specs.Streams.{SaidSoFar}
+use Rattle.ncp_play_notes.specs.declared.fault.PlayFault.{PlayFault}
+use Rattle.ncp_play_notes.specs.declared.fault.PlayFault.TheVariants.{BadLine, LineTooLong, BadHosts, Feed, ReadFailed, WriteFailed, OutOfMemory}
+use Rattle.ncp_play_scene.specs.Rules.{Rules}
+use Rattle.ncp_play_scene.specs.Telling.{Tale, after_all, told, number_behind_notes}
+
+module _ {F E N W : Type 0} (rules : Rules F E N W) where
+  -- the notes have led from hosts that began so to these; they were told since the sink held `was`, and nothing
+  -- else; the next note has this number
+  abbrev pub Tells : Tale N W → W → List ℕ → W → ℕ → List ℕ → Option (List ℕ) → Type 0
+  Tells tale began was now number page written =
+      (now ≡ after_all rules.after (rules.notes now) began) × (number ≡ number_behind_notes 1 (rules.notes now)) × SaidSoFar was page written (told rules.after tale began (rules.notes now))
+
+  -- a beginning of what is told of them was written
+  abbrev pub TellsBeginning : Tale N W → W → List ℕ → List N → Option (List ℕ) → Type 0
+  TellsBeginning tale began was notes written = (lost : List ℕ) × SaidSoFar was lost written (told rules.after tale began notes)
+
+  -- one event was done; or there was no memory, and nothing has happened; or it was done, and a write failed
+  abbrev pub DoesEvent : E → W → Result Unit PlayFault → W → Type 0
+  DoesEvent event before (Ok done) now = rules.Step event before now
+  DoesEvent event before (Err OutOfMemory) now = now ≡ before
+  DoesEvent event before (Err WriteFailed) now = rules.Step event before now
+  DoesEvent event before (Err ReadFailed) now = ⊥
+  DoesEvent event before (Err BadHosts) now = ⊥
+  DoesEvent event before (Err (BadLine line)) now = ⊥
+  DoesEvent event before (Err (LineTooLong line)) now = ⊥
+  DoesEvent event before (Err (Feed fault)) now = ⊥
+
+  -- all notes were told; where a write failed a beginning was written
+  abbrev pub TellsAs : {X : Type 0} → Tale N W → W → List ℕ → W → Result X PlayFault → ℕ → List ℕ → Option (List ℕ) → Type 0
+  TellsAs tale began was now (Ok x) number page written = Tells tale began was now number page written
+  TellsAs tale began was now (Err WriteFailed) number page written = TellsBeginning tale began was (rules.notes now) written
+  TellsAs tale began was now (Err OutOfMemory) number page written = Tells tale began was now number page written
+  TellsAs tale began was now (Err ReadFailed) number page written = Tells tale began was now number page written
+  TellsAs tale began was now (Err BadHosts) number page written = Tells tale began was now number page written
+  TellsAs tale began was now (Err (BadLine line)) number page written = Tells tale began was now number page written
+  TellsAs tale began was now (Err (LineTooLong line)) number page written = Tells tale began was now number page written
+  TellsAs tale began was now (Err (Feed fault)) number page written = Tells tale began was now number page written

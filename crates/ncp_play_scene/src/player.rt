@@ -1,0 +1,214 @@
+//! `play_first`: a script, played line by line behind its first.
+ghost use Rattle.std.specs.Prelude.{◌≡◌, ◌<◌, ◌||◌, ◌⊎◌, ℕ, List, [], Some, true, false, Ok, Err, IfOk};
+ghost use Rattle.ncp_play_stream.specs.Streams.{Ahead};
+ghost use Rattle.ncp_play_page.specs.Windows.{effort};
+ghost use Rattle.ncp_play_notes.specs.Faults.{is_read_failed, is_write_failed};
+ghost use Rattle.ncp_play_scene.specs.Rules.{any_refusal};
+ghost use Rattle.ncp_play_scene.specs.Telling.{Tale};
+ghost use Rattle.ncp_play_scene.specs.NextEvents.{FindsFirst};
+ghost use Rattle.ncp_play_scene.specs.Playing.{Tells, TellsAs};
+ghost use Rattle.ncp_play_scene.specs.Players.{PlaysNext, PlaysLines, WritesAs, AnswersGood, PlaysBehind, PlaysScript};
+
+use crate::next_event::next_event;
+use crate::playing::play_on;
+use crate::scene::Scene;
+use crate::teller::Teller;
+use ncp_play_notes::PlayFault;
+use ncp_play_page::Page;
+use ncp_play_reader::Lines;
+use ncp_play_script::Words;
+use ncp_play_stream::{Sink, Source};
+use std::alloc::Global;
+
+// Hosts that are played, and what is told of them.
+#[derive(Drop)]
+struct Player<C: Scene> {
+    hosts: C::Hosts,
+    number: u32,
+    page: Page,
+}
+
+// Plays the next line, and answers whether others may follow.
+fn play_next<C: Scene, T: Teller<C>, R: Source, W: Sink>(
+    alloc: Global,
+    first: &C::First,
+    lines: &mut Lines,
+    source: &mut R,
+    player: &mut Player<C>,
+    sink: &mut W,
+) -> Result<bool, PlayFault>
+    ensures events { (bytes : List ℕ) → Ahead lines.old.window (R.left source.old) bytes → PlaysNext C.rules first.now lines.old.number bytes player.old.hosts result player.new.hosts lines.new.number lines.new.window (R.left source.new) }
+    ensures told { (began : C.Hosts) (was : List ℕ) → Tells C.rules (T.tale first.now) began was player.old.hosts player.old.number player.old.page (W.written sink.old) → TellsAs C.rules (T.tale first.now) began was player.new.hosts result player.new.number player.new.page (W.written sink.new) }
+    ensures effort { IfOk result (λ more. more ≡ true → effort (R.reads source.new) lines.new.window < effort (R.reads source.old) lines.old.window) }
+    ensures source_mark { R.has_failed source.new ≡ (R.has_failed source.old || is_read_failed result) }
+    ensures sink_mark { W.has_failed sink.new ≡ (W.has_failed sink.old || is_write_failed result) }
+{
+    let Some((event, ended)) = next_event::<C, R>(alloc, first, lines, source)? else {
+        return Ok(false);
+    };
+    play_on::<C, T, W>(
+        first,
+        &mut player.hosts,
+        &event,
+        &mut player.number,
+        lines,
+        &mut player.page,
+        sink,
+    )?;
+    Ok(ended)
+}
+
+// Plays the lines that are to come.
+fn play_lines<C: Scene, T: Teller<C>, R: Source, W: Sink>(
+    alloc: Global,
+    first: &C::First,
+    lines: &mut Lines,
+    source: &mut R,
+    player: &mut Player<C>,
+    sink: &mut W,
+) -> Result<(), PlayFault>
+    ensures events { (bytes : List ℕ) → Ahead lines.old.window (R.left source.old) bytes → PlaysLines C.rules first.now lines.old.number bytes player.old.hosts result player.new.hosts (R.left source.new) }
+    ensures told { (began : C.Hosts) (was : List ℕ) → Tells C.rules (T.tale first.now) began was player.old.hosts player.old.number player.old.page (W.written sink.old) → TellsAs C.rules (T.tale first.now) began was player.new.hosts result player.new.number player.new.page (W.written sink.new) }
+    ensures source_mark { R.has_failed source.new ≡ (R.has_failed source.old || is_read_failed result) }
+    ensures sink_mark { W.has_failed sink.new ≡ (W.has_failed sink.old || is_write_failed result) }
+{
+    while play_next::<C, T, R, W>(alloc, first, lines, source, player, sink)? {}
+    Ok(())
+}
+
+// Plays the lines behind the first: there are none where no LF ended it.
+fn play_rest<C: Scene, T: Teller<C>, R: Source, W: Sink>(
+    alloc: Global,
+    first: &C::First,
+    ended: bool,
+    lines: &mut Lines,
+    source: &mut R,
+    player: &mut Player<C>,
+    sink: &mut W,
+) -> Result<(), PlayFault>
+    ensures events { (bytes : List ℕ) → Ahead lines.old.window (R.left source.old) bytes → (ended ≡ false → bytes ≡ []) → PlaysLines C.rules first.now lines.old.number bytes player.old.hosts result player.new.hosts (R.left source.new) }
+    ensures told { (began : C.Hosts) (was : List ℕ) → Tells C.rules (T.tale first.now) began was player.old.hosts player.old.number player.old.page (W.written sink.old) → TellsAs C.rules (T.tale first.now) began was player.new.hosts result player.new.number player.new.page (W.written sink.new) }
+    ensures unread { ended ≡ false → is_read_failed result ≡ false }
+    ensures source_mark { R.has_failed source.new ≡ (R.has_failed source.old || is_read_failed result) }
+    ensures sink_mark { W.has_failed sink.new ≡ (W.has_failed sink.old || is_write_failed result) }
+{
+    if !ended {
+        return Ok(());
+    }
+    play_lines::<C, T, R, W>(alloc, first, lines, source, player, sink)
+}
+
+// Whether a call was refused.
+fn any_refusal<C: Scene>(notes: &[C::Note]) -> bool
+    ensures { result ≡ any_refusal C.rules notes.now }
+{
+    notes.iter().any(|note| C::is_refusal(note))
+}
+
+// Plays the lines behind the first, and answers whether no call was refused.
+fn play_all<C: Scene, T: Teller<C>, R: Source, W: Sink>(
+    alloc: Global,
+    first: &C::First,
+    ended: bool,
+    lines: &mut Lines,
+    source: &mut R,
+    player: &mut Player<C>,
+    sink: &mut W,
+) -> Result<bool, PlayFault>
+    ensures events { (bytes : List ℕ) → Ahead lines.old.window (R.left source.old) bytes → (ended ≡ false → bytes ≡ []) → PlaysLines C.rules first.now lines.old.number bytes player.old.hosts result player.new.hosts (R.left source.new) }
+    ensures told { (began : C.Hosts) (was : List ℕ) → Tells C.rules (T.tale first.now) began was player.old.hosts player.old.number player.old.page (W.written sink.old) → TellsAs C.rules (T.tale first.now) began was player.new.hosts result player.new.number player.new.page (W.written sink.new) }
+    ensures run { C.rules.IsRun player.new.hosts }
+    ensures good { AnswersGood C.rules result (C.rules.notes player.new.hosts) }
+    ensures unread { ended ≡ false → is_read_failed result ≡ false }
+    ensures source_mark { R.has_failed source.new ≡ (R.has_failed source.old || is_read_failed result) }
+    ensures sink_mark { W.has_failed sink.new ≡ (W.has_failed sink.old || is_write_failed result) }
+{
+    let played = play_rest::<C, T, R, W>(alloc, first, ended, lines, source, player, sink);
+    let good = !any_refusal::<C>(C::notes(&player.hosts));
+    played?;
+    Ok(good)
+}
+
+// Writes what stands on the page, unless a write has failed.
+fn finish<C: Scene, W: Sink>(
+    page: &mut Page,
+    sink: &mut W,
+    played: Result<bool, PlayFault>,
+) -> Result<bool, PlayFault>
+    requires { W.has_failed sink.old ≡ is_write_failed played }
+    ensures same { (result ≡ played) ⊎ (result ≡ Err PlayFault.WriteFailed) }
+    ensures told { (tale : Tale C.Note C.Hosts) (began : C.Hosts) (was : List ℕ) (hosts : C.Hosts) (number : ℕ) → TellsAs C.rules tale began was hosts played number page.old (W.written sink.old) → WritesAs C.rules tale began was (C.rules.notes hosts) result (W.written sink.new) }
+    ensures mark { W.has_failed sink.new ≡ is_write_failed result }
+{
+    if sink.failed() {
+        return played;
+    }
+    match page.flush(sink) {
+        Ok(()) => played,
+        Err(_) => Err(PlayFault::WriteFailed),
+    }
+}
+
+// Plays the lines behind the first, if an LF ended it, to new hosts.
+fn play_behind<C: Scene, T: Teller<C>, R: Source, W: Sink>(
+    alloc: Global,
+    first: &C::First,
+    ended: bool,
+    lines: &mut Lines,
+    source: &mut R,
+    sink: &mut W,
+) -> Result<bool, PlayFault>
+    requires proper { C.IsProper first.now }
+    requires source_clean { R.has_failed source.old ≡ false }
+    requires sink_clean { W.has_failed sink.old ≡ false }
+    ensures told { (bytes : List ℕ) (was : List ℕ) → Ahead lines.old.window (R.left source.old) bytes → W.written sink.old ≡ Some was → (ended ≡ false → bytes ≡ []) → PlaysBehind C.rules (T.tale first.now) first.now lines.old.number bytes was result (R.left source.new) (W.written sink.new) }
+    ensures unread { ended ≡ false → is_read_failed result ≡ false }
+    ensures read_failed { is_read_failed result ≡ true → R.has_failed source.new ≡ true }
+    ensures write_failed { W.has_failed sink.new ≡ is_write_failed result }
+    ensures blamed { R.has_failed source.new ≡ true → (is_read_failed result || is_write_failed result) ≡ true }
+{
+    let mut page = Page::new();
+    T::begin(first, &mut page);
+    let Ok(hosts) = C::begin(alloc, first) else {
+        return finish::<C, W>(&mut page, sink, Err(PlayFault::OutOfMemory));
+    };
+    let mut player = Player::<C> {
+        hosts,
+        number: 1,
+        page,
+    };
+    let played = play_all::<C, T, R, W>(alloc, first, ended, lines, source, &mut player, sink);
+    finish::<C, W>(&mut player.page, sink, played)
+}
+
+/// Plays a script whose first line was read, as [`crate::find_first`] does: each line behind it is an event of
+/// new hosts, and what the teller tells of its note is written. It answers whether no call was refused.
+///
+/// Memory is taken for the hosts, their notes, and what lines say. A line that is refused is judged
+/// before it is played, and the lines before it were played. Without a proper first line nothing is
+/// written. After `ReadFailed` the lines that came whole were played; after `OutOfMemory` the first events;
+/// after `WriteFailed` a beginning of what is told is written.
+pub fn play_first<C: Scene, T: Teller<C>, R: Source, W: Sink>(
+    alloc: Global,
+    ended: bool,
+    lines: &mut Lines,
+    source: &mut R,
+    sink: &mut W,
+) -> Result<bool, PlayFault>
+    requires source_clean { R.has_failed source.old ≡ false }
+    requires sink_clean { W.has_failed sink.old ≡ false }
+
+    // Of bytes that are told, the events of the script happened in order, up to its first fault; their notes
+    // are a transcript; and what is told of them is written, and nothing else.
+    ensures told { (bytes : List ℕ) (was : List ℕ) → FindsFirst 1 bytes (Ok ended) lines.old (R.left source.old) → W.written sink.old ≡ Some was → PlaysScript C.rules T.tale bytes was result (R.left source.new) (W.written sink.new) }
+
+    // Reading and writing are blamed only where they failed.
+    ensures read_failed { is_read_failed result ≡ true → R.has_failed source.new ≡ true }
+    ensures write_failed { W.has_failed sink.new ≡ is_write_failed result }
+    ensures blamed { R.has_failed source.new ≡ true → (is_read_failed result || is_write_failed result) ≡ true }
+{
+    let Some(first) = C::first_of(&mut Words::new(lines.line.text(ended))) else {
+        return Err(PlayFault::BadHosts);
+    };
+    play_behind::<C, T, R, W>(alloc, &first, ended, lines, source, sink)
+}

@@ -1,0 +1,66 @@
+//! One event of a player: it happens to the hosts, and its note is told.
+ghost use Rattle.std.specs.Prelude.{◌≡◌, ◌+◌, ◌≤◌, ◌||◌, ℕ, List, is_err};
+ghost use Rattle.ncp_play_stream.specs.Pieces.{bytes_and_writes, lost_pieces};
+ghost use Rattle.ncp_play_notes.specs.Faults.{is_write_failed};
+ghost use Rattle.ncp_play_scene.specs.Playing.{DoesEvent, Tells, TellsAs};
+
+use crate::scene::Scene;
+use crate::teller::Teller;
+use ncp_play_notes::PlayFault;
+use ncp_play_page::Page;
+use ncp_play_reader::{Lines, let_out};
+use ncp_play_stream::Sink;
+
+/// Does what an event says in a script of this first line, and says what is told of its note, which has
+/// this number; then the number is that of the next note.
+///
+/// After `OutOfMemory` nothing has happened, and the same event may be given again; after
+/// `WriteFailed` the event was done, and a beginning of all that is told is written.
+pub fn play_event<C: Scene, T: Teller<C>, W: Sink>(
+    first: &C::First,
+    hosts: &mut C::Hosts,
+    event: &C::Event,
+    number: &mut u32,
+    page: &mut Page,
+    sink: &mut W,
+) -> Result<(), PlayFault>
+    ensures event { DoesEvent C.rules event.now hosts.old result hosts.new }
+    ensures told { (began : C.Hosts) (was : List ℕ) → Tells C.rules (T.tale first.now) began was hosts.old number.old page.old (W.written sink.old) → TellsAs C.rules (T.tale first.now) began was hosts.new result number.new page.new (W.written sink.new) }
+    ensures writes { bytes_and_writes W.takes_all (W.writes sink.old) (W.written sink.old) ≤ bytes_and_writes W.takes_all (W.writes sink.new) (W.written sink.new) + lost_pieces (is_write_failed result) }
+    ensures mark { W.has_failed sink.new ≡ (W.has_failed sink.old || is_write_failed result) }
+{
+    if C::step(hosts, event).is_err() {
+        return Err(PlayFault::OutOfMemory);
+    }
+    let notes = C::notes(hosts);
+    match T::say(first, hosts, *number, &notes[notes.len() - 1], page, sink) {
+        Ok(()) => {
+            *number = number.saturating_add(1);
+            Ok(())
+        }
+        Err(_) => Err(PlayFault::WriteFailed),
+    }
+}
+
+/// Plays an event as [`play_event`] does. Where the next line has still to be read, all that is told is written.
+pub(crate) fn play_on<C: Scene, T: Teller<C>, W: Sink>(
+    first: &C::First,
+    hosts: &mut C::Hosts,
+    event: &C::Event,
+    number: &mut u32,
+    lines: &Lines,
+    page: &mut Page,
+    sink: &mut W,
+) -> Result<(), PlayFault>
+    ensures event { DoesEvent C.rules event.now hosts.old result hosts.new }
+    ensures told { (began : C.Hosts) (was : List ℕ) → Tells C.rules (T.tale first.now) began was hosts.old number.old page.old (W.written sink.old) → TellsAs C.rules (T.tale first.now) began was hosts.new result number.new page.new (W.written sink.new) }
+    ensures mark { W.has_failed sink.new ≡ (W.has_failed sink.old || is_write_failed result) }
+{
+    match play_event::<C, T, W>(first, hosts, event, number, page, sink) {
+        Ok(()) => match let_out(lines, page, sink) {
+            Ok(()) => Ok(()),
+            Err(_) => Err(PlayFault::WriteFailed),
+        },
+        Err(fault) => Err(fault),
+    }
+}

@@ -1,0 +1,74 @@
+//! `Scene`: the hosts that a script plays.
+ghost use Rattle.std.specs.Prelude.{◌≡◌, ◌++◌, ◌∷◌, [], ℕ, List, IfOk, IfSome, OnOk, OnErr};
+
+use ncp_play_script::Words;
+use std::alloc::{AllocError, Global};
+
+/// What a script plays: hosts with their notes, how a first line makes them, what a line behind it asks for,
+/// and how that happens.
+pub trait Scene {
+    ghost use Rattle.ncp_play_script.specs.Calls.{NamesGiveBehind};
+    ghost use Rattle.ncp_play_scene.specs.Rules.{Rules};
+
+    /// The hosts, with their notes.
+    type Hosts: Drop;
+
+    /// What a first line says.
+    type First: Drop;
+
+    /// What a line behind it asks for.
+    type Event: Drop;
+
+    /// What is noted of an event.
+    type Note;
+
+    /// What the words of lines say, and what happens.
+    ghost rules: { Rules Self.First Self.Event Self.Note Self.Hosts };
+
+    /// Whether hosts can be made as a first line says.
+    ghost IsProper: { Self.First → Type 0 };
+
+    /// The first line that these words are, all that are left. Where they are none, the words that are left
+    /// are not told.
+    fn first_of(words: &mut Words<'_>) -> Option<Self::First>
+        ensures first { result ≡ rules.first words.old }
+        ensures proper { IfSome result IsProper };
+
+    /// What a line of these words asks for, all that are left. Memory is taken for the text of a `give`, and for
+    /// nothing else. Where the line is none, the words that are left are not told.
+    fn event_of(
+        alloc: Global,
+        first: &Self::First,
+        words: &mut Words<'_>,
+    ) -> Result<Option<Self::Event>, AllocError>
+        ensures event { IfOk result (λ event. event ≡ rules.reads first.now words.old) }
+        ensures memory { OnErr result (NamesGiveBehind words.old) };
+
+    /// New hosts.
+    fn begin(alloc: Global, first: &Self::First) -> Result<Self::Hosts, AllocError>
+        requires { IsProper first.now }
+        ensures { IfOk result (λ hosts. hosts ≡ rules.begun first.now) };
+
+    /// Does what an event says, and notes it. After an `AllocError` nothing has happened.
+    fn step(hosts: &mut Self::Hosts, event: &Self::Event) -> Result<(), AllocError>
+        ensures step { OnOk result (rules.Step event.now hosts.old hosts.new) }
+        ensures err { OnErr result (hosts.new ≡ hosts.old) };
+
+    /// The notes of all events, the first event's first.
+    fn notes(hosts: &Self::Hosts) -> &[Self::Note]
+        ensures notes { result.now ≡ rules.notes hosts.now }
+        ensures run { rules.IsRun hosts.now };
+
+    /// Whether a note says that a call was refused.
+    fn is_refusal(note: &Self::Note) -> bool
+        ensures { result ≡ rules.is_refusal note.now };
+
+    /// New hosts have no notes; and they are a transcript.
+    ghost noted_none: { (first : Self.First) → rules.notes (rules.begun first) ≡ [] };
+
+    ghost run_none: { (first : Self.First) → IsProper first → rules.IsRun (rules.begun first) };
+
+    /// An event leaves one note more.
+    ghost noted_one: { (event : Self.Event) (before now : Self.Hosts) → rules.Step event before now
+        → (note : Self.Note) × (rules.notes now ≡ rules.notes before ++ note ∷ []) × (now ≡ rules.after note before) };
+}

@@ -1,0 +1,31 @@
+use Rattle.std.proofs.Common.{◌≡◌, ◌∷◌, ℕ, Bool, true, false, List, Option, if◌then◌else◌, codes, refl, sym, ap, ◌∙◌}
+use Rattle.std.proofs.lemmas.Result.{IfOk-weaker}
+use Rattle.std.specs.Str.{bytes_eq}
+use Rattle.std.proofs.lemmas.Slice.Eq.{bytes_eq-Decides}
+use Rattle.ncp_transcript.specs.declared.input.Input.TheVariants as inputs
+use Rattle.ncp_play_script.specs.declared.host_lines.HostLine.{HostLine}
+use Rattle.ncp_play_script.specs.declared.host_lines.HostLine.TheVariants.{Input, Feed}
+use Rattle.ncp_play_script.specs.HostLines.{alone, bits_line, call_line, host_line_of}
+use Rattle.ncp_play_script.proofs.host_lines.host_line.Goals as goal
+
+differs : (a b : List ℕ) (is : Bool) → bytes_eq b a ≡ is → bytes_eq a b ≡ false → is ≡ false
+differs a b false e differ = refl
+differs a b true e differ = let same : a ≡ b = sym ((bytes_eq-Decides b a).0 e) in let is : bytes_eq a b ≡ true = (bytes_eq-Decides a b).1 same in absurd (cc)
+
+-- two lists of bytes that differ, the other way round
+turned : (a b : List ℕ) → bytes_eq a b ≡ false → bytes_eq b a ≡ false
+turned a b differ = differs a b (bytes_eq b a) refl differ
+
+-- a line that begins with none of the words of its own is a call
+line-of : (word : List ℕ) (words : List (List ℕ)) → bytes_eq (codes "in") word ≡ false → bytes_eq (codes "out") word ≡ false → bytes_eq (codes "feed") word ≡ false → host_line_of (word ∷ words) ≡ call_line (word ∷ words)
+line-of word words is-in is-out is-feed =
+    ap (λ (b : Bool). if b then bits_line words else if bytes_eq (codes "out") word then alone (Input inputs.Out) words else if bytes_eq (codes "feed") word then alone Feed words else call_line (word ∷ words)) is-in
+    ∙ ap (λ (b : Bool). if b then alone (Input inputs.Out) words else if bytes_eq (codes "feed") word then alone Feed words else call_line (word ∷ words)) is-out
+    ∙ ap (λ (b : Bool). if b then alone Feed words else call_line (word ∷ words)) is-feed
+
+pub returns-clause-line : goal.returns-clause-line
+returns-clause-line c =
+    let read : host_line_of c.args.words.now ≡ call_line (c.in-Some.word.now ∷ c.next_word.new.self) =
+    ap host_line_of c.in-Some.ensures ∙ line-of c.in-Some.word.now c.next_word.new.self
+    (turned c.in-Some.word.now (codes "in") (sym c.eq.ensures ∙ c.if-eq.false)) (turned c.in-Some.word.now (codes "out") (sym c.eq-2.ensures ∙ c.if-eq-2.false)) (turned c.in-Some.word.now (codes "feed") (sym c.eq-3.ensures ∙ c.if-eq-3.false)) in
+    IfOk-weaker c.call_line.result (λ line. line ≡ call_line (c.in-Some.word.now ∷ c.next_word.new.self)) (λ line. line ≡ host_line_of c.args.words.now) (λ line e. e ∙ sym read) c.call_line.ensures.line

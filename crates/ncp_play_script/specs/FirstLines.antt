@@ -1,0 +1,76 @@
+-- The first line of a script (this profile): the hosts that it names.
+use Rattle.std.specs.Prelude.{ℕ, ◌==◌, nat_le, Bool, false, List, [], ◌∷◌, length, Option, Some, None, option_map, codes, if◌then◌else◌}
+use Rattle.std.specs.Str.{bytes_eq}
+use Rattle.ncp_host.specs.declared.limits.TheConstants.{MAX_PEERS}
+use Rattle.ncp_host.specs.Host.{are_peers}
+use Rattle.ncp_play_script.specs.declared.first_lines.HostAndPeers.{HostAndPeers}
+use Rattle.ncp_play_script.specs.declared.first_lines.TwoHosts.{TwoHosts}
+use Rattle.ncp_play_script.specs.Words.{number_first, number_of, largest_u8}
+use Rattle.ncp_play_script.specs.Calls.{Read, behind}
+
+-- a host and its peers, in the order in which they are named
+pub record Named : Type 0 where
+  pub me : ℕ
+  pub peers : List ℕ
+
+-- as the code has them
+abbrev pub named_in : HostAndPeers → Named
+named_in hosts = record { me = hosts.me; peers = hosts.peers.items }
+
+-- a number in front of numbers, if all of them are there
+abbrev pub with_number : Option ℕ → Option (List ℕ) → Option (List ℕ)
+with_number None numbers = None
+with_number (Some number) numbers = option_map (λ behind. number ∷ behind) numbers
+
+-- the numbers that some words are
+abbrev pub numbers_of : List (List ℕ) → Option (List ℕ)
+numbers_of [] = Some []
+numbers_of (word ∷ words) = with_number (number_of largest_u8 word) (numbers_of words)
+
+-- not more than the peers that a host has at most
+abbrev pub few : Option (List ℕ) → Option (List ℕ)
+few None = None
+few (Some numbers) = if nat_le (length numbers) MAX_PEERS then Some numbers else None
+
+-- the peers that words are, behind the host
+abbrev pub with_peers : Option (ℕ × List (List ℕ)) → Option Named
+with_peers None = None
+with_peers (Some (me, words)) = option_map (λ peers. record { me = me; peers = peers }) (few (numbers_of words))
+
+-- the word `host`, then a host and its peers
+abbrev pub host_named : List (List ℕ) → Option Named
+host_named [] = None
+host_named (word ∷ words) = if bytes_eq (codes "host") word then with_peers (number_first largest_u8 words) else None
+
+-- the host can have these peers
+abbrev pub if_peers : Option Named → Option Named
+if_peers None = None
+if_peers (Some named) = if are_peers named.me named.peers then Some named else None
+
+-- the first line of a script of one host
+abbrev pub first_of_host : List (List ℕ) → Option Named
+first_of_host words = if_peers (host_named words)
+
+-- words that begin with the word `many`
+abbrev pub is_many : List (List ℕ) → Bool
+is_many [] = false
+is_many (word ∷ words) = bytes_eq (codes "many") word
+
+-- the numbers behind the word `many`, which all words are; whether hosts can have them is not judged
+abbrev pub many_named : List (List ℕ) → Option (List ℕ)
+many_named [] = None
+many_named (word ∷ words) = if bytes_eq (codes "many") word then few (numbers_of words) else None
+
+-- two numbers, the first words
+abbrev pub two_first : List (List ℕ) → Read TwoHosts
+two_first words = behind (number_first largest_u8 words) (λ a words. behind (number_first largest_u8 words) (λ b words. Some (record { a = a; b = b }, words)))
+
+-- the hosts that are read differ
+abbrev pub if_distinct : Read TwoHosts → Read TwoHosts
+if_distinct None = None
+if_distinct (Some (hosts, words)) = if hosts.a == hosts.b then None else Some (hosts, words)
+
+-- the first line of a script of two hosts begins so: the word `hosts` and two distinct numbers
+abbrev pub hosts_first : List (List ℕ) → Read TwoHosts
+hosts_first [] = None
+hosts_first (word ∷ words) = if bytes_eq (codes "hosts") word then if_distinct (two_first words) else None

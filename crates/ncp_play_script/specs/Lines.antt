@@ -1,0 +1,29 @@
+-- The lines of a script (this profile).
+use Rattle.std.specs.Prelude.{ℕ, ◌-◌, ◌==◌, ◌&&◌, nat_lt, Bool, true, List, [], ◌∷◌, length, take, slice_index, if◌then◌else◌}
+use Rattle.ncp_play_script.specs.declared.line_buffer.TheConstants.{MAX_LINE, LF, CR, REMARK}
+use Rattle.ncp_play_script.specs.declared.line_buffer.LineKind.{LineKind}
+use Rattle.ncp_play_script.specs.declared.line_buffer.LineKind.TheVariants.{Skipped, TooLong, Played}
+
+-- the byte that ends a line
+abbrev pub is_lf : ℕ → Bool
+is_lf byte = byte == LF
+
+abbrev pub ends_in_cr : List ℕ → Bool
+ends_in_cr bytes = nat_lt 0 (length bytes) && (slice_index bytes (length bytes - 1) == CR)
+
+-- one CR at the end is dropped
+abbrev pub without_cr : List ℕ → List ℕ
+without_cr bytes = if ends_in_cr bytes then take (length bytes - 1) bytes else bytes
+
+-- what a line says: where an LF ended it, one CR before it is dropped; a last line without LF keeps it
+abbrev pub text_of : Bool → List ℕ → List ℕ
+text_of ended bytes = if ended then without_cr bytes else bytes
+
+-- an empty line, or a remark
+abbrev pub is_skipped : List ℕ → Bool
+is_skipped [] = true
+is_skipped (byte ∷ bytes) = byte == REMARK
+
+-- what is to be done with a line that says this: a remark is skipped however long it is
+abbrev pub kind_of : List ℕ → LineKind
+kind_of text = if is_skipped text then Skipped else if nat_lt MAX_LINE (length text) then TooLong else Played

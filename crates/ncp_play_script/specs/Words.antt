@@ -1,0 +1,42 @@
+-- The words of a line of a script, and the numbers that they are (this profile).
+use Rattle.std.specs.Prelude.{ℕ, ◌+◌, ◌*◌, ◌-◌, ◌^◌, ◌==◌, ◌&&◌, nat_lt, nat_le, Bool, List, [], ◌∷◌, length, Option, Some, None, option_map, if◌then◌else◌}
+use Rattle.std.specs.List.{slice_split}
+use Rattle.std.specs.Str.{all_ascii_digits}
+use Rattle.ncp_play_script.specs.declared.numbers.TheConstants.{MAX_DIGITS}
+use Rattle.ncp_play_script.specs.declared.line_words.TheConstants.{SPACE}
+
+-- what stands between the spaces of a line: two spaces in a row, or one at an end, make an empty word
+abbrev pub words_of : List ℕ → List (List ℕ)
+words_of line = slice_split (λ byte. byte == SPACE) line
+
+-- the words of what is left of a line, none where all of it was read
+abbrev pub words_left : Option (List ℕ) → List (List ℕ)
+words_left None = []
+words_left (Some rest) = words_of rest
+
+-- the number that is spelled by a number's digits and these behind them, the first the most significant
+abbrev pub value_after : ℕ → List ℕ → ℕ
+value_after number [] = number
+value_after number (digit ∷ digits) = value_after (10 * number + (digit - 48)) digits
+
+-- one to ten decimal digits that spell a number of at most this
+abbrev pub is_number : ℕ → List ℕ → Bool
+is_number most word = (nat_lt 0 (length word) && nat_le (length word) MAX_DIGITS) && (all_ascii_digits word && nat_le (value_after 0 word) most)
+
+abbrev pub number_of : ℕ → List ℕ → Option ℕ
+number_of most word = if is_number most word then Some (value_after 0 word) else None
+
+-- the number that the first of some words is, and the words behind it
+abbrev pub number_first : ℕ → List (List ℕ) → Option (ℕ × List (List ℕ))
+number_first most [] = None
+number_first most (word ∷ words) = option_map (λ number. (number, words)) (number_of most word)
+
+-- the largest numbers of an argument of 8, of 16 and of 32 bits
+abbrev pub largest_u8 : ℕ
+largest_u8 = 2 ^ 8 - 1
+
+abbrev pub largest_u16 : ℕ
+largest_u16 = 2 ^ 16 - 1
+
+abbrev pub largest_u32 : ℕ
+largest_u32 = 2 ^ 32 - 1

@@ -1,0 +1,65 @@
+//! Bits in words.
+ghost use Rattle.std.specs.Prelude.{◌≡◌, ◌*◌, ◌≤◌, length, option_map};
+ghost use Rattle.ncp_play_script.specs.BitStrings.{hex_value, hex_bytes, bits_in_hex, bits_first};
+
+use crate::line_words::Words;
+use arrayvec::ArrayVec;
+use ncp_bits::{Bits, MAX_BITS};
+
+// How many bytes the bits of the longest message take.
+const MAX_BYTES: usize = MAX_BITS / 8;
+
+// The base of hexadecimal numbers.
+const SIXTEEN: u32 = 16;
+
+// The number that a hexadecimal digit of either case is.
+fn value_of(digit: u8) -> Option<u8>
+    ensures { result ≡ hex_value digit }
+{
+    let value = char::from(digit).to_digit(SIXTEEN)?;
+    Some(value as u8)
+}
+
+// The bytes that hexadecimal digits spell.
+fn bytes_of(digits: &[u8]) -> Option<ArrayVec<u8, MAX_BYTES>>
+    requires { length digits.now ≤ 2 * MAX_BYTES }
+    ensures { option_map (λ bytes. bytes.items) result ≡ hex_bytes digits.now }
+{
+    let mut bytes = ArrayVec::new();
+    let mut rest = digits;
+    while let [high, low, behind @ ..] = rest {
+        let high = value_of(*high)?;
+        let low = value_of(*low)?;
+        bytes.push(16 * high + low);
+        rest = behind;
+    }
+    if rest.is_empty() { Some(bytes) } else { None }
+}
+
+// So many bits in hexadecimal.
+fn bits_of(word: &[u8], len: usize) -> Option<Bits>
+    requires { len ≤ MAX_BITS }
+    ensures { result ≡ bits_in_hex len (hex_bytes word.now) }
+{
+    if word.len() != 2 * len.div_ceil(8) {
+        return None;
+    }
+    let bytes = bytes_of(word)?;
+    Bits::from_bytes(bytes.as_slice(), len).ok()
+}
+
+impl<'a> Words<'a> {
+    /// The bits of the next words: how many they are, at most [`MAX_BITS`], and their bytes in
+    /// hexadecimal of either case, the spare bits zero. For 0 bits no second word is read. Where
+    /// they are no bits, the words that are left are not told.
+    pub fn next_bits(&mut self) -> Option<Bits>
+        ensures { option_map (λ bits. (bits, self.new)) result ≡ bits_first self.old }
+    {
+        let len = self.next_number(MAX_BITS as u32)? as usize;
+        if len == 0 {
+            return Some(Bits::new());
+        }
+        let word = self.next_word()?;
+        bits_of(word, len)
+    }
+}

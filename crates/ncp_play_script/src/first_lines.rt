@@ -1,0 +1,99 @@
+//! The first line of a script: the hosts that it names.
+ghost use Rattle.std.specs.Prelude.{◌≡◌, ◌≢◌, Some, option_map};
+ghost use Rattle.ncp_play_script.specs.declared.first_lines.TwoHosts.{TwoHosts as Pair_of_hosts};
+ghost use Rattle.ncp_play_script.specs.FirstLines.{named_in, numbers_of, few, host_named, is_many, many_named, hosts_first};
+
+use crate::line_words::Words;
+use arrayvec::ArrayVec;
+use ncp_host::MAX_PEERS;
+
+// The word in front of a host and its peers, that in front of two hosts, and that in front of two to eight.
+const HOST: &[u8] = b"host";
+
+const HOSTS: &[u8] = b"hosts";
+
+const MANY: &[u8] = b"many";
+
+/// A host and its peers, as the first line of a script of one host names them, in the order of the
+/// line. Whether a host can have these peers, [`ncp_host::Host::new`] says.
+#[derive(Debug, Drop)]
+pub struct HostAndPeers {
+    pub me: u8,
+    pub peers: ArrayVec<u8, MAX_PEERS>,
+}
+
+/// Two hosts, as the first line of their script names them.
+#[derive(Clone, Copy, Debug, Drop)]
+pub struct TwoHosts {
+    pub a: u8,
+    pub b: u8,
+}
+
+// The peers that all words are.
+#[tactic(auto, using(crate::proofs::Peers::none_read, crate::proofs::Peers::one_read, crate::proofs::Peers::one_too_many))]
+fn peers_of(words: &mut Words<'_>) -> Option<ArrayVec<u8, MAX_PEERS>>
+    ensures { option_map (λ peers. peers.items) result ≡ few (numbers_of words.old) }
+{
+    let mut peers = ArrayVec::new();
+    while !words.is_empty() {
+        let peer = words.next_u8()?;
+        peers.try_push(peer).ok()?;
+    }
+    Some(peers)
+}
+
+/// The host and the peers that the words of a line name, all that are left: at most
+/// [`MAX_PEERS`]. Where they name none, the words that are left are not told.
+pub fn host_named(words: &mut Words<'_>) -> Option<HostAndPeers>
+    ensures { option_map named_in result ≡ host_named words.old }
+{
+    let word = words.next_word()?;
+    if word != HOST {
+        return None;
+    }
+    let me = words.next_u8()?;
+    let peers = peers_of(words)?;
+    Some(HostAndPeers { me, peers })
+}
+
+/// Whether the words of a first line are of a script of two to eight hosts: the first is `many`. The words that
+/// are left are not told.
+pub fn is_many(words: &mut Words<'_>) -> bool
+    ensures { result ≡ is_many words.old }
+{
+    match words.next_word() {
+        Some(word) => word == MANY,
+        None => false,
+    }
+}
+
+/// The numbers that the words of a first line name behind the word `many`, all that are left: at most
+/// [`MAX_PEERS`]. Where they name none, the words that are left are not told. Whether there can be hosts of
+/// these numbers is not judged.
+pub fn many_named(words: &mut Words<'_>) -> Option<ArrayVec<u8, MAX_PEERS>>
+    ensures { option_map (λ numbers. numbers.items) result ≡ many_named words.old }
+{
+    let word = words.next_word()?;
+    if word != MANY {
+        return None;
+    }
+    peers_of(words)
+}
+
+/// The two hosts that the first words of a line name; they are distinct, and what stands behind them is
+/// left. Where they name none, the words that are left are not told.
+pub fn hosts_first(words: &mut Words<'_>) -> Option<TwoHosts>
+    ensures hosts { option_map (λ hosts. (hosts, words.new)) result ≡ hosts_first words.old }
+    ensures distinct { (hosts : Pair_of_hosts) → result ≡ Some hosts → hosts.a ≢ hosts.b }
+{
+    let word = words.next_word()?;
+    if word != HOSTS {
+        return None;
+    }
+    let a = words.next_u8()?;
+    let b = words.next_u8()?;
+    if a == b {
+        return None;
+    }
+    Some(TwoHosts { a, b })
+}

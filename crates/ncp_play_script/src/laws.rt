@@ -1,0 +1,56 @@
+//! Laws about lines, each the contract of a function that does nothing.
+ghost use Rattle.std.specs.Prelude.{◌≡◌, ℕ, Bool, true, false, List, [], ◌∷◌, ◌++◌, ◌+◌, take, drop, position, Option, None, Some};
+ghost use Rattle.std.specs.List.{before_first};
+ghost use Rattle.ncp_transcript.specs.declared.input.Input.{Input};
+ghost use Rattle.ncp_play_script.specs.declared.line_buffer.TheConstants.{MAX_LINE, LF, CR, REMARK};
+ghost use Rattle.ncp_play_script.specs.declared.numbers.TheConstants.{MAX_DIGITS};
+ghost use Rattle.ncp_play_script.specs.declared.line_words.TheConstants.{SPACE};
+ghost use Rattle.ncp_play_script.specs.Lines.{is_lf, text_of, kind_of};
+ghost use Rattle.ncp_play_script.specs.FirstLines.{Named};
+ghost use Rattle.ncp_play_script.specs.Scripts.{Line, lines_of, said, Asked, course_from, script_from, ends, Faulty, LineTooLong, NoHosts};
+ghost use Rattle.ncp_play_script.specs.Verbs.{word_of, verb_of};
+
+use crate::line_buffer::{LineKind, MAX_KEPT};
+use crate::verbs::Verb;
+
+/// What is kept of a line is enough. It is the same however the line comes in pieces; it says
+/// whether the line is skipped or too long; and it is the whole line where that is played.
+pub fn kept_lines_tell_all()
+    ensures pieces { (line piece : List ℕ) → take MAX_KEPT (take MAX_KEPT line ++ piece) ≡ take MAX_KEPT (line ++ piece) }
+    ensures kind { (ended : Bool) (line : List ℕ) → kind_of (text_of ended (take MAX_KEPT line)) ≡ kind_of (text_of ended line) }
+    ensures text { (ended : Bool) (line : List ℕ) → kind_of (text_of ended line) ≡ LineKind.Played → text_of ended (take MAX_KEPT line) ≡ text_of ended line }
+{}
+
+/// The word of each call names that call, and no other word does.
+pub fn words_name_calls()
+    ensures each { (verb : Verb) → verb_of (word_of verb) ≡ Some verb }
+    ensures only { (word : List ℕ) (verb : Verb) → verb_of word ≡ Some verb → word ≡ word_of verb }
+{}
+
+/// Where the lines of bytes end: each at its LF, and behind it the others begin; a last line that has
+/// no LF is all that is left.
+pub fn an_lf_ends_a_line()
+    ensures ended { (text behind : List ℕ) → position is_lf text ≡ None → lines_of (text ++ LF ∷ behind) ≡ record { bytes = text; ended = true; behind = behind } ∷ lines_of behind }
+    ensures last { (byte : ℕ) (text : List ℕ) → position is_lf (byte ∷ text) ≡ None → lines_of (byte ∷ text) ≡ record { bytes = byte ∷ text; ended = false; behind = [] } ∷ [] }
+    ensures none { lines_of [] ≡ [] }
+{}
+
+/// A line that comes in pieces: a piece with an LF ends it, and the next begins behind that LF; one
+/// without goes on with it.
+pub fn pieces_make_lines()
+    ensures ends { (line piece rest : List ℕ) (place : ℕ) → position is_lf line ≡ None → position is_lf piece ≡ Some place → lines_of (line ++ (piece ++ rest)) ≡ record { bytes = line ++ before_first is_lf piece; ended = true; behind = drop (place + 1) piece ++ rest } ∷ lines_of (drop (place + 1) piece ++ rest) }
+    ensures goes_on { (line piece : List ℕ) → position is_lf line ≡ None → position is_lf piece ≡ None → position is_lf (line ++ piece) ≡ None }
+{}
+
+/// A line that is too long is that fault, whatever its words are, the first line too.
+pub fn long_lines_are_judged_first()
+    ensures first { (hosts : List (List ℕ) → Option Named) (asked : Named → List (List ℕ) → Option (Asked Input)) (number : ℕ) (line : Line) (lines : List Line) → kind_of (said line) ≡ LineKind.TooLong → script_from hosts asked number (line ∷ lines) ≡ NoHosts (LineTooLong number) }
+    ensures other { (asked : List (List ℕ) → Option (Asked Input)) (number : ℕ) (line : Line) (lines : List Line) → kind_of (said line) ≡ LineKind.TooLong → course_from asked number (line ∷ lines) ≡ ends (Faulty (LineTooLong number)) }
+{}
+
+/// The limits of lines and numbers, and the bytes that part lines and words.
+pub fn limits_are_these()
+    ensures line { MAX_LINE ≡ 4096 }
+    ensures digits { MAX_DIGITS ≡ 10 }
+    ensures bytes { (LF ≡ 10) × (CR ≡ 13) × (REMARK ≡ 35) × (SPACE ≡ 32) }
+{}

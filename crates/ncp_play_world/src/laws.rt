@@ -1,0 +1,27 @@
+//! Worked lines of notes, computed from the definitions: they say what the definitions mean.
+ghost use Rattle.std.specs.Prelude.{◌≡◌, codes, None, Some};
+ghost use Rattle.ncp_transcript_two.specs.Transcript.{new_world};
+ghost use Rattle.ncp_play_scene.specs.Telling.{told, told_from};
+ghost use Rattle.ncp_play_world.specs.WorldRules.{noted};
+ghost use Rattle.ncp_play_world.specs.LedgerLines.{amount_words, ledger_words};
+ghost use Rattle.ncp_play_world.specs.Tales.{lines_watching};
+ghost use Rattle.ncp_transcript_two.specs.Ledgers.{amount};
+ghost use Rattle.ncp_play_world.specs.Examples.{coming_up, each_move};
+
+/// The first lines of two hosts that come up.
+pub fn lines_of_coming_up()
+    ensures { told noted (lines_watching None) (new_world 1 2) coming_up ≡ codes "1 a reset ok\n2 a out host=2 link=0 bits=80\n  size=8 count=1\n  RST\n3 a deliver 0 control 1\n4 a answer 0 rfnm\n5 b out host=1 link=0 bits=80\n  size=8 count=1\n  RRP\n6 b deliver 0 control 1\n7 b answer 0 rfnm\n8 b ask-receive ok\n" }
+{}
+
+/// What may become of a message, and what may not.
+pub fn lines_of_moves()
+    ensures { told_from noted (lines_watching None) 22 (new_world 1 2) each_move ≡ codes "22 a lose 2 ok\n23 a answer 2 incomplete\n24 a dead 2 ok\n25 a answer 2 dead\n26 a deliver 2 text admitted\n27 a deliver 2 nothing\n28 a lose 2 nothing\n29 b dead 255 nothing\n30 b answer 0 nothing\n31 a out nothing\n32 b state refused NoEntry\n" }
+{}
+
+/// The line of a ledger, and that there is none.
+pub fn ledgers_are_told_so()
+    ensures some { ledger_words (Some (record { outstanding = amount 2 16; counters = amount 1 0; all = amount 0 0; text = amount 1 16; ret = amount 0 0 })) ≡ codes " out=2/16 counters=1/0 all=0/0 text=1/16 ret=0/0" }
+    ensures each { ledger_words (Some (record { outstanding = amount 15 75; counters = amount 1 5; all = amount 2 10; text = amount 4 20; ret = amount 8 40 })) ≡ codes " out=15/75 counters=1/5 all=2/10 text=4/20 ret=8/40" }
+    ensures large { amount_words (codes " all=") (amount 33553920 2199023255040) ≡ codes " all=33553920/2199023255040" }
+    ensures none { ledger_words None ≡ codes " none" }
+{}

@@ -1,0 +1,22 @@
+//! Scripts of two hosts, or of two to eight, and a subnet: the player, which tells the lines of what is noted, or
+//! records its messages as a message file of version 2.
+#![tactic(auto)]
+
+pub mod examples;
+pub mod laws;
+mod ledger_lines;
+mod many;
+mod many_hosts;
+mod note_lines;
+mod player;
+pub mod recorded_laws;
+mod recorder;
+mod two;
+
+pub use many::ManyPlayed;
+pub use many_hosts::ManyHosts;
+pub use ncp_play_world_lines::{FirstLine, Watch};
+pub use note_lines::NoteLines;
+pub use player::{play_script, play_world};
+pub use recorder::record_world;
+pub use two::TwoPlayed;

@@ -1,0 +1,56 @@
+//! The first line of a script of two to eight hosts.
+ghost use Rattle.std.specs.Prelude.{◌≡◌, ◌<◌, ℕ, get_or, IfSome};
+ghost use Rattle.ncp_transcript_many.specs.Crowd.{are_hosts};
+ghost use Rattle.ncp_play_world.specs.ManyHosts.{many_of};
+ghost use Rattle.ncp_play_world.specs.ManyRules.{AreProper};
+
+use arrayvec::ArrayVec;
+use ncp_host::MAX_PEERS;
+use ncp_many::are_hosts;
+use ncp_play_script::{Words, many_named};
+use std::marker::Model;
+
+/// Two to eight hosts, as the first line of their script names them.
+#[derive(Drop)]
+pub struct ManyHosts {
+    numbers: ArrayVec<u8, MAX_PEERS>,
+}
+
+impl Model for ManyHosts {
+    ghost use Rattle.std.specs.Prelude.{ℕ, List};
+
+    ghost Value = { List ℕ };
+
+    ghost view = { λ hosts. hosts.numbers.items };
+}
+
+impl ManyHosts {
+    /// Their numbers, in the order of the line.
+    pub fn numbers(&self) -> &[u8]
+        ensures { result.now ≡ self.now }
+    {
+        self.numbers.as_slice()
+    }
+}
+
+// Whether there can be hosts of these numbers; each has a place in a leader.
+fn are_proper(numbers: &[u8]) -> bool
+    ensures hosts { result ≡ are_hosts numbers.now }
+    ensures fits { (place : ℕ) → get_or numbers.now place 0 < 256 }
+{
+    are_hosts(numbers)
+}
+
+/// The hosts that the words of a first line name, all that are left: `many` and two to eight distinct
+/// numbers. Where they are none, the words that are left are not told.
+pub(crate) fn many_hosts(words: &mut Words<'_>) -> Option<ManyHosts>
+    ensures hosts { result ≡ many_of words.old }
+    ensures proper { IfSome result AreProper }
+{
+    let numbers = many_named(words)?;
+    if are_proper(numbers.as_slice()) {
+        Some(ManyHosts { numbers })
+    } else {
+        None
+    }
+}

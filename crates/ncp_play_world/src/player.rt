@@ -1,0 +1,77 @@
+//! `play_script` and `play_world`: a script of two hosts, or of two to eight, played line by line.
+ghost use Rattle.std.specs.Prelude.{◌≡◌, ◌||◌, ℕ, List, Some, true, false};
+ghost use Rattle.ncp_play_notes.specs.Faults.{is_read_failed, is_write_failed};
+ghost use Rattle.ncp_play_world.specs.ManyRules.{is_many_script};
+ghost use Rattle.ncp_play_world.specs.Players.{PlaysWorld, PlaysMany};
+ghost use Rattle.ncp_play_world.specs.Tales.{lines_of_script, lines_of_many};
+
+use crate::many::ManyPlayed;
+use crate::note_lines::NoteLines;
+use crate::two::TwoPlayed;
+use ncp_bits::BitStore;
+use ncp_play_notes::PlayFault;
+use ncp_play_reader::Lines;
+use ncp_play_scene::{Teller, find_first, play_first};
+use ncp_play_script::{Words, is_many};
+use ncp_play_stream::{Sink, Source};
+use std::alloc::Global;
+
+/// Plays a script of two hosts, whose first line is `hosts A B` or `hosts A B watch SIDE LOCAL REMOTE`, or one
+/// of two to eight hosts, whose first line is `many N1 .. Nn`: each line behind it is an event of new hosts (a
+/// [`ncp_world::World`], or a [`ncp_many::Many`]), and what the teller tells of its note is written. It answers
+/// whether no call was refused.
+///
+/// Memory is taken for the hosts, their notes, and the text of a `give`. A line that is refused is judged
+/// before it is played, and the lines before it were played. Without a proper first line nothing is
+/// written. After `ReadFailed` the lines that came whole were played; after `OutOfMemory` the first events;
+/// after `WriteFailed` a beginning of what is told is written.
+pub fn play_script<
+    S: BitStore,
+    T: Teller<TwoPlayed<S>>,
+    M: Teller<ManyPlayed<S>>,
+    R: Source,
+    W: Sink,
+>(alloc: Global, source: &mut R, sink: &mut W) -> Result<bool, PlayFault>
+    requires source_clean { R.has_failed source.old ≡ false }
+    requires sink_clean { W.has_failed sink.old ≡ false }
+
+    // Of bytes that are told, the events of the script happened in order, up to its first fault; their notes
+    // are a transcript; and what is told of them is written, and nothing else.
+    ensures told { (bytes : List ℕ) (was : List ℕ) → R.left source.old ≡ Some bytes → W.written sink.old ≡ Some was → is_many_script bytes ≡ false → PlaysWorld T.tale bytes was result (R.left source.new) (W.written sink.new) }
+    ensures many { (bytes : List ℕ) (was : List ℕ) → R.left source.old ≡ Some bytes → W.written sink.old ≡ Some was → is_many_script bytes ≡ true → PlaysMany M.tale bytes was result (R.left source.new) (W.written sink.new) }
+
+    // Reading and writing are blamed only where they failed.
+    ensures read_failed { is_read_failed result ≡ true → R.has_failed source.new ≡ true }
+    ensures write_failed { W.has_failed sink.new ≡ is_write_failed result }
+    ensures blamed { R.has_failed source.new ≡ true → (is_read_failed result || is_write_failed result) ≡ true }
+{
+    let mut lines = Lines::new();
+    let ended = find_first(&mut lines, source)?;
+    if is_many(&mut Words::new(lines.line.text(ended))) {
+        return play_first::<ManyPlayed<S>, M, R, W>(alloc, ended, &mut lines, source, sink);
+    }
+    play_first::<TwoPlayed<S>, T, R, W>(alloc, ended, &mut lines, source, sink)
+}
+
+/// Plays a script as [`play_script`] does, and writes the lines of the notes; where a sender is watched, its
+/// ledger behind those of each note.
+pub fn play_world<S: BitStore, R: Source, W: Sink>(
+    alloc: Global,
+    source: &mut R,
+    sink: &mut W,
+) -> Result<bool, PlayFault>
+    requires source_clean { R.has_failed source.old ≡ false }
+    requires sink_clean { W.has_failed sink.old ≡ false }
+
+    // Of bytes that are told, the events of the script happened in order, up to its first fault; their notes
+    // are a transcript; and their lines are written, and nothing else.
+    ensures told { (bytes : List ℕ) (was : List ℕ) → R.left source.old ≡ Some bytes → W.written sink.old ≡ Some was → is_many_script bytes ≡ false → PlaysWorld lines_of_script bytes was result (R.left source.new) (W.written sink.new) }
+    ensures many { (bytes : List ℕ) (was : List ℕ) → R.left source.old ≡ Some bytes → W.written sink.old ≡ Some was → is_many_script bytes ≡ true → PlaysMany lines_of_many bytes was result (R.left source.new) (W.written sink.new) }
+
+    // Reading and writing are blamed only where they failed.
+    ensures read_failed { is_read_failed result ≡ true → R.has_failed source.new ≡ true }
+    ensures write_failed { W.has_failed sink.new ≡ is_write_failed result }
+    ensures blamed { R.has_failed source.new ≡ true → (is_read_failed result || is_write_failed result) ≡ true }
+{
+    play_script::<S, NoteLines, NoteLines, R, W>(alloc, source, sink)
+}

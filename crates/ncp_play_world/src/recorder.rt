@@ -1,0 +1,95 @@
+//! `record_world`: a script of two hosts, or of two to eight, played line by line, and its messages recorded.
+ghost use Rattle.std.specs.Prelude.{◌≡◌, ◌||◌, ℕ, List, Some, true, false};
+ghost use Rattle.ncp_play_notes.specs.Faults.{is_read_failed, is_write_failed};
+ghost use Rattle.ncp_play_world.specs.ManyRules.{is_many_script};
+ghost use Rattle.ncp_play_world.specs.Players.{PlaysWorld, PlaysMany};
+ghost use Rattle.ncp_play_world.specs.Tales.{recording_of, recording_of_many};
+
+use crate::many::ManyPlayed;
+use crate::many_hosts::ManyHosts;
+use crate::player::play_script;
+use crate::two::TwoPlayed;
+use ncp_bits::BitStore;
+use ncp_many::{Many, ManyNote};
+use ncp_play_files::{Version, push_header};
+use ncp_play_notes::PlayFault;
+use ncp_play_page::Page;
+use ncp_play_scene::Teller;
+use ncp_play_stream::{Failed, Sink, Source};
+use ncp_play_world_lines::{FirstLine, say_many_record, say_world_record};
+use ncp_world::{Note, World};
+use std::alloc::Global;
+
+// Tells what is recorded of notes, whatever is watched.
+struct Recorder;
+
+impl<S: BitStore> Teller<TwoPlayed<S>> for Recorder {
+    ghost use Rattle.ncp_play_world.specs.Tales.{recording_of};
+
+    ghost tale = { recording_of };
+
+    fn begin(_first: &FirstLine, page: &mut Page) {
+        push_header(page, Version::Two);
+    }
+
+    fn say<W: Sink>(
+        first: &FirstLine,
+        _world: &World<S>,
+        _number: u32,
+        note: &Note,
+        page: &mut Page,
+        sink: &mut W,
+    ) -> Result<(), Failed> {
+        say_world_record(page, sink, first.hosts, note)
+    }
+}
+
+impl<S: BitStore> Teller<ManyPlayed<S>> for Recorder {
+    ghost use Rattle.ncp_play_world.specs.Tales.{recording_of_many};
+
+    ghost tale = { recording_of_many };
+
+    fn begin(_first: &ManyHosts, page: &mut Page) {
+        push_header(page, Version::Two);
+    }
+
+    fn say<W: Sink>(
+        _first: &ManyHosts,
+        _hosts: &Many<S>,
+        _number: u32,
+        note: &ManyNote,
+        page: &mut Page,
+        sink: &mut W,
+    ) -> Result<(), Failed> {
+        say_many_record(page, sink, note)
+    }
+}
+
+/// Plays a script of two hosts, or of two to eight, as [`crate::play_world`] does, and writes in place of lines
+/// a message file of version 2: its header once the hosts are known, then each message that went out,
+/// at its sender; each that came, at its receiver, as it came; and each answer, at the host that it
+/// answers. What is watched has no effect. It answers whether no call was refused.
+///
+/// Nothing is written where the first line names no hosts. After `ReadFailed` the lines that came whole
+/// were played, after `OutOfMemory` the first events; after `WriteFailed` a beginning of the file is
+/// written.
+pub fn record_world<S: BitStore, R: Source, W: Sink>(
+    alloc: Global,
+    source: &mut R,
+    sink: &mut W,
+) -> Result<bool, PlayFault>
+    requires source_clean { R.has_failed source.old ≡ false }
+    requires sink_clean { W.has_failed sink.old ≡ false }
+
+    // Of bytes that are told, the events of the script happened in order, up to its first fault, and the
+    // file of what is recorded of their notes is written, and nothing else.
+    ensures told { (bytes : List ℕ) (was : List ℕ) → R.left source.old ≡ Some bytes → W.written sink.old ≡ Some was → is_many_script bytes ≡ false → PlaysWorld recording_of bytes was result (R.left source.new) (W.written sink.new) }
+    ensures many { (bytes : List ℕ) (was : List ℕ) → R.left source.old ≡ Some bytes → W.written sink.old ≡ Some was → is_many_script bytes ≡ true → PlaysMany recording_of_many bytes was result (R.left source.new) (W.written sink.new) }
+
+    // Reading and writing are blamed only where they failed.
+    ensures read_failed { is_read_failed result ≡ true → R.has_failed source.new ≡ true }
+    ensures write_failed { W.has_failed sink.new ≡ is_write_failed result }
+    ensures blamed { R.has_failed source.new ≡ true → (is_read_failed result || is_write_failed result) ≡ true }
+{
+    play_script::<S, Recorder, Recorder, R, W>(alloc, source, sink)
+}

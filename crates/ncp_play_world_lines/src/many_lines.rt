@@ -1,0 +1,170 @@
+//! What a line of a script of two to eight hosts asks for.
+ghost use Rattle.std.specs.Prelude.{◌≡◌, ◌∷◌, option_map, IfOk, OnErr};
+ghost use Rattle.ncp_play_script.specs.Calls.{NamesGive, NamesGiveBehind};
+ghost use Rattle.ncp_host.specs.Host.{is_one_of};
+ghost use Rattle.ncp_proof_runs.specs.Peers.{peer_of_call};
+ghost use Rattle.ncp_play_script.specs.HostLines.{alone};
+ghost use Rattle.ncp_transcript_many.specs.ManyHappening.{wanted_of};
+ghost use Rattle.ncp_play_world_lines.specs.ManyLines.{host_first, many_move_line, is_known, many_call_line, many_asked_of, many_line_of};
+
+use crate::moves::move_named;
+use ncp_play_script::{Words, call_named};
+use ncp_transcript::Call;
+use ncp_transcript_many::ManyEvent;
+use ncp_transcript_two::Move;
+use std::alloc::{AllocError, Global};
+
+// The word of a line that asks for the next message.
+const OUT: &[u8] = b"out";
+
+// Whether a number is one of these.
+fn is_one_of(number: u8, hosts: &[u8]) -> bool
+    ensures { result ≡ is_one_of number hosts.now }
+{
+    hosts.iter().any(|host| *host == number)
+}
+
+// The host that the first word is.
+fn host_first(hosts: &[u8], words: &mut Words<'_>) -> Option<u8>
+    ensures { option_map (λ host. (host, words.new)) result ≡ host_first hosts.now words.old }
+{
+    let number = words.next_u8()?;
+    if is_one_of(number, hosts) {
+        Some(number)
+    } else {
+        None
+    }
+}
+
+// A move of a message as an event.
+fn wanted_of(wanted: Move, from: u8, to: u8, link: u8) -> ManyEvent
+    ensures { result ≡ wanted_of wanted from to link }
+{
+    match wanted {
+        Move::Deliver => ManyEvent::Deliver { from, to, link },
+        Move::Lose => ManyEvent::Lose { from, to, link },
+        Move::Dead => ManyEvent::Dead { from, to, link },
+        Move::Answer => ManyEvent::Answer { from, to, link },
+    }
+}
+
+// A move, behind the word that names it.
+fn move_line(hosts: &[u8], from: u8, wanted: Move, words: &mut Words<'_>) -> Option<ManyEvent>
+    ensures { result ≡ many_move_line hosts.now from wanted words.old }
+{
+    let to = host_first(hosts, words)?;
+    let link = words.next_u8()?;
+    if words.is_empty() {
+        Some(wanted_of(wanted, from, to, link))
+    } else {
+        None
+    }
+}
+
+// The peer of a call, if it names one.
+fn peer_of_call(call: &Call) -> Option<u8>
+    ensures { result ≡ peer_of_call call.now }
+{
+    match *call {
+        Call::Reset { peer } => Some(peer),
+        Call::AskSend { peer, .. } => Some(peer),
+        Call::AskReceive { peer, .. } => Some(peer),
+        Call::Give { peer, .. } => Some(peer),
+        Call::Take { peer, .. } => Some(peer),
+        Call::Allocate { peer, .. } => Some(peer),
+        Call::CallBack { peer, .. } => Some(peer),
+        Call::Interrupt { peer, .. } => Some(peer),
+        Call::Echo { peer, .. } => Some(peer),
+        Call::Close { peer, .. } => Some(peer),
+        Call::Wake { peer } => Some(peer),
+        Call::State { peer, .. } => Some(peer),
+        Call::Phase { peer } => Some(peer),
+        Call::Echoed { peer } => Some(peer),
+        Call::Errors { peer } => Some(peer),
+        Call::Counts { peer } => Some(peer),
+        Call::Waiting { peer, .. } => Some(peer),
+        Call::Kept { peer, .. } => Some(peer),
+        Call::Ignored => None,
+    }
+}
+
+// Whether a call names no peer, or one of the hosts.
+fn is_known(hosts: &[u8], peer: Option<u8>) -> bool
+    ensures { result ≡ is_known hosts.now peer }
+{
+    match peer {
+        Some(peer) => is_one_of(peer, hosts),
+        None => true,
+    }
+}
+
+// A call of a host, behind the word that names it.
+fn call_line(
+    alloc: Global,
+    hosts: &[u8],
+    host: u8,
+    word: &[u8],
+    words: &mut Words<'_>,
+) -> Result<Option<ManyEvent>, AllocError>
+    ensures event { IfOk result (λ event. event ≡ many_call_line hosts.now host (word.now ∷ words.old)) }
+    ensures memory { OnErr result (NamesGive (word.now ∷ words.old)) }
+{
+    let Some(call) = call_named(alloc, word, words, None)? else {
+        return Ok(None);
+    };
+    if is_known(hosts, peer_of_call(&call)) {
+        Ok(Some(ManyEvent::Call { host, call }))
+    } else {
+        Ok(None)
+    }
+}
+
+// That a host is asked for its next message, where no word is left.
+fn out_line(host: u8, words: &Words<'_>) -> Option<ManyEvent>
+    ensures { result ≡ alone (ManyEvent.Out host) words.now }
+{
+    if words.is_empty() {
+        Some(ManyEvent::Out { host })
+    } else {
+        None
+    }
+}
+
+// What a line asks for, behind its host.
+fn asked_of(
+    alloc: Global,
+    hosts: &[u8],
+    host: u8,
+    words: &mut Words<'_>,
+) -> Result<Option<ManyEvent>, AllocError>
+    ensures event { IfOk result (λ event. event ≡ many_asked_of hosts.now host words.old) }
+    ensures memory { OnErr result (NamesGive words.old) }
+{
+    let Some(word) = words.next_word() else {
+        return Ok(None);
+    };
+    if word == OUT {
+        return Ok(out_line(host, words));
+    }
+    if let Some(wanted) = move_named(word) {
+        return Ok(move_line(hosts, host, wanted, words));
+    }
+    call_line(alloc, hosts, host, word, words)
+}
+
+/// What a line of these words asks for, all that are left, where these are the hosts. Memory is taken
+/// for the text of a `give`, and for nothing else. Where the line is none, the words that are left are
+/// not told.
+pub fn many_line(
+    alloc: Global,
+    hosts: &[u8],
+    words: &mut Words<'_>,
+) -> Result<Option<ManyEvent>, AllocError>
+    ensures event { IfOk result (λ event. event ≡ many_line_of hosts.now words.old) }
+    ensures memory { OnErr result (NamesGiveBehind words.old) }
+{
+    let Some(host) = host_first(hosts, words) else {
+        return Ok(None);
+    };
+    asked_of(alloc, hosts, host, words)
+}

@@ -1,0 +1,152 @@
+//! What is recorded of a note of two hosts, and of one of two to eight.
+ghost use Rattle.std.specs.Prelude.{◌≡◌, ◌+◌, ◌≤◌, ◌||◌, is_err};
+ghost use Rattle.ncp_subnet.specs.Messages.{answer_bits};
+ghost use Rattle.ncp_transcript_two.specs.Between.{other};
+ghost use Rattle.ncp_play_stream.specs.Pieces.{bytes_and_writes, lost_pieces};
+ghost use Rattle.ncp_play_stream.specs.Streams.{SaysTextOrBeginning};
+ghost use Rattle.ncp_play_files.specs.Versions.{placed};
+ghost use Rattle.ncp_play_world_lines.specs.Recorded.{number_of, kind_of, sent_from, came_to, bytes_if, note_bytes, many_note_bytes};
+
+use ncp_bits::Bits;
+use ncp_leader::{DESTINATION_DEAD, INCOMPLETE, Leader, MAX_KIND, RFNM, put_leader};
+use ncp_play_files::{Direction, Passage, say_message};
+use ncp_play_page::Page;
+use ncp_play_script::TwoHosts;
+use ncp_play_stream::{Failed, Sink};
+use ncp_terms::Answer;
+use ncp_transcript::HostNote;
+use ncp_transcript_many::ManyNote;
+use ncp_transcript_two::{Note, Side};
+
+// The other side.
+fn other(side: Side) -> Side
+    ensures { result ≡ other side }
+{
+    match side {
+        Side::A => Side::B,
+        Side::B => Side::A,
+    }
+}
+
+// The number of a side's host.
+fn number_of(hosts: TwoHosts, side: Side) -> u8
+    ensures { result ≡ number_of hosts side }
+{
+    match side {
+        Side::A => hosts.a,
+        Side::B => hosts.b,
+    }
+}
+
+// The type of an answer.
+fn kind_of(answer: Answer) -> u8
+    ensures kind { result ≡ kind_of answer }
+    ensures fits { result ≤ MAX_KIND }
+{
+    match answer {
+        Answer::Rfnm => RFNM,
+        Answer::Incomplete => INCOMPLETE,
+        Answer::Dead => DESTINATION_DEAD,
+    }
+}
+
+// An answer to a message to a host on a link, as the subnet gives it.
+#[tactic(auto, unfolding(ncp_subnet::specs::Messages::answer_bits))]
+fn answer_bits(answer: Answer, peer: u8, link: u8) -> Bits
+    ensures { result ≡ answer_bits (kind_of answer) peer link }
+{
+    put_leader(&Leader {
+        flags: 0,
+        kind: kind_of(answer),
+        host: peer,
+        link,
+        low: 0,
+    })
+}
+
+// A passage at the interface of a host.
+fn passage_at(direction: Direction, host: u8) -> Passage
+    ensures { result ≡ placed direction host }
+{
+    Passage {
+        direction,
+        at: Some(host),
+    }
+}
+
+// Says what went out from a host, if a message did.
+fn say_sent<W: Sink>(page: &mut Page, sink: &mut W, host: u8, note: &HostNote) -> Result<(), Failed>
+    ensures told { SaysTextOrBeginning page.old (W.written sink.old) (bytes_if (sent_from host note.now)) result page.new (W.written sink.new) }
+    ensures writes { bytes_and_writes W.takes_all (W.writes sink.old) (W.written sink.old) ≤ bytes_and_writes W.takes_all (W.writes sink.new) (W.written sink.new) + lost_pieces (is_err result) }
+    ensures mark { W.has_failed sink.new ≡ (W.has_failed sink.old || is_err result) }
+{
+    match note {
+        HostNote::Out { message } => say_message(
+            page,
+            sink,
+            passage_at(Direction::ToImp, host),
+            &message.to_bits(),
+        ),
+        _ => Ok(()),
+    }
+}
+
+// Says what came to a host.
+fn say_came<W: Sink>(page: &mut Page, sink: &mut W, host: u8, note: &HostNote) -> Result<(), Failed>
+    ensures told { SaysTextOrBeginning page.old (W.written sink.old) (bytes_if (came_to host note.now)) result page.new (W.written sink.new) }
+    ensures writes { bytes_and_writes W.takes_all (W.writes sink.old) (W.written sink.old) ≤ bytes_and_writes W.takes_all (W.writes sink.new) (W.written sink.new) + lost_pieces (is_err result) }
+    ensures mark { W.has_failed sink.new ≡ (W.has_failed sink.old || is_err result) }
+{
+    let message = match note {
+        HostNote::In { message, .. } => message.to_bits(),
+        HostNote::Answered {
+            peer,
+            link,
+            answer,
+            ..
+        } => answer_bits(*answer, *peer, *link),
+        _ => return Ok(()),
+    };
+    say_message(page, sink, passage_at(Direction::FromImp, host), &message)
+}
+
+/// Says what is recorded of a note of these hosts, if anything is: a message that went out, at its
+/// sender; one that came, at its receiver, as it came; an answer, at the host that it answers. It is
+/// put on the page, and the page is written where it is full.
+///
+/// After a failed write a beginning of what was said is written. It allocates nothing.
+pub fn say_world_record<W: Sink>(
+    page: &mut Page,
+    sink: &mut W,
+    hosts: TwoHosts,
+    note: &Note,
+) -> Result<(), Failed>
+    ensures told { SaysTextOrBeginning page.old (W.written sink.old) (note_bytes hosts note.now) result page.new (W.written sink.new) }
+    ensures writes { bytes_and_writes W.takes_all (W.writes sink.old) (W.written sink.old) ≤ bytes_and_writes W.takes_all (W.writes sink.new) (W.written sink.new) + lost_pieces (is_err result) }
+    ensures mark { W.has_failed sink.new ≡ (W.has_failed sink.old || is_err result) }
+{
+    match note {
+        Note::Out { side, note } => say_sent(page, sink, number_of(hosts, *side), note),
+        Note::Came { side, note, .. } => say_came(page, sink, number_of(hosts, other(*side)), note),
+        Note::Answered { side, note, .. } => say_came(page, sink, number_of(hosts, *side), note),
+        _ => Ok(()),
+    }
+}
+
+/// Says what is recorded of a note of two to eight hosts, if anything is, as [`say_world_record`] does of two.
+pub fn say_many_record<W: Sink>(
+    page: &mut Page,
+    sink: &mut W,
+    note: &ManyNote,
+) -> Result<(), Failed>
+    ensures told { SaysTextOrBeginning page.old (W.written sink.old) (many_note_bytes note.now) result page.new (W.written sink.new) }
+    ensures writes { bytes_and_writes W.takes_all (W.writes sink.old) (W.written sink.old) ≤ bytes_and_writes W.takes_all (W.writes sink.new) (W.written sink.new) + lost_pieces (is_err result) }
+    ensures mark { W.has_failed sink.new ≡ (W.has_failed sink.old || is_err result) }
+{
+    match note {
+        ManyNote::Out { host, note } => say_sent(page, sink, *host, note),
+        ManyNote::Came { to, note, .. } => say_came(page, sink, *to, note),
+        ManyNote::Answered { from, note, .. } => say_came(page, sink, *from, note),
+        _ => Ok(()),
+    }
+}

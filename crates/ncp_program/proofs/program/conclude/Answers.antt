@@ -1,4 +1,0 @@
-use Rattle.ncp_program.proofs.program.conclude.Goals as goal
-
-pub returns-in-Err-clause-told : goal.returns-in-Err-clause-told
-returns-in-Err-clause-told g c = rw c.in-Err.is (c.tell-untold.result, c.tell-untold.ensures.told, c.tell-untold.ensures.mark)

@@ -1,5 +1,0 @@
-use Rattle.ncp_promises.proofs.Beginnings.{begins}
-use Rattle.ncp_promises.proofs.promises.beginnings_are_transcripts.Goals as goal
-
-pub returns : goal.returns
-returns c = begins

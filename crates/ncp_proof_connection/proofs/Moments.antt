@@ -1,0 +1,286 @@
+-- What a receiver's user took since the last ask: nothing before the end opens, and then a beginning of what was got.
+-- So it begins what was given, whatever becomes of either end.
+use Rattle.std.proofs.Common.{◌≡◌, ℕ, Bool, true, false, not, ◌&&◌, cond, if◌then◌else◌, List, [], ◌∷◌, ◌++◌, take, drop, Option, None, Some, Ok, Err, refl, ap, sym, ◌∙◌, subst, arith}
+use Rattle.std.proofs.lemmas.Bool.{both_ways}
+use Rattle.std.proofs.lemmas.List.{append-nil, append_assoc, take-append-drop}
+use Rattle.ncp_terms.specs.declared.command.Command.{Command}
+use Rattle.ncp_terms.specs.declared.command.Command.TheVariants.{Rts}
+use Rattle.ncp_model.specs.declared.pair.Pair.{Pair}
+use Rattle.ncp_model.specs.declared.call_fault.CallFault.TheVariants.{Closing, NotOpen, WrongEnd}
+use Rattle.ncp_model.specs.Pairs.{sends, receives}
+use Rattle.ncp_model.specs.End.{End, or_new, is_live}
+use Rattle.ncp_model.specs.Act.{Act, Stays, answer, leaves, closing}
+use Rattle.ncp_model.specs.Calls.{bits_to_take, emptied, take_bits}
+use Rattle.ncp_model.specs.Texts.{Rfnm, Incomplete, Dead}
+use Rattle.ncp_model.specs.Happenings.{Happening, Outcome, of_take, happens}
+use Rattle.ncp_model.specs.Happenings as all
+use Rattle.ncp_model.specs.Leading.{suits}
+use Rattle.ncp_proof_watch.specs.Histories.{Past, no_past, is_accepted, is_admitted, taken_out, adds, opens, IsBeginning}
+use Rattle.ncp_proof_watch.specs.Books.{BooksAt}
+use Rattle.ncp_proof_watch.specs.Sound.{SoundAt}
+use Rattle.ncp_proof_connection.specs.Connections.{Text}
+use Rattle.ncp_proof_connection.proofs.Lines.{comes_asked}
+use Rattle.ncp_proof_connection.proofs.Joint.{to_sender_kind, kinds, live_got, Place, Together, Sender_ahead, Receiver_ahead, Joint, Core}
+
+-- Beginnings.
+
+begins-nil : (xs ys : List Bool) → xs ≡ [] → IsBeginning xs ys
+begins-nil xs ys e = (ys, ap (λ (l : List Bool). l ++ ys) e)
+
+begins-more : (xs ys more : List Bool) → IsBeginning xs ys → IsBeginning xs (ys ++ more)
+begins-more xs ys more k = (k.0 ++ more, sym (append_assoc xs k.0 more) ∙ ap (λ (l : List Bool). l ++ more) k.1)
+
+begins-on : (xs ys zs : List Bool) → IsBeginning xs ys → IsBeginning ys zs → IsBeginning xs zs
+begins-on xs ys zs k m = (k.0 ++ m.0, sym (append_assoc xs k.0 m.0) ∙ ap (λ (l : List Bool). l ++ m.0) k.1 ∙ m.1)
+
+begins-of-none : (xs ys : List Bool) → IsBeginning xs ys → ys ≡ [] → xs ≡ []
+begins-of-none [] ys k e = refl
+begins-of-none (x ∷ xs) ys k e = absurd (cc (k.1 ∙ e))
+
+-- of the front of what is held
+begins-front : (got taken stored : List Bool) (n : ℕ) → got ≡ taken ++ stored → IsBeginning (taken ++ take n stored) got
+begins-front got taken stored n e = (drop n stored, append_assoc taken (take n stored) (drop n stored) ∙ ap (λ (l : List Bool). taken ++ l) (take-append-drop n stored) ∙ sym e)
+
+-- before it opens nothing was taken since the ask
+abbrev pub NoneYet : Option End → Past → Type 0
+NoneYet None past = Unit {0}
+NoneYet (Some e) past = e.asked ≡ true → e.opened ≡ false → past.taken ≡ []
+
+-- and then it is a beginning of what was got
+abbrev pub Front : Option End → Past → Type 0
+Front o past = is_live o ≡ true → IsBeginning past.taken past.got
+
+-- the history after it
+abbrev pub then_past : Pair → Happening → Option End → Past → Past
+then_past pair what before past = adds what (happens pair what before).outcome (if opens before (happens pair what before).after then no_past else past)
+
+pub none-kept : (pair : Pair) (what : Happening) (before : Option End) (past : Past) → sends pair ≡ false → suits pair what ≡ true → SoundAt pair before → NoneYet before past → NoneYet (happens pair what before).after (then_past pair what before past)
+none-kept pair (all.Asks_to_send of_size with_room own full) None past n l s k = grind arith
+none-kept pair (all.Asks_to_send of_size with_room own full) (Some e) past n l s k = grind arith
+none-kept pair (all.Asks_to_receive with_room on own full) None past n l s k = grind arith
+none-kept pair (all.Asks_to_receive with_room on own full) (Some e) past n l s k = grind arith
+none-kept pair (all.Closes full) None past n l s k = tt
+none-kept pair (all.Closes full) (Some e) past n l s k = grind arith
+none-kept pair (all.Gives text) None past n l s k = tt
+none-kept pair (all.Gives text) (Some e) past n l s k = grind arith
+none-kept pair (all.Takes bytes) None past n l s k = tt
+none-kept pair (all.Takes bytes) (Some e) past n l s k = grind (arith, append-nil)
+none-kept pair (all.Allocates m b full) None past n l s k = tt
+none-kept pair (all.Allocates m b full) (Some e) past n l s k = grind arith
+none-kept pair (all.Calls_back m b full) None past n l s k = tt
+none-kept pair (all.Calls_back m b full) (Some e) past n l s k = grind arith
+none-kept pair (all.Interrupts full) None past n l s k = tt
+none-kept pair (all.Interrupts full) (Some e) past n l s k = grind arith
+none-kept pair (all.Rts_comes on taken by_peer) None past n l s k = grind arith
+none-kept pair (all.Rts_comes on taken by_peer) (Some e) past n l s k = grind arith
+none-kept pair (all.Str_comes of_size by_peer) None past n l s k = grind arith
+none-kept pair (all.Str_comes of_size by_peer) (Some e) past n l s k = grind arith
+none-kept pair all.Cls_comes None past n l s k = grind arith
+none-kept pair all.Cls_comes (Some e) past n l s k = grind arith
+none-kept pair (all.All_comes on m b) before past n l s k = absurd (cc (n, l))
+none-kept pair (all.Gvb_comes on m b) before past n l s k = absurd (cc (n, l))
+none-kept pair (all.Ret_comes on m b) None past n l s k = tt
+none-kept pair (all.Ret_comes on m b) (Some e) past n l s k = grind arith
+none-kept pair (all.Inr_comes on) before past n l s k = absurd (cc (n, l))
+none-kept pair (all.Ins_comes on) None past n l s k = tt
+none-kept pair (all.Ins_comes on) (Some e) past n l s k = grind arith
+none-kept pair (all.Text_comes head of_size text) None past n l s k = tt
+none-kept pair (all.Text_comes head of_size text) (Some e) past n l s k = grind arith
+none-kept pair all.Text_goes_out before past n l s k = absurd (cc (n, l))
+none-kept pair (all.Is_answered how) before past n l s k = absurd (cc (n, l))
+none-kept pair all.Is_cleared before past n l s k = tt
+
+-- What a take takes out: nothing, or the front of what an end holds that opened and is not left.
+
+bits-out : (pair : Pair) (n : ℕ) (e : End) (P : List Bool → Type 0) → P (take n e.stored) → P (taken_out (of_take (answer (take_bits pair n e))))
+bits-out pair n e P k = go (e.leaving && emptied e n)
+  where
+    go : (b : Bool) → P (taken_out (of_take (answer (if b then Act.Becomes (leaves e) (Ok (take n e.stored, Some (closing pair))) else Act.Becomes (record e { stored = drop n e.stored }) (Ok (take n e.stored, None))))))
+    go true = k
+    go false = k
+
+take-out : (pair : Pair) (bytes : ℕ) (before : Option End) (P : List Bool → Type 0) → P [] → ((e : End) (n : ℕ) → before ≡ Some e → e.left ≡ false → e.opened ≡ true → P (take n e.stored)) → P (taken_out (happens pair (all.Takes bytes) before).outcome)
+take-out pair bytes None P none some = none
+take-out pair bytes (Some e) P none some = go e.left e.opened (receives pair) refl refl
+  where
+    go : (l o r : Bool) → e.left ≡ l → e.opened ≡ o
+        → P (taken_out (of_take (answer (if l then Stays (Err Closing) else if not o then Stays (Err NotOpen) else if not r then Stays (Err WrongEnd) else take_bits pair (bits_to_take bytes e) e))))
+    go true o r a b = none
+    go false false r a b = none
+    go false true false a b = none
+    go false true true a b = bits-out pair (bits_to_take bytes e) e P (some e (bits_to_take bytes e) refl a b)
+
+take-opens-not : (pair : Pair) (bytes : ℕ) (before : Option End) → opens before (happens pair (all.Takes bytes) before).after ≡ false
+take-opens-not pair bytes None = refl
+take-opens-not pair bytes (Some e) = grind arith
+
+-- what is taken goes on as it was got
+takes-front : (pair : Pair) (bytes : ℕ) (before : Option End) (past : Past) → BooksAt before past → IsBeginning past.taken past.got → IsBeginning (past.taken ++ taken_out (happens pair (all.Takes bytes) before).outcome) past.got
+takes-front pair bytes before past books k = take-out pair bytes before (λ (out : List Bool). IsBeginning (past.taken ++ out) past.got)
+    (subst (λ (l : List Bool). IsBeginning l past.got) (sym (append-nil past.taken)) k)
+    (λ e n is l o. begins-front past.got past.taken e.stored n ((subst (λ (x : Option End). BooksAt x past) is books).held o l))
+
+-- and begins what is given
+takes-begins : (pair : Pair) (bytes : ℕ) (before : Option End) (past : Past) (g : List Bool) → BooksAt before past → (is_live before ≡ true → IsBeginning past.got g) → IsBeginning past.taken g → IsBeginning (past.taken ++ taken_out (happens pair (all.Takes bytes) before).outcome) g
+takes-begins pair bytes before past g books got k = take-out pair bytes before (λ (out : List Bool). IsBeginning (past.taken ++ out) g)
+    (subst (λ (l : List Bool). IsBeginning l g) (sym (append-nil past.taken)) k)
+    (λ e n is l o. begins-on (past.taken ++ take n e.stored) past.got g
+    (begins-front past.got past.taken e.stored n ((subst (λ (x : Option End). BooksAt x past) is books).held o l))
+    (got (ap is_live is ∙ o)))
+
+-- a call to receive begins anew
+asked-begins : (b : Bool) (xs ys : List Bool) → IsBeginning xs ys → IsBeginning (if b then [] else xs) ys
+asked-begins true xs ys k = (ys, refl)
+asked-begins false xs ys k = k
+
+live-before : (a b : Bool) → (not a && b) ≡ false → b ≡ true → a ≡ true
+live-before true b e f = refl
+live-before false b e f = absurd (both_ways b e f)
+
+pub front-kept : (pair : Pair) (what : Happening) (before : Option End) (past : Past) → BooksAt before past → Front before past → Front (happens pair what before).after (then_past pair what before past)
+front-kept pair what before past books k live = go (opens before (happens pair what before).after) refl
+  where
+    o : Outcome
+    o = (happens pair what before).outcome
+
+    anew : (what : Happening) (o : Outcome) → ((bytes : ℕ) → what ≡ all.Takes bytes → ⊥) → IsBeginning (adds what o no_past).taken (adds what o no_past).got
+    anew (all.Takes bytes) o f = absurd (f bytes refl)
+    anew (all.Asks_to_receive with_room on own full) o f = asked-begins (is_accepted o) [] [] ([], refl)
+    anew what o f = ((adds what o no_past).got, refl)
+
+    further : (what : Happening) → IsBeginning past.taken past.got → IsBeginning (adds what (happens pair what before).outcome past).taken (adds what (happens pair what before).outcome past).got
+    further (all.Takes bytes) f = takes-front pair bytes before past books f
+    further (all.Asks_to_receive with_room on own full) f = asked-begins (is_accepted (happens pair (all.Asks_to_receive with_room on own full) before).outcome) past.taken past.got f
+    further (all.Text_comes head of_size text) f = begins-more past.taken past.got (if is_admitted (happens pair (all.Text_comes head of_size text) before).outcome then text else []) f
+    further what f = f
+
+    go : (b : Bool) → opens before (happens pair what before).after ≡ b → IsBeginning (adds what o (if b then no_past else past)).taken (adds what o (if b then no_past else past)).got
+    go true e = anew what o (λ bytes is. both_ways (opens before (happens pair what before).after) (subst (λ (w : Happening). opens before (happens pair w before).after ≡ false) (sym is) (take-opens-not pair bytes before)) e)
+    go false e = further what (k (live-before (is_live before) (is_live (happens pair what before).after) e live))
+
+-- what was taken stays, or is nothing, or is what a take leaves
+taken-or : (what : Happening) (o : Outcome) (past : Past) (P : List Bool → Type 0) → P past.taken → P [] → ((bytes : ℕ) → what ≡ all.Takes bytes → P (past.taken ++ taken_out o)) → P (adds what o past).taken
+taken-or (all.Takes bytes) o past P k n t = t bytes refl
+taken-or (all.Asks_to_receive with_room on own full) o past P k n t = go (is_accepted o)
+  where
+    go : (b : Bool) → P (if b then [] else past.taken)
+    go true = n
+    go false = k
+taken-or what o past P k n t = k
+
+-- at the receiver
+pub receiver-begins : (pair : Pair) (what : Happening) (before : Option End) (past : Past) (g : List Bool) → BooksAt before past → (is_live before ≡ true → IsBeginning past.got g) → IsBeginning past.taken g → IsBeginning (then_past pair what before past).taken g
+receiver-begins pair what before past g books got k = go (opens before (happens pair what before).after) refl
+  where
+    o : Outcome
+    o = (happens pair what before).outcome
+
+    go : (b : Bool) → opens before (happens pair what before).after ≡ b → IsBeginning (adds what o (if b then no_past else past)).taken g
+    go true e = taken-or what o no_past (λ (l : List Bool). IsBeginning l g) (g, refl) (g, refl)
+        (λ bytes is. absurd (both_ways (opens before (happens pair what before).after) (subst (λ (w : Happening). opens before (happens pair w before).after ≡ false) (sym is) (take-opens-not pair bytes before)) e))
+    go false e = taken-or what o past (λ (l : List Bool). IsBeginning l g) k (g, refl)
+        (λ bytes is. subst (λ (w : Happening). IsBeginning (past.taken ++ taken_out (happens pair w before).outcome) g) (sym is) (takes-begins pair bytes before past g books got k))
+
+-- at the sender: what is given only grows, but where it opens
+given-grows : (what : Happening) (o : Outcome) (past : Past) → (more : List Bool) × ((adds what o past).given ≡ past.given ++ more)
+given-grows (all.Gives text) o past = (_, refl)
+given-grows what o past = ([], sym (append-nil past.given))
+
+pub sender-begins : (pair : Pair) (what : Happening) (before : Option End) (past : Past) (taken : List Bool) → (opens before (happens pair what before).after ≡ true → taken ≡ []) → IsBeginning taken past.given → IsBeginning taken (then_past pair what before past).given
+sender-begins pair what before past taken none k = go (opens before (happens pair what before).after) refl
+  where
+    go : (b : Bool) → opens before (happens pair what before).after ≡ b → IsBeginning taken (adds what (happens pair what before).outcome (if b then no_past else past)).given
+    go true e = begins-nil taken _ (none e)
+    go false e = let m = given-grows what (happens pair what before).outcome past in subst (λ (l : List Bool). IsBeginning taken l) (sym m.1) (begins-more taken past.given m.0 k)
+
+-- A sender opens by a request, its own or its peer's.
+
+pub opens-by-request : (pair : Pair) (what : Happening) (before : Option End) → sends pair ≡ true
+    → ((of_size with_room own : ℕ) (full : Bool) → what ≡ all.Asks_to_send of_size with_room own full → ⊥) → ((on by_peer : ℕ) (taken : Bool) → what ≡ all.Rts_comes on taken by_peer → ⊥)
+    → opens before (happens pair what before).after ≡ false
+opens-by-request pair (all.Asks_to_send of_size with_room own full) before s f g = absurd (f of_size with_room own full refl)
+opens-by-request pair (all.Rts_comes on taken by_peer) before s f g = absurd (g on by_peer taken refl)
+opens-by-request pair (all.Asks_to_receive with_room on own full) None s f g = grind arith
+opens-by-request pair (all.Asks_to_receive with_room on own full) (Some e) s f g = grind arith
+opens-by-request pair (all.Closes full) None s f g = refl
+opens-by-request pair (all.Closes full) (Some e) s f g = grind arith
+opens-by-request pair (all.Gives text) None s f g = refl
+opens-by-request pair (all.Gives text) (Some e) s f g = grind arith
+opens-by-request pair (all.Takes bytes) None s f g = refl
+opens-by-request pair (all.Takes bytes) (Some e) s f g = grind arith
+opens-by-request pair (all.Allocates m b full) None s f g = refl
+opens-by-request pair (all.Allocates m b full) (Some e) s f g = grind arith
+opens-by-request pair (all.Calls_back m b full) None s f g = refl
+opens-by-request pair (all.Calls_back m b full) (Some e) s f g = grind arith
+opens-by-request pair (all.Interrupts full) None s f g = refl
+opens-by-request pair (all.Interrupts full) (Some e) s f g = grind arith
+opens-by-request pair (all.Str_comes of_size by_peer) None s f g = grind arith
+opens-by-request pair (all.Str_comes of_size by_peer) (Some e) s f g = grind arith
+opens-by-request pair all.Cls_comes None s f g = grind arith
+opens-by-request pair all.Cls_comes (Some e) s f g = grind arith
+opens-by-request pair (all.All_comes on m b) None s f g = refl
+opens-by-request pair (all.All_comes on m b) (Some e) s f g = grind arith
+opens-by-request pair (all.Gvb_comes on m b) None s f g = refl
+opens-by-request pair (all.Gvb_comes on m b) (Some e) s f g = grind arith
+opens-by-request pair (all.Ret_comes on m b) None s f g = refl
+opens-by-request pair (all.Ret_comes on m b) (Some e) s f g = grind arith
+opens-by-request pair (all.Inr_comes on) None s f g = refl
+opens-by-request pair (all.Inr_comes on) (Some e) s f g = grind arith
+opens-by-request pair (all.Ins_comes on) None s f g = refl
+opens-by-request pair (all.Ins_comes on) (Some e) s f g = grind arith
+opens-by-request pair (all.Text_comes head of_size text) None s f g = refl
+opens-by-request pair (all.Text_comes head of_size text) (Some e) s f g = grind arith
+opens-by-request pair all.Text_goes_out None s f g = refl
+opens-by-request pair all.Text_goes_out (Some e) s f g = grind arith
+opens-by-request pair (all.Is_answered Rfnm) None s f g = refl
+opens-by-request pair (all.Is_answered Incomplete) None s f g = refl
+opens-by-request pair (all.Is_answered Dead) None s f g = refl
+opens-by-request pair (all.Is_answered how) (Some e) s f g = grind arith
+opens-by-request pair all.Is_cleared None s f g = refl
+opens-by-request pair all.Is_cleared (Some e) s f g = grind arith
+
+-- Where it opens, the receiver asked in the same round, and nothing was got yet: so nothing was taken.
+
+none-taken : (ro : Option End) (rp : Past) → NoneYet ro rp → Front ro rp → (or_new ro).asked ≡ true → live_got ro rp ≡ [] → rp.taken ≡ []
+none-taken None rp n f a e = absurd (both_ways false refl a)
+none-taken (Some r) rp n f a e = go r.opened refl
+  where
+    go : (b : Bool) → r.opened ≡ b → rp.taken ≡ []
+    go true o = begins-of-none rp.taken rp.got (f o) (ap (λ (b : Bool). cond b rp.got []) (sym o) ∙ e)
+    go false o = n a o
+
+module _ (s : End) (g : List Bool) (ro : Option End) (rp : Past) (p q : List Command) (t : Text) (n : NoneYet ro rp) (f : Front ro rp) where
+  abbrev r : End
+  r = or_new ro
+
+  abbrev h : List Bool
+  h = live_got ro rp
+
+  -- it heard the receiver's request, and asks
+  pub none-where-heard : s.opened ≡ false → s.left ≡ false → s.heard ≡ true → Core s g (or_new ro) (live_got ro rp) p q t → rp.taken ≡ []
+  none-where-heard o l a k = go k.place k.joint
+    where
+      go : (d : Place) → Joint d s g r h p q t → rp.taken ≡ []
+      go Together j = none-taken ro rp n f (comes_asked s.heard s.cls s.link s.size (kinds to_sender_kind q) r.asked r.heard r.left r.link a j.0.back) (j.1.unopened o)
+      go Sender_ahead j = absurd (both_ways s.heard j.unheard a)
+      go Receiver_ahead j = absurd (both_ways s.left l j.left)
+
+  -- the receiver's request comes
+  pub none-where-requested : (a b on : ℕ) → s.opened ≡ false → s.left ≡ false → Core s g (or_new ro) (live_got ro rp) p (Rts a b on ∷ q) t → rp.taken ≡ []
+  none-where-requested a b on o l k = go k.place k.joint
+    where
+      go : (d : Place) → Joint d s g r h p (Rts a b on ∷ q) t → rp.taken ≡ []
+      go Together j = none-taken ro rp n f (comes_asked true s.cls on s.size (kinds to_sender_kind q) r.asked r.heard r.left r.link refl j.0.back.3) (j.1.unopened o)
+      go Sender_ahead j = absurd (cc (j.none))
+      go Receiver_ahead j = absurd (both_ways s.left l j.left)
+
+-- an end that opens had not, and is not left
+pub ask-opens : (pair : Pair) (of_size with_room own : ℕ) (full : Bool) (o : Option End) → opens o (happens pair (all.Asks_to_send of_size with_room own full) o).after ≡ true
+    → ((or_new o).opened ≡ false) × ((or_new o).left ≡ false) × ((or_new o).heard ≡ true)
+ask-opens pair of_size with_room own full None e = (refl, refl, grind arith)
+ask-opens pair of_size with_room own full (Some x) e = (grind arith, grind arith, grind arith)
+
+pub request-opens : (pair : Pair) (on by_peer : ℕ) (taken : Bool) (o : Option End) → opens o (happens pair (all.Rts_comes on taken by_peer) o).after ≡ true
+    → ((or_new o).opened ≡ false) × ((or_new o).left ≡ false)
+request-opens pair on by_peer taken None e = (refl, refl)
+request-opens pair on by_peer taken (Some x) e = (grind arith, grind arith)

@@ -1,0 +1,11 @@
+use Rattle.std.proofs.Common.{refl}
+use Rattle.ncp_proof_connection.proofs.runs.a_pair_opens_again_on_its_link.Goals as goal
+
+pub returns-clause-open : goal.returns-clause-open
+returns-clause-open c = (refl, refl)
+
+pub returns-clause-link : goal.returns-clause-link
+returns-clause-link c = (refl, refl)
+
+pub returns-clause-anew : goal.returns-clause-anew
+returns-clause-anew c = (refl, refl)

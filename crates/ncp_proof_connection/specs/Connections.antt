@@ -1,0 +1,158 @@
+-- One connection between two hosts that stay up: an end at the sender's host and one at the
+-- receiver's, what is underway between them, and at most one text that is out. All that happens at
+-- an end is an act; what it makes joins what is underway. A control link keeps order (BBN 1822,
+-- section 3), so the commands of each host come in the order in which they were made.
+use Rattle.std.specs.Prelude.{◌≡◌, ℕ, Bool, true, false, ◌||◌, nat_lt, if◌then◌else◌, List, [], ◌∷◌, ◌++◌, Option, None, Some}
+use Rattle.ncp_terms.specs.declared.command.Command.{Command}
+use Rattle.ncp_terms.specs.declared.command.Command.TheVariants.{Rts, Str, Cls, All, Gvb, Ret, Inr, Ins}
+use Rattle.ncp_model.specs.declared.pair.Pair.{Pair}
+use Rattle.ncp_model.specs.declared.limits.TheConstants.{MAX_BY_PEER}
+use Rattle.ncp_model.specs.End.{End, or_new}
+use Rattle.ncp_model.specs.Act.{is_data_link}
+use Rattle.ncp_model.specs.Texts.{Answer, Rfnm, Incomplete, Dead}
+use Rattle.ncp_model.specs.Happenings.{Happening, Outcome, Happened, happens, is_violation}
+use Rattle.ncp_model.specs.Happenings as all
+use Rattle.ncp_proof_watch.specs.Histories.{Watched, no_past, watches}
+use Rattle.ncp_model.specs.Pairs.{turned}
+
+-- the one text that may be out, from its output to its RFNM (BBN 1822, section 3: a link takes one
+-- message at a time)
+pub data Text : Type 0 where
+  No_text : Text
+  Away : (on : ℕ) → (of_size : ℕ) → (bits : List Bool) → Text  -- it went out on this link and has not come
+  Here : (on : ℕ) → Text  -- it came and has had no RFNM
+
+pub record Connection : Type 0 where
+  pub sender : Watched  -- the end at the sender's host, with the history of the pair
+  pub receiver : Watched
+  pub to_receiver : List Command  -- underway: made, and not come
+  pub to_sender : List Command
+  pub text : Text
+  pub violated : Bool  -- an end made an ERR for a command of its peer, or refused its text
+
+abbrev pub no_end : Watched
+no_end = record { end = None; past = no_past }
+
+abbrev pub new_connection : Connection
+new_connection = record { sender = no_end; receiver = no_end; to_receiver = []; to_sender = []; text = No_text; violated = false }
+
+-- the text that is out once this happened at a sender's end with this link
+abbrev pub text_after : ℕ → Outcome → Text → Text
+text_after on (all.Sent of_size bits) text = Away on of_size bits
+text_after on outcome text = text
+
+-- This happens at an end. The pair is named as the sender's host has it. What is made is underway.
+
+abbrev pub sender_does : Pair → Happening → Connection → Connection
+sender_does pair what w =
+    let did : Happened = happens pair what w.sender.end in
+    record w {
+      sender = watches pair what w.sender;
+      to_receiver = w.to_receiver ++ did.made;
+      text = text_after (or_new w.sender.end).link did.outcome w.text;
+      violated = w.violated || is_violation did.outcome;
+    }
+
+abbrev pub receiver_does : Pair → Happening → Connection → Connection
+receiver_does pair what w =
+    let did : Happened = happens (turned pair) what w.receiver.end in
+    record w {
+      receiver = watches (turned pair) what w.receiver;
+      to_sender = w.to_sender ++ did.made;
+      violated = w.violated || is_violation did.outcome;
+    }
+
+-- what a user may call; a receiver asks with a link that carries connections
+abbrev pub is_call : Happening → Bool
+is_call (all.Asks_to_send of_size with_room own full) = true
+is_call (all.Asks_to_receive with_room on own full) = is_data_link on
+is_call (all.Closes full) = true
+is_call (all.Gives text) = true
+is_call (all.Takes bytes) = true
+is_call (all.Allocates of_messages of_bits full) = true
+is_call (all.Calls_back of_messages of_bits full) = true
+is_call (all.Interrupts full) = true
+is_call what = false
+
+-- What its coming is to the end for which it was made. That a request names no link that another
+-- end heard is what the law on links says; by_peer: so many ends are there by the peer's request
+-- alone.
+abbrev pub command_comes : ℕ → Command → Option Happening
+command_comes by_peer (Rts receive send on) = Some (all.Rts_comes on false by_peer)
+command_comes by_peer (Str send receive of_size) = Some (all.Str_comes of_size by_peer)
+command_comes by_peer (Cls my your) = Some all.Cls_comes
+command_comes by_peer (All on of_messages of_bits) = Some (all.All_comes on of_messages of_bits)
+command_comes by_peer (Gvb on of_messages of_bits) = Some (all.Gvb_comes on of_messages of_bits)
+command_comes by_peer (Ret on of_messages of_bits) = Some (all.Ret_comes on of_messages of_bits)
+command_comes by_peer (Inr on) = Some (all.Inr_comes on)
+command_comes by_peer (Ins on) = Some (all.Ins_comes on)
+command_comes by_peer c = None
+
+-- The things that happen. A host that would answer Full goes down, which is a clearing and no event
+-- here: so a command comes where fewer than 64 ends are there by the peer's request alone.
+pub data Event : Type 0 where
+  Sender_calls : (what : Happening) → Event
+  Receiver_calls : (what : Happening) → Event
+  Comes_to_sender : (by_peer : ℕ) → Event  -- the first command underway
+  Comes_to_receiver : (by_peer : ℕ) → Event
+  Text_goes_out : Event
+  Text_comes : (head : List Bool) → Event  -- with this leader and prefix
+  Text_is_answered : (how : Answer) → Event
+
+abbrev pub sender_hears : Pair → Option Happening → Connection → Connection
+sender_hears pair None w = w
+sender_hears pair (Some what) w = sender_does pair what w
+
+abbrev pub receiver_hears : Pair → Option Happening → Connection → Connection
+receiver_hears pair None w = w
+receiver_hears pair (Some what) w = receiver_does pair what w
+
+abbrev pub comes_to_sender : Pair → ℕ → List Command → Connection → Connection
+comes_to_sender pair by_peer [] w = w
+comes_to_sender pair by_peer (c ∷ rest) w = sender_hears pair (command_comes by_peer c) (record w { to_sender = rest })
+
+abbrev pub comes_to_receiver : Pair → ℕ → List Command → Connection → Connection
+comes_to_receiver pair by_peer [] w = w
+comes_to_receiver pair by_peer (c ∷ rest) w = receiver_hears pair (command_comes by_peer c) (record w { to_receiver = rest })
+
+abbrev pub text_comes : Pair → List Bool → Text → Connection → Connection
+text_comes pair head No_text w = w
+text_comes pair head (Away on of_size bits) w = receiver_does pair (all.Text_comes head of_size bits) (record w { text = Here on })
+text_comes pair head (Here on) w = w
+
+-- A text that came is answered by RFNM. One that has not come is answered as not delivered: it is
+-- still out, and goes out again.
+abbrev pub text_is_answered : Pair → Answer → Text → Connection → Connection
+text_is_answered pair Rfnm (Here on) w = sender_does pair (all.Is_answered Rfnm) (record w { text = No_text })
+text_is_answered pair Incomplete (Away on of_size bits) w = sender_does pair (all.Is_answered Incomplete) w
+text_is_answered pair Dead (Away on of_size bits) w = sender_does pair (all.Is_answered Dead) w
+text_is_answered pair how text w = w
+
+abbrev pub occurs : Pair → Event → Connection → Connection
+occurs pair (Sender_calls what) w = if is_call what then sender_does pair what w else w
+occurs pair (Receiver_calls what) w = if is_call what then receiver_does pair what w else w
+occurs pair (Comes_to_sender by_peer) w = if nat_lt by_peer MAX_BY_PEER then comes_to_sender pair by_peer w.to_sender w else w
+occurs pair (Comes_to_receiver by_peer) w = if nat_lt by_peer MAX_BY_PEER then comes_to_receiver pair by_peer w.to_receiver w else w
+occurs pair Text_goes_out w = sender_does pair all.Text_goes_out w
+occurs pair (Text_comes head) w = text_comes pair head w.text w
+occurs pair (Text_is_answered how) w = text_is_answered pair how w.text w
+
+-- what comes is taken, or is late
+abbrev pub is_in_order : Outcome → Bool
+is_in_order all.Accepted = true
+is_in_order all.Admitted = true
+is_in_order all.Late = true
+is_in_order outcome = false
+
+-- so this command is, whose coming is this; no other commands are underway
+abbrev pub ComesInOrder : Pair → Option Happening → Option End → Type 0
+ComesInOrder pair None end = ⊥
+ComesInOrder pair (Some what) end = is_in_order (happens pair what end).outcome ≡ true
+
+-- the connection after these events, in order
+abbrev pub occur_from : Pair → List Event → Connection → Connection
+occur_from pair [] w = w
+occur_from pair (e ∷ more) w = occur_from pair more (occurs pair e w)
+
+abbrev pub occur : Pair → List Event → Connection
+occur pair events = occur_from pair events new_connection

@@ -1,0 +1,21 @@
+use Rattle.std.proofs.Common.{ap}
+use Rattle.ncp_model.specs.Ends.{lowest}
+use Rattle.ncp_proof_watch.specs.Histories.{Past}
+use Rattle.ncp_proof_resets.specs.Resets.{Host}
+use Rattle.ncp_model.specs.Rows.{outward, inward}
+use Rattle.ncp_proof_machine.specs.Hosts.{all_empty}
+use Rattle.ncp_proof_machine.specs.HostRuns.{held_past_reset, up_after_held, opened_after_held}
+use Rattle.ncp_proof_machine.proofs.HostsListed.{this-end, that-end, that-past, this-host, that-host, this-link}
+use Rattle.ncp_proof_headline.proofs.headline.a_text_is_held_back_past_a_reset.Goals as goal
+
+pub returns-clause-owed : goal.returns-clause-owed
+unfolding lowest all_empty
+returns-clause-owed c = (ap (λ (h : Host). h.phase) (this-host held_past_reset), ap (λ (h : Host). h.phase) (that-host held_past_reset), this-link held_past_reset 2)
+
+pub returns-clause-dropped : goal.returns-clause-dropped
+unfolding lowest all_empty
+returns-clause-dropped c = (ap (λ (h : Host). h.phase) (this-host up_after_held), ap (λ (h : Host). h.phase) (that-host up_after_held), ap (λ (p : Past). p.got) (that-past up_after_held inward))
+
+pub returns-clause-anew : goal.returns-clause-anew
+unfolding lowest all_empty
+returns-clause-anew c = (this-end opened_after_held outward, that-end opened_after_held inward, ap (λ (p : Past). p.got) (that-past opened_after_held inward))

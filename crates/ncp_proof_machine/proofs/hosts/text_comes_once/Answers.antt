@@ -1,0 +1,20 @@
+use Rattle.std.proofs.Common.{ap}
+use Rattle.ncp_model.specs.Ends.{lowest}
+use Rattle.ncp_proof_watch.specs.Histories.{Past}
+use Rattle.ncp_model.specs.Rows.{outward, inward}
+use Rattle.ncp_proof_machine.specs.Hosts.{all_empty}
+use Rattle.ncp_proof_machine.specs.HostRuns.{lost_twice, held_back, woken_again}
+use Rattle.ncp_proof_machine.proofs.HostsListed.{this-end, that-end, that-past, this-link}
+use Rattle.ncp_proof_machine.proofs.hosts.text_comes_once.Goals as goal
+
+pub returns-clause-lost_twice : goal.returns-clause-lost_twice
+unfolding lowest all_empty
+returns-clause-lost_twice c = (this-end lost_twice outward, that-end lost_twice inward, ap (λ (p : Past). p.got) (that-past lost_twice inward))
+
+pub returns-clause-held : goal.returns-clause-held
+unfolding lowest all_empty
+returns-clause-held c = (this-link held_back 2, this-end held_back outward)
+
+pub returns-clause-woken : goal.returns-clause-woken
+unfolding lowest all_empty
+returns-clause-woken c = (this-link woken_again 2, ap (λ (p : Past). p.got) (that-past woken_again inward))

@@ -1,0 +1,303 @@
+-- Two hosts with their connections, and the links between them: all that may happen. Each step is
+-- written once, for "this host" and "that host". Every rule is one of an end, of a phase, or of a
+-- message on a link.
+use Rattle.std.specs.Prelude.{ℕ, zero, suc, ◌==◌, Bool, true, false, ◌&&◌, ◌||◌, if◌then◌else◌, List, [], ◌∷◌, Option, None, Some}
+use Rattle.std.specs.FinMap.{FinMap, empty, get, insert}
+use Rattle.ncp_terms.specs.declared.command.Command.{Command}
+use Rattle.ncp_terms.specs.declared.command.Command.TheVariants.{Rst, Rrp}
+use Rattle.ncp_model.specs.declared.pair.Pair.{Pair}
+use Rattle.ncp_model.specs.declared.limits.TheConstants.{DATA_LINKS, FIRST_LINK}
+use Rattle.ncp_model.specs.Pairs.{pair_cmp}
+use Rattle.ncp_model.specs.End.{End}
+use Rattle.ncp_model.specs.Act.{answer, made_if_any, made_by_call}
+use Rattle.ncp_model.specs.Texts.{made_by_text, Rfnm}
+use Rattle.ncp_model.specs.Ends.{Ends, sender_on, receiver_on, pair_of, leads_to, hear, text_in, cut_in, answered_in, map_after_at, no_ends, put}
+use Rattle.ncp_model.specs.Happenings.{Happening, Outcome, Happened, happens, of_hearing, of_text, is_violation}
+use Rattle.ncp_model.specs.Happenings as all
+use Rattle.ncp_model.specs.Leading.{comes}
+use Rattle.ncp_proof_watch.specs.Histories.{Past, no_past, adds, opens}
+use Rattle.ncp_model.specs.Echo.{Echoes, no_echoes, echo_answer, echo_asked, purge_echo}
+use Rattle.ncp_model.specs.Phase.{new_phase, is_resetting, Reaction}
+use Rattle.ncp_model.specs.Sending.{is_full}
+use Rattle.ncp_model.specs.Peers.{Peer}
+pub use Rattle.ncp_model.specs.Peers.{Call, Ask_to_send, Ask_to_receive, Close, Give, Take, Allocate, Call_back, Interrupt, called, is_full_up, echo_replies, echoes_after}
+use Rattle.ncp_model.specs.Peers as peers
+pub use Rattle.ncp_slot.specs.Slot.{is_empty}
+use Rattle.ncp_proof_resets.specs.Delivery.{Slot, Empty, Ready, Travelling, Held, Subnet, Accepted, Delivered, Lost, Dead, Link, idle, out, undelivered, answered, woken}
+use Rattle.ncp_proof_resets.specs.Resets.{Host, is_up, anew, host_resets, host_settles, host_falls, host_makes, host_makes_all, host_hears}
+use Rattle.ncp_proof_resets.specs.Resets as resets
+
+-- the text of a message on a data link
+pub record TextOut : Type 0 where
+  pub of_size : ℕ
+  pub bits : List Bool
+
+-- the histories of all pairs
+abbrev pub Pasts : Type 0
+Pasts = FinMap pair_cmp Past
+
+abbrev pub or_no_past : Option Past → Past
+or_no_past None = no_past
+or_no_past (Some past) = past
+
+abbrev pub past_of : Pasts → Pair → Past
+past_of pasts pair = or_no_past (get pasts pair)
+
+pub record Node : Type 0 where
+  pub host : Host  -- its phase, what waits, and what was made and came
+  pub ends : Ends
+  pub echoes : Echoes
+  pub control : Link (List Command)  -- its control message that is out
+  pub texts : ℕ → Link TextOut  -- on each data link, its text that is out
+  pub pasts : Pasts  -- a history, as the next
+  pub violated : Bool  -- an ERR was made, or a text was answered as one that the peer may not send
+
+abbrev pub new_node : Node
+new_node = record { host = anew new_phase; ends = no_ends; echoes = no_echoes; control = idle; texts = λ _. idle; pasts = empty; violated = false }
+
+-- Data links are quiet where on each of them the last text that went out, if any, was taken.
+
+unfoldable pub all_empty : (ℕ → Link TextOut) → ℕ → ℕ → Bool
+all_empty texts zero from = true
+all_empty texts (suc many) from = is_empty (texts from).slot && all_empty texts many (suc from)
+
+-- links 2 to 71
+abbrev pub quiet : Node → Bool
+quiet n = all_empty n.texts DATA_LINKS FIRST_LINK
+
+abbrev pub set_link : ℕ → Link TextOut → (ℕ → Link TextOut) → ℕ → Link TextOut
+set_link on link texts k = if k == on then link else texts k
+
+-- A clearing leaves no end, and ends the echo. What is out on the data links stays out.
+
+abbrev pub cleared : Host → Node → Node
+cleared h n = record n { host = h; ends = no_ends; echoes = purge_echo n.echoes }
+
+-- a host that made commands has gone down in the midst of it, or keeps these ends
+abbrev pub kept : Host → Ends → Ends
+kept h m = peers.kept h.phase m
+
+abbrev pub kept_echoes : Host → Echoes → Echoes
+kept_echoes h s = peers.kept_echoes h.phase s
+
+-- the histories after something happened to a pair
+abbrev pub past_after : Option End → Happening → Happened → Past → Past
+past_after before what did past = adds what did.outcome (if opens before did.after then no_past else past)
+
+abbrev pub pasts_after : Pair → Happening → Ends → Pasts → Pasts
+pasts_after pair what m pasts = insert pasts pair (past_after (get m pair) what (happens pair what (get m pair)) (past_of pasts pair))
+
+-- where a look-up led, if it led anywhere
+abbrev pub pasts_after_at : Option Pair → Option Happening → Ends → Pasts → Pasts
+pasts_after_at (Some pair) (Some what) m pasts = pasts_after pair what m pasts
+pasts_after_at pair what m pasts = pasts
+
+-- The calls of a user, while the host is up. What they ask of the other ends and of what waits is
+-- looked up.
+
+abbrev pub happens_at : Pair → Happening → Node → Node
+happens_at pair what n =
+    let did : Happened = happens pair what (get n.ends pair) in
+    let host : Host = host_makes_all did.made n.host in
+    record n {
+      host = host;
+      ends = kept host (put n.ends pair did.after);
+      echoes = kept_echoes host n.echoes;
+      pasts = pasts_after pair what n.ends n.pasts;
+      violated = n.violated || is_violation did.outcome;
+    }
+
+abbrev pub calls : Pair → Call → Node → Node
+calls pair call n = if is_up n.host then happens_at pair (called call (is_full n.host.phase) n.ends) n else n
+
+abbrev pub echo_called : ℕ → Node → Node
+echo_called byte n =
+    let host : Host = host_makes_all (made_by_call (echo_answer byte (is_full n.host.phase) n.echoes)) n.host in
+    record n { host = host; ends = kept host n.ends; echoes = kept_echoes host (echo_asked (is_full n.host.phase) n.echoes) }
+
+abbrev pub calls_echo : ℕ → Node → Node
+calls_echo byte n = if is_up n.host then echo_called byte n else n
+
+abbrev pub calls_reset : Node → Node
+calls_reset n = if is_resetting n.host.phase then n else cleared (host_resets (quiet n) n.host) n
+
+-- A command comes. What names a link acts on the end to which a look-up by link leads.
+
+-- the phase, the ends and the echo of a host: what it keeps of its peer, without what only watches
+abbrev pub peer_of : Node → Peer
+peer_of n = record { phase = n.host.phase; ends = n.ends; echoes = n.echoes }
+
+abbrev pub reaction : Command → Node → Reaction
+reaction c n = peers.reaction (quiet n) c (peer_of n)
+
+abbrev pub hears_other : Command → Node → Node
+hears_other c n =
+    let host : Host = host_hears c (reaction c n) n.host in
+    record n {
+      host = host;
+      ends = kept host (map_after_at n.ends (leads_to c n.ends) (hear c n.ends));
+      echoes = kept_echoes host (echoes_after c n.echoes);
+      pasts = pasts_after_at (leads_to c n.ends) (comes c n.ends) n.ends n.pasts;
+      violated = n.violated || is_violation (of_hearing (answer (hear c n.ends)));
+    }
+
+abbrev pub hears : Command → Node → Node
+hears Rst n = cleared (host_hears Rst (reaction Rst n) n.host) n
+hears Rrp n = record n { host = host_hears Rrp (reaction Rrp n) n.host }
+hears c n = if is_up n.host then hears_other c n else n
+
+abbrev pub hears_all : List Command → Node → Node
+hears_all [] n = n
+hears_all (c ∷ cs) n = hears_all cs (hears c n)
+
+-- A text comes on a link, with its leader and prefix. While the host is not up it is dropped.
+
+abbrev pub takes_text : ℕ → List Bool → TextOut → Node → Node
+takes_text on head t n =
+    let took = text_in on t.of_size t.bits n.ends in
+    let host : Host = host_makes_all (made_by_text head t.bits (answer took)) n.host in
+    record n {
+      host = host;
+      ends = kept host (map_after_at n.ends (pair_of (receiver_on on n.ends)) took);
+      echoes = kept_echoes host n.echoes;
+      pasts = pasts_after_at (pair_of (receiver_on on n.ends)) (Some (all.Text_comes head t.of_size t.bits)) n.ends n.pasts;
+      violated = n.violated || is_violation (of_text (answer took));
+    }
+
+abbrev pub hears_text : ℕ → List Bool → TextOut → Node → Node
+hears_text on head t n = if is_up n.host then takes_text on head t n else n
+
+-- A text goes out: one that is ready, or what an open sender on the link may send.
+
+abbrev pub goes_out : ℕ → TextOut → Node → Node
+goes_out on t n = record n { texts = set_link on (out t) n.texts }
+
+abbrev pub cuts : ℕ → Option (ℕ × List Bool) → Node → Node
+cuts on None n = n
+cuts on (Some text) n =
+    goes_out on (record { of_size = text.0; bits = text.1 }) (record n { ends = map_after_at n.ends (pair_of (sender_on on n.ends)) (cut_in on n.ends) })
+
+abbrev pub sends_text : ℕ → Slot TextOut → Node → Node
+sends_text on Empty n = cuts on (answer (cut_in on n.ends)) n
+sends_text on (Ready t) n = goes_out on t n
+sends_text on (Travelling t) n = n
+sends_text on (Held t) n = n
+
+-- The answer to a text. One that was taken frees its sender, while the host is up; a leaving sender
+-- makes its CLS; then the host settles.
+
+abbrev pub settles : Node → Node
+settles n = record n { host = host_settles (quiet n) n.host }
+
+abbrev pub frees : ℕ → Node → Node
+frees on n =
+    let act = answered_in on Rfnm n.ends in
+    let host : Host = host_makes_all (made_if_any (answer act)) n.host in
+    record n {
+      host = host;
+      ends = if is_up n.host then kept host (map_after_at n.ends (pair_of (sender_on on n.ends)) act) else n.ends;
+      echoes = if is_up n.host then kept_echoes host n.echoes else n.echoes;
+      texts = set_link on idle n.texts;
+    }
+
+abbrev pub text_answered : ℕ → Slot TextOut → Subnet TextOut → Node → Node
+text_answered on (Travelling t) Delivered n = settles (frees on n)
+text_answered on slot s n = record n { texts = set_link on (answered slot s) n.texts }
+
+-- the answer to a control message: where it was taken the host settles
+abbrev pub control_answered : Slot (List Command) → Subnet (List Command) → Node → Node
+control_answered (Travelling m) Delivered n = settles (record n { control = idle })
+control_answered slot s n = record n { control = answered slot s }
+
+pub record World : Type 0 where
+  pub this : Node
+  pub that : Node
+
+abbrev pub swap : World → World
+swap w = record { this = w.that; that = w.this }
+
+-- the hosts, their queues and control links alone
+abbrev pub base : World → resets.World
+base w = record { this = w.this.host; that = w.that.host; going = w.this.control; coming = w.that.control }
+
+-- a step of the control link from this host
+abbrev pub moved : resets.World → Node → Node
+moved b n = record n { host = b.this; control = b.going }
+
+abbrev pub undelivered_text : Subnet TextOut → ℕ → Node → Node
+undelivered_text as_what on n = record n { texts = set_link on (record (n.texts on) { subnet = undelivered as_what (n.texts on).subnet }) n.texts }
+
+-- a text is delivered, and heard
+abbrev pub text_comes : ℕ → List Bool → Subnet TextOut → World → World
+text_comes on head (Accepted t) w = record {
+  this = hears_text on head t w.this;
+  that = record w.that { texts = set_link on (record (w.that.texts on) { subnet = Delivered }) w.that.texts };
+}
+text_comes on head subnet w = w
+
+-- a control message is delivered, and heard
+abbrev pub message_comes : Subnet (List Command) → World → World
+message_comes (Accepted m) w = record {
+  this = hears_all m w.this;
+  that = record w.that { control = record w.that.control { subnet = Delivered } };
+}
+message_comes subnet w = w
+
+-- what may happen at this host
+pub data Step : Type 0 where
+  Calls_reset : Step
+  Calls : (pair : Pair) → (call : Call) → Step
+  Calls_echo : (byte : ℕ) → Step
+  Falls : Step
+  Sends : (n : ℕ) → Step  -- the control message that is ready, or the first n + 1 commands that wait
+  Sends_text : (on : ℕ) → Step
+  Hears : Step  -- the control message that is coming
+  Hears_text : (on : ℕ) → (head : List Bool) → Step  -- the text that is coming, with this leader and prefix
+  Loses : Step  -- the subnet loses the control message that is going
+  Loses_text : (on : ℕ) → Step
+  Dies : Step  -- its destination is dead
+  Text_dies : (on : ℕ) → Step
+  Is_answered : Step
+  Text_is_answered : (on : ℕ) → Step
+  Wakes : Step  -- the user asks for all that is held
+
+abbrev pub steps : Step → World → World
+steps Calls_reset w = record w { this = calls_reset w.this }
+steps (Calls pair call) w = record w { this = calls pair call w.this }
+steps (Calls_echo byte) w = record w { this = calls_echo byte w.this }
+steps Falls w = record w { this = cleared (host_falls w.this.host) w.this }
+steps (Sends n) w = record w { this = moved (resets.steps (resets.Sends n) (base w)) w.this }
+steps (Sends_text on) w = record w { this = sends_text on (w.this.texts on).slot w.this }
+steps Hears w = message_comes w.that.control.subnet w
+steps (Hears_text on head) w = text_comes on head (w.that.texts on).subnet w
+steps Loses w = record w { this = moved (resets.steps resets.Loses (base w)) w.this }
+steps (Loses_text on) w = record w { this = undelivered_text Lost on w.this }
+steps Dies w = record w { this = moved (resets.steps resets.Dies (base w)) w.this }
+steps (Text_dies on) w = record w { this = undelivered_text Dead on w.this }
+steps Is_answered w = record w { this = control_answered w.this.control.slot w.this.control.subnet w.this }
+steps (Text_is_answered on) w = record w { this = text_answered on (w.this.texts on).slot (w.this.texts on).subnet w.this }
+steps Wakes w = record w {
+  this = record w.this {
+    control = record w.this.control { slot = woken w.this.control.slot };
+    texts = λ on. record { slot = woken (w.this.texts on).slot; subnet = (w.this.texts on).subnet };
+  };
+}
+
+pub record Event : Type 0 where
+  pub side : resets.Side
+  pub step : Step
+
+abbrev pub at : resets.Side → Step → World → World
+at resets.This step w = steps step w
+at resets.That step w = swap (steps step (swap w))
+
+abbrev pub run_from : List Event → World → World
+run_from [] w = w
+run_from (e ∷ es) w = run_from es (at e.side e.step w)
+
+abbrev pub start : World
+start = record { this = new_node; that = new_node }
+
+-- a whole schedule
+abbrev pub run : List Event → World
+run es = run_from es start

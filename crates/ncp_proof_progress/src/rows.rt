@@ -1,0 +1,59 @@
+//! The measure of known ends and commands, and that each weight is met: of each kind one thing that happens
+//! adds as much as it may.
+ghost use Rattle.std.specs.Prelude.{◌≡◌, ◌+◌, true, false, [], ◌∷◌, None, Some};
+ghost use Rattle.ncp_model.specs.Happenings.{happens};
+ghost use Rattle.ncp_model.specs.Happenings as all;
+ghost use Rattle.ncp_model.specs.Peers.{Ask_to_send, Ask_to_receive, Close, Give, Take, Allocate, Call_back, Interrupt};
+ghost use Rattle.ncp_model.specs.Phase.{up_phase};
+ghost use Rattle.ncp_model.specs.Rows.{outward, inward, ones, opened_end, counting, storing, due, gone};
+ghost use Rattle.ncp_proof_progress.specs.Work.{causes_all, queue_work, end_work, end_work_at, happened_work, phase_work, adds, takes_away, credit};
+
+use ncp_terms::Command;
+
+/// An open end has its CLS to make, and the CLS that answers it; three bytes that wait at a sender are
+/// six more, and what a receiver holds is none. An end that left has nothing to say.
+pub fn work_of_ends()
+    ensures open { (end_work outward opened_end ≡ 2) × (end_work inward opened_end ≡ 2) }
+    ensures waiting { (end_work outward (storing (ones 24)) ≡ 8) × (end_work outward (record (storing (ones 24)) { size = 12 }) ≡ 6) }
+    ensures held { end_work inward (storing (ones 24)) ≡ 2 }
+    ensures leaving { (end_work inward (due (storing (ones 24))) ≡ 2) × (end_work outward (due opened_end) ≡ 2) }
+    ensures left { (end_work outward (gone opened_end) ≡ 0) × (end_work_at outward None ≡ 0) }
+{}
+
+/// What waits is one for each command and what it causes; an RRP that is owed is one, and an RST that is
+/// wanted two, since an RRP answers it.
+pub fn work_of_what_waits()
+    ensures queue { queue_work (Command.Rts 2 3 2 ∷ Command.Rst ∷ Command.Rrp ∷ Command.Eco 65 ∷ []) ≡ 8 }
+    ensures caused { causes_all (Command.Rts 2 3 2 ∷ Command.Rst ∷ Command.Rrp ∷ Command.Eco 65 ∷ []) ≡ 4 }
+    ensures owed { phase_work (record up_phase { owe = true }) ≡ 1 }
+    ensures wanted { phase_work (record up_phase { want = true }) ≡ 2 }
+    ensures waiting { phase_work (record up_phase { waiting = Command.Rst ∷ [] }) ≡ 2 }
+    ensures none { phase_work up_phase ≡ 0 }
+{}
+
+/// Each call may add what its credit says, and one that is accepted does.
+pub fn credits_are_met()
+    ensures ask_to_send { (credit (Ask_to_send 8 64) None ≡ 5) × (happened_work outward (happens outward (all.Asks_to_send 8 64 0 false) None) ≡ 5) }
+    ensures ask_to_receive { (credit (Ask_to_receive 64) None ≡ 5) × (happened_work inward (happens inward (all.Asks_to_receive 64 2 0 false) None) ≡ 5) }
+    ensures give { (credit (Give (ones 24)) (Some opened_end) ≡ 6) × (happened_work outward (happens outward (all.Gives (ones 24)) (Some opened_end)) ≡ end_work outward opened_end + 6) }
+    ensures allocate { (credit (Allocate 2 16) (Some opened_end) ≡ 2) × (happened_work inward (happens inward (all.Allocates 2 16 false) (Some opened_end)) ≡ end_work inward opened_end + 2) }
+    ensures call_back { (credit (Call_back 128 0) (Some opened_end) ≡ 3) × (happened_work inward (happens inward (all.Calls_back 128 0 false) (Some opened_end)) ≡ end_work inward opened_end + 3) }
+    ensures interrupt { (credit Interrupt (Some opened_end) ≡ 2) × (happened_work outward (happens outward (all.Interrupts false) (Some opened_end)) ≡ end_work outward opened_end + 2) }
+    ensures close { (credit Close (Some opened_end) ≡ 0) × (happened_work outward (happens outward (all.Closes false) (Some opened_end)) ≡ end_work outward opened_end) }
+    ensures take { (credit (Take 3) (Some opened_end) ≡ 0) × (happened_work inward (happens inward (all.Takes 3) (Some (due (storing (ones 24))))) ≡ end_work inward (due (storing (ones 24)))) }
+{}
+
+/// Each command that comes may add what it causes, and one that makes an end, or is answered, does; so does
+/// a text that no end admits. A text that goes out takes two away where it has one byte.
+pub fn causes_are_met()
+    ensures rts { happened_work outward (happens outward (all.Rts_comes 2 false 0) None) ≡ adds outward (all.Rts_comes 2 false 0) None }
+    ensures str { happened_work inward (happens inward (all.Str_comes 8 0) None) ≡ adds inward (all.Str_comes 8 0) None }
+    ensures cls { happened_work outward (happens outward all.Cls_comes None) ≡ adds outward all.Cls_comes None }
+    ensures all { happened_work outward (happens outward (all.All_comes 2 1 8) None) ≡ adds outward (all.All_comes 2 1 8) None }
+    ensures gvb { happened_work outward (happens outward (all.Gvb_comes 2 128 128) (Some (counting 2 16))) ≡ end_work outward (counting 2 16) + adds outward (all.Gvb_comes 2 128 128) (Some (counting 2 16)) }
+    ensures ret { happened_work inward (happens inward (all.Ret_comes 2 1 8) None) ≡ adds inward (all.Ret_comes 2 1 8) None }
+    ensures inr { happened_work outward (happens outward (all.Inr_comes 2) None) ≡ adds outward (all.Inr_comes 2) None }
+    ensures ins { happened_work inward (happens inward (all.Ins_comes 2) None) ≡ adds inward (all.Ins_comes 2) None }
+    ensures text { happened_work inward (happens inward (all.Text_comes [] 8 (ones 8)) None) ≡ adds inward (all.Text_comes [] 8 (ones 8)) None }
+    ensures text_out { let e = record (counting 1 8) { stored = ones 8 } in (happened_work outward (happens outward all.Text_goes_out (Some e)) ≡ 2) × (takes_away (happens outward all.Text_goes_out (Some e)).outcome ≡ 2) × (end_work outward e ≡ 4) }
+{}

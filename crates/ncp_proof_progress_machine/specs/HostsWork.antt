@@ -1,0 +1,170 @@
+-- How much two hosts can still bring about, in events: a third of a message each, as a message that is
+-- not out yet takes a going out, a coming and an answer.
+use Rattle.std.specs.Prelude.{◌≡◌, ℕ, zero, suc, ◌+◌, ◌*◌, ◌≤◌, Bool, true, false, List, [], ◌∷◌, Option, None, Some}
+use Rattle.std.specs.FinMap.{get}
+use Rattle.ncp_terms.specs.declared.command.Command.{Command}
+use Rattle.ncp_model.specs.declared.limits.TheConstants.{DATA_LINKS, FIRST_LINK}
+use Rattle.ncp_model.specs.Act.{answer, is_data_link}
+use Rattle.ncp_model.specs.Ends.{cut_in}
+use Rattle.ncp_slot.specs.Slot.{ready_message}
+use Rattle.ncp_proof_resets.specs.Delivery.{Slot, Empty, Ready, Travelling, Held, Subnet, Free, Accepted, Delivered, Lost, Dead, Link, answer_of}
+use Rattle.ncp_proof_resets.specs.Resets.{Side, This, That}
+use Rattle.ncp_proof_machine.specs.Hosts.{TextOut, Node, World, swap, Event, at, steps, peer_of, Step, Calls_reset, Calls, Calls_echo, Sends, Sends_text, Hears, Hears_text, Loses, Loses_text, Dies, Text_dies, Is_answered, Text_is_answered, Wakes}
+use Rattle.ncp_proof_machine.specs.Moving.{put_if_any, first_of, as_text}
+use Rattle.ncp_proof_progress.specs.Work.{causes_all, peer_work, credit}
+
+-- what the coming of a text causes: it may be answered by an ERR
+abbrev pub text_causes : TextOut → ℕ
+text_causes t = 1
+
+-- A message on its link: it goes out, comes, and is answered. What is held is woken first; what is lost or
+-- finds its destination dead is answered so, and begins again.
+abbrev pub message_work : {M : Type 0} → (M → ℕ) → Slot M → Subnet M → ℕ
+message_work r Empty s = 0
+message_work r (Ready m) s = 3 + 3 * r m
+message_work r (Held m) s = 4 + 3 * r m
+message_work r (Travelling m) (Accepted c) = 2 + 3 * r c
+message_work r (Travelling m) Delivered = 1
+message_work r (Travelling m) Lost = 4 + 3 * r m
+message_work r (Travelling m) Dead = 5 + 3 * r m
+message_work r (Travelling m) Free = 0
+
+abbrev pub control_work : Link (List Command) → ℕ
+control_work k = message_work causes_all k.slot k.subnet
+
+abbrev pub text_work : Link TextOut → ℕ
+text_work k = message_work text_causes k.slot k.subnet
+
+-- so many links together, from one on
+unfoldable pub texts_work : (ℕ → Link TextOut) → ℕ → ℕ → ℕ
+texts_work texts zero from = 0
+texts_work texts (suc many) from = text_work (texts from) + texts_work texts many (suc from)
+
+abbrev pub node_work : Node → ℕ
+node_work n = 3 * peer_work (peer_of n) + control_work n.control + texts_work n.texts DATA_LINKS FIRST_LINK
+
+abbrev pub work : World → ℕ
+work w = node_work w.this + node_work w.that
+
+-- slot and subnet fit: what travels is in the subnet, and nothing else is
+abbrev pub Fits : {M : Type 0} → Slot M → Subnet M → Type 0
+Fits (Travelling m) (Accepted c) = c ≡ m
+Fits (Travelling m) Delivered = Unit {0}
+Fits (Travelling m) Lost = Unit {0}
+Fits (Travelling m) Dead = Unit {0}
+Fits (Travelling m) Free = ⊥
+Fits slot Free = Unit {0}
+Fits slot s = ⊥
+
+abbrev pub NodeFits : Node → Type 0
+NodeFits n = record { control : Fits n.control.slot n.control.subnet; texts : (on : ℕ) → Fits (n.texts on).slot (n.texts on).subnet }
+
+-- texts go on links from 2 to 71
+abbrev pub OnLink : Step → Type 0
+OnLink (Sends_text on) = is_data_link on ≡ true
+OnLink (Hears_text on head) = is_data_link on ≡ true
+OnLink (Loses_text on) = is_data_link on ≡ true
+OnLink (Text_dies on) = is_data_link on ≡ true
+OnLink (Text_is_answered on) = is_data_link on ≡ true
+OnLink step = Unit {0}
+
+-- how many messages a step moves: one or none, and a wake as many as are held
+
+abbrev pub one_if_any : {A : Type 0} → Option A → ℕ
+one_if_any None = 0
+one_if_any (Some a) = 1
+
+abbrev pub one_if_accepted : {M : Type 0} → Subnet M → ℕ
+one_if_accepted (Accepted m) = 1
+one_if_accepted s = 0
+
+abbrev pub one_if_told : {M : Type 0} → Slot M → Subnet M → ℕ
+one_if_told (Travelling m) s = one_if_any (answer_of s)
+one_if_told slot s = 0
+
+abbrev pub one_if_held : {M : Type 0} → Slot M → ℕ
+one_if_held (Held m) = 1
+one_if_held slot = 0
+
+-- how many of so many links hold a text
+unfoldable pub held_texts : (ℕ → Link TextOut) → ℕ → ℕ → ℕ
+held_texts texts zero from = 0
+held_texts texts (suc many) from = one_if_held (texts from).slot + held_texts texts many (suc from)
+
+abbrev pub moved : Step → World → ℕ
+moved (Sends n) w = one_if_any (ready_message (put_if_any (first_of n w.this.host.phase.waiting) w.this.control.slot))
+moved (Sends_text on) w = one_if_any (ready_message (put_if_any (as_text (answer (cut_in on w.this.ends))) (w.this.texts on).slot))
+moved Hears w = one_if_accepted w.that.control.subnet
+moved (Hears_text on head) w = one_if_accepted (w.that.texts on).subnet
+moved Loses w = one_if_accepted w.this.control.subnet
+moved (Loses_text on) w = one_if_accepted (w.this.texts on).subnet
+moved Dies w = one_if_accepted w.this.control.subnet
+moved (Text_dies on) w = one_if_accepted (w.this.texts on).subnet
+moved Is_answered w = one_if_told w.this.control.slot w.this.control.subnet
+moved (Text_is_answered on) w = one_if_told (w.this.texts on).slot (w.this.texts on).subnet
+moved Wakes w = one_if_held w.this.control.slot + held_texts w.this.texts DATA_LINKS FIRST_LINK
+moved step w = 0
+
+-- and what it may add
+abbrev pub allows : Step → World → ℕ
+allows Calls_reset w = 6
+allows (Calls pair call) w = 3 * credit call (get w.this.ends pair)
+allows (Calls_echo byte) w = 6
+allows Loses w = 3 * one_if_accepted w.this.control.subnet
+allows (Loses_text on) w = 3 * one_if_accepted (w.this.texts on).subnet
+allows Dies w = 4 * one_if_accepted w.this.control.subnet
+allows (Text_dies on) w = 4 * one_if_accepted (w.this.texts on).subnet
+allows step w = 0
+
+abbrev pub BothFit : World → Type 0
+BothFit w = record { this : NodeFits w.this; that : NodeFits w.that }
+
+-- the work after a step, and the move, are paid for
+abbrev pub StepPaid : Step → World → Type 0
+StepPaid step w = work (steps step w) + moved step w ≤ work w + allows step w
+
+-- over a whole schedule: how many messages moved, and what the calls, losses and deaths allow
+
+abbrev pub moved_at : Side → Step → World → ℕ
+moved_at This step w = moved step w
+moved_at That step w = moved step (swap w)
+
+abbrev pub allows_at : Side → Step → World → ℕ
+allows_at This step w = allows step w
+allows_at That step w = allows step (swap w)
+
+unfoldable pub moves : List Event → World → ℕ
+moves [] w = 0
+moves (e ∷ es) w = moved_at e.side e.step w + moves es (at e.side e.step w)
+
+unfoldable pub allowed : List Event → World → ℕ
+allowed [] w = 0
+allowed (e ∷ es) w = allows_at e.side e.step w + allowed es (at e.side e.step w)
+
+abbrev pub AllOnLinks : List Event → Type 0
+AllOnLinks [] = Unit {0}
+AllOnLinks (e ∷ es) = OnLink e.step × AllOnLinks es
+
+-- the steps of messages, but for a wake
+abbrev pub is_of_messages : Step → Bool
+is_of_messages (Sends n) = true
+is_of_messages (Sends_text on) = true
+is_of_messages Hears = true
+is_of_messages (Hears_text on head) = true
+is_of_messages Loses = true
+is_of_messages (Loses_text on) = true
+is_of_messages Dies = true
+is_of_messages (Text_dies on) = true
+is_of_messages Is_answered = true
+is_of_messages (Text_is_answered on) = true
+is_of_messages step = false
+
+-- nothing that counts has changed: what this host keeps of its peer, and the links of both
+abbrev pub Stays : World → World → Type 0
+Stays x w = record {
+  peer : peer_of x.this ≡ peer_of w.this;
+  control : x.this.control ≡ w.this.control;
+  texts : (on : ℕ) → x.this.texts on ≡ w.this.texts on;
+  coming : x.that.control ≡ w.that.control;
+  coming_texts : (on : ℕ) → x.that.texts on ≡ w.that.texts on;
+}

@@ -1,0 +1,39 @@
+-- How what comes is judged: each command of a control message acts once, in order, and is answered by no ERR.
+use Rattle.std.specs.Prelude.{◌≡◌, ◌==◌, Bool, true, false, List, [], ◌∷◌, length, None}
+use Rattle.std.specs.List.{list_any}
+use Rattle.ncp_numbers.specs.Bytes.{bytes_of}
+use Rattle.ncp_control.specs.Reading.{fault_in}
+use Rattle.ncp_terms.specs.declared.command.Command.{Command}
+use Rattle.ncp_slot.specs.Slots.{is_quiet}
+use Rattle.ncp_model.specs.Phase.{up}
+use Rattle.ncp_model.specs.Peers.{reaction}
+use Rattle.ncp_host.specs.declared.received.Received.TheVariants as received
+use Rattle.ncp_host.specs.PeerState.{PeerState, control_link}
+use Rattle.ncp_host.specs.Hearing.{hears, hears_all}
+use Rattle.ncp_transcript_two.specs.World.{World, Told, In}
+use Rattle.ncp_transcript_two.specs.Refused.{is_refused}
+use Rattle.ncp_transcript_two.specs.Underway.{text_of, commands_of}
+
+-- A control message that comes does to that host what its commands do, each once, in order, and nothing to
+-- this one.
+abbrev pub ActsOnce : Told → World → World → Type 0
+ActsOnce (In on message told) v after =
+    (on == control_link) ≡ true → (told ≡ received.Control (length (commands_of message))) × (after.that ≡ hears_all (commands_of message) v.that) × (after.this ≡ v.this)
+ActsOnce told v after = Unit {0}
+
+abbrev pub is_err : Command → Bool
+is_err (Command.Err code bytes) = true
+is_err c = false
+
+-- what a host that is up makes for each of these commands has no ERR
+abbrev pub NoneErrs : List Command → PeerState → Type 0
+NoneErrs [] s = Unit {0}
+NoneErrs (c ∷ cs) s =
+    (up s.peer.phase ≡ true → list_any is_err (reaction (is_quiet s.slots) c s.peer).replies ≡ false) × NoneErrs cs (hears c s)
+
+-- No control text that comes has a fault, and no command of one is answered by an ERR; no text is answered
+-- as not connected, of the wrong size or beyond the allocation, and no bits are a faulty message.
+abbrev pub MakesNoErr : Told → World → World → Type 0
+MakesNoErr (In on message told) v after =
+    ((on == control_link) ≡ true → (fault_in (bytes_of (text_of message)) ≡ None) × NoneErrs (commands_of message) v.that) × (is_refused told ≡ false)
+MakesNoErr told v after = Unit {0}

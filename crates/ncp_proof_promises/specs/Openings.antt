@@ -1,0 +1,45 @@
+-- From the Out of a text to its RFNM no pair whose texts go from that host on that link opens, at either host.
+-- A text is out on a link of a host while the slot of the link is not empty.
+use Rattle.std.specs.Prelude.{◌≡◌, ℕ, ◌==◌, true, false, List, [], ◌∷◌}
+use Rattle.std.specs.FinMap.{get}
+use Rattle.ncp_terms.specs.declared.command.Command.{Command}
+use Rattle.ncp_slot.specs.Slot.{is_empty}
+use Rattle.ncp_slot.specs.Slots.{slot_at}
+use Rattle.ncp_model.specs.declared.pair.Pair.{Pair}
+use Rattle.ncp_model.specs.Ends.{hears_link, uses_link}
+use Rattle.ncp_model.specs.Leading.{passes}
+use Rattle.ncp_model.specs.Peers.{Peer}
+use Rattle.ncp_proof_watch.specs.Histories.{opens}
+use Rattle.ncp_host.specs.PeerState.{PeerState, control_link}
+use Rattle.ncp_host.specs.Hearing.{hears, hears_all}
+use Rattle.ncp_transcript_two.specs.World.{World, Told, Called, Out, In, Answered}
+use Rattle.ncp_transcript_two.specs.Underway.{commands_of}
+
+-- the pair opens at a host: it was not live, and is
+abbrev pub Opens : Pair → Peer → Peer → Type 0
+Opens pair before after = opens (get before.ends pair) (get after.ends pair) ≡ true
+
+-- Where a pair opens at a host with a data link, no text is out on it: none of this host where it sends the
+-- pair's texts on that link, and none of the other where the texts come from there.
+abbrev pub OpensOnFreeLinks : PeerState → PeerState → Peer → Peer → Type 0
+OpensOnFreeLinks own other before after = (pair : Pair) (on : ℕ) → (on == control_link) ≡ false → Opens pair before after
+    → (passes (hears_link on) pair (get after.ends pair) ≡ true → is_empty (slot_at own.slots on) ≡ true)
+    × (passes (uses_link on) pair (get after.ends pair) ≡ true → is_empty (slot_at other.slots on) ≡ true)
+
+-- each command of a message, even where a later one ends what it opens
+abbrev pub EachOpensOnFreeLinks : List Command → PeerState → PeerState → Type 0
+EachOpensOnFreeLinks [] own other = Unit {0}
+EachOpensOnFreeLinks (c ∷ cs) own other = OpensOnFreeLinks own other own.peer (hears c own).peer × EachOpensOnFreeLinks cs (hears c own) other
+
+abbrev pub OpensNothing : Peer → Peer → Type 0
+OpensNothing before after = (pair : Pair) → opens (get before.ends pair) (get after.ends pair) ≡ false
+
+-- of each note: a call and a command open only on a free link, and nothing else opens anything
+abbrev pub OpensUnderNoText : Told → World → World → Type 0
+OpensUnderNoText (Called asked reply) v after = OpensOnFreeLinks v.this v.that v.this.peer after.this.peer × (after.that ≡ v.that)
+OpensUnderNoText (Out message) v after = OpensNothing v.this.peer after.this.peer × (after.that ≡ v.that)
+OpensUnderNoText (In on message told) v after =
+    ((on == control_link) ≡ true → (after.that ≡ hears_all (commands_of message) v.that) × EachOpensOnFreeLinks (commands_of message) v.that v.this)
+    × ((on == control_link) ≡ false → OpensNothing v.that.peer after.that.peer) × (after.this ≡ v.this)
+OpensUnderNoText (Answered on how told) v after = OpensNothing v.this.peer after.this.peer × (after.that ≡ v.that)
+OpensUnderNoText told v after = (after.this ≡ v.this) × (after.that ≡ v.that)

@@ -1,0 +1,17 @@
+-- What goes out the subnet takes (BBN Report 1822, section 3): behind the note of a message that went out the link to
+-- which it goes has that message, accepted. So no message is lost without a note that says so.
+use Rattle.std.specs.Prelude.{◌≡◌, List}
+use Rattle.ncp_transcript_two.specs.Subnet.{Accepted, link_in}
+use Rattle.ncp_transcript_two.specs.World.{World, Told, Out}
+use Rattle.ncp_transcript_two.specs.declared.note.Note.{Note}
+use Rattle.ncp_transcript_two.specs.Between.{Hosts}
+use Rattle.ncp_transcript_two.specs.Transcript.{began}
+use Rattle.ncp_proof_promises.specs.EachNote.{OfEachNote}
+
+abbrev pub IsTaken : Told → World → World → Type 0
+IsTaken (Out message) v after = after.going (link_in message) ≡ Accepted message
+IsTaken told v after = Unit {0}
+
+-- of each note of a transcript
+abbrev pub EachOutTaken : List Note → Hosts → Type 0
+EachOutTaken notes w = OfEachNote IsTaken notes (began w)

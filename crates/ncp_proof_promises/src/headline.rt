@@ -1,0 +1,90 @@
+//! The headline, of transcripts: each phrase a clause, but that no bits of a peer make a host fault, which is
+//! the contract of `Host::receive`.
+ghost use Rattle.std.specs.Prelude.{◌≡◌, ℕ, List, not, map, ◌++◌};
+ghost use Rattle.ncp_terms.specs.declared.command.Command.{Command};
+ghost use Rattle.ncp_model.specs.declared.limits.TheConstants.{MAX_ERRORS};
+ghost use Rattle.ncp_model.specs.declared.pair.Pair.{Pair};
+ghost use Rattle.ncp_model.specs.Phase.{up};
+ghost use Rattle.ncp_slot.specs.Slots.{slot_at};
+ghost use Rattle.ncp_host.specs.PeerState.{control_link};
+ghost use Rattle.ncp_conn.specs.Records.{record_in};
+ghost use Rattle.ncp_proof_runs.specs.Peers.{notes_of};
+ghost use Rattle.ncp_proof_runs.specs.Links.{fresh_on, told_on, slot_told};
+ghost use Rattle.ncp_proof_runs.specs.Marks.{record_marked, marks_of};
+ghost use Rattle.ncp_proof_runs.specs.Echoing.{echo_of, last_of};
+ghost use Rattle.ncp_proof_runs.specs.Counted.{counted_of, counts_told};
+ghost use Rattle.ncp_proof_runs.specs.Making.{made_of, made_since, is_up_told, message_of, joined};
+ghost use Rattle.ncp_transcript_two.specs.declared.note.Note.{Note};
+ghost use Rattle.ncp_transcript_two.specs.declared.side.Side as sides;
+ghost use Rattle.ncp_transcript_two.specs.Between.{Hosts, other, number_of, host_of};
+ghost use Rattle.ncp_transcript_two.specs.Sides.{notes_at};
+ghost use Rattle.ncp_transcript_two.specs.Transcript.{began, IsTranscript};
+ghost use Rattle.ncp_transcript_two.specs.Seen.{had_for};
+ghost use Rattle.ncp_proof_promises.specs.Since.{watch_at, none_watched, watched_from};
+ghost use Rattle.ncp_proof_promises.specs.Promised.{SubnetHonest, GotBegins, EachByteOnce, WithinAllocation, LedgersBalanced, CameInOrder, CommandsInOrder, EachActedOnce, NoErrMade};
+
+use crate::promises::{commands_act_once_in_order, what_comes_acts_once_and_is_right};
+use ncp_transcript_two::transcripts::{
+    each_host_is_by_itself, transcripts_are_honest, transcripts_keep_the_headline,
+};
+
+/// What each host of a world keeps for the other is what its own notes say: the commands that were made for
+/// the other, less those that clearings struck, are those in the fresh messages on link 0, followed by those
+/// that wait, in order; each of its four flags is set, and it is up, where the notes say so; the record of each
+/// pair, and whether there is one, is what their marks and sums say; and a slot has what they tell of its link. It
+/// awaits an echo where one was accepted, and since then no ERP came and nothing was cleared; the byte is of the last
+/// ERP that came for an echo, the errors are the last 16 ERRs that came, and each count is the sum of what was to be
+/// counted, or the greatest number that a count has.
+pub fn each_host_is_what_its_notes_say()
+    ensures commands { (notes : List Note) (w : Hosts) (side : sides.Side) → IsTranscript notes w → let n = number_of (other side) w in let own = notes_of n (notes_at side notes) in (css : List (List Command)) × (fresh_on control_link own ≡ map (message_of n) css) × ((made_of own).all ≡ joined css ++ (had_for n (host_of side w)).peer.phase.waiting) }
+    ensures up { (notes : List Note) (w : Hosts) (side : sides.Side) → IsTranscript notes w → let n = number_of (other side) w in up (had_for n (host_of side w)).peer.phase ≡ is_up_told (made_of (notes_of n (notes_at side notes))) }
+    ensures down { (notes : List Note) (w : Hosts) (side : sides.Side) → IsTranscript notes w → let n = number_of (other side) w in (had_for n (host_of side w)).peer.phase.down ≡ not (made_of (notes_of n (notes_at side notes))).began }
+    ensures want { (notes : List Note) (w : Hosts) (side : sides.Side) → IsTranscript notes w → let n = number_of (other side) w in (had_for n (host_of side w)).peer.phase.want ≡ not (made_of (notes_of n (notes_at side notes))).did_reset }
+    ensures owe { (notes : List Note) (w : Hosts) (side : sides.Side) → IsTranscript notes w → let n = number_of (other side) w in (had_for n (host_of side w)).peer.phase.owe ≡ not (made_of (notes_of n (notes_at side notes))).gave_answer }
+    ensures waits { (notes : List Note) (w : Hosts) (side : sides.Side) → IsTranscript notes w → let n = number_of (other side) w in (had_for n (host_of side w)).peer.phase.wait ≡ not (made_of (notes_of n (notes_at side notes))).got_answer }
+    ensures records { (notes : List Note) (w : Hosts) (side : sides.Side) (pair : Pair) → IsTranscript notes w → let n = number_of (other side) w in record_in pair (had_for n (host_of side w)).peer.ends ≡ record_marked pair (marks_of pair (notes_of n (notes_at side notes))) }
+    ensures slots { (notes : List Note) (w : Hosts) (side : sides.Side) (on : ℕ) → IsTranscript notes w → let n = number_of (other side) w in slot_at (had_for n (host_of side w)).slots on ≡ slot_told (told_on on (notes_of n (notes_at side notes))) }
+    ensures echo { (notes : List Note) (w : Hosts) (side : sides.Side) → IsTranscript notes w → let n = number_of (other side) w in (had_for n (host_of side w)).peer.echoes.awaited ≡ (echo_of (notes_of n (notes_at side notes))).asked }
+    ensures echoed { (notes : List Note) (w : Hosts) (side : sides.Side) → IsTranscript notes w → let n = number_of (other side) w in (had_for n (host_of side w)).peer.echoes.echoed ≡ (echo_of (notes_of n (notes_at side notes))).byte }
+    ensures errors { (notes : List Note) (w : Hosts) (side : sides.Side) → IsTranscript notes w → let n = number_of (other side) w in (had_for n (host_of side w)).peer.echoes.errors ≡ last_of MAX_ERRORS (echo_of (notes_of n (notes_at side notes))).errors }
+    ensures counts { (notes : List Note) (w : Hosts) (side : sides.Side) → IsTranscript notes w → let n = number_of (other side) w in (had_for n (host_of side w)).counts ≡ counts_told (counted_of (notes_of n (notes_at side notes))) }
+{
+    each_host_is_by_itself();
+}
+
+/// What is watched at each host of a world for the phrase of commands in order is what its own notes say: the commands
+/// that it made since it was last cleared are the last of those that its notes say it made, from that clearing on, and
+/// those that came since then are those that came by its notes; RST and RRP are left out of both.
+pub fn what_is_watched_is_in_the_notes_of_each_host()
+    ensures made { (notes : List Note) (w : Hosts) (side : sides.Side) → IsTranscript notes w → (watch_at side (watched_from notes (began w) none_watched)).made ≡ made_since (made_of (notes_of (number_of (other side) w) (notes_at side notes))) }
+    ensures came { (notes : List Note) (w : Hosts) (side : sides.Side) → IsTranscript notes w → (watch_at side (watched_from notes (began w) none_watched)).came ≡ (made_of (notes_of (number_of (other side) w) (notes_at side notes))).came }
+{}
+
+/// Over every list of calls, deliveries, losses, answers and orders between links, what a receiver got on a
+/// live connection is a beginning of what was given, each byte once, never beyond its allocation; each
+/// command acts once, in order; and no command of a host makes the other make an ERR. Either way, for each pair.
+///
+/// `subnet`: what the notes say of the subnet is honest. `once`: until it left, what it got was taken or is held;
+/// and while both ends are open, what was given was got, is underway, or waits. `allocation`: what it used is never
+/// more than was granted, and from its opening on what it has outstanding is what was granted less what was returned
+/// and used, for messages and for bits. `ledger`: and what is outstanding is what the sender's counters hold and what is
+/// underway. `order`: what came on a link is a beginning of what was sent there. `commands`: between two that are up, those that came followed by those underway are those that
+/// were made, each since the last clearing. `acts`: each command of a message that comes acts once, in order.
+/// `errs`: no control text is faulty, no command is answered by an ERR, and no text is answered as not connected,
+/// of the wrong size or beyond the allocation.
+pub fn the_headline()
+    ensures subnet { (notes : List Note) (w : Hosts) → IsTranscript notes w → SubnetHonest notes w }
+    ensures beginning { (notes : List Note) (w : Hosts) → IsTranscript notes w → GotBegins notes w }
+    ensures once { (notes : List Note) (w : Hosts) → IsTranscript notes w → EachByteOnce notes w }
+    ensures allocation { (notes : List Note) (w : Hosts) → IsTranscript notes w → WithinAllocation notes w }
+    ensures ledger { (notes : List Note) (w : Hosts) → IsTranscript notes w → LedgersBalanced notes w }
+    ensures order { (notes : List Note) (w : Hosts) → IsTranscript notes w → CameInOrder notes w }
+    ensures commands { (notes : List Note) (w : Hosts) → IsTranscript notes w → CommandsInOrder notes w }
+    ensures acts { (notes : List Note) (w : Hosts) → IsTranscript notes w → EachActedOnce notes w }
+    ensures errs { (notes : List Note) (w : Hosts) → IsTranscript notes w → NoErrMade notes w }
+{
+    transcripts_keep_the_headline();
+    transcripts_are_honest();
+    commands_act_once_in_order();
+    what_comes_acts_once_and_is_right();
+}

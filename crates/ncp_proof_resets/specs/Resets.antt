@@ -1,0 +1,167 @@
+-- Two hosts that reset, and a control link each way between them. Each step is written once, for
+-- "this host" and "that host". What the hosts do besides is left open: when their data links are
+-- quiet, what they reply, and when they go down is data of the events. Phase and Delivery say which
+-- rules are of the standards.
+use Rattle.std.specs.Prelude.{◌≡◌, ℕ, ◌+◌, Bool, false, ◌&&◌, if◌then◌else◌, List, [], ◌∷◌, ◌++◌, take, drop, Option, None, Some}
+use Rattle.std.specs.List.{filter}
+use Rattle.ncp_terms.specs.declared.command.Command.{Command}
+use Rattle.ncp_terms.specs.declared.command.Command.TheVariants.{Rst, Rrp}
+use Rattle.ncp_model.specs.Phase.{Phase, new_phase, up, is_reset, is_other, settles, is_resetting, resets, hears_rst, hears_rrp, goes_down, has_place, queued, Reaction}
+use Rattle.ncp_proof_resets.specs.Delivery.{Slot, Empty, Ready, Travelling, Held, Subnet, Free, Accepted, Delivered, Lost, Dead, Link, idle, out, undelivered, answered, not_come, woken}
+
+-- a host's phase, with the other commands that it made, and those that came to it while it was
+-- up, each since its last clearing
+pub record Host : Type 0 where
+  pub phase : Phase
+  pub made : List Command
+  pub came : List Command
+
+abbrev pub is_up : Host → Bool
+is_up h = up h.phase
+
+-- a step of the phase by which the host is cleared
+abbrev pub anew : Phase → Host
+anew p = record { phase = p; made = []; came = [] }
+
+abbrev pub host_resets : Bool → Host → Host
+host_resets quiet h = if is_resetting h.phase then h else anew (resets quiet h.phase)
+
+abbrev pub host_settles : Bool → Host → Host
+host_settles quiet h = record h { phase = settles quiet h.phase }
+
+abbrev pub host_falls : Host → Host
+host_falls h = anew (goes_down h.phase)
+
+abbrev pub host_makes : Command → Host → Host
+host_makes c h =
+    if is_up h && is_other c
+    then (if has_place h.phase then record h { phase = queued c h.phase; made = h.made ++ c ∷ [] } else host_falls h)
+    else h
+
+abbrev pub host_makes_all : List Command → Host → Host
+host_makes_all [] h = h
+host_makes_all (c ∷ cs) h = host_makes_all cs (host_makes c h)
+
+abbrev pub host_hears_other : Command → Reaction → Host → Host
+host_hears_other c r h =
+    if is_up h
+    then (if r.full then host_falls h else host_makes_all r.replies (record h { came = h.came ++ c ∷ [] }))
+    else h
+
+abbrev pub host_hears : Command → Reaction → Host → Host
+host_hears Rst r h = anew (hears_rst r.quiet h.phase)
+host_hears Rrp r h = record h { phase = hears_rrp h.phase }
+host_hears c r h = host_hears_other c r h
+
+-- nothing is replied to a command for which no reaction is given
+abbrev pub no_reaction : Reaction
+no_reaction = record { quiet = false; full = false; replies = [] }
+
+-- a message is heard
+abbrev pub host_hears_all : List Command → List Reaction → Host → Host
+host_hears_all [] rs h = h
+host_hears_all (c ∷ cs) [] h = host_hears_all cs [] (host_hears c no_reaction h)
+host_hears_all (c ∷ cs) (r ∷ rs) h = host_hears_all cs rs (host_hears c r h)
+
+-- the commands of the message that went out and has not come, if there is one
+
+abbrev pub or_none : Option (List Command) → List Command
+or_none None = []
+or_none (Some m) = m
+
+abbrev pub on_line : Slot (List Command) → Subnet (List Command) → List Command
+on_line slot subnet = or_none (not_come slot subnet)
+
+-- the host's commands that have not come to its peer: those of that message, then those that wait
+abbrev pub underway : Host → Link (List Command) → List Command
+underway h link = on_line link.slot link.subnet ++ h.phase.waiting
+
+pub record World : Type 0 where
+  pub this : Host
+  pub that : Host
+  pub going : Link (List Command)  -- from this host to that one
+  pub coming : Link (List Command)
+
+abbrev pub swap : World → World
+swap w = record { this = w.that; that = w.this; going = w.coming; coming = w.going }
+
+-- what may happen at this host
+pub data Step : Type 0 where
+  Resets : (quiet : Bool) → Step
+  Makes : (c : Command) → Step
+  Falls : Step
+  Settles : (quiet : Bool) → Step
+  Sends : (n : ℕ) → Step  -- the message that is ready, or the first n + 1 commands that wait
+  Hears : (reactions : List Reaction) → Step  -- the message that is coming
+  Loses : Step  -- the subnet loses the message that is going
+  Dies : Step  -- the subnet finds that its destination is dead
+  Is_answered : Step  -- an RFNM, an Incomplete Transmission, or a Destination Dead
+  Wakes : Step  -- the user asks again for the message that is held
+
+abbrev pub sends : Slot (List Command) → List Command → ℕ → World → World
+sends (Ready m) q n w = record w { going = out m }
+sends (Travelling m) q n w = w
+sends (Held m) q n w = w
+sends Empty [] n w = w
+sends Empty (c ∷ cs) n w =
+    record w {
+      this = record w.this { phase = record w.this.phase { waiting = drop (n + 1) w.this.phase.waiting } };
+      going = out (take (n + 1) w.this.phase.waiting);
+    }
+
+abbrev pub comes : Subnet (List Command) → List Reaction → World → World
+comes Free rs w = w
+comes (Accepted m) rs w = record w { this = host_hears_all m rs w.this; coming = record w.coming { subnet = Delivered } }
+comes Delivered rs w = w
+comes Lost rs w = w
+comes Dead rs w = w
+
+abbrev pub steps : Step → World → World
+steps (Resets quiet) w = record w { this = host_resets quiet w.this }
+steps (Makes c) w = record w { this = host_makes c w.this }
+steps Falls w = record w { this = host_falls w.this }
+steps (Settles quiet) w = record w { this = host_settles quiet w.this }
+steps (Sends n) w = sends w.going.slot w.this.phase.waiting n w
+steps (Hears rs) w = comes w.coming.subnet rs w
+steps Loses w = record w { going = record w.going { subnet = undelivered Lost w.going.subnet } }
+steps Dies w = record w { going = record w.going { subnet = undelivered Dead w.going.subnet } }
+steps Is_answered w = record w { going = answered w.going.slot w.going.subnet }
+steps Wakes w = record w { going = record w.going { slot = woken w.going.slot } }
+
+pub data Side : Type 0 where
+  This : Side
+  That : Side
+
+pub record Event : Type 0 where
+  pub side : Side
+  pub step : Step
+
+abbrev pub at : Side → Step → World → World
+at This step w = steps step w
+at That step w = swap (steps step (swap w))
+
+abbrev pub run_from : List Event → World → World
+run_from [] w = w
+run_from (e ∷ es) w = run_from es (at e.side e.step w)
+
+abbrev pub start : World
+start = record { this = anew new_phase; that = anew new_phase; going = idle; coming = idle }
+
+-- a whole schedule
+abbrev pub run : List Event → World
+run es = run_from es start
+
+-- no RST or RRP is underway, and what came and what is underway is what was made
+abbrev pub Agrees : Host → Link (List Command) → Host → Type 0
+Agrees from link to =
+    (filter is_reset (underway from link) ≡ []) × (to.came ++ filter is_other (underway from link) ≡ from.made)
+
+-- once an RST was made, only an RRP may stand behind it until it came
+abbrev pub NothingFollows : Host → Link (List Command) → Type 0
+NothingFollows from link =
+    (before after : List Command) → underway from link ≡ before ++ Rst ∷ after → filter is_other after ≡ []
+
+-- a host that is not up has made nothing and heard nothing since it was cleared, and lets nothing
+-- wait but RST and RRP
+abbrev pub Silent : Host → Type 0
+Silent h = (h.made ≡ []) × (h.came ≡ []) × (filter is_other h.phase.waiting ≡ [])

@@ -1,0 +1,8 @@
+use Rattle.ncp_proof_rules.proofs.Bytes.{most-sent, front-sent}
+use Rattle.ncp_proof_rules.proofs.byte_sizes.what_goes_out_is_whole.Goals as goal
+
+pub returns-clause-as_many : goal.returns-clause-as_many
+returns-clause-as_many c = most-sent
+
+pub returns-clause-front : goal.returns-clause-front
+returns-clause-front c = front-sent

@@ -1,0 +1,5 @@
+use Rattle.ncp_proof_runs.proofs.InRuns.{nothing_ready}
+use Rattle.ncp_proof_runs.proofs.links.nothing_goes_out_where_none_is_ready.Goals as goal
+
+pub returns : goal.returns
+returns c = nothing_ready

@@ -1,0 +1,113 @@
+-- What was counted of a peer, as its notes say: each note that a count is of, and each command of a control
+-- message (that they are counted is this profile's rule). Here sums go on for ever; what a host keeps of each
+-- stays where it can rise no further. Of the state that the notes before leave it is read whether the host is up
+-- with the peer, whether it awaits an RRP, and whether the end that a command names is on its way out.
+use Rattle.std.specs.Prelude.{ℕ, ◌+◌, min, Bool, false, not, ◌||◌, if◌then◌else◌, List, [], ◌∷◌, Option, None, Some, Result, Ok, Err}
+use Rattle.ncp_numbers.specs.Bytes.{bytes_of}
+use Rattle.ncp_leader.specs.declared.fault.MessageFault.{MessageFault}
+use Rattle.ncp_leader.specs.Message.{Message, message_in}
+use Rattle.ncp_terms.specs.declared.command.Command.{Command}
+use Rattle.ncp_terms.specs.declared.command.Command.TheVariants.{All, Gvb, Ret, Inr, Ins, Erp, Rst, Rrp}
+use Rattle.ncp_terms.specs.declared.fault.CommandFault.{CommandFault}
+use Rattle.ncp_control.specs.Reading.{fault_in}
+use Rattle.ncp_model.specs.declared.pair.Pair.{Pair}
+use Rattle.ncp_model.specs.declared.limits.TheConstants.{MAX_COUNT}
+use Rattle.ncp_model.specs.declared.outcomes.Took.TheVariants as took
+use Rattle.ncp_model.specs.End.{End}
+use Rattle.ncp_model.specs.Ends.{Ends, sender_on, receiver_on}
+use Rattle.ncp_model.specs.Phase.{up}
+use Rattle.ncp_model.specs.Peers.{Peer}
+use Rattle.ncp_host.specs.declared.counts.Counts.{Counts}
+use Rattle.ncp_host.specs.declared.received.Received.{Received}
+use Rattle.ncp_host.specs.declared.received.Received.TheVariants as received
+use Rattle.ncp_host.specs.Counting.{no_counts}
+use Rattle.ncp_host.specs.PeerState.{PeerState, new_state}
+use Rattle.ncp_host.specs.Hearing.{hears, hears_all}
+use Rattle.ncp_transcript.specs.declared.note.HostNote.{HostNote}
+use Rattle.ncp_transcript.specs.declared.note.HostNote.TheVariants as notes
+use Rattle.ncp_proof_runs.specs.Peers.{note_for}
+use Rattle.ncp_proof_runs.specs.Echoing.{EchoHistory, no_echo, while_up, echo_heard, commands_of, echo_by}
+
+abbrev pub one_if : Bool → ℕ → ℕ
+one_if it n = if it then n + 1 else n
+
+-- what the note says became of a message or of an answer
+abbrev pub counted_as : Received → Counts → Counts
+counted_as received.Stray n = record n { stray = n.stray + 1 }
+counted_as (received.Fault fault) n = record n { faults = n.faults + 1 }
+counted_as received.WrongLink n = record n { wrong_link = n.wrong_link + 1 }
+counted_as received.WrongSize n = record n { wrong_size = n.wrong_size + 1 }
+counted_as received.NotUp n = record n { not_up = n.not_up + 1 }
+counted_as (received.Text took.Late) n = record n { late = n.late + 1 }
+counted_as (received.Text took.WrongSize) n = record n { wrong_size = n.wrong_size + 1 }
+counted_as (received.Text took.Over) n = record n { over = n.over + 1 }
+counted_as told n = n
+
+-- Late is a command that names a link, of an end that is leaving or left.
+
+abbrev pub end_named : Command → Ends → Option (Pair × End)
+end_named (All on messages bits) m = sender_on on m
+end_named (Gvb on fm fb) m = sender_on on m
+end_named (Inr on) m = sender_on on m
+end_named (Ret on messages bits) m = receiver_on on m
+end_named (Ins on) m = receiver_on on m
+end_named c m = None
+
+abbrev pub is_late_end : Option (Pair × End) → Bool
+is_late_end None = false
+is_late_end (Some p) = p.1.leaving || p.1.left
+
+-- A command that comes while the host is up: an ERP where no echo is asked for is stray; and late is as above.
+abbrev pub counted_up : Command → Peer → EchoHistory → Counts → Counts
+counted_up (Erp byte) p t n = record n { stray = one_if (not t.asked) n.stray }
+counted_up c p t n = record n { late = one_if (is_late_end (end_named c p.ends)) n.late }
+
+-- An RRP is stray where none is awaited. While the host is not up all else but an RST is dropped.
+abbrev pub counted_heard : Command → Peer → EchoHistory → Counts → Counts
+counted_heard Rst p t n = n
+counted_heard Rrp p t n = record n { stray = one_if (not p.phase.wait) n.stray }
+counted_heard c p t n = if up p.phase then counted_up c p t n else record n { not_up = n.not_up + 1 }
+
+abbrev pub counted_heard_all : List Command → PeerState → EchoHistory → Counts → Counts
+counted_heard_all [] s t n = n
+counted_heard_all (c ∷ cs) s t n =
+    counted_heard_all cs (hears c s) (while_up s.peer.phase (hears c s).peer.phase (echo_heard (up s.peer.phase) c t)) (counted_heard c s.peer t n)
+
+-- the fault of a control text, which is dropped while the host is not up
+
+abbrev pub fault_read : Result Message MessageFault → Option CommandFault
+fault_read (Err fault) = None
+fault_read (Ok m) = fault_in (bytes_of m.text)
+
+abbrev pub counted_fault : Option CommandFault → Peer → Counts → Counts
+counted_fault None p n = n
+counted_fault (Some fault) p n = record n { not_up = one_if (not (up p.phase)) n.not_up }
+
+-- By each note: of a control message that came its commands count one by one, and then its fault.
+abbrev pub counted_by : HostNote → PeerState → EchoHistory → Counts → Counts
+counted_by (notes.In message (received.Control count)) s t n =
+    counted_fault (fault_read (message_in message)) (hears_all (commands_of message) s).peer (counted_heard_all (commands_of message) s t n)
+counted_by (notes.In message told) s t n = counted_as told n
+counted_by (notes.Answered peer link how told) s t n = counted_as told n
+counted_by note s t n = n
+
+-- the first note first
+abbrev pub counted_from : List HostNote → PeerState → EchoHistory → Counts → Counts
+counted_from [] s t n = n
+counted_from (note ∷ rest) s t n = counted_from rest (note_for note s) (echo_by note s t) (counted_by note s t n)
+
+-- by all the notes of a peer
+abbrev pub counted_of : List HostNote → Counts
+counted_of all = counted_from all new_state no_echo no_counts
+
+-- what a host keeps of these sums
+abbrev pub counts_told : Counts → Counts
+counts_told n = record {
+  stray = min n.stray MAX_COUNT;
+  faults = min n.faults MAX_COUNT;
+  wrong_link = min n.wrong_link MAX_COUNT;
+  wrong_size = min n.wrong_size MAX_COUNT;
+  not_up = min n.not_up MAX_COUNT;
+  late = min n.late MAX_COUNT;
+  over = min n.over MAX_COUNT;
+}

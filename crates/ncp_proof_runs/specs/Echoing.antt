@@ -1,0 +1,110 @@
+-- The echo that a host awaits of a peer, the byte of the last one, and the ERRs that came, as the notes of the
+-- peer say (NIC 8246, ECO, ERP and ERR; one echo at a time, that a clearing ends it, that what comes while the
+-- host is not up is dropped, and that the last 16 ERRs are kept, are this profile's). Nothing here asks a rule of
+-- echoes: of the state that the notes before leave it is read alone whether the host is up with the peer.
+use Rattle.std.specs.Prelude.{ℕ, ◌-◌, Bool, true, false, if◌then◌else◌, List, [], ◌∷◌, ◌++◌, length, drop, Option, None, Some, Result, Ok, Err}
+use Rattle.ncp_numbers.specs.Bytes.{bytes_of}
+use Rattle.ncp_leader.specs.declared.fault.MessageFault.{MessageFault}
+use Rattle.ncp_leader.specs.Message.{Message, message_in}
+use Rattle.ncp_terms.specs.declared.command.Command.{Command}
+use Rattle.ncp_terms.specs.declared.command.Command.TheVariants.{Rst, Erp}
+use Rattle.ncp_terms.specs.declared.command.Command.TheVariants as commands
+use Rattle.ncp_control.specs.Reading.{commands_in}
+use Rattle.ncp_model.specs.declared.outcomes.Error.{Error}
+use Rattle.ncp_model.specs.declared.limits.TheConstants.{MAX_ERRORS}
+use Rattle.ncp_model.specs.Echo.{Echoes}
+use Rattle.ncp_model.specs.Phase.{Phase, up}
+use Rattle.ncp_host.specs.declared.received.Received.TheVariants as received
+use Rattle.ncp_host.specs.PeerState.{PeerState, new_state}
+use Rattle.ncp_host.specs.Hearing.{hears, hears_all}
+use Rattle.ncp_transcript.specs.declared.call.Call.{Call}
+use Rattle.ncp_transcript.specs.declared.call.Call.TheVariants as calls
+use Rattle.ncp_transcript.specs.declared.note.HostNote.{HostNote}
+use Rattle.ncp_transcript.specs.declared.note.HostNote.TheVariants as notes
+use Rattle.ncp_proof_runs.specs.Peers.{note_for}
+
+-- what was noted so far
+pub record EchoHistory : Type 0 where
+  pub asked : Bool  -- an echo was accepted, and since then no ERP came, and nothing was cleared
+  pub byte : Option ℕ  -- of the last ERP that came for an echo
+  pub errors : List Error  -- all the ERRs that came, the oldest first
+
+abbrev pub no_echo : EchoHistory
+no_echo = record { asked = false; byte = None; errors = [] }
+
+abbrev pub echo_accepted : EchoHistory → EchoHistory
+echo_accepted t = record t { asked = true }
+
+-- an ERP that comes where no echo is asked for answers none
+abbrev pub erp_came : ℕ → EchoHistory → EchoHistory
+erp_came byte t = record t { asked = false; byte = if t.asked then Some byte else t.byte }
+
+abbrev pub err_came : Error → EchoHistory → EchoHistory
+err_came error t = record t { errors = t.errors ++ error ∷ [] }
+
+-- a clearing ends the echo, and leaves the byte and the ERRs
+abbrev pub echo_cleared : EchoHistory → EchoHistory
+echo_cleared t = record t { asked = false }
+
+-- A host that was up, and is no more, was cleared: by a reset, by an RST that came, or by going down.
+abbrev pub while_up : Phase → Phase → EchoHistory → EchoHistory
+while_up before after t = if up before then (if up after then t else echo_cleared t) else t
+
+-- By each call that was done.
+
+abbrev pub echo_done : Call → EchoHistory → EchoHistory
+echo_done (calls.Reset peer) t = echo_cleared t
+echo_done (calls.Echo peer byte) t = echo_accepted t
+echo_done call t = t
+
+-- By each command that comes, to a host that is up or not. An RST clears.
+
+abbrev pub echo_heard_up : Command → EchoHistory → EchoHistory
+echo_heard_up (Erp byte) t = erp_came byte t
+echo_heard_up (commands.Err code data_bytes) t = err_came (record { code = code; bytes = data_bytes }) t
+echo_heard_up c t = t
+
+abbrev pub echo_heard : Bool → Command → EchoHistory → EchoHistory
+echo_heard is_up Rst t = echo_cleared t
+echo_heard is_up c t = if is_up then echo_heard_up c t else t
+
+abbrev pub echo_heard_all : List Command → PeerState → EchoHistory → EchoHistory
+echo_heard_all [] s t = t
+echo_heard_all (c ∷ cs) s t = echo_heard_all cs (hears c s) (while_up s.peer.phase (hears c s).peer.phase (echo_heard (up s.peer.phase) c t))
+
+-- By each note. Of a control message that came its commands count one by one, and then its fault, for which the
+-- host may go down.
+
+abbrev pub commands_read : Result Message MessageFault → List Command
+commands_read (Err fault) = []
+commands_read (Ok m) = commands_in (bytes_of m.text)
+
+abbrev pub commands_of : List Bool → List Command
+commands_of message = commands_read (message_in message)
+
+abbrev pub echo_noted : HostNote → EchoHistory → EchoHistory
+echo_noted (notes.Done call) t = echo_done call t
+echo_noted note t = t
+
+abbrev pub echo_by : HostNote → PeerState → EchoHistory → EchoHistory
+echo_by (notes.In message (received.Control count)) s t =
+    while_up (hears_all (commands_of message) s).peer.phase (note_for (notes.In message (received.Control count)) s).peer.phase
+    (echo_heard_all (commands_of message) s t)
+echo_by note s t = while_up s.peer.phase (note_for note s).peer.phase (echo_noted note t)
+
+-- the first note first
+abbrev pub echo_from : List HostNote → PeerState → EchoHistory → EchoHistory
+echo_from [] s t = t
+echo_from (note ∷ rest) s t = echo_from rest (note_for note s) (echo_by note s t)
+
+-- by all the notes of a peer
+abbrev pub echo_of : List HostNote → EchoHistory
+echo_of all = echo_from all new_state no_echo
+
+-- What that says of what a host keeps: of the ERRs the last 16.
+
+abbrev pub last_of : ℕ → List Error → List Error
+last_of many errors = drop (length errors - many) errors
+
+abbrev pub echoes_told : EchoHistory → Echoes
+echoes_told t = record { awaited = t.asked; echoed = t.byte; errors = last_of MAX_ERRORS t.errors }

@@ -1,0 +1,231 @@
+-- The marks of a pair of sockets, and its sums: what the acts on its end say of it since its last end or
+-- clearing. Marks know no rule: they look at what was done or came, how it was answered, and which commands
+-- were made (NIC 8246, establishment, termination, allocation; that each counts since the last end is this
+-- profile's).
+use Rattle.std.specs.Prelude.{ℕ, ◌+◌, ◌-◌, min, Bool, true, false, not, ◌&&◌, ◌||◌, if◌then◌else◌, List, [], ◌∷◌, ◌++◌, length, drop, Option, None, Some}
+use Rattle.ncp_terms.specs.declared.command.Command.{Command}
+use Rattle.ncp_terms.specs.declared.command.Command.TheVariants as commands
+use Rattle.ncp_model.specs.declared.pair.Pair.{Pair}
+use Rattle.ncp_model.specs.declared.limits.TheConstants.{MAX_COUNT}
+use Rattle.ncp_model.specs.Amounts.{returned_messages, returned_bits}
+use Rattle.ncp_model.specs.Texts.{Rfnm, Incomplete, Dead}
+use Rattle.ncp_model.specs.Pairs.{sends}
+use Rattle.ncp_model.specs.End.{End}
+use Rattle.ncp_model.specs.Happenings.{Happening, Outcome}
+use Rattle.ncp_model.specs.Happenings as all
+use Rattle.ncp_proof_watch.specs.Histories.{is_accepted, is_admitted, taken_out}
+use Rattle.ncp_conn.specs.declared.record.Record.{Record}
+use Rattle.ncp_conn.specs.Records.{record_if_any}
+use Rattle.ncp_transcript.specs.declared.note.HostNote.{HostNote}
+use Rattle.ncp_proof_runs.specs.Acts.{Acted, acts_of}
+
+pub record Marks : Type 0 where
+  pub asked : Bool  -- the own request was made
+  pub heard : Bool  -- the peer's request came, and got neither an ERR nor was there no place for it
+  pub opened : Bool  -- the later of the two came while no CLS had been made
+  pub shut : Bool  -- since then a CLS was made, or one came, or a close was accepted
+  pub left : Bool  -- the own CLS was made
+  pub cls : Bool  -- the peer's CLS came, and got no ERR
+  pub link : ℕ  -- as RTS said
+  pub size : ℕ  -- as STR said
+  pub room : ℕ  -- for so many bits, as the own request said
+  pub busy : Bool  -- a text went out, and had no RFNM
+  pub recall : Bool  -- a GVB was made, and no RET came that got no ERR
+  pub granted_messages : ℕ  -- by ALL that came to a sender, or an allocate that was accepted at a receiver
+  pub granted_bits : ℕ
+  pub returned_messages : ℕ  -- by RET, come or made
+  pub returned_bits : ℕ
+  pub used_messages : ℕ  -- by texts that were admitted, or went out
+  pub used_bits : ℕ
+  pub interrupts : ℕ  -- INR or INS came
+  pub entered : List Bool  -- given at a sender, got at a receiver
+  pub drawn : List Bool  -- gone out from a sender, taken at a receiver
+
+abbrev pub no_marks : Marks
+no_marks = record {
+  asked = false;
+  heard = false;
+  opened = false;
+  shut = false;
+  left = false;
+  cls = false;
+  link = 0;
+  size = 0;
+  room = 0;
+  busy = false;
+  recall = false;
+  granted_messages = 0;
+  granted_bits = 0;
+  returned_messages = 0;
+  returned_bits = 0;
+  used_messages = 0;
+  used_bits = 0;
+  interrupts = 0;
+  entered = [];
+  drawn = [];
+}
+
+-- The requests: the pair opens where both are there, and no CLS was made.
+
+abbrev pub met : Marks → Marks
+met m = record m { opened = m.opened || (m.asked && m.heard && not m.left) }
+
+abbrev pub asked_size : Bool → ℕ → ℕ → Marks → Marks
+asked_size it of_size with_room m = met (record m { asked = m.asked || it; size = if it then of_size else m.size; room = if it then with_room else m.room })
+
+abbrev pub asked_link : Bool → ℕ → ℕ → Marks → Marks
+asked_link it on with_room m = met (record m { asked = m.asked || it; link = if it then on else m.link; room = if it then with_room else m.room })
+
+abbrev pub heard_size : Bool → ℕ → Marks → Marks
+heard_size it of_size m = met (record m { heard = m.heard || it; size = if it then of_size else m.size })
+
+abbrev pub heard_link : Bool → ℕ → Marks → Marks
+heard_link it on m = met (record m { heard = m.heard || it; link = if it then on else m.link })
+
+-- Closing: with the own CLS and the peer's the end is there, and nothing stands any more.
+
+abbrev pub ended : Marks → Marks
+ended m = if m.left && m.cls then no_marks else m
+
+abbrev pub closed : Bool → Marks → Marks
+closed it m = record m { shut = m.shut || (it && m.opened) }
+
+abbrev pub cls_made : Bool → Marks → Marks
+cls_made it m = ended (record m { left = m.left || it; shut = m.shut || (it && m.opened) })
+
+abbrev pub cls_came : Bool → Marks → Marks
+cls_came it m = record m { cls = m.cls || it; shut = m.shut || (it && m.opened) }
+
+-- The sums.
+
+abbrev pub granted : Bool → ℕ → ℕ → Marks → Marks
+granted it of_messages of_bits m = record m {
+  granted_messages = m.granted_messages + (if it then of_messages else 0);
+  granted_bits = m.granted_bits + (if it then of_bits else 0);
+}
+
+abbrev pub returned : ℕ → ℕ → Marks → Marks
+returned of_messages of_bits m = record m { returned_messages = m.returned_messages + of_messages; returned_bits = m.returned_bits + of_bits }
+
+abbrev pub interrupted : Bool → Marks → Marks
+interrupted it m = record m { interrupts = if it then min (m.interrupts + 1) MAX_COUNT else m.interrupts }
+
+abbrev pub came_in : Bool → List Bool → Marks → Marks
+came_in it text m = record m {
+  used_messages = m.used_messages + (if it then 1 else 0);
+  used_bits = m.used_bits + (if it then length text else 0);
+  entered = m.entered ++ (if it then text else []);
+}
+
+-- What an outcome or the commands that were made say.
+
+abbrev pub went_out : Outcome → Marks → Marks
+went_out (all.Sent of_size text) m = record m {
+  used_messages = m.used_messages + 1;
+  used_bits = m.used_bits + length text;
+  drawn = m.drawn ++ text;
+  busy = true;
+}
+went_out outcome m = m
+
+abbrev pub is_cls : Command → Bool
+is_cls (commands.Cls my your) = true
+is_cls c = false
+
+abbrev pub makes_cls : List Command → Bool
+makes_cls [] = false
+makes_cls (c ∷ cs) = is_cls c
+
+abbrev pub link_in : Command → ℕ
+link_in (commands.Rts receive send on) = on
+link_in c = 0
+
+abbrev pub link_asked : List Command → ℕ
+link_asked [] = 0
+link_asked (c ∷ cs) = link_in c
+
+abbrev pub messages_back : List Command → ℕ
+messages_back [] = 0
+messages_back (c ∷ cs) = returned_messages c
+
+abbrev pub bits_back : List Command → ℕ
+bits_back [] = 0
+bits_back (c ∷ cs) = returned_bits c
+
+-- By each act. A close that is accepted makes its CLS, or has it due.
+abbrev pub marks_by : Happening → Outcome → List Command → Marks → Marks
+marks_by (all.Asks_to_send of_size with_room own full) o made m = asked_size (is_accepted o) of_size with_room m
+marks_by (all.Asks_to_receive with_room on own full) o made m = asked_link (is_accepted o) (link_asked made) with_room m
+marks_by (all.Closes full) o made m = cls_made (makes_cls made) (closed (is_accepted o) m)
+marks_by (all.Gives text) o made m = record m { entered = m.entered ++ (if is_accepted o then text else []) }
+marks_by (all.Takes bytes) o made m = cls_made (makes_cls made) (record m { drawn = m.drawn ++ taken_out o })
+marks_by (all.Allocates of_messages of_bits full) o made m = granted (is_accepted o) of_messages of_bits m
+marks_by (all.Calls_back of_messages of_bits full) o made m = record m { recall = m.recall || is_accepted o }
+marks_by (all.Interrupts full) o made m = m
+marks_by (all.Rts_comes on taken by_peer) o made m = heard_link (is_accepted o) on m
+marks_by (all.Str_comes of_size by_peer) o made m = heard_size (is_accepted o) of_size m
+marks_by all.Cls_comes o made m = cls_made (makes_cls made) (cls_came (is_accepted o) m)
+marks_by (all.All_comes on of_messages of_bits) o made m = granted (is_accepted o) of_messages of_bits m
+marks_by (all.Gvb_comes on of_messages of_bits) o made m = returned (messages_back made) (bits_back made) m
+marks_by (all.Ret_comes on of_messages of_bits) o made m =
+    returned (if is_accepted o then of_messages else 0) (if is_accepted o then of_bits else 0) (record m { recall = m.recall && not (is_accepted o) })
+marks_by (all.Inr_comes on) o made m = interrupted (is_accepted o) m
+marks_by (all.Ins_comes on) o made m = interrupted (is_accepted o) m
+marks_by (all.Text_comes head of_size text) o made m = came_in (is_admitted o) text m
+marks_by all.Text_goes_out o made m = went_out o m
+marks_by (all.Is_answered Rfnm) o made m = cls_made (makes_cls made) (record m { busy = false })
+marks_by (all.Is_answered Incomplete) o made m = m
+marks_by (all.Is_answered Dead) o made m = m
+marks_by all.Is_cleared o made m = no_marks
+
+-- the first act first
+abbrev pub marks_from : List Acted → Marks → Marks
+marks_from [] m = m
+marks_from (act ∷ more) m = marks_from more (marks_by act.what act.outcome act.made m)
+
+-- by all the notes of a peer
+abbrev pub marks_of : Pair → List HostNote → Marks
+marks_of pair all_notes = marks_from (acts_of pair all_notes) no_marks
+
+-- What the marks say: the end is there while one stands; it is live from its opening on, open until it is
+-- shut, left once its CLS was made, and leaving where it is live and neither of these.
+
+abbrev pub is_there : Marks → Bool
+is_there m = m.asked || m.heard || m.left || m.cls
+
+abbrev pub is_open : Marks → Bool
+is_open m = m.opened && not m.shut
+
+abbrev pub is_leaving : Marks → Bool
+is_leaving m = m.opened && not (is_open m) && not m.left
+
+-- what was stored was dropped: of a sender that is shut, and where the CLS was made
+abbrev pub is_dropped : Pair → Marks → Bool
+is_dropped pair m = m.left || (sends pair && m.shut)
+
+-- The end of a pair, and what a user is told of it, as its marks and sums say.
+
+abbrev pub end_told : Pair → Marks → End
+end_told pair m = record {
+  asked = m.asked;
+  heard = m.heard;
+  opened = m.opened;
+  leaving = is_leaving m;
+  left = m.left;
+  cls = m.cls;
+  link = m.link;
+  size = m.size;
+  messages = m.granted_messages - m.returned_messages - m.used_messages;
+  bits = m.granted_bits - m.returned_bits - m.used_bits;
+  stored = if is_dropped pair m then [] else drop (length m.drawn) m.entered;
+  room = m.room;
+  busy = m.busy;
+  recall = m.recall;
+  interrupts = m.interrupts;
+}
+
+abbrev pub end_marked : Pair → Marks → Option End
+end_marked pair m = if is_there m then Some (end_told pair m) else None
+
+abbrev pub record_marked : Pair → Marks → Option Record
+record_marked pair m = record_if_any pair (end_marked pair m)

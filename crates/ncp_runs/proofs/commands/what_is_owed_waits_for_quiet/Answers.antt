@@ -1,5 +1,0 @@
-use Rattle.ncp_runs.proofs.Settled.{settled-noted}
-use Rattle.ncp_runs.proofs.commands.what_is_owed_waits_for_quiet.Goals as goal
-
-pub returns : goal.returns
-returns c = settled-noted

@@ -1,5 +1,0 @@
-use Rattle.ncp_runs.proofs.Given.{given-noted}
-use Rattle.ncp_runs.proofs.histories.what_give_takes_is_given.Goals as goal
-
-pub returns : goal.returns
-returns c = given-noted

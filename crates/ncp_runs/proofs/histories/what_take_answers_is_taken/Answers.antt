@@ -1,5 +1,0 @@
-use Rattle.ncp_runs.proofs.Taken.{taken-noted}
-use Rattle.ncp_runs.proofs.histories.what_take_answers_is_taken.Goals as goal
-
-pub returns : goal.returns
-returns c = taken-noted

@@ -1,5 +1,0 @@
-use Rattle.ncp_runs.proofs.InRuns.{slot_as_noted}
-use Rattle.ncp_runs.proofs.links.links_are_what_their_notes_say.Goals as goal
-
-pub returns : goal.returns
-returns c = slot_as_noted

@@ -1,5 +1,0 @@
-use Rattle.ncp_runs.proofs.InRuns.{nothing_ready}
-use Rattle.ncp_runs.proofs.links.nothing_goes_out_where_none_is_ready.Goals as goal
-
-pub returns : goal.returns
-returns c = nothing_ready

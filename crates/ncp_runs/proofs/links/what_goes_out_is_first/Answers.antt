@@ -1,8 +1,0 @@
-use Rattle.ncp_runs.proofs.First.{out-first, none-ready}
-use Rattle.ncp_runs.proofs.links.what_goes_out_is_first.Goals as goal
-
-pub returns-clause-out : goal.returns-clause-out
-returns-clause-out c = out-first
-
-pub returns-clause-nothing : goal.returns-clause-nothing
-returns-clause-nothing c = none-ready

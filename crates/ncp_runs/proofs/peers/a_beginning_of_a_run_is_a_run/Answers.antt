@@ -1,5 +1,0 @@
-use Rattle.ncp_runs.proofs.InRuns.{from-front}
-use Rattle.ncp_runs.proofs.peers.a_beginning_of_a_run_is_a_run.Goals as goal
-
-pub returns : goal.returns
-returns c = from-front

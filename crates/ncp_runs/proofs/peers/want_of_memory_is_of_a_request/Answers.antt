@@ -1,5 +1,0 @@
-use Rattle.ncp_runs.proofs.Wanting.{want-said}
-use Rattle.ncp_runs.proofs.peers.want_of_memory_is_of_a_request.Goals as goal
-
-pub returns : goal.returns
-returns c = want-said

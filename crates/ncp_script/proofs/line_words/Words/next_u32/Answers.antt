@@ -1,4 +1,0 @@
-use Rattle.ncp_script.proofs.line_words.Words.next_u32.Goals as goal
-
-pub returns : goal.returns
-returns c = c.next_number.ensures

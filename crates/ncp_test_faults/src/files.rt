@@ -1,0 +1,44 @@
+//! What is told of the header of a file.
+
+use ncp_play_faults::wrong_header;
+use std::process::Abort;
+use std::test::Fail;
+
+#[test]
+fn each_wrong_header_has_its_answer(rt: HostRuntime) -> Result<(), Fail> {
+    const ROWS: &[(&[u8], &str)] = &[
+        (
+            b"",
+            "the file is empty: a message file begins with the letters NCPH, NCPI or NCPJ",
+        ),
+        (
+            b"NC",
+            "there are 2 bytes: a message file begins with the letters NCPH, NCPI or NCPJ",
+        ),
+        (
+            b"host 1 2\n",
+            "this is a script of one host: ncp host plays it",
+        ),
+        (
+            b"hosts 1 2\n",
+            "this is a script of several hosts: ncp world plays it",
+        ),
+        (
+            b"many 1 2 3\n",
+            "this is a script of several hosts: ncp world plays it",
+        ),
+        (
+            b"# a\n4E435048\n0020",
+            "this is hexadecimal text, of which 'xxd -r -p' makes bytes: a message file begins with the letters NCPH, NCPI or NCPJ",
+        ),
+        (
+            b"NCPK\x00",
+            "it begins with the bytes 4e 43 50 4b: a message file begins with the letters NCPH, NCPI or NCPJ",
+        ),
+    ];
+    for (head, text) in ROWS {
+        let told = wrong_header(rt.alloc(), head)?;
+        assert!(rt; told.as_str() == *text, "{told}");
+    }
+    Ok(())
+}

@@ -1,0 +1,307 @@
+//! The command line: its orders, its faults, and its help.
+
+use ncp_play_command_line::{Order, order, request};
+use std::alloc::Global;
+use std::process::Abort;
+use std::test::Fail;
+
+// What `--help` writes.
+const HELP: &str = "Reads the messages of an ARPANET host, and plays hosts
+
+Usage: ncp [COMMAND]
+
+Commands:
+  show     Shows each message of a message file
+  check    Counts the messages of a message file, and says whether all are well formed
+  convert  Turns a message file of one version into the other
+  host     Plays a script of one host
+  world    Plays a script of two to eight hosts and the subnet between them
+  record   Plays a script of two to eight hosts, and writes its messages as a message file
+  explain  Says what the name of a fault or of a refusal means
+  help     Print this message or the help of the given subcommand(s)
+
+Options:
+  -h, --help     Print help
+  -V, --version  Print version
+
+Without a command it is 'ncp show'.
+
+Example:
+  ncp world examples/one_connection.script
+
+Statuses:
+  0  all is good
+  1  'check' says no, or a call of a script was refused, or 'explain' does not know a name
+  2  a fault, which is told on standard error
+
+The formats of files, scripts and lines stand in docs/FORMATS.md and in ncp(1).
+'ncp explain NAME' says what a fault or a refusal means.
+";
+
+// What `convert --help` writes.
+const CONVERT_HELP: &str = "Turns a message file of one version into the other
+
+Usage: ncp convert --at <H> [FILE]
+
+Arguments:
+  [FILE]  What is read: standard input where no file is named, or where it is -
+
+Options:
+      --at <H>  The number of the host at whose interface the messages stand
+  -h, --help    Print help
+
+Example:
+  ncp convert --at 7 examples/first.ncp > placed.ncp
+
+Statuses:
+  0  the whole file is written
+  2  the file has a fault, or a record of another direction or host, or it could not be read or written
+
+A message file begins with the letters NCPH, NCPI or NCPJ: docs/FORMATS.md, and ncp(1).
+";
+
+// How the text of a fault ends.
+const USAGE: &str = "Usage: ncp [COMMAND]\n\nFor more information, try '--help'.\n";
+
+// Compares what is told in place of an order: its status, and how its text begins.
+fn expect_told(
+    rt: &impl Abort,
+    alloc: Global,
+    words: &[&str],
+    code: i32,
+    text: &str,
+) -> Result<String, Fail> {
+    let Err(error) = order(alloc, words) else {
+        return Err("it is an order".into());
+    };
+    let told = format!(in alloc; "{error}")?;
+    assert!(rt; error.exit_code() == code && told.as_str().starts_with(text));
+    Ok(told)
+}
+
+// Words, and how the text begins that refuses them.
+type Refused<'a> = (&'a [&'a str], &'a str);
+
+// Compares what is told in place of each order.
+fn expect_refused(rt: &impl Abort, alloc: Global, rows: &[Refused<'_>]) -> Result<(), Fail> {
+    for (words, text) in rows {
+        expect_told(rt, alloc, words, 2, text)?;
+    }
+    Ok(())
+}
+
+// The name of the order that these words are.
+fn name_of(alloc: Global, words: &[&str]) -> Option<&'static str> {
+    match order(alloc, words) {
+        Ok(Order::Show) => Some("show"),
+        Ok(Order::Check) => Some("check"),
+        Ok(Order::Convert(_)) => Some("convert"),
+        Ok(Order::Host) => Some("host"),
+        Ok(Order::World) => Some("world"),
+        Ok(Order::Record) => Some("record"),
+        Ok(Order::Explain) => Some("explain"),
+        Err(_) => None,
+    }
+}
+
+#[test]
+fn reads_orders(rt: HostRuntime) {
+    const ROWS: &[(&[&str], &str)] = &[
+        (&["ncp"], "show"),
+        (&["ncp", "show"], "show"),
+        (&["ncp", "check"], "check"),
+        (&["ncp", "host"], "host"),
+        (&["ncp", "world"], "world"),
+        (&["ncp", "record"], "record"),
+        (&["ncp", "explain", "BadLine"], "explain"),
+        (&["ncp", "show", "first.ncp"], "show"),
+        (&["ncp", "world", "-"], "world"),
+    ];
+    for (words, name) in ROWS {
+        assert!(rt; name_of(rt.alloc(), words) == Some(*name));
+    }
+}
+
+#[test]
+fn reads_the_word_behind_a_subcommand(rt: HostRuntime) -> Result<(), Fail> {
+    const ROWS: &[(&[&str], Option<&str>)] = &[
+        (&["ncp"], None),
+        (&["ncp", "show"], None),
+        (&["ncp", "show", "-"], Some("-")),
+        (&["ncp", "world", "first.script"], Some("first.script")),
+        (
+            &["ncp", "convert", "--at", "7", "first.ncp"],
+            Some("first.ncp"),
+        ),
+        (
+            &["ncp", "convert", "first.ncp", "--at=7"],
+            Some("first.ncp"),
+        ),
+        (&["ncp", "explain", "Busy"], Some("Busy")),
+        (&["ncp", "show", "--", "--at"], Some("--at")),
+    ];
+    for (words, word) in ROWS {
+        assert!(rt; request(rt.alloc(), words)?.word == *word);
+    }
+    Ok(())
+}
+
+// The host of a conversion.
+fn host_of(alloc: Global, words: &[&str]) -> Option<u8> {
+    match order(alloc, words) {
+        Ok(Order::Convert(at)) => Some(at),
+        _ => None,
+    }
+}
+
+#[test]
+fn reads_the_number_of_a_host(rt: HostRuntime) {
+    const ROWS: &[(&[&str], u8)] = &[
+        (&["ncp", "convert", "--at", "7"], 7),
+        (&["ncp", "convert", "--at=7"], 7),
+        (&["ncp", "convert", "--at", "0"], 0),
+        (&["ncp", "convert", "--at", "255"], 255),
+        (&["ncp", "convert", "--at", "007"], 7),
+    ];
+    for (words, at) in ROWS {
+        assert!(rt; host_of(rt.alloc(), words) == Some(*at));
+    }
+}
+
+#[test]
+fn refuses_other_numbers_of_a_host(rt: HostRuntime) -> Result<(), Fail> {
+    const ROWS: &[Refused<'static>] = &[
+        (
+            &["ncp", "convert"],
+            "error: the following required arguments were not provided:\n  --at <H>\n",
+        ),
+        (
+            &["ncp", "convert", "--at"],
+            "error: a value is required for '--at <H>' but none was supplied",
+        ),
+        (
+            &["ncp", "convert", "--at", "256"],
+            "error: invalid value '256' for '--at <H>'",
+        ),
+        (
+            &["ncp", "convert", "--at", "-1"],
+            "error: unexpected argument '-1' found",
+        ),
+        (
+            &["ncp", "convert", "--at=-1"],
+            "error: invalid value '-1' for '--at <H>'",
+        ),
+        (
+            &["ncp", "convert", "--at", "b"],
+            "error: invalid value 'b' for '--at <H>'",
+        ),
+        (
+            &["ncp", "convert", "--at="],
+            "error: invalid value '' for '--at <H>'",
+        ),
+    ];
+    expect_refused(&rt, rt.alloc(), ROWS)
+}
+
+#[test]
+fn refuses_a_host_twice_and_elsewhere(rt: HostRuntime) -> Result<(), Fail> {
+    const ROWS: &[Refused<'static>] = &[
+        (
+            &["ncp", "convert", "--at", "7", "--at", "7"],
+            "error: the argument '--at <H>' cannot be used multiple times",
+        ),
+        (
+            &["ncp", "show", "--at", "7"],
+            "error: unexpected argument '--at' found",
+        ),
+        (
+            &["ncp", "--at", "7", "convert"],
+            "error: unexpected argument '--at' found",
+        ),
+        (
+            &["ncp", "convert", "--at", "7", "capture.ncp", "more.ncp"],
+            "error: unexpected argument 'more.ncp' found",
+        ),
+    ];
+    expect_refused(&rt, rt.alloc(), ROWS)
+}
+
+#[test]
+fn tells_the_version_and_the_help_of_convert(rt: HostRuntime) -> Result<(), Fail> {
+    let alloc = rt.alloc();
+    for word in ["--version", "-V"] {
+        let told = expect_told(&rt, alloc, &["ncp", word], 0, "ncp 1.1.0\n")?;
+        assert!(rt; told.len() == 10);
+    }
+    let help = expect_told(&rt, alloc, &["ncp", "convert", "--help"], 0, CONVERT_HELP)?;
+    assert!(rt; help.len() == CONVERT_HELP.len());
+    Ok(())
+}
+
+// Compares what is told of words that are wrong, which ends with the usage.
+fn expect_usage(rt: &impl Abort, alloc: Global, word: &str, text: &str) -> Result<(), Fail> {
+    let told = expect_told(rt, alloc, &["ncp", word], 2, text)?;
+    assert!(rt; told.as_str().ends_with(USAGE));
+    Ok(())
+}
+
+#[test]
+fn reads_the_command_line(rt: HostRuntime) -> Result<(), Fail> {
+    let alloc = rt.alloc();
+    let help = expect_told(&rt, alloc, &["ncp", "--help"], 0, HELP)?;
+    assert!(rt; help.len() == HELP.len());
+    expect_usage(&rt, alloc, "play", "error: unrecognized subcommand 'play'")?;
+    expect_usage(
+        &rt,
+        alloc,
+        "--loud",
+        "error: unexpected argument '--loud' found",
+    )
+}
+
+// ---- memory
+
+#[test]
+fn has_memory_for_orders(rt: HostRuntime) {
+    for _ in 0..300 {
+        assert!(rt; matches!(order(rt.alloc(), &["ncp", "check"]), Ok(Order::Check)));
+    }
+}
+
+#[test]
+fn has_memory_for_many_words(rt: HostRuntime) -> Result<(), Fail> {
+    let words = ["ncp"; 1000];
+    for count in [3, 4, 5, 8, 100, 1000] {
+        expect_told(
+            &rt,
+            rt.alloc(),
+            &words[..count],
+            2,
+            "error: unrecognized subcommand 'ncp'",
+        )?;
+    }
+    expect_told(
+        &rt,
+        rt.alloc(),
+        &["ncp", "check", "a", "b", "c"],
+        2,
+        "error: unexpected argument 'b' found",
+    )?;
+    Ok(())
+}
+
+#[test]
+fn has_memory_for_long_words(rt: HostRuntime) -> Result<(), Fail> {
+    let mut long = String::new(rt.alloc());
+    for _ in 0..100_000 {
+        long.push('a')?;
+    }
+    expect_told(
+        &rt,
+        rt.alloc(),
+        &["ncp", long.as_str()],
+        2,
+        "error: unrecognized subcommand 'aaaa",
+    )?;
+    Ok(())
+}

@@ -1,0 +1,66 @@
+//! What stands where a table of connections, a store or the command line is refused memory. Here each test has ample
+//! memory. `bench/refuse.py` runs each test again and again, refuses it one request after the other, and reads what is
+//! printed of the request.
+use clap::error::ErrorKind;
+use ncp_bits::{BitStore, PackedStore, PlainStore};
+use ncp_conn::Table;
+use ncp_play_command_line::{Order, order};
+use std::alloc::{AllocError, Global};
+use std::test::Fail;
+
+/// How many bits a store has room for.
+const ROOM: usize = 1024;
+
+/// Whether memory for a table was refused once.
+fn is_refused_a_table<S: BitStore>(alloc: Global) -> Result<bool, AllocError> {
+    if Table::<S>::new(alloc).is_ok() {
+        return Ok(false);
+    }
+    Table::<S>::new(alloc)?;
+    Ok(true)
+}
+
+/// Whether memory for a store was refused once.
+fn is_refused_a_store<S: BitStore>(alloc: Global) -> Result<bool, AllocError> {
+    if S::with_room(alloc, ROOM).is_ok() {
+        return Ok(false);
+    }
+    S::with_room(alloc, ROOM)?;
+    Ok(true)
+}
+
+#[test]
+fn table_new(rt: HostRuntime) -> Result<(), Fail> {
+    let plain = is_refused_a_table::<PlainStore>(rt.alloc())?;
+    let packed = is_refused_a_table::<PackedStore>(rt.alloc())?;
+    if plain || packed {
+        println!(rt; "refused: AllocError, no table")?;
+    }
+    Ok(())
+}
+
+#[test]
+fn with_room(rt: HostRuntime) -> Result<(), Fail> {
+    let plain = is_refused_a_store::<PlainStore>(rt.alloc())?;
+    let packed = is_refused_a_store::<PackedStore>(rt.alloc())?;
+    if plain || packed {
+        println!(rt; "refused: AllocError, no store")?;
+    }
+    Ok(())
+}
+
+#[test]
+fn reading_an_order(rt: HostRuntime) -> Result<(), Fail> {
+    let words = ["ncp", "convert", "--at", "7"];
+    match order(rt.alloc(), &words) {
+        Ok(order) => assert!(rt; matches!(order, Order::Convert(7))),
+        Err(error) => {
+            assert!(rt;
+                matches!(error.kind(), ErrorKind::OutOfMemory)
+                    && matches!(order(rt.alloc(), &words), Ok(Order::Convert(7)))
+            );
+            println!(rt; "refused: an error of want of memory, no order")?;
+        }
+    }
+    Ok(())
+}

@@ -1,0 +1,85 @@
+//! Feeds a host. Nothing is promised of it, so that the prover does not follow a page through a long
+//! test.
+mod failures;
+mod lines;
+
+use ncp_bits::PackedStore;
+use ncp_play_feed::feed;
+use ncp_play_notes::{Heading, PlayFault, Speaker};
+use ncp_play_page::{Page, Window};
+use ncp_play_stream::{MemorySink, MemorySource, Sink, Source};
+use ncp_transcript::Alone;
+use std::alloc::Global;
+use std::process::Abort;
+use std::test::Fail;
+
+/// Room for the lines of a feed.
+const ROOM: usize = 65536;
+
+/// The host of the feeds, and its peers.
+const ME: u8 = 1;
+
+const PEERS: [u8; 2] = [2, 3];
+
+/// What is played first has this number.
+const FIRST: u32 = 7;
+
+/// Feeds a new host with what the source has left: the answer, and the page with what stays on it.
+fn fed_to_page<R: Source, W: Sink>(
+    alloc: Global,
+    source: &mut R,
+    sink: &mut W,
+) -> Result<(Result<(), PlayFault>, Page), Fail> {
+    let mut alone = Alone::<PackedStore>::new(alloc, ME, &PEERS)?;
+    let mut heading = Heading {
+        number: FIRST,
+        speaker: Speaker::Host,
+    };
+    let mut window = Window::new();
+    let mut page = Page::new();
+    let answer = feed(
+        &mut alone,
+        &mut heading,
+        &mut window,
+        source,
+        &mut page,
+        sink,
+    );
+    Ok((answer, page))
+}
+
+/// Feeds a new host with what the source has left, and writes what then stays on the page.
+fn fed<R: Source, W: Sink>(
+    alloc: Global,
+    source: &mut R,
+    sink: &mut W,
+) -> Result<Result<(), PlayFault>, Fail> {
+    let (answer, mut page) = fed_to_page(alloc, source, sink)?;
+    if !sink.failed() && page.flush(sink).is_err() {
+        return Ok(Err(PlayFault::WriteFailed));
+    }
+    Ok(answer)
+}
+
+/// Feeds a host with these bytes, and compares the answer and the lines.
+fn expect(
+    rt: &impl Abort,
+    alloc: Global,
+    bytes: &[u8],
+    answer: Result<(), PlayFault>,
+    lines: &[u8],
+) -> Result<(), Fail> {
+    let mut source = MemorySource::new(bytes, None);
+    let mut sink = MemorySink::new(alloc, ROOM, None)?;
+    let answered = fed(alloc, &mut source, &mut sink)?;
+    assert!(rt; answered == answer && sink.bytes() == lines);
+    Ok(())
+}
+
+/// These bytes, and behind them those.
+fn joined(alloc: Global, front: &[u8], rest: &[u8]) -> Result<Vec<u8>, Fail> {
+    let mut bytes = Vec::new(alloc);
+    bytes.extend_from_slice(front)?;
+    bytes.extend_from_slice(rest)?;
+    Ok(bytes)
+}

@@ -1,0 +1,165 @@
+//! Reads and writes that fail in a feed, each in turn.
+use super::{ROOM, fed, fed_to_page, joined};
+use crate::bytewise::{Bytewise, Piecemeal};
+use ncp_play_files::FileFault;
+use ncp_play_notes::PlayFault;
+use ncp_play_stream::{MemorySink, MemorySource, Sink, Source};
+use std::alloc::Global;
+use std::test::Fail;
+
+// RST from host 2, which ends with the 16th byte, and an RFNM to no message, with the 22nd.
+const FILE: &[u8] = b"NCPI\x00\x50\x00\x02\x00\x00\x00\x08\x00\x01\x00\x0c\x00\x20\x05\x02\x00\x00";
+
+const LINES: &[u8] =
+    b"7 in control 1\n8 in stray\n9 out host=2 link=0 bits=80\n  size=8 count=1\n  RRP\n10 out nothing\n";
+
+// The message of the RFNM.
+const STRAY: &[u8] = b"\x00\x20\x05\x02\x00\x00";
+
+// How many of these there are in a feed that has more than a window, and whose lines have more than a
+// page.
+const MANY: u32 = 4000;
+
+// How many bytes the lines have of the messages that are whole in the first bytes of the file.
+fn lines_of_front(len: usize) -> usize {
+    match len {
+        0..16 => 0,
+        16..22 => 15,
+        _ => 26,
+    }
+}
+
+// Whether these bytes are the first `count` of the lines.
+fn are_first(bytes: &[u8], count: usize) -> bool {
+    bytes.len() == count && LINES.starts_with(bytes)
+}
+
+#[test]
+fn a_feed_is_read_and_told_bytewise(rt: HostRuntime) -> Result<(), Fail> {
+    let mut source = Bytewise {
+        source: MemorySource::new(FILE, None),
+    };
+    let mut sink = Piecemeal {
+        sink: MemorySink::new(rt.alloc(), ROOM, None)?,
+    };
+    let answer = fed(rt.alloc(), &mut source, &mut sink)?;
+    assert!(rt; answer == Ok(()) && sink.sink.bytes() == LINES);
+    Ok(())
+}
+
+// Feeds from a source whose n-th read fails, and compares the answer and what was written.
+fn is_fed_until_read(
+    alloc: Global,
+    count: u32,
+    wanted: Result<(), PlayFault>,
+    len: usize,
+) -> Result<bool, Fail> {
+    let mut source = Bytewise {
+        source: MemorySource::new(FILE, Some(count)),
+    };
+    let mut sink = MemorySink::new(alloc, ROOM, None)?;
+    let answer = fed(alloc, &mut source, &mut sink)?;
+    Ok(
+        answer == wanted
+            && source.failed() == wanted.is_err()
+            && !sink.failed()
+            && are_first(sink.bytes(), len),
+    )
+}
+
+#[test]
+fn each_failed_read_is_told(rt: HostRuntime) -> Result<(), Fail> {
+    for count in 1..24u32 {
+        let fault = Err(PlayFault::Feed(FileFault::ReadFailed));
+        let len = lines_of_front((count as usize).saturating_sub(1));
+        assert!(rt;
+            is_fed_until_read(rt.alloc(), count, fault, len)?,
+            "at {count}"
+        );
+    }
+    assert!(rt; is_fed_until_read(rt.alloc(), 24, Ok(()), LINES.len())?);
+    Ok(())
+}
+
+// Feeds into a sink whose n-th write fails, and compares the answer and what was written.
+fn is_fed_until_write(
+    alloc: Global,
+    count: u32,
+    wanted: Result<(), PlayFault>,
+    len: usize,
+) -> Result<bool, Fail> {
+    let mut source = MemorySource::new(FILE, None);
+    let mut sink = Piecemeal {
+        sink: MemorySink::new(alloc, ROOM, Some(count))?,
+    };
+    let answer = fed(alloc, &mut source, &mut sink)?;
+    Ok(
+        answer == wanted
+            && sink.failed() == wanted.is_err()
+            && !source.failed()
+            && are_first(sink.sink.bytes(), len),
+    )
+}
+
+#[test]
+fn each_failed_write_is_told(rt: HostRuntime) -> Result<(), Fail> {
+    for count in 1..93u32 {
+        let fault = Err(PlayFault::WriteFailed);
+        let len = (count as usize).saturating_sub(1);
+        assert!(rt;
+            is_fed_until_write(rt.alloc(), count, fault, len)?,
+            "at {count}"
+        );
+    }
+    assert!(rt; is_fed_until_write(rt.alloc(), 93, Ok(()), LINES.len())?);
+    Ok(())
+}
+
+// A feed of so many stray answers.
+fn many(alloc: Global) -> Result<Vec<u8>, Fail> {
+    let mut bytes = joined(alloc, b"NCPI", b"")?;
+    for _ in 0..MANY {
+        bytes.extend_from_slice(STRAY)?;
+    }
+    Ok(bytes)
+}
+
+// Feeds so many into a sink with so much room, and answers how much was written within the feed.
+fn written_of_many(alloc: Global, room: usize) -> Result<Option<usize>, Fail> {
+    let bytes = many(alloc)?;
+    let mut source = MemorySource::new(&bytes, None);
+    let mut sink = MemorySink::new(alloc, room, None)?;
+    let (answer, _page) = fed_to_page(alloc, &mut source, &mut sink)?;
+    if answer == Err(PlayFault::WriteFailed)
+        && sink.failed()
+        && b"7 in stray\n8 in stray\n".starts_with(sink.bytes())
+    {
+        Ok(Some(sink.bytes().len()))
+    } else {
+        Ok(None)
+    }
+}
+
+// A page that is full is written within the feed.
+#[test]
+fn a_full_page_is_written(rt: HostRuntime) -> Result<(), Fail> {
+    for room in 0..22usize {
+        assert!(rt;
+            written_of_many(rt.alloc(), room)? == Some(room),
+            "at {room}"
+        );
+    }
+    Ok(())
+}
+
+// The numbers count on, from page to page.
+#[test]
+fn many_messages_come(rt: HostRuntime) -> Result<(), Fail> {
+    let bytes = many(rt.alloc())?;
+    let mut source = MemorySource::new(&bytes, None);
+    let mut sink = MemorySink::new(rt.alloc(), ROOM, None)?;
+    let answer = fed(rt.alloc(), &mut source, &mut sink)?;
+    let last = b"4005 in stray\n4006 in stray\n4007 out nothing\n";
+    assert!(rt; answer == Ok(()) && sink.bytes().ends_with(last));
+    Ok(())
+}

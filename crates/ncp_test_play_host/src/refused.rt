@@ -1,0 +1,94 @@
+//! What stands where the player of one host is refused memory. Here each test has ample memory. `bench/refuse.py` runs
+//! each test again and again, refuses it one request after the other, and reads what is printed of the request.
+use crate::streams::ROOM;
+use ncp_bits::{BitStore, PackedStore, PlainStore};
+use ncp_play_host::play_host;
+use ncp_play_notes::PlayFault;
+use ncp_play_stream::{MemorySink, MemorySource, Sink};
+use std::alloc::{AllocError, Global};
+use std::process::Abort;
+use std::test::Fail;
+
+/// A host comes up, asks for two connections, and is fed an RFNM.
+const SCRIPT: &[u8] =
+    b"host 1 2\nreset 2\nin 88 0002000000080002000c0d\nask-send 2 3 2 8 1024\nask-receive 2 4 5 1024\nfeed\nNCPI\x00\x20\x05\x02\x00\x00";
+
+const LINES: &[u8] = b"1 reset 2 ok
+2 in control 2
+3 ask-send 2 ok
+4 ask-receive 2 ok
+5 in stray
+6 out host=2 link=0 bits=248
+  size=8 count=22
+  RST
+  RRP
+  STR send=3 receive=2 size=8
+  RTS receive=4 send=5 link=2
+7 out nothing
+";
+
+/// A sink, made once more where memory is refused.
+fn sink_of(alloc: Global) -> Result<MemorySink, AllocError> {
+    match MemorySink::new(alloc, ROOM, None) {
+        Ok(sink) => Ok(sink),
+        Err(_) => MemorySink::new(alloc, ROOM, None),
+    }
+}
+
+/// How many bytes two texts have in common at their front.
+fn same_front(one: &[u8], other: &[u8]) -> usize {
+    one.iter()
+        .zip(other.iter())
+        .take_while(|(byte, same)| **byte == **same)
+        .count()
+}
+
+/// What a text has behind so many bytes.
+fn behind(text: &[u8], count: usize) -> &[u8] {
+    &text[count.min(text.len())..]
+}
+
+/// Whether what was written is the lines of the first notes: none of them is cut off from its details.
+fn are_first_lines(written: &[u8]) -> bool {
+    let same = same_front(written, LINES);
+    let are_whole = written.is_empty() || written.ends_with(b"\n");
+    are_whole && same == written.len() && !behind(LINES, same).starts_with(b" ")
+}
+
+/// Whether the first line that differs is of a call, which is refused for want of memory.
+fn is_noted(written: &[u8]) -> bool {
+    let same = same_front(written, LINES);
+    behind(written, same).starts_with(b"refused OutOfMemory\n")
+        && behind(LINES, same).starts_with(b"ok\n")
+}
+
+/// Plays the script. Whether it was refused memory: then the player says so behind the lines of what happened before,
+/// or the line of a call does.
+fn is_refused<S: BitStore>(rt: &impl Abort, alloc: Global) -> Result<bool, Fail> {
+    let mut source = MemorySource::new(SCRIPT, None);
+    let mut sink = sink_of(alloc)?;
+    assert!(rt; !sink.failed());
+    let answer = play_host::<S, _, _>(alloc, &mut source, &mut sink);
+    let written = sink.bytes();
+    if answer == Ok(true) && written == LINES {
+        return Ok(false);
+    }
+    match answer {
+        Ok(answered) => assert!(rt; !answered && is_noted(written)),
+        Err(fault) => {
+            let is_told = fault == PlayFault::OutOfMemory && fault.number() == 7;
+            assert!(rt; is_told && are_first_lines(written));
+        }
+    }
+    Ok(true)
+}
+
+#[test]
+fn playing_one_host(rt: HostRuntime) -> Result<(), Fail> {
+    let plain = is_refused::<PlainStore>(&rt, rt.alloc())?;
+    let packed = is_refused::<PackedStore>(&rt, rt.alloc())?;
+    if plain || packed {
+        println!(rt; "refused: PlayFault 7 behind whole lines, or the line of a call")?;
+    }
+    Ok(())
+}

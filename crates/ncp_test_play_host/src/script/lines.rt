@@ -1,0 +1,86 @@
+//! Lines that come in pieces.
+use ncp_play_script::{LineBuffer, LineKind, MAX_LINE};
+use std::process::Abort;
+
+// Whether a line that comes in these pieces, the last with its LF, is of a kind and says a text.
+fn is_line(pieces: &[&[u8]], ended: bool, kind: LineKind, text: &[u8]) -> bool {
+    let mut line = LineBuffer::new();
+    for piece in pieces {
+        let _used = line.take(piece);
+    }
+    line.kind(ended) == kind && line.text(ended) == text
+}
+
+// The pieces of a line, whether an LF ends it, its kind and its text.
+type Row<'a> = (&'a [&'a [u8]], bool, LineKind, &'a [u8]);
+
+#[test]
+fn reads_lines(rt: HostRuntime) {
+    const ROWS: &[Row<'static>] = &[
+        (&[b"a reset\nb out"], true, LineKind::Played, b"a reset"),
+        (&[b"a reset\r\n"], true, LineKind::Played, b"a reset"),
+        (
+            &[b"a re", b"", b"set\r", b"\n"],
+            true,
+            LineKind::Played,
+            b"a reset",
+        ),
+        (&[b"a reset\r\r\n"], true, LineKind::Played, b"a reset\r"),
+        (&[b"a reset\r"], false, LineKind::Played, b"a reset\r"),
+        (&[b"\n"], true, LineKind::Skipped, b""),
+        (&[b"\r\n"], true, LineKind::Skipped, b""),
+        (&[b"# a reset\n"], true, LineKind::Skipped, b"# a reset"),
+    ];
+    for (pieces, ended, kind, text) in ROWS {
+        assert!(rt; is_line(pieces, *ended, *kind, text));
+    }
+}
+
+// Whether a line that comes one byte at a time is of a kind and says a text.
+fn is_line_of_bytes(bytes: &[u8], kind: LineKind, text: &[u8]) -> bool {
+    let mut line = LineBuffer::new();
+    for byte in bytes {
+        let _used = line.take(&[*byte]);
+    }
+    line.kind(true) == kind && line.text(true) == text
+}
+
+#[test]
+fn reads_lines_byte_by_byte(rt: HostRuntime) {
+    assert!(rt;
+        is_line_of_bytes(b"a reset\r\n", LineKind::Played, b"a reset")
+            && is_line_of_bytes(b"#..\n", LineKind::Skipped, b"#..")
+    );
+}
+
+#[test]
+fn tells_how_much_a_line_takes(rt: HostRuntime) {
+    let mut line = LineBuffer::new();
+    assert!(rt; line.take(b"a reset\nb out\n") == Some(8));
+    line.clear();
+    assert!(rt; line.take(b"b out").is_none() && line.text(true) == b"b out".as_slice());
+}
+
+// The kind of a line that comes in these pieces.
+fn kind_of(pieces: &[&[u8]], ended: bool) -> LineKind {
+    let mut line = LineBuffer::new();
+    for piece in pieces {
+        let _used = line.take(piece);
+    }
+    line.kind(ended)
+}
+
+#[test]
+fn judges_the_longest_lines(rt: HostRuntime) {
+    let bytes = [b'a'; MAX_LINE + 1];
+    let longest = &bytes[..MAX_LINE];
+    assert!(rt;
+        is_line(&[longest, b"\r\n"], true, LineKind::Played, longest)
+            && is_line(&[longest], false, LineKind::Played, longest)
+            && kind_of(&[longest, b"\r"], false) == LineKind::TooLong
+            && kind_of(&[longest, b"\r\r\n"], true) == LineKind::TooLong
+            && kind_of(&[&bytes, b"\n"], true) == LineKind::TooLong
+            && kind_of(&[&bytes, &bytes, b"\n"], true) == LineKind::TooLong
+            && kind_of(&[b"#", &bytes, &bytes, b"\n"], true) == LineKind::Skipped
+    );
+}

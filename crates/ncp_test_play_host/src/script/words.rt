@@ -1,0 +1,108 @@
+//! Words, numbers, bits and arguments.
+
+use ncp_bits::Bits;
+use ncp_model::Pair;
+use ncp_play_script::Words;
+use std::alloc::Global;
+use std::process::Abort;
+use std::test::Fail;
+
+#[test]
+fn reads_numbers(rt: HostRuntime) {
+    assert!(rt;
+        Words::new(b"0").next_u32() == Some(0)
+            && Words::new(b"0000000007").next_u32() == Some(7)
+            && Words::new(b"4294967295").next_u32() == Some(4_294_967_295)
+            && Words::new(b"65535").next_u16() == Some(65535)
+            && Words::new(b"255").next_u8() == Some(255)
+    );
+}
+
+#[test]
+fn refuses_what_is_no_number(rt: HostRuntime) {
+    const WORDS: &[&[u8]] = &[
+        b"",
+        b"4294967296",
+        b"00000000007",
+        b"+7",
+        b"-7",
+        b"0x7",
+        b" 7",
+    ];
+    for word in WORDS {
+        assert!(rt; Words::new(word).next_u32().is_none());
+    }
+    assert!(rt;
+        Words::new(b"65536").next_u16().is_none() && Words::new(b"256").next_u8().is_none()
+    );
+}
+
+#[test]
+fn reads_words(rt: HostRuntime) {
+    let mut words = Words::new(b"close 3  2");
+    assert!(rt; words.next_word() == Some(b"close".as_slice()) && words.next_u32() == Some(3));
+    assert!(rt; words.next_word() == Some(b"".as_slice()) && !words.is_empty());
+    assert!(rt; words.next_u32() == Some(2) && words.is_empty() && words.next_word().is_none());
+}
+
+// Whether the words of a line are these bits, and no word is left.
+fn are_bits(line: &[u8], bytes: &[u8], len: usize) -> bool {
+    let mut words = Words::new(line);
+    let Some(read) = words.next_bits() else {
+        return false;
+    };
+    words.is_empty() && Bits::from_bytes(bytes, len).is_ok_and(|wanted| read == wanted)
+}
+
+#[test]
+fn reads_bits(rt: HostRuntime) {
+    assert!(rt;
+        are_bits(b"0", b"", 0)
+            && are_bits(b"24 616263", b"abc", 24)
+            && are_bits(b"032 05aBCd0f", b"\x05\xab\xcd\x0f", 32)
+            && are_bits(b"4 f0", b"\xf0", 4)
+    );
+}
+
+#[test]
+fn refuses_what_are_no_bits(rt: HostRuntime) {
+    const LINES: &[&[u8]] = &[
+        b"", b"8", b"8 ", b"8 6", b"8 6162", b"8 6g", b"16 61", b"4 f1", b"x 00",
+    ];
+    for line in LINES {
+        assert!(rt; Words::new(line).next_bits().is_none());
+    }
+}
+
+// A number of bits, and so many digits behind it that are all zero.
+fn with_zeros(alloc: Global, number: &[u8], digits: usize) -> Result<Vec<u8>, Fail> {
+    let mut line = Vec::new(alloc);
+    line.extend_from_slice(number)?;
+    for _ in 0..digits {
+        line.push(b'0')?;
+    }
+    Ok(line)
+}
+
+#[test]
+fn bits_are_8192_at_most(rt: HostRuntime) -> Result<(), Fail> {
+    let most = with_zeros(rt.alloc(), b"8192 ", 2048)?;
+    assert!(rt; are_bits(&most, &[0; 1024], 8192));
+    let more = with_zeros(rt.alloc(), b"8193 ", 2050)?;
+    assert!(rt; Words::new(&more).next_bits().is_none());
+    Ok(())
+}
+
+#[test]
+fn reads_arguments(rt: HostRuntime) {
+    let mut words = Words::new(b"255 3 4294967295");
+    assert!(rt; words.next_peer(Some(9)) == Some(9) && words.next_peer(None) == Some(255));
+    let wanted = Pair {
+        local: 3,
+        remote: 4_294_967_295,
+    };
+    assert!(rt; words.next_pair() == Some(wanted) && words.is_empty());
+    assert!(rt;
+        Words::new(b"256").next_peer(None).is_none() && Words::new(b"3").next_pair().is_none()
+    );
+}

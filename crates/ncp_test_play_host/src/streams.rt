@@ -1,0 +1,60 @@
+//! A script that is played a byte at a time, or in one piece.
+use crate::bytewise::{Bytewise, Piecemeal};
+use ncp_bits::{BitStore, PackedStore};
+use ncp_play_host::play_host;
+use ncp_play_notes::PlayFault;
+use ncp_play_stream::{MemorySink, MemorySource, Sink, Source};
+use std::alloc::Global;
+use std::test::Fail;
+
+/// Room for the lines of a script.
+pub(crate) const ROOM: usize = 16384;
+
+/// What was answered of a script, and what was written.
+#[derive(Drop)]
+pub(crate) struct Played {
+    pub(crate) answer: Option<Result<bool, PlayFault>>,
+    sink: Piecemeal,
+}
+
+impl Played {
+    /// Whether this was answered, and these first bytes of a text written.
+    pub(crate) fn is(&self, answer: Result<bool, PlayFault>, len: usize, text: &[u8]) -> bool {
+        let written = self.sink.sink.bytes();
+        self.answer == Some(answer) && written.len() == len && text.starts_with(written)
+    }
+}
+
+/// Plays a script a byte at a time. The n-th read or the n-th write can be made to fail.
+pub(crate) fn play(
+    alloc: Global,
+    script: &[u8],
+    failing_read: Option<u32>,
+    failing_write: Option<u32>,
+) -> Result<Played, Fail> {
+    let mut source = Bytewise {
+        source: MemorySource::new(script, failing_read),
+    };
+    let mut sink = Piecemeal {
+        sink: MemorySink::new(alloc, ROOM, failing_write)?,
+    };
+    let answer = if source.failed() || sink.failed() {
+        None
+    } else {
+        Some(play_host::<PackedStore, _, _>(alloc, &mut source, &mut sink))
+    };
+    Ok(Played { answer, sink })
+}
+
+/// Plays a script in one piece with this store. Whether this was answered, and these lines written.
+pub(crate) fn is_played_whole<S: BitStore>(
+    alloc: Global,
+    script: &[u8],
+    wanted: Result<bool, PlayFault>,
+    lines: &[u8],
+) -> Result<bool, Fail> {
+    let mut source = MemorySource::new(script, None);
+    let mut sink = MemorySink::new(alloc, ROOM, None)?;
+    let answer = play_host::<S, _, _>(alloc, &mut source, &mut sink);
+    Ok(answer == wanted && sink.bytes() == lines)
+}

@@ -1,0 +1,134 @@
+//! What stands where the player of scripts is refused memory. Here each test has ample memory. `bench/refuse.py` runs
+//! each test again and again, refuses it one request after the other, and reads what is printed of the request.
+use crate::opening::{COMING_UP, COMING_UP_LINES, GIVING, GIVING_LINES, SENDING, SENDING_LINES};
+use crate::played::{ROOM, joined};
+use ncp_bits::{BitStore, PackedStore, PlainStore};
+use ncp_play_notes::PlayFault;
+use ncp_play_stream::{MemorySink, MemorySource, Sink};
+use ncp_play_world::play_world;
+use std::alloc::{AllocError, Global};
+use std::process::Abort;
+use std::test::Fail;
+
+/// Three hosts, of which two come up and ask for a connection.
+const MANY: &[u8] = b"many 1 2 3
+1 reset 3
+1 out
+1 deliver 3 0
+1 answer 3 0
+3 out
+3 deliver 1 0
+3 answer 1 0
+3 ask-receive 1 2 3 1024
+1 ask-send 3 3 2 8 1024
+2 out
+";
+
+const MANY_LINES: &[u8] = b"1 1 reset 3 ok
+2 1 out host=3 link=0 bits=80
+  size=8 count=1
+  RST
+3 1 deliver 3 0 control 1
+4 1 answer 3 0 rfnm
+5 3 out host=1 link=0 bits=80
+  size=8 count=1
+  RRP
+6 3 deliver 1 0 control 1
+7 3 answer 1 0 rfnm
+8 3 ask-receive 1 ok
+9 1 ask-send 3 ok
+10 2 out nothing
+";
+
+/// These texts one behind the other, made once more where memory is refused.
+pub(crate) fn text_of(alloc: Global, texts: &[&[u8]]) -> Result<Vec<u8>, AllocError> {
+    match joined(alloc, texts) {
+        Ok(text) => Ok(text),
+        Err(_) => joined(alloc, texts),
+    }
+}
+
+/// A sink, made once more where memory is refused.
+pub(crate) fn sink_of(alloc: Global) -> Result<MemorySink, AllocError> {
+    match MemorySink::new(alloc, ROOM, None) {
+        Ok(sink) => Ok(sink),
+        Err(_) => MemorySink::new(alloc, ROOM, None),
+    }
+}
+
+/// How many bytes two texts have in common at their front.
+fn same_front(one: &[u8], other: &[u8]) -> usize {
+    one.iter()
+        .zip(other.iter())
+        .take_while(|(byte, same)| **byte == **same)
+        .count()
+}
+
+/// What a text has behind so many bytes.
+fn behind(text: &[u8], count: usize) -> &[u8] {
+    &text[count.min(text.len())..]
+}
+
+/// Whether what was written is the lines of the first notes: none of them is cut off from its details.
+fn are_first_lines(written: &[u8], lines: &[u8]) -> bool {
+    let are_whole = written.is_empty() || written.ends_with(b"\n");
+    let same = same_front(written, lines);
+    are_whole && same == written.len() && !behind(lines, same).starts_with(b" ")
+}
+
+/// Whether the first line that differs is of a call, which is refused for want of memory.
+fn is_noted(written: &[u8], lines: &[u8]) -> bool {
+    let same = same_front(written, lines);
+    behind(written, same).starts_with(b"refused OutOfMemory\n")
+        && behind(lines, same).starts_with(b"ok\n")
+}
+
+/// Plays a script. Whether it was refused memory: then the player says so behind the lines of what happened before,
+/// or the line of a call does.
+fn is_refused<S: BitStore>(
+    rt: &impl Abort,
+    alloc: Global,
+    script: &[u8],
+    lines: &[u8],
+) -> Result<bool, Fail> {
+    let mut source = MemorySource::new(script, None);
+    let mut sink = sink_of(alloc)?;
+    assert!(rt; !sink.failed());
+    let answer = play_world::<S, _, _>(alloc, &mut source, &mut sink);
+    let written = sink.bytes();
+    if answer == Ok(true) && written == lines {
+        return Ok(false);
+    }
+    match answer {
+        Ok(answered) => assert!(rt; !answered && is_noted(written, lines)),
+        Err(fault) => {
+            assert!(rt; fault == PlayFault::OutOfMemory && fault.number() == 7);
+            assert!(rt; are_first_lines(written, lines));
+        }
+    }
+    Ok(true)
+}
+
+#[test]
+fn playing_two_hosts(rt: HostRuntime) -> Result<(), Fail> {
+    let alloc = rt.alloc();
+    let script = text_of(alloc, &[COMING_UP, GIVING, SENDING])?;
+    let lines = text_of(alloc, &[COMING_UP_LINES, GIVING_LINES, SENDING_LINES])?;
+    let plain = is_refused::<PlainStore>(&rt, alloc, &script, &lines)?;
+    let packed = is_refused::<PackedStore>(&rt, alloc, &script, &lines)?;
+    if plain || packed {
+        println!(rt; "refused: PlayFault 7 behind whole lines, or the line of a call")?;
+    }
+    Ok(())
+}
+
+#[test]
+fn playing_many_hosts(rt: HostRuntime) -> Result<(), Fail> {
+    let alloc = rt.alloc();
+    let plain = is_refused::<PlainStore>(&rt, alloc, MANY, MANY_LINES)?;
+    let packed = is_refused::<PackedStore>(&rt, alloc, MANY, MANY_LINES)?;
+    if plain || packed {
+        println!(rt; "refused: PlayFault 7 behind whole lines, or the line of a call")?;
+    }
+    Ok(())
+}

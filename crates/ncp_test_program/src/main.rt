@@ -1,0 +1,83 @@
+//! Stored runs of the program `ncp`: each subcommand with each status that it has, and with a closed input and a closed
+//! output, over bytes in memory. Behind them the program itself plays the script that its command line names, and leaves with
+//! its status.
+#![tactic(auto)]
+
+mod runs;
+
+use anyhow::Result;
+use ncp_play_program::{obey, run};
+use ncp_play_stream::{MemorySink, MemorySource};
+use runs::{EACH, RUNS};
+use std::process::ExitCode;
+
+/// Room for what a run writes, and for what it tells.
+const ROOM: usize = 4096;
+
+/// The status where a run could not be printed. No run has it.
+const UNPRINTED: u8 = 3;
+
+// Whether bytes are whole lines of printable text, or none.
+fn are_lines(bytes: &[u8]) -> bool {
+    let is_printable = bytes.iter().all(|byte| byte.is_ascii_graphic()
+        || *byte == b' '
+        || *byte == b'\n');
+    is_printable && (bytes.is_empty() || bytes.ends_with(b"\n"))
+}
+
+// Prints bytes: lines as they are, others as one line of hexadecimal.
+fn print_bytes(rt: &HostRuntime, bytes: &[u8]) -> Result<()> {
+    if are_lines(bytes) {
+        print!(rt; "{}", String::from_utf8_lossy(rt.alloc(), bytes)?)?;
+        return Ok(());
+    }
+    for byte in bytes {
+        print!(rt; "{byte:02x}")?;
+    }
+    println!(rt)?;
+    Ok(())
+}
+
+// Carries out a run whose n-th read or n-th write may fail, and prints its words, what it wrote, what it told, and its
+// status.
+fn print_run(
+    rt: &HostRuntime,
+    words: &[&str],
+    input: &[u8],
+    failing_read: Option<u32>,
+    failing_write: Option<u32>,
+) -> Result<()> {
+    let mut source = MemorySource::new(input, failing_read);
+    let mut sink = MemorySink::new(rt.alloc(), ROOM, failing_write)?;
+    let mut errors = MemorySink::new(rt.alloc(), ROOM, None)?;
+    let status = obey(rt, words, &mut source, &mut sink, &mut errors);
+    println!(rt; "{}", words.join(rt.alloc(), " ")?)?;
+    print_bytes(rt, sink.bytes())?;
+    print_bytes(rt, errors.bytes())?;
+    println!(rt; "status {status}")?;
+    Ok(())
+}
+
+// All runs, and each subcommand with a closed input and with a closed output.
+fn print_all(rt: &HostRuntime) -> Result<()> {
+    for (words, input) in RUNS {
+        print_run(rt, words, input, None, None)?;
+    }
+    println!(rt; "with a closed input")?;
+    for (words, input) in EACH {
+        print_run(rt, words, input, Some(1), None)?;
+    }
+    println!(rt; "with a closed output")?;
+    for (words, input) in EACH {
+        print_run(rt, words, input, None, Some(1))?;
+    }
+    println!(rt; "by itself")?;
+    Ok(())
+}
+
+fn main(rt: HostRuntime) -> ExitCode {
+    if print_all(&rt).is_err() {
+        return ExitCode::from(UNPRINTED);
+    }
+    run(&rt, rt.stdin(), rt.stdout(), rt.stderr())
+}

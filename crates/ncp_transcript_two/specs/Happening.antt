@@ -1,0 +1,55 @@
+-- The note of an event, by the rules at the state before it.
+use Rattle.std.specs.Prelude.{◌≡◌, ℕ, Bool, if◌then◌else◌, List, Option, None, Some}
+use Rattle.ncp_subnet.specs.Transit.{is_accepted}
+use Rattle.ncp_subnet.specs.Messages.{arriving, answer_about}
+use Rattle.ncp_transcript.specs.declared.call.Call.{Call}
+use Rattle.ncp_transcript.specs.declared.note.HostNote.{HostNote}
+use Rattle.ncp_transcript.specs.Noting.{CallNoted, note_of_bits, note_of_output}
+use Rattle.ncp_transcript_two.specs.declared.side.Side.{Side}
+use Rattle.ncp_transcript_two.specs.declared.event.Event.{Event}
+use Rattle.ncp_transcript_two.specs.declared.event.Event.TheVariants as events
+use Rattle.ncp_transcript_two.specs.declared.note.Move.TheVariants as moves
+use Rattle.ncp_transcript_two.specs.declared.note.Note.{Note}
+use Rattle.ncp_transcript_two.specs.declared.note.Note.TheVariants as notes
+use Rattle.ncp_transcript_two.specs.Seen.{CallFits}
+use Rattle.ncp_transcript_two.specs.Between.{Hosts, other, number_of, host_of, transit_of}
+
+-- a call, whose numbers have their places in commands, is noted with what the host notes of it
+pub record IsCalled (side : Side) (call : Call) (note : Note) (w : Hosts) : Type 0 where
+  pub of_host : HostNote
+  pub said : note ≡ notes.Called side of_host
+  pub noted : CallNoted call of_host (host_of side w)
+  pub fits : CallFits call
+
+-- bits come from the subnet, or there are none
+abbrev pub came : Side → ℕ → Option (List Bool) → Hosts → Note
+came side link None w = notes.Nothing side link moves.Deliver
+came side link (Some bits) w = notes.Came side link (note_of_bits bits (host_of (other side) w))
+
+abbrev pub answered : Side → ℕ → Option (List Bool) → Hosts → Note
+answered side link None w = notes.Nothing side link moves.Answer
+answered side link (Some bits) w = notes.Answered side link (note_of_bits bits (host_of side w))
+
+-- where a message has not come, it may be lost or find its destination dead
+abbrev pub note_of_loss : Side → ℕ → Hosts → Note
+note_of_loss side link w = if is_accepted (transit_of side link w) then notes.Lost side link else notes.Nothing side link moves.Lose
+
+abbrev pub note_of_death : Side → ℕ → Hosts → Note
+note_of_death side link w = if is_accepted (transit_of side link w) then notes.FoundDead side link else notes.Nothing side link moves.Dead
+
+abbrev pub note_of_out : Side → Hosts → Note
+note_of_out side w = notes.Out side (note_of_output (host_of side w))
+
+abbrev pub note_of_delivery : Side → ℕ → Hosts → Note
+note_of_delivery side link w = came side link (arriving (number_of side w) (transit_of side link w)) w
+
+abbrev pub note_of_answer : Side → ℕ → Hosts → Note
+note_of_answer side link w = answered side link (answer_about (number_of (other side) w) link (transit_of side link w)) w
+
+abbrev pub Noted : Event → Note → Hosts → Type 0
+Noted (events.Call side call) note w = IsCalled side call note w
+Noted (events.Out side) note w = note ≡ note_of_out side w
+Noted (events.Deliver side link) note w = note ≡ note_of_delivery side link w
+Noted (events.Lose side link) note w = note ≡ note_of_loss side link w
+Noted (events.Dead side link) note w = note ≡ note_of_death side link w
+Noted (events.Answer side link) note w = note ≡ note_of_answer side link w

@@ -1,0 +1,128 @@
+-- The hosts and the subnet of a world as the rules see them, and what its notes tell in the words of the rules.
+use Rattle.std.specs.Prelude.{ℕ, List, [], ◌∷◌, ◌++◌, Option, None, Some, Ok}
+use Rattle.ncp_model.specs.Peers.{Ask_to_send, Ask_to_receive, Close, Give, Take, Allocate, Call_back, Interrupt}
+use Rattle.ncp_proof_resets.specs.Resets.{This, That}
+use Rattle.ncp_proof_resets.specs.Resets as rules
+use Rattle.ncp_host.specs.PeerState.{PeerState, new_state}
+use Rattle.ncp_host.specs.Host.{Host, state_of}
+use Rattle.ncp_host.specs.Calls.{sockets}
+use Rattle.ncp_subnet.specs.Subnet.{transit_at}
+use Rattle.ncp_transcript.specs.declared.call.Call.{Call}
+use Rattle.ncp_transcript.specs.declared.call.Call.TheVariants as calls
+use Rattle.ncp_transcript.specs.declared.note.HostNote.{HostNote}
+use Rattle.ncp_transcript.specs.declared.note.HostNote.TheVariants as of_host
+use Rattle.ncp_transcript_two.specs.World.{World, Asked, Asks, Asks_echo, Asks_reset, Asks_wake, Replied, Told, Called, Out, In, Went_lost, Went_dead, Answered, Nothing}
+use Rattle.ncp_transcript_two.specs.World as worlds
+use Rattle.ncp_transcript_two.specs.Tie.{IsAsked}
+use Rattle.ncp_transcript_two.specs.Watch.{Both}
+use Rattle.ncp_transcript_two.specs.Watch as watch
+use Rattle.ncp_transcript_two.specs.declared.side.Side.{Side}
+use Rattle.ncp_transcript_two.specs.declared.side.Side.TheVariants.{A, B}
+use Rattle.ncp_transcript_two.specs.declared.note.Note.{Note}
+use Rattle.ncp_transcript_two.specs.declared.note.Note.TheVariants as notes
+use Rattle.ncp_transcript_two.specs.Between.{Hosts, after_note}
+
+abbrev pub state_or_new : Option PeerState → PeerState
+state_or_new None = new_state
+state_or_new (Some s) = s
+
+-- what a host has for the host of a number
+abbrev pub had_for : ℕ → Host → PeerState
+had_for number h = state_or_new (state_of h number)
+
+-- side A is this host, and side B that host
+abbrev pub seen : Hosts → World
+seen w = record {
+  here = w.number_a;
+  there = w.number_b;
+  this = had_for w.number_b w.a;
+  that = had_for w.number_a w.b;
+  going = λ on. transit_at w.subnet w.number_a w.number_b on;
+  coming = λ on. transit_at w.subnet w.number_b w.number_a on;
+}
+
+abbrev pub as_rules : Side → rules.Side
+as_rules A = This
+as_rules B = That
+
+-- the call that the rules speak of; what is only read is none
+abbrev pub asked_by : Call → Option Asked
+asked_by (calls.Reset peer) = Some Asks_reset
+asked_by (calls.AskSend peer local remote size room) = Some (Asks (sockets local remote) (Ask_to_send size room))
+asked_by (calls.AskReceive peer local remote room) = Some (Asks (sockets local remote) (Ask_to_receive room))
+asked_by (calls.Give peer pair text) = Some (Asks pair (Give text))
+asked_by (calls.Take peer pair bytes) = Some (Asks pair (Take bytes))
+asked_by (calls.Allocate peer pair messages bits) = Some (Asks pair (Allocate messages bits))
+asked_by (calls.CallBack peer pair fm fb) = Some (Asks pair (Call_back fm fb))
+asked_by (calls.Interrupt peer pair) = Some (Asks pair Interrupt)
+asked_by (calls.Echo peer byte) = Some (Asks_echo byte)
+asked_by (calls.Close peer pair) = Some (Asks pair Close)
+asked_by (calls.Wake peer) = Some Asks_wake
+asked_by reading = None
+
+-- What a note tells of what happened. A call that was refused changed nothing, as what was read did not.
+
+abbrev pub done : Option Asked → Option Told
+done None = None
+done (Some asked) = Some (Called asked (Replied (Ok tt)))
+
+abbrev pub told_call : HostNote → Option Told
+told_call (of_host.Done call) = done (asked_by call)
+told_call (of_host.Took peer pair bytes text) = Some (Called (Asks pair (Take bytes)) (worlds.Took (Ok text)))
+told_call other = None
+
+abbrev pub told_out : HostNote → Told
+told_out (of_host.Out message) = Out message
+told_out other = Nothing
+
+abbrev pub told_in : ℕ → HostNote → Option Told
+told_in link (of_host.In message received) = Some (In link message received)
+told_in link other = None
+
+abbrev pub told_answer : ℕ → HostNote → Option Told
+told_answer link (of_host.Answered peer on answer received) = Some (Answered on answer received)
+told_answer link other = None
+
+abbrev pub told_of : Note → Option Told
+told_of (notes.Called side note) = told_call note
+told_of (notes.Out side note) = Some (told_out note)
+told_of (notes.Came side link note) = told_in link note
+told_of (notes.Lost side link) = Some (Went_lost link)
+told_of (notes.FoundDead side link) = Some (Went_dead link)
+told_of (notes.Answered side link note) = told_answer link note
+told_of (notes.Nothing side link wanted) = Some Nothing
+
+abbrev pub side_of : Note → Side
+side_of (notes.Called side note) = side
+side_of (notes.Out side note) = side
+side_of (notes.Came side link note) = side
+side_of (notes.Lost side link) = side
+side_of (notes.FoundDead side link) = side
+side_of (notes.Answered side link note) = side
+side_of (notes.Nothing side link wanted) = side
+
+abbrev pub notes_of : rules.Side → Option Told → List worlds.Note
+notes_of side None = []
+notes_of side (Some told) = record { side = side; told = told } ∷ []
+
+-- a transcript, as the rules note it
+abbrev pub told : List Note → List worlds.Note
+told [] = []
+told (note ∷ rest) = notes_of (as_rules (side_of note)) (told_of note) ++ told rest
+
+-- the histories after notes
+abbrev pub watched : rules.Side → Option Told → World → Both → Both
+watched side None v p = p
+watched side (Some told) v p = watch.after_note side told v p
+
+abbrev pub histories : List Note → Hosts → Both → Both
+histories [] w p = p
+histories (note ∷ rest) w p = histories rest (after_note note w) (watched (as_rules (side_of note)) (told_of note) (seen w) p)
+
+-- the numbers of a call have their places in commands
+abbrev pub Fits : Option Told → Type 0
+Fits (Some (Called asked reply)) = IsAsked asked
+Fits other = Unit {0}
+
+abbrev pub CallFits : Call → Type 0
+CallFits call = Fits (done (asked_by call))

@@ -1,0 +1,100 @@
+-- What is underway from a host, read off its slots and the subnet, and what a connection between the
+-- two hosts has in common with it. Each is said of what goes from this host to that one.
+use Rattle.std.specs.Prelude.{◌≡◌, ℕ, ◌+◌, Bool, true, List, [], ◌++◌, length, Option, None, Some, Result, Ok, Err}
+use Rattle.std.specs.FinMap.{get}
+use Rattle.ncp_numbers.specs.Bytes.{bytes_of}
+use Rattle.ncp_leader.specs.declared.fault.MessageFault.{MessageFault}
+use Rattle.ncp_leader.specs.Message.{Message, message_in}
+use Rattle.ncp_terms.specs.declared.command.Command.{Command}
+use Rattle.ncp_control.specs.Reading.{commands_in}
+use Rattle.ncp_slot.specs.declared.slot.Slot.TheVariants.{Empty, Ready, Travelling, Held}
+use Rattle.ncp_slot.specs.Slots.{LinkSlot, slot_at}
+use Rattle.ncp_model.specs.declared.pair.Pair.{Pair}
+use Rattle.std.specs.List.{filter}
+use Rattle.ncp_model.specs.Phase.{up, is_reset}
+use Rattle.ncp_model.specs.End.{End, is_open, or_new}
+use Rattle.ncp_proof_machine.specs.Hosts.{past_of}
+use Rattle.ncp_proof_headline.specs.Headline.{sum_on}
+use Rattle.ncp_host.specs.PeerState.{PeerState}
+use Rattle.ncp_transcript_two.specs.Subnet.{Holds, Free, Accepted, Delivered, Lost, Dead, Subnet}
+use Rattle.ncp_transcript_two.specs.World.{World}
+use Rattle.ncp_transcript_two.specs.Watch.{Both}
+use Rattle.ncp_model.specs.Pairs.{turned}
+use Rattle.ncp_model.specs.Amounts.{granted_messages, granted_bits, returned_messages, returned_bits}
+
+-- the text of a message, and the commands of a control message
+
+abbrev pub text_read : Result Message MessageFault → List Bool
+text_read (Ok m) = m.text
+text_read (Err fault) = []
+
+abbrev pub text_of : List Bool → List Bool
+text_of m = text_read (message_in m)
+
+abbrev pub commands_of : List Bool → List Command
+commands_of m = commands_in (bytes_of (text_of m))
+
+-- the message on a link that has not come
+abbrev pub not_come : LinkSlot → Holds → Option (List Bool)
+not_come Empty h = None
+not_come (Ready m) h = Some m
+not_come (Held m) h = Some m
+not_come (Travelling m) Free = None
+not_come (Travelling m) (Accepted n) = Some n
+not_come (Travelling m) Delivered = None
+not_come (Travelling m) Lost = Some m
+not_come (Travelling m) Dead = Some m
+
+abbrev pub commands_out : Option (List Bool) → List Command
+commands_out None = []
+commands_out (Some m) = commands_of m
+
+-- the commands that have not come: those of that message, then those that wait
+abbrev pub underway : PeerState → Subnet → List Command
+underway s u = commands_out (not_come (slot_at s.slots 0) (u 0)) ++ s.peer.phase.waiting
+
+abbrev pub how_many : Option (List Bool) → ℕ
+how_many None = 0
+how_many (Some m) = 1
+
+abbrev pub bits_out : Option (List Bool) → List Bool
+bits_out None = []
+bits_out (Some m) = text_of m
+
+-- the two ends of a pair, and the text that is underway on its link
+
+abbrev pub sender_at : Pair → World → End
+sender_at pair v = or_new (get v.this.peer.ends pair)
+
+abbrev pub receiver_at : Pair → World → End
+receiver_at pair v = or_new (get v.that.peer.ends (turned pair))
+
+abbrev pub text_out : Pair → World → Option (List Bool)
+text_out pair v = not_come (slot_at v.this.slots (sender_at pair v).link) (v.going (sender_at pair v).link)
+
+abbrev pub BothOpen : Pair → World → Type 0
+BothOpen pair v = (is_open (sender_at pair v) ≡ true) × (is_open (receiver_at pair v) ≡ true)
+
+-- While both ends are open: what is outstanding is what the sender's counters hold, and what ALL, the
+-- text and RET carry that are underway on its link.
+
+abbrev pub MessagesAgree : Pair → World → Type 0
+MessagesAgree pair v = BothOpen pair v
+    → (receiver_at pair v).messages
+    ≡ (sender_at pair v).messages
+    + (sum_on (sender_at pair v).link granted_messages (underway v.that v.coming) + (how_many (text_out pair v) + sum_on (sender_at pair v).link returned_messages (underway v.this v.going)))
+
+abbrev pub BitsAgree : Pair → World → Type 0
+BitsAgree pair v = BothOpen pair v
+    → (receiver_at pair v).bits
+    ≡ (sender_at pair v).bits
+    + (sum_on (sender_at pair v).link granted_bits (underway v.that v.coming) + (length (bits_out (text_out pair v)) + sum_on (sender_at pair v).link returned_bits (underway v.this v.going)))
+
+-- and what was given was got, is underway, or waits
+abbrev pub Parted : Pair → World → Both → Type 0
+Parted pair v p = BothOpen pair v
+    → (past_of p.this pair).given ≡ (past_of p.that (turned pair)).got ++ (bits_out (text_out pair v) ++ (sender_at pair v).stored)
+
+-- between two hosts that are up no RST or RRP is underway
+abbrev pub NoResetUnderway : World → Type 0
+NoResetUnderway v = up v.this.peer.phase ≡ true → up v.that.peer.phase ≡ true → filter is_reset (underway v.this v.going) ≡ []

@@ -1,0 +1,83 @@
+//! What the definitions of an honest subnet, of what is underway, of the ledger, and of what is refused or cannot
+//! be admit, and what they refuse: small laws that a wrong definition makes false.
+ghost use Rattle.std.specs.Prelude.{◌≡◌, ℕ, Bool, true, false, List, [], ◌∷◌, None, Some};
+ghost use Rattle.ncp_slot.specs.declared.slot.Slot.TheVariants as slots;
+ghost use Rattle.ncp_terms.specs.declared.answer.Answer.TheVariants.{Rfnm, Dead};
+ghost use Rattle.ncp_model.specs.declared.outcomes.Took.TheVariants as took;
+ghost use Rattle.ncp_proof_resets.specs.Resets.{This, That};
+ghost use Rattle.ncp_host.specs.declared.received.Received.{Received};
+ghost use Rattle.ncp_host.specs.declared.received.Received.TheVariants as received;
+ghost use Rattle.ncp_transcript_two.specs.Subnet.{from_host};
+ghost use Rattle.ncp_transcript_two.specs.Subnet as subnets;
+ghost use Rattle.ncp_transcript_two.specs.World.{In, Answered};
+ghost use Rattle.ncp_transcript_two.specs.Honest.{Sent, Comes, Taken, Refused, Other, Clear, HonestFrom, sent_from, RepeatsFrom, IsBeginning, deeds};
+ghost use Rattle.ncp_transcript_two.specs.Underway.{not_come};
+ghost use Rattle.ncp_transcript_two.specs.Ledgers.{amount, IsBalanced};
+ghost use Rattle.ncp_transcript_two.specs.Refused.{is_refused};
+ghost use Rattle.ncp_transcript_two.specs.Vain.{CannotBe};
+ghost use Rattle.ncp_transcript_two.specs.declared.note.Move.TheVariants as moves;
+
+/// A subnet that delivers twice or something else, says RFNM of what did not come, or Incomplete Transmission of
+/// what came, and a second Out before an answer, are refused. One that loses a message, takes it again, delivers
+/// it once as from its host, and says so, is honest.
+pub fn dishonest_subnets_are_seen()
+    ensures twice { (m n : List Bool) → HonestFrom 1 Clear (Sent m ∷ Comes n ∷ Comes n ∷ []) → ⊥ }
+    ensures another { (m n : List Bool) → (n ≡ from_host 1 m → ⊥) → HonestFrom 1 Clear (Sent m ∷ Comes n ∷ []) → ⊥ }
+    ensures unsaid { (m : List Bool) → HonestFrom 1 Clear (Sent m ∷ Taken ∷ []) → ⊥ }
+    ensures came { (m n : List Bool) → HonestFrom 1 Clear (Sent m ∷ Comes n ∷ Refused ∷ []) → ⊥ }
+    ensures unanswered { (m : List Bool) → HonestFrom 1 Clear (Sent m ∷ Sent m ∷ []) → ⊥ }
+    ensures unasked { (m : List Bool) → HonestFrom 1 Clear (Comes m ∷ []) → ⊥ }
+    ensures good { (m : List Bool) → HonestFrom 1 Clear (Sent m ∷ Refused ∷ Sent m ∷ Comes (from_host 1 m) ∷ Taken ∷ []) }
+{}
+
+/// A message that goes out again after an Incomplete Transmission or a Destination Dead is the last one, and is not
+/// sent anew; after an RFNM the next is. Of two that were sent, one at most may not have come.
+pub fn what_goes_out_again_is_not_sent_anew()
+    ensures again { (m : List Bool) → sent_from 1 true (Sent m ∷ Refused ∷ Sent m ∷ []) ≡ from_host 1 m ∷ [] }
+    ensures anew { (m n : List Bool) → sent_from 1 true (Sent m ∷ Taken ∷ Sent n ∷ []) ≡ from_host 1 m ∷ from_host 1 n ∷ [] }
+    ensures another { (m n : List Bool) → (n ≡ m → ⊥) → RepeatsFrom [] true (Sent m ∷ Refused ∷ Sent n ∷ []) → ⊥ }
+    ensures two_behind { (m n : List Bool) → IsBeginning 1 [] (m ∷ n ∷ []) → ⊥ }
+    ensures one_behind { (m n : List Bool) → IsBeginning 1 (m ∷ []) (m ∷ n ∷ []) }
+{}
+
+/// What a note tells is of the messages of its own side on its own link alone.
+pub fn notes_are_of_one_side_and_one_link()
+    ensures came { (m : List Bool) (r : Received) → deeds This 2 (record { side = This; told = In 2 m r } ∷ []) ≡ Comes m ∷ [] }
+    ensures elsewhere { (m : List Bool) (r : Received) → deeds This 3 (record { side = This; told = In 2 m r } ∷ []) ≡ Other ∷ [] }
+    ensures of_that { (m : List Bool) (r : Received) → deeds That 2 (record { side = This; told = In 2 m r } ∷ []) ≡ Other ∷ [] }
+    ensures taken { (r : Received) → deeds That 2 (record { side = That; told = Answered 2 Rfnm r } ∷ []) ≡ Taken ∷ [] }
+    ensures refused { (r : Received) → deeds That 2 (record { side = That; told = Answered 2 Dead r } ∷ []) ≡ Refused ∷ [] }
+{}
+
+/// A message is underway from the moment it is ready until it came: also while it is held, and where it was lost
+/// and its host does not know it yet.
+pub fn messages_are_underway_until_they_come()
+    ensures ready { (m : List Bool) → not_come (slots.Ready m) subnets.Free ≡ Some m }
+    ensures held { (m : List Bool) → not_come (slots.Held m) subnets.Free ≡ Some m }
+    ensures out { (m : List Bool) → not_come (slots.Travelling m) (subnets.Accepted m) ≡ Some m }
+    ensures lost { (m : List Bool) → not_come (slots.Travelling m) subnets.Lost ≡ Some m }
+    ensures came { (m : List Bool) → not_come (slots.Travelling m) subnets.Delivered ≡ None }
+{}
+
+/// A ledger that does not add up is refused, for messages and for bits; one in which every amount counts is good.
+pub fn wrong_ledgers_are_seen()
+    ensures messages { IsBalanced (record { outstanding = amount 2 0; counters = amount 1 0; all = amount 0 0; text = amount 0 0; ret = amount 0 0 }) → ⊥ }
+    ensures bits { IsBalanced (record { outstanding = amount 0 9; counters = amount 0 8; all = amount 0 0; text = amount 0 0; ret = amount 0 0 }) → ⊥ }
+    ensures good { IsBalanced (record { outstanding = amount 8 80; counters = amount 1 10; all = amount 2 20; text = amount 1 16; ret = amount 4 34 }) }
+{}
+
+/// What may come, be lost or find its destination dead can be, and so can the answer to what came. A text beyond
+/// the allocation, of the wrong size or not connected is refused; one that is late, or comes to a host that is not
+/// up, is not.
+pub fn what_can_be_and_what_is_refused_are_seen()
+    ensures deliver { (m : List Bool) → CannotBe moves.Deliver (subnets.Accepted m) → ⊥ }
+    ensures lose { (m : List Bool) → CannotBe moves.Lose (subnets.Accepted m) → ⊥ }
+    ensures dead { (m : List Bool) → CannotBe moves.Dead (subnets.Accepted m) → ⊥ }
+    ensures answer { CannotBe moves.Answer subnets.Delivered → ⊥ }
+    ensures nothing { (m : List Bool) → CannotBe moves.Deliver subnets.Delivered × CannotBe moves.Answer (subnets.Accepted m) }
+    ensures over { is_refused (received.Text took.Over) ≡ true }
+    ensures size { is_refused (received.Text took.WrongSize) ≡ true }
+    ensures not_open { is_refused (received.Text took.NotOpen) ≡ true }
+    ensures late { is_refused (received.Text took.Late) ≡ false }
+    ensures not_up { is_refused received.NotUp ≡ false }
+{}

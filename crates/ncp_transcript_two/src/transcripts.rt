@@ -1,0 +1,96 @@
+//! Laws of transcripts of a world, each the contract of a function that does nothing.
+ghost use Rattle.std.specs.Prelude.{◌≡◌, ℕ, true, false, List, ◌∷◌, ◌++◌, length, None};
+ghost use Rattle.ncp_model.specs.declared.pair.Pair.{Pair};
+ghost use Rattle.ncp_model.specs.Pairs.{sends};
+ghost use Rattle.ncp_proof_resets.specs.Resets.{Side};
+ghost use Rattle.ncp_transcript_two.specs.World.{swap};
+ghost use Rattle.ncp_transcript_two.specs.Honest.{IsHonest, IsBeginning, Repeats, number_of_side, sent, came};
+ghost use Rattle.ncp_transcript_two.specs.Refused.{any_refused};
+ghost use Rattle.ncp_transcript_two.specs.Watch.{turn};
+ghost use Rattle.ncp_transcript_two.specs.Streams.{GotIsBeginning, GotIsTakenOrHeld, NeverBeyondAllocation};
+ghost use Rattle.ncp_transcript_two.specs.Underway.{MessagesAgree, BitsAgree, Parted, NoResetUnderway};
+ghost use Rattle.ncp_transcript_two.specs.declared.event.Event.{Event};
+ghost use Rattle.ncp_transcript_two.specs.declared.note.Note.{Note};
+ghost use Rattle.ncp_host.specs.Turns.{next_output};
+ghost use Rattle.ncp_transcript.specs.declared.note.HostNote.{HostNote};
+ghost use Rattle.ncp_transcript.specs.declared.note.HostNote.TheVariants as of_host;
+ghost use Rattle.ncp_transcript_two.specs.declared.note.Move.{Move};
+ghost use Rattle.ncp_transcript_two.specs.declared.note.Note.TheVariants as of_world;
+ghost use Rattle.ncp_transcript_two.specs.Between.{Hosts, other, number_of, host_of, transit_of, after_notes};
+ghost use Rattle.ncp_transcript_two.specs.Transcript.{IsRun, AreNotes, began, IsTranscript};
+ghost use Rattle.ncp_transcript_two.specs.Vain.{CannotBe};
+ghost use Rattle.ncp_transcript_two.specs.Naming.{IsMessageFrom, IsAnswerAbout};
+ghost use Rattle.ncp_transcript_two.specs.Seen.{seen, told};
+ghost use Rattle.ncp_transcript_two.specs.OfRules.{histories_of, IsOfRules, IsOfModelsHosts};
+ghost use Rattle.ncp_transcript_two.specs.declared.side.Side as sides;
+ghost use Rattle.ncp_transcript_two.specs.Sides.{notes_at};
+ghost use Rattle.ncp_transcript.specs.Runs as runs;
+
+/// The notes of events, however many and whatever they are, are one for each, and a run: each says what
+/// the rules say at the state before it.
+pub fn every_list_of_events_is_a_run()
+    ensures many { (events : List Event) (notes : List Note) (w : Hosts) → AreNotes events notes w → length notes ≡ length events }
+    ensures run { (events : List Event) (notes : List Note) (w : Hosts) → AreNotes events notes w → IsRun notes w }
+{}
+
+/// A transcript is a run of the rules: there are events of theirs that lead to what is seen of the hosts
+/// and the subnet, with what the notes tell, and with the histories of the notes.
+pub fn transcripts_are_of_the_rules()
+    ensures { (notes : List Note) (w : Hosts) → IsTranscript notes w → IsOfRules notes w }
+{}
+
+/// A transcript is a run of the model's two hosts: there are events of theirs that lead to hosts with the
+/// histories of the notes, for which what is seen of the hosts and the subnet stands. So what is proved of
+/// these two hosts holds of them.
+pub fn transcripts_are_of_the_model()
+    ensures { (notes : List Note) (w : Hosts) → IsTranscript notes w → IsOfModelsHosts notes w }
+{}
+
+/// Each host of a world is one by itself: its own notes are a run of one host with one peer, and it is what
+/// they leave. So what is proved of every run of one host holds of it.
+pub fn each_host_is_by_itself()
+    ensures { (notes : List Note) (w : Hosts) (side : sides.Side) → IsTranscript notes w → runs.IsTranscript (notes_at side notes) (host_of side w) }
+{}
+
+/// What transcripts keep of streams, allocation and what is underway. For each pair, either way: what a live
+/// receiver got is a beginning of what was given since the sender last opened; it was taken or is held until
+/// the receiver left; it is never beyond the allocation; and while both ends are open, what is outstanding at
+/// the receiver is what the sender's counters hold and what is underway. Between two hosts that are up no RST
+/// or RRP is underway, and no text is answered as not connected, of the wrong size or beyond the allocation,
+/// no message is faulty, and no answer stray. Of what commands do, and of ERRs, it says nothing.
+pub fn transcripts_keep_the_headline()
+    ensures beginning { (notes : List Note) (w : Hosts) (pair : Pair) → IsTranscript notes w → sends pair ≡ true → let p = histories_of notes w in GotIsBeginning pair (seen w) p × GotIsBeginning pair (swap (seen w)) (turn p) }
+    ensures held { (notes : List Note) (w : Hosts) (pair : Pair) → IsTranscript notes w → sends pair ≡ true → let p = histories_of notes w in GotIsTakenOrHeld pair (seen w) p × GotIsTakenOrHeld pair (swap (seen w)) (turn p) }
+    ensures allocation { (notes : List Note) (w : Hosts) (pair : Pair) → IsTranscript notes w → sends pair ≡ true → let p = histories_of notes w in NeverBeyondAllocation pair (seen w) p × NeverBeyondAllocation pair (swap (seen w)) (turn p) }
+    ensures messages { (notes : List Note) (w : Hosts) (pair : Pair) → IsTranscript notes w → sends pair ≡ true → MessagesAgree pair (seen w) × MessagesAgree pair (swap (seen w)) }
+    ensures bits { (notes : List Note) (w : Hosts) (pair : Pair) → IsTranscript notes w → sends pair ≡ true → BitsAgree pair (seen w) × BitsAgree pair (swap (seen w)) }
+    ensures parted { (notes : List Note) (w : Hosts) (pair : Pair) → IsTranscript notes w → sends pair ≡ true → let p = histories_of notes w in Parted pair (seen w) p × Parted pair (swap (seen w)) (turn p) }
+    ensures resets { (notes : List Note) (w : Hosts) → IsTranscript notes w → NoResetUnderway (seen w) × NoResetUnderway (swap (seen w)) }
+    ensures refused { (notes : List Note) (w : Hosts) → IsTranscript notes w → any_refused (told notes) ≡ false }
+{}
+
+/// The subnet of a transcript is honest. On each link, what came is a beginning of what was sent, shorter by
+/// at most one message; and a message that goes out again is the one before.
+pub fn transcripts_are_honest()
+    ensures honest { (notes : List Note) (w : Hosts) → IsTranscript notes w → IsHonest w.number_a w.number_b (told notes) }
+    ensures came { (notes : List Note) (w : Hosts) → IsTranscript notes w → (side : Side) (on : ℕ) → IsBeginning 1 (came side on (told notes)) (sent (number_of_side w.number_a w.number_b side) side on (told notes)) }
+    ensures again { (notes : List Note) (w : Hosts) → IsTranscript notes w → (side : Side) (on : ℕ) → Repeats side on (told notes) }
+{}
+
+/// Nothing is noted only where nothing can be: of a message, where the subnet has none to which this may
+/// happen; of a host that was asked for its next message, where it has none to go out; of a call, or of what
+/// came to a host, never.
+pub fn nothing_is_noted_only_where_nothing_can_be()
+    ensures moves { (before after : List Note) (w : Hosts) (side : sides.Side) (link : ℕ) (wanted : Move) → IsTranscript (before ++ of_world.Nothing side link wanted ∷ after) w → CannotBe wanted (transit_of side link (after_notes before (began w))) }
+    ensures out { (before after : List Note) (w : Hosts) (side : sides.Side) → IsTranscript (before ++ of_world.Out side of_host.Nothing ∷ after) w → next_output (host_of side (after_notes before (began w))) ≡ None }
+    ensures called { (before after : List Note) (w : Hosts) (side : sides.Side) → IsTranscript (before ++ of_world.Called side of_host.Nothing ∷ after) w → ⊥ }
+    ensures came { (before after : List Note) (w : Hosts) (side : sides.Side) (link : ℕ) → IsTranscript (before ++ of_world.Came side link of_host.Nothing ∷ after) w → ⊥ }
+    ensures answered { (before after : List Note) (w : Hosts) (side : sides.Side) (link : ℕ) → IsTranscript (before ++ of_world.Answered side link of_host.Nothing ∷ after) w → ⊥ }
+{}
+
+/// What came from the subnet is noted with the host and the link of the note: a message as one from the host
+/// of the side, on this link; an answer as one about a message to the other host, on this link.
+pub fn what_came_has_the_host_and_the_link_of_its_note()
+    ensures came { (before after : List Note) (w : Hosts) (side : sides.Side) (link : ℕ) (note : HostNote) → IsTranscript (before ++ of_world.Came side link note ∷ after) w → IsMessageFrom (number_of side w) link note }
+    ensures answered { (before after : List Note) (w : Hosts) (side : sides.Side) (link : ℕ) (note : HostNote) → IsTranscript (before ++ of_world.Answered side link note ∷ after) w → IsAnswerAbout (number_of (other side) w) link note }
+{}

@@ -1,6 +1,0 @@
-use Rattle.ncp_two.proofs.Runs.{new-ties}
-use Rattle.ncp_two.proofs.Refusals.{none-refused}
-use Rattle.ncp_two.proofs.laws.nothing_is_refused.Goals as goal
-
-pub returns : goal.returns
-returns c = λ v es new ok. none-refused es v ok (new-ties v new)

@@ -1,5 +1,0 @@
-use Rattle.ncp_two.proofs.OneSide.{by_itself}
-use Rattle.ncp_two.proofs.transcripts.each_host_is_by_itself.Goals as goal
-
-pub returns : goal.returns
-returns c = by_itself

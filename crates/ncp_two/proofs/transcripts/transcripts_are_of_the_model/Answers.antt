@@ -1,5 +1,0 @@
-use Rattle.ncp_two.proofs.Headlines.{of-model}
-use Rattle.ncp_two.proofs.transcripts.transcripts_are_of_the_model.Goals as goal
-
-pub returns : goal.returns
-returns c = of-model

@@ -1,5 +1,0 @@
-use Rattle.ncp_two.proofs.Headlines.{of-rules}
-use Rattle.ncp_two.proofs.transcripts.transcripts_are_of_the_rules.Goals as goal
-
-pub returns : goal.returns
-returns c = of-rules

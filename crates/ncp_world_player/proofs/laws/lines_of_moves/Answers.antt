@@ -1,7 +1,0 @@
-use Rattle.std.proofs.Common.{refl}
-use Rattle.std.specs.Fmt.{digits}
-use Rattle.ncp_world_player.proofs.laws.lines_of_moves.Goals as goal
-
-pub returns : goal.returns
-unfolding digits
-returns c = refl

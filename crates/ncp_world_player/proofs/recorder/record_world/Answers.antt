@@ -1,7 +1,0 @@
-use Rattle.ncp_world_player.proofs.recorder.record_world.Goals as goal
-
-pub returns-clause-told : goal.returns-clause-told
-returns-clause-told g c = c.play_script.ensures.told
-
-pub returns-clause-many : goal.returns-clause-many
-returns-clause-many g c = c.play_script.ensures.many
