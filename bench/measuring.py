@@ -110,9 +110,10 @@ def resident(program, given):
 def instructions(command, source, room, wanted=None):
     """How many instructions a run takes, as valgrind counts them; its source is a line or an open file."""
     counts = os.path.join(room, "callgrind.out")
-    words = ["valgrind", "--tool=callgrind", f"--callgrind-out-file={counts}", *command]
+    words = [shutil.which("valgrind") or "valgrind", "--tool=callgrind", f"--callgrind-out-file={counts}", *command]
     given = {"input": source} if isinstance(source, str) else {"stdin": source}
-    ran = subprocess.run(words, text=True, capture_output=True, **given)
+    # With no environment, since its length moves the stack, and what a copy costs depends on where it stands.
+    ran = subprocess.run(words, text=True, capture_output=True, env={}, **given)
     if wanted is not None:
         expect(source, ran, wanted)
     return int(re.search(r"Collected : (\d+)", ran.stderr)[1])
