@@ -93,6 +93,12 @@ class Ladder {
     this.draw();
   }
 
+  /** There are more events than before. */
+  grow() {
+    this.sheet.style.height = `${(this.run.length + 1) * ROW}px`;
+    this.#soon();
+  }
+
   reveal(event) {
     const top = (event - 1) * ROW, { scrollTop, clientHeight } = this.box;
     if (top < scrollTop + ROW) this.box.scrollTop = Math.max(0, top - 2 * ROW);
