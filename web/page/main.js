@@ -326,7 +326,7 @@ class Page {
 
   /** Shows what the address asks for: a script, or an example by its name, at an event. */
   open(hash) {
-    const asked = new URLSearchParams(hash.replace(/^#/, "")), at = Number(asked.get("at") ?? 0);
+    const asked = new URLSearchParams(hash.replace(/^#/, "")), at = asked.has("at") ? Number(asked.get("at")) : undefined;
     const packed = asked.get("script"), example = this.examples[asked.get("example") ?? "one_connection"];
     const exercise = this.exercises.find(it => it.name === asked.get("exercise"));
     if (packed !== null) {
@@ -336,8 +336,8 @@ class Page {
     else this.choose(null, example ?? "", at);
   }
 
-  /** Shows a script, which may be an exercise or an example. */
-  choose(exercise, text, at = 0) {
+  /** Shows a script, which may be an exercise, at whose end one goes on, or an example. */
+  choose(exercise, text, at = exercise ? Infinity : 0) {
     const example = Object.keys(this.examples).find(it => this.examples[it] === text);
     this.stop();
     this.exercise = exercise;
