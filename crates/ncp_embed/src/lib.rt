@@ -4,6 +4,12 @@
 //! What C has to uphold: a handle is all zeros before its first use, and then what these functions
 //! left there, neither altered nor copied and used twice; no two calls use one handle at a time;
 //! pointers are not null, are aligned, lead to as much as their length says, and do not overlap.
+//!
+//! - *Use:* through `include/ncp.h`: `examples/embed/two_hosts.c`. `docs/EMBEDDING.md` says how an emulator drives it.
+//! - *Proved:* the clauses of `Host`, of the host behind the handle (`code`, `host` and `err`), and of what is told
+//!   each byte (`told`, `bits`).
+//! - *Tests:* `examples/embed/refusals.c` and `digest.c`, whose digest is that of `ncp_test_digest`; `include/compare`
+//!   compares header and sources.
 #![tactic(auto)]
 
 mod asking;
