@@ -25,7 +25,8 @@ class Page {
       change: () => {
         this.stop();
         clearTimeout(this.typing);
-        this.typing = setTimeout(() => this.load(this.editor.text, this.at), WAIT_AFTER_TYPING);
+        // Where it stands at the end, it goes on to what is written there.
+        this.typing = setTimeout(() => this.load(this.editor.text, this.at === this.run.length ? Infinity : this.at), WAIT_AFTER_TYPING);
       },
       choose: number => this.goTo(this.script.eventAt(number)),
     });
