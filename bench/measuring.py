@@ -94,12 +94,26 @@ def least(program, given, wanted):
     return min(found)
 
 
+def resident(program, given):
+    """What a program prints of a line that it is given, and how many bytes it has in memory while it waits for more."""
+    with subprocess.Popen([program], stdin=subprocess.PIPE, stdout=subprocess.PIPE, text=True) as running:
+        running.stdin.write(given)
+        running.stdin.flush()
+        line = running.stdout.readline()
+        # the count of its pages: that of `status` may be wrong by some hundred
+        with open(f"/proc/{running.pid}/smaps_rollup", encoding="ascii") as file:
+            kib = int(re.search(r"Rss:\s+(\d+)", file.read())[1])
+        running.stdin.close()
+    return line, 1024 * kib
+
+
 def instructions(command, source, room, wanted=None):
     """How many instructions a run takes, as valgrind counts them; its source is a line or an open file."""
     counts = os.path.join(room, "callgrind.out")
-    words = ["valgrind", "--tool=callgrind", f"--callgrind-out-file={counts}", *command]
+    words = [shutil.which("valgrind") or "valgrind", "--tool=callgrind", f"--callgrind-out-file={counts}", *command]
     given = {"input": source} if isinstance(source, str) else {"stdin": source}
-    ran = subprocess.run(words, text=True, capture_output=True, **given)
+    # With no environment, since its length moves the stack, and what a copy costs depends on where it stands.
+    ran = subprocess.run(words, text=True, capture_output=True, env={}, **given)
     if wanted is not None:
         expect(source, ran, wanted)
     return int(re.search(r"Collected : (\d+)", ran.stderr)[1])

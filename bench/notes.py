@@ -1,9 +1,7 @@
 """Bytes of memory that a note of a host's transcript takes, over 100,000 inputs of one kind."""
-import re
-import subprocess
 import sys
 
-from measuring import built
+from measuring import built, resident
 
 NAMES = ("ncp_bits", "ncp_host", "ncp_transcript", "anyhow")
 COUNT = 100_000
@@ -15,22 +13,16 @@ KINDS = [
 ]
 
 
-def resident(program, kind, count):
+def memory(program, kind, count):
     """How many bytes the program has in memory once it made its notes."""
-    with subprocess.Popen([program], stdin=subprocess.PIPE, stdout=subprocess.PIPE, text=True) as running:
-        running.stdin.write(f"{kind} {count}\n")
-        running.stdin.flush()
-        notes = count + (kind == "again")  # one of the RST that comes first
-        if running.stdout.readline() != f"{notes}\n":
-            sys.exit(f"{kind} {count}: not so many notes")
-        # the count of its pages: that of `status` may be wrong by some hundred
-        with open(f"/proc/{running.pid}/smaps_rollup", encoding="ascii") as file:
-            kib = int(re.search(r"Rss:\s+(\d+)", file.read())[1])
-        running.stdin.close()
-    return 1024 * kib
+    line, resides = resident(program, f"{kind} {count}\n")
+    notes = count + (kind == "again")  # one of the RST that comes first
+    if line != f"{notes}\n":
+        sys.exit(f"{kind} {count}: not so many notes")
+    return resides
 
 
 def counts(room):
     program = built("notes.txt", "many_notes", NAMES, room)
     for kind, what in KINDS:
-        yield what, (resident(program, kind, COUNT) - resident(program, kind, 0)) / COUNT
+        yield what, (memory(program, kind, COUNT) - memory(program, kind, 0)) / COUNT

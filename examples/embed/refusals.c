@@ -1,5 +1,6 @@
-/* Null handles and null pointers, short buffers, names, commands, what arrived, and a lack of memory at each place: what is
- * answered, and that nothing is touched. It prints nothing where all is as it should be. To be linked with -Wl,--wrap=malloc. */
+/* Null handles and null pointers, short buffers, names, commands, what arrived, as many peers as there can be, and a lack of
+ * memory at each place: what is answered, and that nothing is touched. It prints nothing where all is as it should be. To be
+ * linked with -Wl,--wrap=malloc. */
 #include "ncp.h"
 #include <stdio.h>
 #include <stdlib.h>
@@ -228,6 +229,24 @@ static void no_room_for_text(struct ncp_host *host)
     IS(NCP_DONE, ncp_ask_receive(host, PEER, EVEN, ODD, 64));
 }
 
+/* As many peers as there can be, and one too many. The last has the greatest number, and comes up. */
+static void eight_peers(void)
+{
+    static const uint8_t nine[] = {2, 3, 4, 5, 6, 7, 8, 255, 9};
+    const uint8_t rst[] = {0, 255, 0, 0, 0, 8, 0, 1, 0, 12};
+    const uint8_t rrp[] = {0, 255, 0, 0, 0, 8, 0, 1, 0, 13};
+    struct ncp_host host = NCP_EMPTY;
+    struct ncp_arrived arrived;
+    IS(NCP_NEW_BAD_PEERS, ncp_new(&host, ME, nine, 9));
+    IS(NCP_DONE, ncp_new(&host, ME, nine, 8));
+    IS(NCP_DONE, ncp_receive(&host, rst, sizeof rst, 8 * sizeof rst, &arrived));
+    IS(NCP_ARRIVED_CONTROL, arrived.what);
+    IS(NCP_DONE, ncp_next_output(&host, out, sizeof out, &size));
+    IS(80, (uint32_t)size);
+    IS(0, (uint32_t)memcmp(rrp, out, sizeof rrp));
+    ncp_free(&host);
+}
+
 int main(void)
 {
     struct ncp_host host = NCP_EMPTY;
@@ -255,5 +274,6 @@ int main(void)
     names();
     memset(out, MARK, sizeof out);
     commands();
+    eight_peers();
     return 0;
 }

@@ -44,7 +44,7 @@ impl Kept {
 HIDDEN = """/// Nobody sees it.
 pub fn unseen() {}
 """
-ROWS = """//! Tests.
+TESTS = """//! Tests.
 use low::Kept;
 
 #[test]
@@ -66,15 +66,15 @@ PAGE = """# Proved
 <!-- tools/index: end -->
 By hand.
 """
-ROW = "| `Kept::keep` | Keeps a number, as `crate::Kept` does. | `fits` → `kept`, its result | `low_rows/lib` | `keeps_one` |"
+ROW = "| `Kept::keep` | Keeps a number, as `crate::Kept` does. | `fits` → `kept`, its result | `ncp_test_low/lib` | `keeps_one` |"
 
 
 class Indexing(unittest.TestCase):
     def setUp(self):
         self.room = tempfile.TemporaryDirectory()
         self.addCleanup(self.room.cleanup)
-        for name, text in (("crates.txt", "low:\nlow_rows: low\n"), ("crates/low/src/lib.rt", LIB), ("crates/low/src/keeping.rt", KEEPING),
-                           ("crates/low/src/hidden.rt", HIDDEN), ("crates/low_rows/src/lib.rt", ROWS), ("crates/low/must-fail/keeps_one.edit", EDIT),
+        for name, text in (("crates.txt", "low:\nncp_test_low: low\n"), ("crates/low/src/lib.rt", LIB), ("crates/low/src/keeping.rt", KEEPING),
+                           ("crates/low/src/hidden.rt", HIDDEN), ("crates/ncp_test_low/src/lib.rt", TESTS), ("crates/low/must-fail/keeps_one.edit", EDIT),
                            ("audit/low/drops_to_one.edit", PRIVATE), ("docs/PROVED.md", PAGE)):
             self.write(name, text)
         os.mkdir(f"{self.room.name}/tools")

@@ -1,5 +1,6 @@
 /** The ladder: a line for each host, time downwards, a row for each event. Only the rows that are seen are drawn. */
-const ROW = 28, MARGIN = 24, OVERSCAN = 8;
+// Below the last row is room for the signs of a message that is underway.
+const ROW = 28, BELOW = 2, MARGIN = 24, OVERSCAN = 8;
 
 const escaped = text => text.replace(/[&<>"]/g, it => ({ "&": "&amp;", "<": "&lt;", ">": "&gt;", '"': "&quot;" })[it]);
 
@@ -87,10 +88,16 @@ class Ladder {
     const isNew = run !== this.run;
     this.run = run;
     this.at = at;
-    this.sheet.style.height = `${(run.length + 1) * ROW}px`;
+    this.sheet.style.height = `${(run.length + BELOW) * ROW}px`;
     if (isNew) this.box.scrollTop = 0;
     this.reveal(at);
     this.draw();
+  }
+
+  /** There are more events than before. */
+  grow() {
+    this.sheet.style.height = `${(this.run.length + BELOW) * ROW}px`;
+    this.#soon();
   }
 
   reveal(event) {

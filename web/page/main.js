@@ -1,59 +1,121 @@
 /** The page: a script is played by the module, and shown event by event. */
 const $ = id => document.getElementById(id);
-const WAIT_AFTER_TYPING = 150, LONGEST_PICTURE = 2000, LONGEST_CHECKED = 5000, LINE = 20;
+const WAIT_AFTER_TYPING = 150, LONGEST_PICTURE = 2000, LONGEST_AT_ONCE = 5000;
 
 class Page {
   constructor(module, { examples, exercises }) {
     this.module = module;
-    this.session = new Session(module);
+    this.sessions = new Sessions(module);
     this.examples = examples;
     this.exercises = exercises;
     this.exercise = null;
     this.at = 0;
-    this.stepped = 0;
+    this.loads = 0;
+    this.isLoading = false;
+    this.isBehind = false;
     this.timer = null;
     this.typing = null;
-    this.isEditing = false;
     this.shownPair = [0, 1];
     this.ladder = new Ladder($("ladder"), $("heads"), {
       choose: event => this.goTo(event),
       drag: (from, to) => this.edit(this.script.withMoved(from, to), to),
       move: (verb, from, to, link) => this.insert(this.moveLine(verb, from, to, link)),
     });
+    this.editor = new Editor($("script"), $("numbers"), $("line-now"), {
+      change: () => {
+        this.stop();
+        clearTimeout(this.typing);
+        this.typing = setTimeout(() => this.load(this.editor.text, this.at), WAIT_AFTER_TYPING);
+      },
+      choose: number => this.goTo(this.script.eventAt(number)),
+    });
     this.#fillChoices();
     this.#listen();
+  }
+
+  /** The hosts as they are at the event that is shown. */
+  get session() {
+    return this.sessions.now;
   }
 
   // ---- a script
 
   /** Plays a text from its beginning, and shows it at an event. */
   load(text, at = 0) {
-    if ($("script").value !== text) $("script").value = text;
+    this.editor.show(text);
     this.script = new Script(text);
-    const { status, bytes, error } = this.module.call("play", this.script.bytes);
-    this.status = status;
-    this.run = new Run(asText(bytes), this.script.hosts(), this.script.isMany);
+    this.isOpen = this.sessions.hold(this.script);
+    this.run = new Run(this.script.hosts(), this.script.isMany);
     this.run.addAsked(this.script);
-    this.session.hold(this.script.bytes);
-    this.isOpen = this.session.open(this.script.places[0] ?? [0, 0]) === ANSWER.DONE;
-    this.stepped = 0;
-    this.#tellFault(error);
+    this.loads++;
+    this.isLoading = this.isOpen && this.script.length > LONGEST_AT_ONCE;
+    this.isChecked = !this.isLoading;
     this.#choosePairs();
-    this.#checkExercise(error);
-    $("slider").max = this.run.length;
-    this.goTo(Math.min(at, this.run.length));
+    if (this.isLoading) {
+      this.#loadInSlices(at);
+    } else {
+      this.#playWhole(true);
+      this.goTo(at);
+    }
   }
 
-  /** Another text in the place of the script, as if it were typed, so that the browser can undo it. */
+  #playWhole(isShown) {
+    const { status, bytes, error } = this.module.call("play", this.script.bytes);
+    if (isShown) this.run.addAll(asText(bytes));
+    this.#conclude(status === ANSWER.BAD, error);
+  }
+
+  /** What is known where all is played. */
+  #conclude(hasRefused, error) {
+    this.isLoading = false;
+    this.hasRefused = hasRefused;
+    this.#tellFault(error);
+    this.#checkExercise(error);
+    $("slider").max = this.run.length;
+  }
+
+  /** Plays a long script event by event. What there is of it can be looked at meanwhile. */
+  async #loadInSlices(at) {
+    const { run, script, loads } = this, reader = this.sessions.beginToRead();
+    let [isGood, isShown] = [true, false];
+    this.#tellFault("");
+    this.goTo(0);
+    while (isGood && run.length < script.length) {
+      for (const end = performance.now() + SLICE; run.length < script.length && performance.now() < end;) {
+        isGood = reader.step() === ANSWER.DONE;
+        if (!isGood) break;
+        run.add(reader.said().trimEnd());
+      }
+      this.#grow();
+      if (!isShown && run.length >= at) {
+        isShown = true;
+        if (at) this.goTo(at);
+      }
+      await nextTurn();
+      if (loads !== this.loads) return;
+    }
+    this.sessions.reader = null;
+    if (isGood) this.#conclude(run.hasRefused, "");
+    else {
+      reader.stepped = Infinity;
+      this.#playWhole(false);
+    }
+    this.#grow();
+    if (!isShown) this.goTo(at);
+  }
+
+  /** There are more events than before. */
+  #grow() {
+    $("slider").max = this.run.length;
+    this.#showButtons();
+    this.ladder.grow();
+  }
+
+  /** Another text in the place of the script, as if it were typed. */
   edit(text, at) {
-    const box = $("script"), { activeElement } = document;
+    const { activeElement } = document;
     clearTimeout(this.typing);
-    this.isEditing = true;
-    box.focus({ preventScroll: true });
-    box.select();
-    if (!document.execCommand("insertText", false, text)) box.value = text;
-    this.isEditing = false;
-    activeElement.focus({ preventScroll: true });
+    this.editor.replace(text);
     this.load(text, at);
     if (!activeElement.isConnected || activeElement === document.body) $("ladder").focus({ preventScroll: true });
   }
@@ -70,24 +132,33 @@ class Page {
 
   // ---- an event
 
-  /** Goes to an event: on from where it is, or back by playing from the beginning. */
+  /** Goes to an event. Where the hosts are far from it, they come to it in slices, and the ladder is there at once. */
   goTo(event) {
-    const at = Math.min(Math.max(event, 0), this.run.length);
-    if (at < this.stepped) {
-      this.session.open(this.script.places[0]);
-      this.stepped = 0;
+    const at = this.at = Math.min(Math.max(event, 0), this.run.length), { sessions, loads } = this;
+    const isWanted = () => this.at === at && this.loads === loads, isNear = this.isOpen ? sessions.choose(at) : true;
+    this.isBehind = !isNear;
+    $("held").setAttribute("aria-busy", String(this.isBehind));
+    this.#showPlace();
+    if (isNear) {
+      if (this.isOpen) while (sessions.now.stepped < at) this.#step();
+      this.#showHeld();
+      if (at > AT_ONCE) sessions.park(at, isWanted);
+      return;
     }
-    while (this.stepped < at) this.#step();
-    this.at = at;
-    this.#show();
+    sessions.reach(sessions.now, at, isWanted).then(isThere => {
+      if (!isThere) return;
+      this.isBehind = false;
+      $("held").setAttribute("aria-busy", "false");
+      this.#showHeld();
+      sessions.park(at, isWanted);
+    });
   }
 
   #step() {
-    const status = this.session.step(this.script.places[this.stepped + 1]);
-    this.stepped++;
-    if (status !== ANSWER.DONE) throw new Error(`event ${this.stepped} is answered ${status}`);
-    if (this.run.length <= LONGEST_CHECKED && this.session.said().trimEnd() !== this.run.lines(this.stepped)) {
-      throw new Error(`event ${this.stepped} is told otherwise than in the whole script`);
+    const { session } = this;
+    session.next();
+    if (this.isChecked && session.said().trimEnd() !== this.run.lines(session.stepped)) {
+      throw new Error(`event ${session.stepped} is told otherwise than in the whole script`);
     }
   }
 
@@ -113,36 +184,29 @@ class Page {
 
   // ---- what is shown
 
-  #show() {
-    const { at, run } = this, lines = at ? run.lines(at) : "";
+  /** Where it stands: in the ladder, in the script, and among the buttons. */
+  #showPlace() {
+    const { at, run } = this;
     this.ladder.show(run, at);
     $("slider").value = at;
+    $("now").textContent = at ? run.lines(at) : this.isOpen ? "No event has happened: the hosts are new." : "There are no hosts yet.";
+    this.#showButtons();
+    this.editor.mark(this.script.numberOf(at));
+  }
+
+  #showButtons() {
+    const { at, run } = this;
     $("slider").setAttribute("aria-valuetext", `event ${at} of ${run.length}`);
     $("place").textContent = `${at} of ${run.length}`;
-    $("now").textContent = lines || (this.isOpen ? "No event has happened: the hosts are new." : "There are no hosts yet.");
     $("back").disabled = $("first").disabled = at === 0;
     $("step").disabled = $("last").disabled = at === run.length;
-    this.#showPlace();
+    if (this.isLoading) $("status").textContent = `playing: ${run.length} of ${this.script.length} events`;
+  }
+
+  /** What the hosts hold. */
+  #showHeld() {
     this.#showMessage();
     this.#showHosts();
-  }
-
-  /** The line of the script at which it stands. */
-  #showPlace() {
-    const number = this.at ? this.script.numberOf(this.at) : this.script.numberOf(0);
-    $("line-now").style.transform = `translateY(${(number - 1) * LINE - $("script").scrollTop}px)`;
-    const top = (number - 1) * LINE, { scrollTop, clientHeight } = $("script");
-    if (document.activeElement !== $("script") && (top < scrollTop || top + 2 * LINE > scrollTop + clientHeight)) $("script").scrollTop = Math.max(0, top - clientHeight / 2);
-    this.#showNumbers();
-  }
-
-  #showNumbers() {
-    const { scrollTop, clientHeight } = $("script"), first = Math.floor(scrollTop / LINE) + 1;
-    const count = Math.min(Math.ceil(clientHeight / LINE) + 1, this.script.count - first + 1);
-    const number = this.at ? this.script.numberOf(this.at) : this.script.numberOf(0);
-    $("numbers").style.transform = `translateY(${-(scrollTop % LINE)}px)`;
-    $("numbers").innerHTML = Array.from({ length: Math.max(count, 0) }, (_, each) => `<span class="${first + each === this.faultLine ? "refused" : ""}">${first + each}</span>`).join("");
-    $("line-now").style.transform = `translateY(${(number - 1) * LINE - scrollTop}px)`;
   }
 
   #showMessage() {
@@ -189,12 +253,12 @@ class Page {
 
   #tellFault(error) {
     const [, line, name] = /^ncp: (?:line (\d+): )?(\w+)/.exec(error) ?? [];
-    this.faultLine = line ? Number(line) : name === "BadHosts" ? this.script.numberOf(0) : null;
-    const words = !name ? "" : name === "BadLine" ? this.module.explain("wrong_line", this.script.line(0), this.#textOf(this.faultLine))
+    this.editor.fault = line ? Number(line) : name === "BadHosts" ? this.script.numberOf(0) : null;
+    const words = !name ? "" : name === "BadLine" ? this.module.explain("wrong_line", this.script.line(0), this.#textOf(this.editor.fault))
       : name === "BadHosts" ? this.module.explain("wrong_first_line", this.script.line(0)) : this.module.explain("meaning", name);
     $("fault").hidden = !name;
     $("fault").innerHTML = name ? `<b>${escaped(error.split("\n")[0])}</b><br>${escaped(words)}` : "";
-    $("status").textContent = name ? "" : this.status === ANSWER.BAD ? "played; a call was refused" : "played; no call was refused";
+    $("status").textContent = name ? "" : this.hasRefused ? "played; a call was refused" : "played; no call was refused";
   }
 
   #textOf(number) {
@@ -262,19 +326,22 @@ class Page {
 
   /** Shows what the address asks for: a script, or an example by its name, at an event. */
   open(hash) {
-    const asked = new URLSearchParams(hash.replace(/^#/, "")), at = Number(asked.get("at") ?? 0);
+    const asked = new URLSearchParams(hash.replace(/^#/, "")), at = asked.has("at") ? Number(asked.get("at")) : undefined;
     const packed = asked.get("script"), example = this.examples[asked.get("example") ?? "one_connection"];
     const exercise = this.exercises.find(it => it.name === asked.get("exercise"));
     if (packed !== null) {
-      const text = atob(packed.replace(/-/g, "+").replace(/_/g, "/"));
-      this.choose(null, asText(Uint8Array.from(text, it => it.charCodeAt(0))), at);
+      const text = packed.replace(/-/g, "+").replace(/_/g, "/");
+      this.choose(null, asText(unpacked(text)), at);
     } else if (exercise) this.choose(exercise, exercise.start, at);
     else this.choose(null, example ?? "", at);
   }
 
-  choose(exercise, text, at = 0) {
+  /** Shows a script, which may be an exercise, at whose end one goes on, or an example. */
+  choose(exercise, text, at = exercise ? Infinity : 0) {
+    const example = Object.keys(this.examples).find(it => this.examples[it] === text);
     this.stop();
     this.exercise = exercise;
+    $("choice").value = exercise ? `exercise ${exercise.name}` : example ? `example ${example}` : "";
     this.load(text, at);
   }
 
@@ -303,14 +370,6 @@ class Page {
       this.shownPair = $("pair").value.split(" ").map(Number);
       this.#showHosts();
     };
-    $("script").oninput = () => {
-      if (this.isEditing) return;
-      this.stop();
-      clearTimeout(this.typing);
-      this.typing = setTimeout(() => this.load($("script").value, this.at), WAIT_AFTER_TYPING);
-    };
-    $("script").onscroll = () => this.#showNumbers();
-    $("script").ondblclick = () => this.goTo(this.script.eventAt($("script").value.slice(0, $("script").selectionStart).split("\n").length));
     $("transit").onclick = event => { if (event.target.dataset.line) this.insert(event.target.dataset.line); };
     $("save-svg").onclick = () => this.saveSvg();
     $("save-script").onclick = () => this.save(this.script.bytes, "run.script", "text/plain");
@@ -349,9 +408,8 @@ class Page {
 }
 
 async function begin() {
-  const bytes = text => Uint8Array.from(atob(text), it => it.charCodeAt(0));
-  const data = JSON.parse($("data").textContent);
-  const page = new Page(await Module.load(bytes(data.module)), data);
+  const module = Module.load(unpacked($("module").textContent));
+  const page = new Page(await module, JSON.parse($("data").textContent));
   page.open(location.hash);
   globalThis.ncpPage = page;
   page.readyAfter = performance.now();

@@ -10,8 +10,16 @@ const FATES = ["free", "underway", "delivered", "lost", "dead"];
 /** As many bytes as the lines of one event have at most, and as the longest message has. */
 const ROOM = { event: 1 << 16, message: 1024, words: 4096 };
 
-const asText = bytes => new TextDecoder().decode(bytes);
-const asBytes = text => new TextEncoder().encode(text);
+const decoder = new TextDecoder(), encoder = new TextEncoder();
+const asText = bytes => decoder.decode(bytes);
+const asBytes = text => encoder.encode(text);
+
+/** The bytes that a text in base 64 spells. */
+function unpacked(text) {
+  const letters = atob(text), bytes = new Uint8Array(letters.length);
+  for (let at = 0; at < letters.length; at++) bytes[at] = letters.charCodeAt(at);
+  return bytes;
+}
 
 class Module {
   static async load(code) {
@@ -96,23 +104,29 @@ class Session {
     this.handle = module.room(8);
     module.memory.fill(0, this.handle, this.handle + 8);
     this.out = module.room(ROOM.event);
-    this.script = null;
+    this.stepped = 0;
   }
 
-  /** Takes the bytes of a script, from which lines are played by where they begin and end. */
-  hold(bytes) {
-    if (this.script !== null) this.module.free(this.script);
-    this.script = this.module.put(bytes);
+  /** New hosts, as the first line of a script names them. Its bytes stand in the module at an address. */
+  open(script, at) {
+    this.script = script;
+    this.from = at;
+    this.stepped = 0;
+    const [begin, end] = script.place(0);
+    return this.module.exports.ncp_web_open(BigInt(this.handle), BigInt(at + begin), BigInt(end - begin));
   }
 
-  open([begin, end]) {
-    return this.module.exports.ncp_web_open(BigInt(this.handle), BigInt(this.script + begin), BigInt(end - begin));
-  }
-
-  /** Plays a line of the script; its text is read by `said`. */
-  step([begin, end]) {
+  /** Plays the next line; its text is read by `said`. */
+  step() {
+    const [begin, end] = this.script.place(++this.stepped);
     return this.module.exports.ncp_web_step(
-      BigInt(this.handle), BigInt(this.script + begin), BigInt(end - begin), BigInt(this.out), BigInt(ROOM.event), BigInt(this.module.counts));
+      BigInt(this.handle), BigInt(this.from + begin), BigInt(end - begin), BigInt(this.out), BigInt(ROOM.event), BigInt(this.module.counts));
+  }
+
+  /** The same, where it has to be played. */
+  next() {
+    const status = this.step();
+    if (status !== ANSWER.DONE) throw new Error(`event ${this.stepped} is answered ${status}`);
   }
 
   said() {

@@ -3,51 +3,51 @@ const KINDS = ["call", "out", "deliver", "lose", "dead", "answer"];
 const MOVES = new Set(KINDS.slice(2));
 
 class Run {
-  constructor(text, hosts, isMany) {
-    this.text = text;
+  constructor(hosts, isMany) {
     this.hosts = hosts;
     this.isMany = isMany;
-    this.starts = [];
+    this.events = [];
     this.messages = [];
     this.answers = new Map();
     this.links = new Map();
     this.pairs = new Map();
     this.blocks = [];
-    this.#read();
+    this.last = new Map();
+    this.hasRefused = false;
   }
 
   static BLOCK = 64;
 
   get length() {
-    return this.starts.length;
+    return this.events.length;
   }
 
   /** All lines of an event, the first event being 1. */
   lines(event) {
-    return this.text.slice(this.starts[event - 1], this.starts[event] ?? this.text.length).trimEnd();
+    return this.events[event - 1];
   }
 
-  #read() {
-    const { text } = this, last = new Map();
-    for (let at = 0, end; at < text.length; at = end + 1) {
-      end = text.indexOf("\n", at);
-      if (end < 0) end = text.length;
-      if (text.charCodeAt(at) === 32) {
-        this.#readDetail(text.slice(at + 2, end));
-        continue;
-      }
-      if (this.starts.length % Run.BLOCK === 0) this.blocks.push([...last.values()].filter(it => it.end === null));
-      this.starts.push(at);
-      this.#readEvent(text.slice(at, end).split(" "), last);
-    }
+  /** Takes the lines of all events: a line of details begins with a space. */
+  addAll(text) {
+    for (const lines of text.split(/\n(?! )/)) if (lines) this.add(lines);
+  }
+
+  /** Takes the lines of the next event. */
+  add(lines) {
+    const [line, ...details] = lines.split("\n");
+    if (this.length % Run.BLOCK === 0) this.blocks.push([...this.last.values()].filter(it => it.end === null));
+    this.events.push(lines);
+    this.hasRefused ||= line.includes(" refused ");
+    this.#readEvent(line.split(" "));
+    for (const it of details) this.#readDetail(it.slice(2));
   }
 
   #column(name) {
     return this.hosts.findIndex(it => it.name === name);
   }
 
-  #readEvent([number, name, verb, ...rest], last) {
-    const event = this.starts.length, from = this.#column(name);
+  #readEvent([number, name, verb, ...rest]) {
+    const event = this.length, { last } = this, from = this.#column(name);
     this.went = null;
     if (verb === "out" && rest[0] !== "nothing") {
       const [to, link] = [Number(rest[0].slice(5)), Number(rest[1].slice(5))];

@@ -3,7 +3,8 @@ class Script {
   constructor(text) {
     this.text = text;
     this.bytes = asBytes(text);
-    this.places = [];
+    this.begins = [];
+    this.ends = [];
     this.numbers = [];
     this.count = 1;
     this.#find();
@@ -16,7 +17,8 @@ class Script {
       if (end < 0) end = bytes.length;
       const last = end > begin && bytes[end - 1] === CR ? end - 1 : end;
       if (last > begin && bytes[begin] !== HASH) {
-        this.places.push([begin, last]);
+        this.begins.push(begin);
+        this.ends.push(last);
         this.numbers.push(this.count);
       }
       begin = end + 1;
@@ -24,10 +26,19 @@ class Script {
     this.count--;
   }
 
-  /** The words of the line of an event, the first line being that of event 0. */
+  /** How many events the lines behind the first ask for. */
+  get length() {
+    return Math.max(this.begins.length - 1, 0);
+  }
+
+  /** Where the line of an event begins and ends, the first line being that of event 0. */
+  place(event) {
+    return [this.begins[event] ?? 0, this.ends[event] ?? 0];
+  }
+
+  /** The words of the line of an event. */
   line(event) {
-    const place = this.places[event];
-    return place ? asText(this.bytes.subarray(...place)) : "";
+    return asText(this.bytes.subarray(...this.place(event)));
   }
 
   /** The number of the line of an event in the text, from 1. */

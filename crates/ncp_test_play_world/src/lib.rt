@@ -9,6 +9,8 @@ mod faults;
 #[cfg(test)]
 mod ledgers;
 #[cfg(test)]
+mod limits;
+#[cfg(test)]
 mod many;
 #[cfg(test)]
 mod opening;

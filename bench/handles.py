@@ -1,0 +1,73 @@
+"""The library for C: texts that come, are answered and go out, of many hosts in one process, and what a peer takes of memory."""
+import functools
+import os
+import subprocess
+import sys
+
+from measuring import HERE, TOP, Row, instructions, least, resident
+
+COUNT, FEW = 100_000, 8_000
+MANY = ((125, 8), (1_000, 1))  # hosts, and the peers of each
+SHAPES = ((1, 1), (1, 8), *MANY)
+STATES = [("make", "made"), ("open", "open")]
+WRAPPED = "-Wl," + ",".join(f"--wrap={name}" for name in ("malloc", "realloc", "free"))
+
+
+@functools.cache
+def library(room):
+    """The archive of these sources: that of prebuilt/, or else it is proved and built."""
+    if subprocess.run([os.path.join(TOP, "tools", "prebuild"), "--has", "libncp.a"]).returncode == 0:
+        return os.path.join(TOP, "prebuilt", "libncp.a")
+    if subprocess.run([os.path.join(TOP, "include", "library"), room], stdout=subprocess.DEVNULL).returncode:
+        sys.exit("the library for C was not built")
+    return os.path.join(room, "libncp.a")
+
+
+@functools.cache
+def linked(archive, room):
+    """The program over an archive."""
+    path = os.path.join(room, "handles")
+    words = ["-std=c99", "-O2", "-Wall", "-Wextra", "-Werror", "-I", os.path.join(TOP, "include"), WRAPPED]
+    subprocess.run(["cc", *words, "-o", path, os.path.join(HERE, "handles.c"), archive], check=True)
+    return path
+
+
+def of_hosts(hosts, peers):
+    return f"{hosts:,} host{'s' if hosts > 1 else ''} of {peers} peer{'s' if peers > 1 else ''}"
+
+
+def asked(hosts, peers, count):
+    """What the program is given, and what it has to print: all texts passed."""
+    return f"pass {hosts} {peers} {count}\n", f"{count}\n"
+
+
+def rows(room):
+    program = linked(library(room), room)
+    for hosts, peers in SHAPES:
+        whole, none = (least(program, *asked(hosts, peers, count)) for count in (COUNT, 0))
+        _, peak = resident(program, asked(hosts, peers, COUNT)[0])
+        yield Row("C: text in and out", of_hosts(hosts, peers), COUNT, "texts", max(whole - none, 1e-6), peak // 1024)
+
+
+def counts(room):
+    """Instructions a text, which comes in and goes out."""
+    program = linked(library(room), room)
+    for hosts, peers in SHAPES:
+        whole, none = (instructions([program], given, room, wanted) for given, wanted in (asked(hosts, peers, count) for count in (FEW, 0)))
+        yield f"text in and out, {of_hosts(hosts, peers)}", (whole - none) / FEW
+
+
+def memory(program, word, hosts, peers):
+    """The bytes that are resident, those that the library has of malloc, and their blocks."""
+    line, resides = resident(program, f"{word} {hosts} {peers} 0\n")
+    return resides, *map(int, line.split())
+
+
+def weights(room):
+    """What a peer takes of memory, where there are many hosts beside one that has as many peers."""
+    program = linked(library(room), room)
+    for hosts, peers in MANY:
+        for word, state in STATES:
+            whole, one = (memory(program, word, count, peers) for count in (hosts, 1))
+            for what, of_all, of_one in zip(("bytes resident", "bytes of malloc", "blocks of malloc"), whole, one):
+                yield f"{what}, {of_hosts(hosts, peers)}, {state}", (of_all - of_one) / ((hosts - 1) * peers)

@@ -1,0 +1,84 @@
+"""tools/figures in a repository of four crates: what it counts, and what it leaves out."""
+import os
+import shutil
+import subprocess
+import tempfile
+import unittest
+
+TOP = os.path.dirname(os.path.dirname(os.path.dirname(os.path.abspath(__file__))))
+LONG = "a" * 120
+LOW = f"""//! Lines. fn spoken(page: u8, sink: u8) is none.
+fn say<W: Sink<Item = (u8, u8)>, F: Fn(u8) -> u8>(page: &mut Page, words: (u8, u8), sink: &mut W) {{}}
+// fn unsaid(page: u8, sink: u8) {{}}
+fn paged(page: &mut Page, one: fn(u8, u8) -> u8, two: &[u8; 2], three: u8, four: u8) {{}}
+impl Low {{
+    fn many(
+        &mut self,
+        one: Result<u8, u8>,
+        two: u8,
+        three: u8,
+        four: u8,
+        five: u8,
+    ) -> Result<u8, u8>
+        ensures long {{ {LONG} }}
+        ensures short {{ true }}
+    {{
+        // ensures {LONG}
+        self.call_back(1)
+    }}
+}}
+"""
+TESTS = """#[test]
+fn a_test(page: u8, sink: u8) {
+    low.call_back(1);
+}
+"""
+PROOF = """use Rattle.low.specs.Things as things
+pub use Rattle.low.specs.Things.{told as said, at}
+use Rattle.ncp_proof_low.proofs.law.Goals as goal
+use Rattle.low.specs.Things.{told}
+"""
+FILES = {
+    "crates/low/src/lib.rt": LOW,
+    "crates/low/specs/Things.antt": "told : ℕ → ℕ\ntold n = n\n\npub record At : Type where\n  at : ℕ\n",
+    "crates/high/src/lib.rt": "//! More.\n",
+    "crates/high/specs/Others.antt": "abbrev told : ℕ → ℕ\ntold n = n\n\nalone (n : ℕ) : ℕ\nalone n = n\n",
+    "crates/ncp_proof_low/src/laws.rt": "ghost use Rattle.low.specs.Things as things;\n",
+    "crates/ncp_proof_low/proofs/Law.antt": PROOF,
+    "crates/ncp_world/src/lib.rt": "//! A world.\n\nfn run() {}\n",
+    "crates/ncp_test_low/src/lib.rt": TESTS,
+}
+WANTED = {"streams": "1", "parameters": "1", "clauses": "1", "meanings": "1", "names": "1", "names-in-proofs": "2", "tower": "3", "act": "2"}
+
+
+class Figures(unittest.TestCase):
+    def setUp(self):
+        self.room = tempfile.TemporaryDirectory()
+        self.addCleanup(self.room.cleanup)
+        for name, text in FILES.items():
+            path = f"{self.room.name}/{name}"
+            os.makedirs(os.path.dirname(path), exist_ok=True)
+            with open(path, "w", encoding="utf-8") as file:
+                file.write(text)
+        os.mkdir(f"{self.room.name}/tools")
+        shutil.copy(f"{TOP}/tools/figures", f"{self.room.name}/tools")
+
+    def figures(self, *words):
+        ran = subprocess.run([f"{self.room.name}/tools/figures", *words], stdout=subprocess.PIPE, stderr=subprocess.PIPE, text=True)
+        return ran.returncode, ran.stdout
+
+    def test_the_table(self):
+        status, said = self.figures()
+        cells = [[it.strip() for it in line.strip("|").split("|")] for line in said.splitlines()[2:]]
+        self.assertEqual((status, {it[0]: it[2] for it in cells}), (0, WANTED), said)
+
+    def test_the_places(self):
+        self.assertEqual(self.figures("--where", "parameters"), (0, "crates/low/src/lib.rt:6: many: 6\n"))
+        self.assertEqual(self.figures("--where", "meanings"), (0, "crates/high/specs/Others.antt:1: told: high, low\n"))
+
+    def test_a_figure_that_is_none(self):
+        self.assertEqual(self.figures("--where", "beauty"), (1, ""))
+
+
+if __name__ == "__main__":
+    unittest.main()
