@@ -1,3 +1,4 @@
 pub mod Noting
 pub mod Members
 pub mod Stepping
+pub mod Settling

@@ -1,5 +1,5 @@
 //! `Crowd`: two to eight hosts and the subnet between them.
-ghost use Rattle.std.specs.Prelude.{◌≡◌, ◌<◌, ◌==◌, true, false, map, length, IfOk, OnErr};
+ghost use Rattle.std.specs.Prelude.{◌≡◌, ◌<◌, ◌==◌, true, false, map, length, slice_get, Some, IfOk, OnErr};
 ghost use Rattle.std.specs.Box.{boxed_slice_items};
 ghost use Rattle.std.specs.List.{position};
 ghost use Rattle.std.specs.Option.{option_copied};
@@ -14,7 +14,7 @@ ghost use Rattle.ncp_transcript_two.specs.Between.{after_out};
 ghost use Rattle.ncp_step.specs.Told.{told, put_told};
 ghost use Rattle.ncp_transcript_many.specs.declared.many_event.ManyEvent.TheVariants as events;
 ghost use Rattle.ncp_transcript_many.specs.Numbered.{thing_in, at_thing};
-ghost use Rattle.ncp_transcript_many.specs.Crowd.{is_there, are_hosts, others, new_crowd, host_or_none, after_many};
+ghost use Rattle.ncp_transcript_many.specs.Crowd.{numbers_in, is_there, are_hosts, others, new_crowd, host_or_none, after_many};
 ghost use Rattle.ncp_transcript_many.specs.ManyHappening.{are_two, are_there, gives, ManyNoted};
 ghost use Rattle.ncp_many.specs.Found.{IsAt, at_told};
 
@@ -257,6 +257,21 @@ impl<S: BitStore> Crowd<S> {
     {
         let place = first_place(&self.members, number)?;
         Some(&self.members[place].host)
+    }
+
+    /// How many hosts there are.
+    pub(crate) fn count(&self) -> usize
+        ensures { result ≡ length self.now.hosts }
+    {
+        self.members.len()
+    }
+
+    /// The number of the host at a place in the row.
+    pub(crate) fn number_at(&self, place: usize) -> u8
+        requires { place < length self.now.hosts }
+        ensures number { slice_get (numbers_in self.now) place ≡ Some result }
+    {
+        self.members[place].number
     }
 
     // Whether the two hosts of a message are there, and differ.

@@ -11,6 +11,8 @@ ghost use Rattle.ncp_proof_progress_notes.specs.NotesWork.{MovesArePaidFor};
 ghost use Rattle.ncp_proof_progress_settled.specs.Settled.{EndsFinished};
 ghost use Rattle.ncp_proof_statement.specs.EachTwo.{HeadlineOfEachTwo};
 
+mod settling;
+
 use crate::crowd::{Crowd, are_hosts};
 use crate::many_fault::ManyFault;
 use crate::transcript::Transcript;
@@ -27,8 +29,8 @@ use std::marker::Model;
 ///
 /// A note takes at most [`crate::MANY_NOTE_BYTES`] bytes; beside them one with a message has the message's,
 /// one of the errors that were read has theirs, and one of a call at a host that is not there has its text's.
-/// Only [`Many::new`] and [`Many::step`] take memory: the readers are lent the hosts and the notes, and no
-/// allocator is in their reach.
+/// Only what makes hosts, and what makes an event happen, takes memory: the readers are lent the hosts and the notes,
+/// and no allocator is in their reach.
 #[derive(Drop)]
 pub struct Many<S: BitStore> {
     crowd: Crowd<S>,

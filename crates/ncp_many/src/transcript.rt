@@ -2,6 +2,8 @@
 ghost use Rattle.std.specs.Prelude.{◌≡◌, [], OnOk, OnErr};
 ghost use Rattle.ncp_transcript_many.specs.ManyTranscript.{IsManyStep};
 
+mod attempting;
+
 use crate::crowd::Crowd;
 use ncp_bits::BitStore;
 use ncp_transcript_many::{ManyEvent, ManyNote};

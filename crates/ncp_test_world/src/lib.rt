@@ -17,6 +17,8 @@ mod many;
 #[cfg(test)]
 mod many_faults;
 #[cfg(test)]
+mod many_settled;
+#[cfg(test)]
 mod many_tried;
 #[cfg(test)]
 mod reading;

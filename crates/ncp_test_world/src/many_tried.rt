@@ -84,4 +84,11 @@ impl<S: BitStore> ManyTried<S> {
                 || (self.notes().len() == many && self.many.step(event).is_ok())
         );
     }
+
+    /// Settles, and answers how many events that made. Where memory is refused once, the rest is asked for again.
+    pub(super) fn settles(&mut self, rt: &impl Abort) -> usize {
+        let many = self.notes().len();
+        assert!(rt; self.many.settle().is_ok() || self.many.settle().is_ok());
+        self.notes().len().saturating_sub(many)
+    }
 }

@@ -276,6 +276,39 @@ fn is_refused<S: BitStore>(alloc: Global) -> Result<bool, ManyFault> {
     Ok(refused)
 }
 
+/// Settles, and once more where memory is refused: what happened before stands. Whether it was.
+fn settles<S: BitStore>(rt: &impl Abort, many: &mut Many<S>) -> bool {
+    let refused = many.settle().is_err();
+    assert!(rt; !refused || many.settle().is_ok());
+    refused
+}
+
+/// Three hosts settle behind the reset that the first of all events is, twice, and note the same. Whether memory was
+/// refused.
+fn settle_alike<S: BitStore>(rt: &impl Abort, alloc: Global) -> Result<bool, Fail> {
+    let (mut one, _refused) = made::<S>(alloc)?;
+    let (mut other, _refused) = made::<S>(alloc)?;
+    let _refused = does(rt, &mut one, &OPENING[0]);
+    let _refused = does(rt, &mut other, &OPENING[0]);
+    let first = settles(rt, &mut one);
+    let second = settles(rt, &mut other);
+    assert!(rt; one.transcript().len() == 7 && other.transcript().len() == 7);
+    for (note, again) in one.transcript().iter().zip(other.transcript().iter()) {
+        assert!(rt; is_same(alloc, note, again)?);
+    }
+    Ok(first || second)
+}
+
+#[test]
+fn many_settle(rt: HostRuntime) -> Result<(), Fail> {
+    let plain = settle_alike::<PlainStore>(&rt, rt.alloc())?;
+    let packed = settle_alike::<PackedStore>(&rt, rt.alloc())?;
+    if plain || packed {
+        println!(rt; "refused: what happened before stands, and the rest may be asked for again")?;
+    }
+    Ok(())
+}
+
 #[test]
 fn many_new(rt: HostRuntime) -> Result<(), Fail> {
     let plain = is_refused::<PlainStore>(rt.alloc())?;

@@ -1,0 +1,10 @@
+use Rattle.std.proofs.Common.{◌-◌, ◌^◌, length}
+use Rattle.ncp_proof_progress_many.specs.ManySettling.{ManyGoOn}
+use Rattle.ncp_many.proofs.many.Many.go_on_to_the_end.Given as goal
+
+abbrev pub invariant-loop : goal.invariant-loop
+invariant-loop g l = ManyGoOn l.initial.self l.self
+
+-- there is room for so many notes yet
+abbrev pub decreases-loop : goal.decreases-loop
+decreases-loop g l = 2 ^ 63 - length l.self.notes

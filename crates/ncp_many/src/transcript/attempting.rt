@@ -1,0 +1,45 @@
+//! Events that are noted only where their notes say something.
+ghost use Rattle.std.specs.Prelude.{◌≡◌, IfOk, OnErr};
+ghost use Rattle.ncp_proof_progress_many.specs.ManySettling.{many_says_nothing, IsManyTried};
+
+use crate::crowd::Crowd;
+use crate::transcript::Transcript;
+use ncp_bits::BitStore;
+use ncp_transcript::HostNote;
+use ncp_transcript_many::{ManyEvent, ManyNote};
+use std::alloc::AllocError;
+
+// Whether a note says nothing: no link was ready, or the subnet had no message to which this may happen.
+fn says_nothing(note: &ManyNote) -> bool
+    ensures { result ≡ many_says_nothing note.now }
+{
+    matches!(
+        note,
+        ManyNote::Nothing { .. }
+            | ManyNote::Out {
+                note: HostNote::Nothing,
+                ..
+            }
+    )
+}
+
+impl Transcript {
+    /// Does what an event says, and notes it, unless its note says nothing: then nothing has happened, and it answers
+    /// false. The notes grow first.
+    pub(crate) fn attempt<S: BitStore>(
+        &mut self,
+        crowd: &mut Crowd<S>,
+        event: &ManyEvent,
+    ) -> Result<bool, AllocError>
+        ensures tried { IfOk result (λ done. IsManyTried event.now done (record { crowd = crowd.old; notes = self.old }) (record { crowd = crowd.new; notes = self.new })) }
+        ensures err { OnErr result ((self.new ≡ self.old) × (crowd.new ≡ crowd.old)) }
+    {
+        self.notes.reserve(1)?;
+        let note = crowd.happen(self.alloc, event)?;
+        if says_nothing(&note) {
+            return Ok(false);
+        }
+        self.notes.push_reserved(note);
+        Ok(true)
+    }
+}

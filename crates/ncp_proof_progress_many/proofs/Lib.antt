@@ -1,0 +1,3 @@
+mod ManyPaying
+pub mod ManyGoing
+pub mod ManyResting

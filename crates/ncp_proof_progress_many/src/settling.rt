@@ -1,0 +1,27 @@
+//! How much can happen to two to eight hosts by itself.
+ghost use Rattle.std.specs.Prelude.{◌≡◌, ℕ, Bool, List, true};
+ghost use Rattle.ncp_transcript.specs.declared.call.Call.TheVariants as calls;
+ghost use Rattle.ncp_transcript.specs.declared.note.HostNote.TheVariants as of_host;
+ghost use Rattle.ncp_transcript_many.specs.declared.many_event.ManyEvent.{ManyEvent};
+ghost use Rattle.ncp_transcript_many.specs.declared.many_note.ManyNote.TheVariants as notes;
+ghost use Rattle.ncp_transcript_many.specs.Crowd.{Crowd};
+ghost use Rattle.ncp_transcript_many.specs.ManyTranscript.{IsManyTranscript, Noted_many};
+ghost use Rattle.ncp_proof_progress_many.specs.ManySettling.{ManyByItself, ManyGoOn, AreWithinWork, many_says_nothing};
+
+/// After every transcript of two to eight hosts, what happens by itself between each two is within the work that is
+/// left between the two: however it goes on at and between the others, it ends after no more events than what the
+/// two's users had asked of each other pays for.
+pub fn what_happens_among_many_is_within_the_work()
+    ensures within { (before now : Noted_many) → IsManyTranscript before.notes before.crowd → ManyGoOn before now → AreWithinWork before now }
+{}
+
+/// A message goes out by itself. It is not lost, does not find its destination dead, and no user asks for anything;
+/// nor is it an event where nothing can be.
+pub fn messages_of_many_move_by_themselves()
+    ensures out { (host : ℕ) (message : List Bool) (m : Crowd) → ManyByItself (notes.Out host (of_host.Out message)) m }
+    ensures lost { (from to link : ℕ) (m : Crowd) → ManyByItself (notes.Lost from to link) m → ⊥ }
+    ensures dead { (from to link : ℕ) (m : Crowd) → ManyByItself (notes.FoundDead from to link) m → ⊥ }
+    ensures reset { (host peer : ℕ) (m : Crowd) → ManyByItself (notes.Called host (of_host.Done (calls.Reset peer))) m → ⊥ }
+    ensures nothing { (event : ManyEvent) (m : Crowd) → ManyByItself (notes.Nothing event) m → ⊥ }
+    ensures says { (event : ManyEvent) → many_says_nothing (notes.Nothing event) ≡ true }
+{}
