@@ -121,7 +121,10 @@ class Ladder {
     const { run, at, box } = this;
     const first = Math.max(1, Math.floor(box.scrollTop / ROW) + 1 - OVERSCAN);
     const last = Math.min(run.length, Math.ceil((box.scrollTop + box.clientHeight) / ROW) + OVERSCAN);
-    const width = this.width, picture = new Picture(run, width, at);
+    const width = this.width, picture = new Picture(run, width, at), shown = [run, run.length, at, first, last, width];
+    // What is there stays, so that nothing is changed below a finger.
+    if (shown.every((it, each) => it === this.shown?.[each])) return;
+    this.shown = shown;
     this.heads.style.width = `${width}px`;
     this.heads.innerHTML = run.hosts.map((it, host) => `<span style="left:${picture.column(host)}px">${escaped(run.isMany ? `host ${it.number}` : `${it.name} (${it.number})`)}</span>`).join("");
     const rows = [];
@@ -194,6 +197,7 @@ class Ladder {
   #letGo() {
     this.drag = null;
     this.box.classList.remove("dragging");
+    for (const row of this.sheet.querySelectorAll(".target")) row.classList.remove("target");
   }
 
   /** The whole ladder up to now as a picture of its own. */
