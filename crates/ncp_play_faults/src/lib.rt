@@ -16,4 +16,4 @@ pub use header::wrong_header;
 pub use line::wrong_line;
 pub use names::{NAMES, meaning};
 pub use near::nearest;
-pub use usage::Player;
+pub use usage::{Player, verbs};

@@ -4,7 +4,8 @@ use crate::arguments::{written, wrong_arguments};
 use crate::near::nearest;
 use crate::spelling::misspelled;
 use crate::usage::{
-    Argument, CALLS, OF_ONE_HOST, OF_THE_SUBNET, PEER, PLAIN, Player, Scene, TO, Usage, VERBS,
+    Argument, CALLS, OF_ONE_HOST, OF_THE_SUBNET, PEER, PLAIN, Player, Scene, TO, Usage, is_verb,
+    usage_in, verbs,
 };
 use std::alloc::{AllocError, Global};
 
@@ -13,11 +14,6 @@ use std::alloc::{AllocError, Global};
 struct Form {
     leading: Option<Argument>,
     usage: &'static Usage,
-}
-
-// The usage of this name.
-fn usage_in(usages: &'static [Usage], verb: &str) -> Option<&'static Usage> {
-    usages.iter().find(|usage| usage.0 == verb)
 }
 
 // The usage of a word in a scene, if it is one of its words.
@@ -54,7 +50,7 @@ fn form_of(scene: Scene, verb: &str) -> Option<Form> {
 
 // A word that is none of those that name what is to be done.
 fn unknown_verb(alloc: Global, scene: Scene, verb: &str) -> Result<String, AllocError> {
-    if VERBS.contains(&verb) {
+    if is_verb(verb) {
         return match scene {
             Scene::Host => format!(in alloc;
                 "'{verb}' is a word of scripts of several hosts, which 'ncp world' plays"
@@ -64,7 +60,8 @@ fn unknown_verb(alloc: Global, scene: Scene, verb: &str) -> Result<String, Alloc
             ),
         };
     }
-    match nearest(verb, VERBS) {
+    let known = verbs(alloc)?;
+    match nearest(verb, known.as_slice()) {
         Some(near) => format!(in alloc; "'{verb}' is no verb; did you mean '{near}'?"),
         None => format!(in alloc; "'{verb}' is no verb"),
     }
@@ -97,7 +94,7 @@ fn wrong_at_side(alloc: Global, words: &[&str]) -> Result<String, AllocError> {
         Some(side) if *side == "a" || *side == "b" => {
             wrong_deed(alloc, Scene::Sides, words.get(1..).unwrap_or(&[]))
         }
-        Some(word) if VERBS.contains(word) => {
+        Some(word) if is_verb(word) => {
             format!(in alloc; "the side is missing: a line begins with a or b, as in 'a {word}'")
         }
         Some(word) => format!(in alloc; "'{word}' is no side: a line begins with a or b"),

@@ -1,5 +1,7 @@
 //! What the lines of scripts look like.
 
+use std::alloc::{AllocError, Global};
+
 /// Which scripts are played.
 #[derive(Clone, Copy, Debug, Drop, PartialEq, Eq)]
 pub enum Player {
@@ -113,30 +115,37 @@ pub(crate) const OF_THE_SUBNET: &[Usage] = &[
     ("answer", &[LINK]),
 ];
 
-/// All words that name what is to be done, for one that is nearly one of them.
-pub(crate) const VERBS: &[&str] = &[
-    "reset",
-    "wake",
-    "phase",
-    "echoed",
-    "errors",
-    "counts",
-    "ignored",
-    "echo",
-    "interrupt",
-    "close",
-    "state",
-    "ask-send",
-    "ask-receive",
-    "give",
-    "take",
-    "allocate",
-    "call-back",
-    "out",
-    "in",
-    "feed",
-    "deliver",
-    "lose",
-    "dead",
-    "answer",
-];
+// All words that name what is to be done, in any script.
+const ALL: &[&[Usage]] = &[CALLS, PLAIN, OF_ONE_HOST, OF_THE_SUBNET];
+
+/// The usage of this name, if it is one of these.
+pub(crate) fn usage_in(usages: &'static [Usage], verb: &str) -> Option<&'static Usage> {
+    usages.iter().find(|usage| usage.0 == verb)
+}
+
+/// Whether a word names what is to be done, in any script.
+pub(crate) fn is_verb(word: &str) -> bool {
+    for usages in ALL {
+        if usage_in(*usages, word).is_some() {
+            return true;
+        }
+    }
+    false
+}
+
+// Adds the words of these usages.
+fn add_words(words: &mut Vec<&'static str>, usages: &'static [Usage]) -> Result<(), AllocError> {
+    for usage in usages {
+        words.push(usage.0)?;
+    }
+    Ok(())
+}
+
+/// All words that name what is to be done, in any script.
+pub fn verbs(alloc: Global) -> Result<Vec<&'static str>, AllocError> {
+    let mut words = Vec::new(alloc);
+    for usages in ALL {
+        add_words(&mut words, *usages)?;
+    }
+    Ok(words)
+}

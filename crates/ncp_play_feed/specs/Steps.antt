@@ -1,9 +1,11 @@
 -- What the parts of a feed do.
-use Rattle.std.specs.Prelude.{◌≡◌, ◌⊎◌, ℕ, Bool, true, false, List, [], ◌∷◌, ◌++◌, length, map, replicate, drop, Option, Some, None, Result, Ok, Err}
+use Rattle.std.specs.Prelude.{◌≡◌, ◌⊎◌, ◌+◌, ℕ, Bool, true, false, List, [], ◌∷◌, ◌++◌, length, map, replicate, drop, Option, Some, None, Result, Ok, Err}
 use Rattle.ncp_transcript.specs.declared.input.Input.TheVariants as inputs
 use Rattle.ncp_transcript.specs.declared.note.HostNote.{HostNote}
 use Rattle.ncp_transcript.specs.declared.note.HostNote.TheVariants as notes
 use Rattle.ncp_transcript.specs.Alone.{Alone, IsStep, AreSteps}
+use Rattle.ncp_play_stream.specs.declared.source.TheConstants.{LEAST_PIECE}
+use Rattle.ncp_play_stream.specs.Pieces.{lost_pieces}
 use Rattle.ncp_play_stream.specs.Streams.{Ahead}
 use Rattle.ncp_play_files.specs.declared.file.Direction.{Direction}
 use Rattle.ncp_play_files.specs.declared.file.Direction.TheVariants.{ToImp, FromImp}
@@ -14,6 +16,7 @@ use Rattle.ncp_play_files.specs.Results.{MatchFault}
 use Rattle.ncp_play_files.specs.Steps.{CutInHeader, CutOff, IsInside}
 use Rattle.ncp_play_notes.specs.declared.fault.PlayFault.{PlayFault}
 use Rattle.ncp_play_notes.specs.declared.fault.PlayFault.TheVariants.{BadLine, LineTooLong, BadHosts, Feed, ReadFailed, WriteFailed, OutOfMemory}
+use Rattle.ncp_play_notes.specs.Faults.{is_write}
 use Rattle.ncp_play_feed.specs.Feeds.{Came, all_output}
 
 -- no header of a file from an IMP
@@ -67,6 +70,18 @@ HearsFrom bytes before (Err ReadFailed) now left = ⊥
 HearsFrom bytes before (Err BadHosts) now left = ⊥
 HearsFrom bytes before (Err (BadLine line)) now left = ⊥
 HearsFrom bytes before (Err (LineTooLong line)) now left = ⊥
+
+-- the next message came, or there is none; or with it all ends: a fault stands there, or there was no memory, or a write
+-- failed
+abbrev pub HearsOn : List ℕ → Alone → Result Bool PlayFault → Alone → List ℕ → Option (List ℕ) → Type 0
+HearsOn bytes before (Ok more) now window left = HearsNext bytes before (Ok more) now window left
+HearsOn bytes before (Err fault) now window left = HearsFrom bytes before (Err fault) now left
+
+-- how many bytes may not be paid of what was written: what goes out since more is waited for may be less than a piece
+abbrev pub unpaid_after : Result Bool PlayFault → ℕ
+unpaid_after (Ok true) = 0
+unpaid_after (Ok false) = LEAST_PIECE
+unpaid_after (Err fault) = LEAST_PIECE + lost_pieces (is_write fault)
 
 -- ---- messages that go out
 

@@ -14,3 +14,4 @@ pub mod Files
 pub mod Written
 pub mod Judged
 pub mod Limits
+pub mod Waiting

@@ -1,5 +1,5 @@
 -- Telling of records, one after the other.
-use Rattle.std.proofs.Common.{◌≡◌, ℕ, ◌≤◌, true, false, List, [], ◌∷◌, ◌++◌, length, take, drop, Option, Some, None, Result, Ok, Err, refl, sym, ap, ◌∙◌, arith, subst}
+use Rattle.std.proofs.Common.{◌≡◌, ℕ, ◌≤◌, Bool, true, false, List, [], ◌∷◌, ◌++◌, length, take, drop, Option, Some, None, Result, Ok, Err, refl, sym, ap, ◌∙◌, arith, subst}
 use Rattle.std.proofs.lemmas.List.{append_assoc, append-nil, length-take-le, take-append-drop, drop_at, drop-append-le}
 use Rattle.ncp_play_files.specs.declared.file.Direction.{Direction}
 use Rattle.ncp_play_files.specs.declared.file.FileFault.{FileFault}
@@ -11,7 +11,7 @@ use Rattle.ncp_play_files.specs.Lines.{told_from}
 use Rattle.ncp_play_files.specs.Results.{is_write_failed}
 use Rattle.ncp_play_stream.specs.Streams.{SaidSoFar, SaysText, SaysBeginning}
 use Rattle.ncp_play_files.specs.Writing.{Told, ToldCut, WritesAll, WritesRead, WritesBeginning, Writes}
-use Rattle.ncp_play_files.specs.Steps.{Reader, Telling, IsInside, Stops, SaysNext, SaysLines, SaysFrom, SaysFile, Says}
+use Rattle.ncp_play_files.specs.Steps.{Reader, Telling, IsInside, Stops, SaysNext, SaysLines, SaysFrom, SaysOn, SaysFile, Says}
 use Rattle.ncp_play_files.proofs.Files.{version_of-short, version_of-take, version_of-append}
 use Rattle.ncp_play_files.proofs.Contents.{IsFront, by_some}
 
@@ -58,6 +58,18 @@ module _ {X : Type 0} (next : Reader X) (front : IsFront next) (lines : Telling 
       let cut = h.0 in
       (cut.0, cut.1, cut.2, cut.3, cut.4, cut.5, no_lines number cut.0 was said page written cut.2 cut.6 h.1)
   from_err number bytes was said window page left written WriteFailed h = from_broken number bytes was said written h.0 h.1 h.2 h.3 h.4
+
+  -- a failed write before it was read: nothing is said of it, nor of those behind it
+  pub from_lost : (number : ℕ) (bytes was said lost page : List ℕ) (left written : Option (List ℕ)) → SaidSoFar was lost written said → SaysFrom next lines number bytes was said (Err WriteFailed) left page written
+  from_lost number bytes was said lost page left written k =
+      let all = by_some next front bytes in
+      let more = told_from lines number all.0 in
+      (all.1, lost ++ more, (all.0, all.2, (k.0, k.1, sym (append_assoc k.0 lost more) ∙ ap (λ xs. xs ++ more) k.2)))
+
+  pub says_on : (number : ℕ) (bytes was said window page : List ℕ) (left written : Option (List ℕ)) (r : Result Bool FileFault) → SaysNext next lines number bytes was said r window left page written
+      → SaysOn next lines number bytes was said r window left page written
+  says_on number bytes was said window page left written (Ok more) h = h
+  says_on number bytes was said window page left written (Err fault) h = from_err number bytes was said window page left written fault h
 
   more_lines : (number : ℕ) (bytes rest was said page : List ℕ) (written : Option (List ℕ)) (first : X) (fault : Option FileFault) → next bytes ≡ Ok (Some (first, rest))
       → SaysLines next lines (number_after number) rest was (said ++ lines number first) fault page written → SaysLines next lines number bytes was said fault page written

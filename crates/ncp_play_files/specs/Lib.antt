@@ -6,6 +6,7 @@ pub mod Lines
 pub mod Writing
 pub mod Shown
 pub mod Converted
+pub mod Waiting
 pub mod Steps
 pub mod Turning
 pub mod Checked

@@ -1,12 +1,12 @@
 -- What the parts of `show` and `convert` do to the bytes that are to come and to the text that was said.
-use Rattle.std.specs.Prelude.{◌≡◌, ◌+◌, ◌<◌, ◌≤◌, ℕ, Bool, true, false, List, length, drop, ◌++◌, Option, Some, None, Result, Ok, Err}
+use Rattle.std.specs.Prelude.{◌≡◌, ◌+◌, ◌<◌, ◌≤◌, not, ℕ, Bool, true, false, List, length, drop, ◌++◌, Option, Some, None, Result, Ok, Err}
 use Rattle.byteorder.specs.Endian.{big_number}
 use Rattle.ncp_numbers.specs.Bytes.{bytes_for}
 use Rattle.ncp_bits.specs.declared.bits.TheConstants.{MAX_BITS}
 use Rattle.ncp_play_files.specs.declared.file.Direction.{Direction}
 use Rattle.ncp_play_files.specs.declared.file.FileFault.{FileFault}
-use Rattle.ncp_play_files.specs.declared.file.FileFault.TheVariants.{BadHeader, Truncated}
-use Rattle.ncp_play_files.specs.Results.{MatchFault}
+use Rattle.ncp_play_files.specs.declared.file.FileFault.TheVariants.{BadHeader, Truncated, WriteFailed}
+use Rattle.ncp_play_files.specs.Results.{MatchFault, is_write}
 use Rattle.ncp_play_files.specs.declared.version.Version.{Version}
 use Rattle.ncp_play_files.specs.declared.version.Passage.{Passage}
 use Rattle.ncp_play_files.specs.declared.version.Found.{Found}
@@ -14,6 +14,8 @@ use Rattle.ncp_play_files.specs.File.{direction_of, version_of, next_record, end
 use Rattle.ncp_play_files.specs.Versions.{NextRecorded, recorded, next_in}
 use Rattle.ncp_play_files.specs.Lines.{told_from}
 use Rattle.ncp_play_files.specs.Writing.{Told, ToldCut}
+use Rattle.ncp_play_stream.specs.declared.source.TheConstants.{LEAST_PIECE}
+use Rattle.ncp_play_stream.specs.Pieces.{lost_pieces, unpaid}
 use Rattle.ncp_play_stream.specs.Streams.{Ahead, SaidSoFar}
 
 -- a read failed inside the header: no byte is lost
@@ -156,6 +158,37 @@ SaysFrom next lines number bytes was said (Ok done) left page written = SaysLine
 SaysFrom next lines number bytes was said (Err fault) left page written =
     MatchFault (λ f. SaysLines next lines number bytes was said (Some f) page written) (SaysCut next lines number bytes was said left page written)
     (BreaksLines next lines number bytes was said written) fault
+
+-- ---- before more is waited for
+
+-- what was said before stays said; where a write failed a beginning of it was written
+abbrev pub LetsOut : List ℕ → Option (List ℕ) → Result Unit FileFault → List ℕ → Option (List ℕ) → Type 0
+LetsOut page written (Ok done) page' written' = (was : List ℕ) (said : List ℕ) → SaidSoFar was page written said → SaidSoFar was page' written' said
+LetsOut page written (Err fault) page' written' =
+    (fault ≡ WriteFailed) × (lost : List ℕ) × ((was : List ℕ) (said : List ℕ) → SaidSoFar was page written said → SaidSoFar was lost written' said)
+
+-- what is told of the next record was said, or there is none; or with it all ends, since a fault stands there or a write
+-- failed
+abbrev pub SaysOn : {X : Type 0} → Reader X → Telling X → ℕ → List ℕ → List ℕ → List ℕ → Result Bool FileFault → List ℕ → Option (List ℕ) → List ℕ → Option (List ℕ) → Type 0
+SaysOn next lines number bytes was said (Ok more) window left page written = SaysNext next lines number bytes was said (Ok more) window left page written
+SaysOn next lines number bytes was said (Err fault) window left page written = SaysFrom next lines number bytes was said (Err fault) left page written
+
+-- whether nothing was said, since there is no record, or a fault stands there
+abbrev pub says_nothing : Result Bool FileFault → Bool
+says_nothing (Ok more) = not more
+says_nothing (Err fault) = not (is_write fault)
+
+-- how many bytes may not be paid of what was written
+abbrev pub unpaid_after : Result Bool FileFault → List ℕ → ℕ
+unpaid_after (Ok true) page = 0
+unpaid_after (Ok false) page = unpaid false page
+unpaid_after (Err fault) page = unpaid (is_write fault) page
+
+-- what goes out since more is waited for may be less than a piece; where a write fails two may be
+abbrev pub unpaid_out : Result Unit FileFault → Bool → ℕ
+unpaid_out (Ok done) true = LEAST_PIECE
+unpaid_out (Ok done) false = 0
+unpaid_out (Err fault) waits = lost_pieces true
 
 -- ---- files
 

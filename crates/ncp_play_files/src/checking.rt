@@ -13,7 +13,7 @@ use crate::tally::{Tally, Verdict, judge, push_tally};
 use crate::version::{PlacedRecords, PlainRecords, Records, Version, read_version};
 use ncp_bits::Part;
 use ncp_play_page::{Page, Window};
-use ncp_play_stream::{Sink, Source};
+use ncp_play_stream::{Sink, Source, stop_at_fault};
 
 // Judges the message of a record that stands in the window, where it stands, and uses up the record.
 #[inline(always)]
@@ -53,6 +53,26 @@ fn judge_next<S: Source, R: Records>(
     Ok(Some(verdict))
 }
 
+// Judges the next message as `judge_next` does, behind so many.
+#[inline(always)]
+fn judge_on<S: Source, R: Records>(
+    window: &mut Window,
+    source: &mut S,
+    records: R,
+    messages: u32,
+) -> Result<Option<Verdict>, FileFault>
+    ensures told { (bytes : List ℕ) → Ahead window.old (S.left source.old) bytes → JudgesNext (R.version records) bytes result window.new (S.left source.new) }
+    ensures mark { S.has_failed source.new ≡ (S.has_failed source.old || is_read_failed result) }
+    ensures other { is_write_failed result ≡ false }
+    ensures reads { reads_beyond S.gives_all (S.reads source.old) (S.left source.old) ≤ reads_beyond S.gives_all (S.reads source.new) (S.left source.new) + 1 }
+    ensures taken { IfOk result (λ found. is_some found ≡ true → reads_beyond S.gives_all (S.reads source.old) (S.left source.old) ≤ reads_beyond S.gives_all (S.reads source.new) (S.left source.new)) }
+    ensures effort { IfOk result (λ found. is_some found ≡ true → effort (S.reads source.new) window.new < effort (S.reads source.old) window.old) }
+{
+    let judged = judge_next(window, source, records);
+    stop_at_fault(source, &judged, messages, window.unread().len());
+    judged
+}
+
 // Counts the messages behind the header.
 fn tally_records<S: Source, R: Records>(
     window: &mut Window,
@@ -65,7 +85,7 @@ fn tally_records<S: Source, R: Records>(
     ensures reads { reads_beyond S.gives_all (S.reads source.old) (S.left source.old) ≤ reads_beyond S.gives_all (S.reads source.new) (S.left source.new) + 1 }
 {
     let mut tally = Tally::new();
-    while let Some(verdict) = judge_next(window, source, records)? {
+    while let Some(verdict) = judge_on(window, source, records, tally.messages)? {
         tally = tally.count(verdict);
     }
     Ok(tally)

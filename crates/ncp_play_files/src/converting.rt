@@ -1,19 +1,21 @@
 //! `convert`: a message file of one version as one of the other.
 ghost use Rattle.std.specs.Prelude.{◌≡◌, ℕ, ◌+◌, ◌-◌, ◌/◌, ◌<◌, ◌≤◌, ◌||◌, [], List, Bool, Some, true, false, length, IfOk, OnOk};
-ghost use Rattle.ncp_play_stream.specs.Pieces.{reads_for, reads_beyond, bytes_and_writes, lost_pieces};
+ghost use Rattle.ncp_play_stream.specs.Pieces.{reads_for, reads_beyond, bytes_and_writes, lost_pieces, unpaid, Paid};
 ghost use Rattle.ncp_play_stream.specs.Streams.{Ahead, SaidSoFar};
 ghost use Rattle.ncp_play_files.specs.Results.{is_read_failed, is_write_failed};
 ghost use Rattle.ncp_play_page.specs.Windows.{effort};
-ghost use Rattle.ncp_play_files.specs.Steps.{SaysNext, SaysFrom, Says};
+ghost use Rattle.ncp_play_files.specs.Waiting.{is_waiting};
+ghost use Rattle.ncp_play_files.specs.Steps.{SaysNext, SaysOn, SaysFrom, Says, says_nothing, unpaid_after};
 ghost use Rattle.ncp_play_files.specs.Converted.{other_version, passage_in, next_at, ConvertedAs, ConvertedCut, Converted};
 ghost use Rattle.ncp_play_files.specs.Turning.{ReadsMessage, FindsDirection, message_told, SaysTurned};
 
-use crate::file::{Direction, FileFault};
-use crate::version::{Passage, Version, direction_by, read_next, read_version};
+use crate::file::{Direction, FileFault, LENGTH};
+use crate::letting_out::let_out;
+use crate::version::{PASSAGE, Passage, Version, direction_by, read_next, read_version};
 use crate::writing::{push_header, say_message};
-use ncp_bits::Bits;
+use ncp_bits::{Bits, MAX_BITS};
 use ncp_play_page::{Page, Window};
-use ncp_play_stream::{LEAST_PIECE, Sink, Source};
+use ncp_play_stream::{LEAST_PIECE, Sink, Source, stop_at_fault};
 
 // The other version, for a file of this direction.
 fn other_version(version: Version, direction: Direction) -> Version
@@ -74,6 +76,7 @@ fn peek_direction<S: Source>(window: &mut Window, source: &mut S) -> Result<Dire
     ensures mark { S.has_failed source.new ≡ (S.has_failed source.old || is_read_failed result) }
     ensures other { is_write_failed result ≡ false }
     ensures reads { reads_beyond S.gives_all (S.reads source.old) (S.left source.old) ≤ reads_beyond S.gives_all (S.reads source.new) (S.left source.new) + 1 }
+    ensures lowers { S.reads source.new ≤ S.reads source.old }
 {
     if !window.need(source, 1)? {
         return Ok(Direction::ToImp);
@@ -94,6 +97,7 @@ fn find_direction<S: Source>(
     ensures mark { S.has_failed source.new ≡ (S.has_failed source.old || is_read_failed result) }
     ensures other { is_write_failed result ≡ false }
     ensures reads { reads_beyond S.gives_all (S.reads source.old) (S.left source.old) ≤ reads_beyond S.gives_all (S.reads source.new) (S.left source.new) + 1 }
+    ensures lowers { S.reads source.new ≤ S.reads source.old }
 {
     match version {
         Version::One(direction) => Ok(direction),
@@ -115,6 +119,8 @@ fn take_next<S: Source>(
     ensures reads { reads_beyond S.gives_all (S.reads source.old) (S.left source.old) ≤ reads_beyond S.gives_all (S.reads source.new) (S.left source.new) + 1 }
     ensures taken { IfOk result (λ more. more ≡ true → reads_beyond S.gives_all (S.reads source.old) (S.left source.old) ≤ reads_beyond S.gives_all (S.reads source.new) (S.left source.new)) }
     ensures effort { IfOk result (λ more. more ≡ true → effort (S.reads source.new) window.new < effort (S.reads source.old) window.old) }
+    ensures lowers { S.reads source.new ≤ S.reads source.old }
+    ensures waited { IfOk result (λ more. more ≡ true → is_waiting turn.from window.old ≡ true → S.reads source.new < S.reads source.old) }
 {
     let Some(passage) = read_next(window, source, turn.from, message)? else {
         return Ok(false);
@@ -125,6 +131,39 @@ fn take_next<S: Source>(
     Ok(true)
 }
 
+// How many bytes of a record are used up where this was found: all of one that is one too many, else none.
+fn used_of(found: &Result<bool, FileFault>, message: &Bits) -> usize
+    ensures { result ≤ MAX_BITS }
+{
+    match found {
+        Err(FileFault::Mixed) => PASSAGE + LENGTH + message.len().div_ceil(8),
+        _ => 0,
+    }
+}
+
+// Takes the next message as `take_next` does, behind so many.
+fn take_on<S: Source>(
+    window: &mut Window,
+    source: &mut S,
+    turn: Turn,
+    message: &mut Bits,
+    records: u32,
+) -> Result<bool, FileFault>
+    ensures told { (bytes : List ℕ) → Ahead window.old (S.left source.old) bytes → ReadsMessage (next_at turn.from turn.wanted) bytes result message.new window.new (S.left source.new) }
+    ensures mark { S.has_failed source.new ≡ (S.has_failed source.old || is_read_failed result) }
+    ensures other { is_write_failed result ≡ false }
+    ensures reads { reads_beyond S.gives_all (S.reads source.old) (S.left source.old) ≤ reads_beyond S.gives_all (S.reads source.new) (S.left source.new) + 1 }
+    ensures taken { IfOk result (λ more. more ≡ true → reads_beyond S.gives_all (S.reads source.old) (S.left source.old) ≤ reads_beyond S.gives_all (S.reads source.new) (S.left source.new)) }
+    ensures effort { IfOk result (λ more. more ≡ true → effort (S.reads source.new) window.new < effort (S.reads source.old) window.old) }
+    ensures lowers { S.reads source.new ≤ S.reads source.old }
+    ensures waited { IfOk result (λ more. more ≡ true → is_waiting turn.from window.old ≡ true → S.reads source.new < S.reads source.old) }
+{
+    let found = take_next(window, source, turn, message);
+    let ahead = window.unread().len() + used_of(&found, message);
+    stop_at_fault(source, &found, records, ahead);
+    found
+}
+
 // Converts the next message, and answers whether there was one.
 fn convert_next<S: Source, W: Sink>(
     window: &mut Window,
@@ -133,6 +172,7 @@ fn convert_next<S: Source, W: Sink>(
     page: &mut Page,
     sink: &mut W,
     turn: Turn,
+    records: u32,
 ) -> Result<bool, FileFault>
     ensures told { (number : ℕ) (bytes : List ℕ) (was : List ℕ) (said : List ℕ)
         → Ahead window.old (S.left source.old) bytes → SaidSoFar was page.old (W.written sink.old) said
@@ -143,8 +183,11 @@ fn convert_next<S: Source, W: Sink>(
     ensures reads { reads_beyond S.gives_all (S.reads source.old) (S.left source.old) ≤ reads_beyond S.gives_all (S.reads source.new) (S.left source.new) + 1 }
     ensures taken { IfOk result (λ more. more ≡ true → reads_beyond S.gives_all (S.reads source.old) (S.left source.old) ≤ reads_beyond S.gives_all (S.reads source.new) (S.left source.new)) }
     ensures effort { IfOk result (λ more. more ≡ true → effort (S.reads source.new) window.new < effort (S.reads source.old) window.old) }
+    ensures lowers { S.reads source.new ≤ S.reads source.old }
+    ensures waited { says_nothing result ≡ false → is_waiting turn.from window.old ≡ true → S.reads source.new < S.reads source.old }
+    ensures kept { says_nothing result ≡ true → page.new ≡ page.old }
 {
-    if !take_next(window, source, turn, message)? {
+    if !take_on(window, source, turn, message, records)? {
         return Ok(false);
     }
     match say_message(page, sink, turn.given, message) {
@@ -153,7 +196,31 @@ fn convert_next<S: Source, W: Sink>(
     }
 }
 
-// Converts all messages that are left.
+// Converts the next message as `convert_next` does. Before more is waited for, all that was said is written.
+fn convert_on<S: Source, W: Sink>(
+    window: &mut Window,
+    source: &mut S,
+    message: &mut Bits,
+    page: &mut Page,
+    sink: &mut W,
+    turn: Turn,
+    records: u32,
+) -> Result<bool, FileFault>
+    ensures told { (number : ℕ) (bytes : List ℕ) (was : List ℕ) (said : List ℕ)
+        → Ahead window.old (S.left source.old) bytes → SaidSoFar was page.old (W.written sink.old) said
+        → SaysOn (next_at turn.from turn.wanted) (message_told turn.given) number bytes was said result window.new (S.left source.new) page.new (W.written sink.new) }
+    ensures source_mark { S.has_failed source.new ≡ (S.has_failed source.old || is_read_failed result) }
+    ensures writes { Paid W.takes_all (W.writes sink.old) (W.written sink.old) (S.reads source.old) (W.writes sink.new) (W.written sink.new) (S.reads source.new) (unpaid_after result page.new) }
+    ensures sink_mark { W.has_failed sink.new ≡ (W.has_failed sink.old || is_write_failed result) }
+    ensures reads { reads_beyond S.gives_all (S.reads source.old) (S.left source.old) ≤ reads_beyond S.gives_all (S.reads source.new) (S.left source.new) + 1 }
+    ensures taken { IfOk result (λ more. more ≡ true → reads_beyond S.gives_all (S.reads source.old) (S.left source.old) ≤ reads_beyond S.gives_all (S.reads source.new) (S.left source.new)) }
+    ensures effort { IfOk result (λ more. more ≡ true → effort (S.reads source.new) window.new < effort (S.reads source.old) window.old) }
+{
+    let_out(window, turn.from, page, sink)?;
+    convert_next(window, source, message, page, sink, turn, records)
+}
+
+// Converts all messages that are left behind the first.
 fn convert_rest<S: Source, W: Sink>(
     window: &mut Window,
     source: &mut S,
@@ -166,11 +233,14 @@ fn convert_rest<S: Source, W: Sink>(
         → Ahead window.old (S.left source.old) bytes → SaidSoFar was page.old (W.written sink.old) said
         → SaysFrom (next_at turn.from turn.wanted) (message_told turn.given) number bytes was said result (S.left source.new) page.new (W.written sink.new) }
     ensures source_mark { S.has_failed source.new ≡ (S.has_failed source.old || is_read_failed result) }
-    ensures writes { bytes_and_writes W.takes_all (W.writes sink.old) (W.written sink.old) ≤ bytes_and_writes W.takes_all (W.writes sink.new) (W.written sink.new) + lost_pieces (is_write_failed result) }
+    ensures writes { Paid W.takes_all (W.writes sink.old) (W.written sink.old) (S.reads source.old) (W.writes sink.new) (W.written sink.new) (S.reads source.new) (unpaid (is_write_failed result) page.new) }
     ensures sink_mark { W.has_failed sink.new ≡ (W.has_failed sink.old || is_write_failed result) }
     ensures reads { reads_beyond S.gives_all (S.reads source.old) (S.left source.old) ≤ reads_beyond S.gives_all (S.reads source.new) (S.left source.new) + 1 }
 {
-    while convert_next(window, source, message, page, sink, turn)? {}
+    let mut records = 1u32;
+    while convert_on(window, source, message, page, sink, turn, records)? {
+        records = records.saturating_add(1);
+    }
     Ok(())
 }
 
@@ -188,12 +258,12 @@ fn convert_messages<S: Source, W: Sink>(
         → Ahead window.old (S.left source.old) bytes → W.written sink.old ≡ Some was
         → SaysTurned turn.to turn.given (next_at turn.from turn.wanted) bytes was result (S.left source.new) page.new (W.written sink.new) }
     ensures source_mark { S.has_failed source.new ≡ (S.has_failed source.old || is_read_failed result) }
-    ensures writes { bytes_and_writes W.takes_all (W.writes sink.old) (W.written sink.old) ≤ bytes_and_writes W.takes_all (W.writes sink.new) (W.written sink.new) + lost_pieces (is_write_failed result) }
+    ensures writes { Paid W.takes_all (W.writes sink.old) (W.written sink.old) (S.reads source.old) (W.writes sink.new) (W.written sink.new) (S.reads source.new) (unpaid (is_write_failed result) page.new) }
     ensures sink_mark { W.has_failed sink.new ≡ (W.has_failed sink.old || is_write_failed result) }
     ensures reads { reads_beyond S.gives_all (S.reads source.old) (S.left source.old) ≤ reads_beyond S.gives_all (S.reads source.new) (S.left source.new) + 1 }
 {
     let mut message = Bits::new();
-    let found = take_next(window, source, turn, &mut message)?;
+    let found = take_on(window, source, turn, &mut message, 0)?;
     push_header(page, turn.to);
     if !found {
         return Ok(());
@@ -216,7 +286,7 @@ fn convert_file<S: Source, W: Sink>(
         → S.left source.old ≡ Some bytes → W.written sink.old ≡ Some was
         → Says (ConvertedAs at) (ConvertedCut at) bytes was result (S.left source.new) page.new (W.written sink.new) }
     ensures source_mark { S.has_failed source.new ≡ (S.has_failed source.old || is_read_failed result) }
-    ensures writes { bytes_and_writes W.takes_all (W.writes sink.old) (W.written sink.old) ≤ bytes_and_writes W.takes_all (W.writes sink.new) (W.written sink.new) + lost_pieces (is_write_failed result) }
+    ensures writes { Paid W.takes_all (W.writes sink.old) (W.written sink.old) (S.reads source.old) (W.writes sink.new) (W.written sink.new) (S.reads source.new) (unpaid (is_write_failed result) page.new) }
     ensures sink_mark { W.has_failed sink.new ≡ (W.has_failed sink.old || is_write_failed result) }
     ensures reads { reads_beyond S.gives_all (S.reads source.old) (S.left source.old) ≤ reads_beyond S.gives_all (S.reads source.new) (S.left source.new) + 2 }
 {
@@ -241,8 +311,8 @@ fn convert_file<S: Source, W: Sink>(
 /// with the first record that is not refused. A file without records becomes a header alone: one of
 /// version 2, or that of version 1 toward the IMP.
 ///
-/// It allocates nothing, and reads and writes in pieces of at least 4 KiB, the last one written
-/// apart. After a failed read the messages that were read whole are written; after a failed write a
+/// It allocates nothing, and reads and writes in pieces of at least 4 KiB; but before more is waited for, all messages
+/// that came whole are written. After a failed read the messages that were read whole are written; after a failed write a
 /// beginning of the file is.
 pub fn convert<S: Source, W: Sink>(source: &mut S, sink: &mut W, at: u8) -> Result<(), FileFault>
     requires source_clean { S.has_failed source.old ≡ false }
@@ -264,11 +334,11 @@ pub fn convert<S: Source, W: Sink>(source: &mut S, sink: &mut W, at: u8) -> Resu
     ensures reads { (bytes : List ℕ) → S.left source.old ≡ Some bytes
         → S.reads source.old ≤ S.reads source.new + reads_for S.gives_all (length bytes) + 2 }
 
-    // A sink that takes all that it can is written to no more than once for each 4 KiB, and twice
+    // A sink that takes all that it can is written to no more than once for each 4 KiB, once for each read, and twice
     // more.
     ensures writes { (was : List ℕ) (now : List ℕ) → W.takes_all ≡ true
         → W.written sink.old ≡ Some was → W.written sink.new ≡ Some now
-        → W.writes sink.old ≤ W.writes sink.new + (length now - length was) / LEAST_PIECE + 2 }
+        → W.writes sink.old ≤ W.writes sink.new + (length now - length was) / LEAST_PIECE + (S.reads source.old - S.reads source.new) + 2 }
 {
     let mut page = Page::new();
     let converted = convert_file(source, &mut page, sink, at);

@@ -6,6 +6,7 @@ ghost use Rattle.ncp_play_files.specs.File.{name_of_fault, fault_of_bits};
 ghost use Rattle.ncp_play_stream.specs.Pieces.{reads_beyond};
 ghost use Rattle.ncp_play_files.specs.Results.{is_read_failed, is_write_failed};
 ghost use Rattle.ncp_play_files.specs.Steps.{ReadsHeader, StandsWhole, FindsRecord, TakesRecord, ReadsRecord};
+ghost use Rattle.ncp_play_files.specs.Waiting.{lacks_message};
 ghost use Rattle.ncp_play_page.specs.Windows.{effort};
 ghost use Rattle.ncp_play_stream.specs.Streams.{Ahead};
 ghost use Rattle.ncp_play_files.specs.declared.file.TheConstants.{LENGTH};
@@ -76,8 +77,8 @@ impl From<Failed> for FileFault {
     }
 }
 
-// How many bytes the length of a record has.
-const LENGTH: usize = 2;
+/// How many bytes the length of a record has.
+pub(crate) const LENGTH: usize = 2;
 
 /// Reads the header of a file of version 1. That of another version is a bad one.
 pub fn read_header<S: Source>(window: &mut Window, source: &mut S) -> Result<Direction, FileFault>
@@ -86,6 +87,7 @@ pub fn read_header<S: Source>(window: &mut Window, source: &mut S) -> Result<Dir
     ensures other { is_write_failed result ≡ false }
     ensures reads { reads_beyond S.gives_all (S.reads source.old) (S.left source.old) ≤ reads_beyond S.gives_all (S.reads source.new) (S.left source.new) + 1 }
     ensures taken { OnOk result (reads_beyond S.gives_all (S.reads source.old) (S.left source.old) ≤ reads_beyond S.gives_all (S.reads source.new) (S.left source.new)) }
+    ensures lowers { S.reads source.new ≤ S.reads source.old }
 {
     match read_version(window, source)? {
         Version::One(direction) => Ok(direction),
@@ -119,6 +121,8 @@ pub(crate) fn need_record<S: Source>(
     ensures reads { reads_beyond S.gives_all (S.reads source.old) (S.left source.old) ≤ reads_beyond S.gives_all (S.reads source.new) (S.left source.new) + 1 }
     ensures taken { IfOk result (λ found. is_some found ≡ true → reads_beyond S.gives_all (S.reads source.old) (S.left source.old) ≤ reads_beyond S.gives_all (S.reads source.new) (S.left source.new)) }
     ensures effort { effort (S.reads source.new) window.new ≤ effort (S.reads source.old) window.old }
+    ensures lowers { S.reads source.new ≤ S.reads source.old }
+    ensures unread { IfOk result (λ found. is_some found ≡ true → S.reads source.new ≡ S.reads source.old → window.new ≡ window.old) }
 {
     if !window.need(source, LENGTH)? {
         return if window.unread().is_empty() {
@@ -191,6 +195,8 @@ pub fn read_record<S: Source>(
     ensures reads { reads_beyond S.gives_all (S.reads source.old) (S.left source.old) ≤ reads_beyond S.gives_all (S.reads source.new) (S.left source.new) + 1 }
     ensures taken { IfOk result (λ found. found ≡ true → reads_beyond S.gives_all (S.reads source.old) (S.left source.old) ≤ reads_beyond S.gives_all (S.reads source.new) (S.left source.new)) }
     ensures effort { IfOk result (λ found. found ≡ true → effort (S.reads source.new) window.new < effort (S.reads source.old) window.old) }
+    ensures lowers { S.reads source.new ≤ S.reads source.old }
+    ensures waited { IfOk result (λ found. found ≡ true → lacks_message 0 window.old ≡ true → S.reads source.new < S.reads source.old) }
 {
     let Some(len) = need_record(window, source)? else {
         return Ok(false);

@@ -1,10 +1,11 @@
 //! Laws about message files, each the contract of a function that does nothing.
-ghost use Rattle.std.specs.Prelude.{◌≡◌, ◌≤◌, ◌<◌, ◌↔◌, ℕ, List, [], ◌∷◌, ◌++◌, length, All, Bool, IsTrue, Option, Some, None, Ok, Err};
+ghost use Rattle.std.specs.Prelude.{◌≡◌, ◌≤◌, ◌<◌, ◌↔◌, ℕ, List, [], ◌∷◌, ◌++◌, length, All, Bool, true, false, IsTrue, Option, Some, None, Ok, Err};
 ghost use Rattle.ncp_play_files.specs.File.{HoldsBy, next_record, version_of, record_bytes};
 ghost use Rattle.ncp_play_files.specs.Versions.{Recorded, plain, next_in, IsOf, bytes_of_record, file_bytes};
 ghost use Rattle.ncp_play_files.specs.Converted.{ConvertedAs, file_to};
 ghost use Rattle.ncp_play_files.specs.Reasons.{first_of, reasons_at, placed_reasons_at};
 ghost use Rattle.ncp_play_files.specs.Checked.{FileHolds};
+ghost use Rattle.ncp_play_files.specs.Waiting.{is_waiting};
 
 use crate::file::{Direction, FileFault};
 use crate::version::{Passage, Version};
@@ -51,6 +52,19 @@ pub fn files_return()
         → All (λ m. length m ≤ MAX_BITS) (message ∷ messages)
         → ConvertedAs host (file_to (Version.One direction) (plain direction) (message ∷ messages) None) there fault → ConvertedAs host there back other
         → (fault ≡ None) × (other ≡ None) × (back ≡ file_to (Version.One direction) (plain direction) (message ∷ messages) None) }
+{}
+
+/// For a record is waited, worked: in front of it, inside its length and inside its message, and no more where its last
+/// byte came, or a length that is too great. In version 2 a direction and a host stand in front of the length.
+pub fn records_are_waited_for()
+    ensures none { is_waiting (Version.One Direction.ToImp) [] ≡ true }
+    ensures length { is_waiting (Version.One Direction.ToImp) (0 ∷ []) ≡ true }
+    ensures message { is_waiting (Version.One Direction.ToImp) (0 ∷ 9 ∷ 65 ∷ []) ≡ true }
+    ensures whole { is_waiting (Version.One Direction.ToImp) (0 ∷ 8 ∷ 65 ∷ []) ≡ false }
+    ensures empty { is_waiting (Version.One Direction.ToImp) (0 ∷ 0 ∷ []) ≡ false }
+    ensures too_long { is_waiting (Version.One Direction.ToImp) (32 ∷ 1 ∷ []) ≡ false }
+    ensures placed { is_waiting Version.Two (72 ∷ 7 ∷ 0 ∷ 8 ∷ []) ≡ true }
+    ensures placed_whole { is_waiting Version.Two (72 ∷ 7 ∷ 0 ∷ 8 ∷ 65 ∷ []) ≡ false }
 {}
 
 /// Two faults compare as equal exactly where they are the same.

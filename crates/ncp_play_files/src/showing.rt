@@ -1,20 +1,22 @@
 //! `show`: what a message file holds, line by line.
 ghost use Rattle.std.specs.Prelude.{◌≡◌, ℕ, ◌+◌, ◌-◌, ◌/◌, ◌<◌, ◌≤◌, ◌||◌, [], List, Some, true, false, length, IfOk};
-ghost use Rattle.ncp_play_stream.specs.Pieces.{reads_for, reads_beyond, bytes_and_writes, lost_pieces};
+ghost use Rattle.ncp_play_stream.specs.Pieces.{reads_for, reads_beyond, bytes_and_writes, lost_pieces, unpaid, Paid};
 ghost use Rattle.ncp_play_files.specs.Results.{is_read_failed, is_write_failed};
 ghost use Rattle.ncp_play_stream.specs.Streams.{Ahead, SaidSoFar};
 ghost use Rattle.ncp_play_page.specs.Windows.{effort};
 ghost use Rattle.ncp_play_files.specs.Versions.{next_in};
 ghost use Rattle.ncp_play_files.specs.Lines.{record_lines};
-ghost use Rattle.ncp_play_files.specs.Steps.{SaysNext, SaysFrom, Says};
+ghost use Rattle.ncp_play_files.specs.Waiting.{is_waiting};
+ghost use Rattle.ncp_play_files.specs.Steps.{SaysNext, SaysOn, SaysFrom, Says, says_nothing, unpaid_after};
 ghost use Rattle.ncp_play_files.specs.Shown.{ShownAs, ShownCut, Shown};
 
 use crate::file::FileFault;
+use crate::letting_out::let_out;
 use crate::record::say_record;
 use crate::version::{PlacedRecords, PlainRecords, Records, Version, read_next_of, read_version};
 use ncp_bits::Bits;
 use ncp_play_page::{Page, Window};
-use ncp_play_stream::{LEAST_PIECE, Sink, Source};
+use ncp_play_stream::{LEAST_PIECE, Sink, Source, stop_at_fault};
 
 // Reads the next record into `message` and shows it, and answers whether there was one.
 fn show_next<S: Source, W: Sink, R: Records>(
@@ -35,6 +37,9 @@ fn show_next<S: Source, W: Sink, R: Records>(
     ensures reads { reads_beyond S.gives_all (S.reads source.old) (S.left source.old) ≤ reads_beyond S.gives_all (S.reads source.new) (S.left source.new) + 1 }
     ensures taken { IfOk result (λ more. more ≡ true → reads_beyond S.gives_all (S.reads source.old) (S.left source.old) ≤ reads_beyond S.gives_all (S.reads source.new) (S.left source.new)) }
     ensures effort { IfOk result (λ more. more ≡ true → effort (S.reads source.new) window.new < effort (S.reads source.old) window.old) }
+    ensures lowers { S.reads source.new ≤ S.reads source.old }
+    ensures waited { says_nothing result ≡ false → is_waiting (R.version records) window.old ≡ true → S.reads source.new < S.reads source.old }
+    ensures kept { says_nothing result ≡ true → page.new ≡ page.old }
 {
     let Some(passage) = read_next_of(window, source, records, message)? else {
         return Ok(false);
@@ -43,6 +48,37 @@ fn show_next<S: Source, W: Sink, R: Records>(
         Ok(()) => Ok(true),
         Err(_) => Err(FileFault::WriteFailed),
     }
+}
+
+// Shows the next record as `show_next` does. Before more is waited for, all that was said is written.
+fn show_on<S: Source, W: Sink, R: Records>(
+    window: &mut Window,
+    source: &mut S,
+    message: &mut Bits,
+    page: &mut Page,
+    sink: &mut W,
+    records: R,
+    number: u32,
+) -> Result<bool, FileFault>
+    ensures told { (bytes : List ℕ) (was : List ℕ) (said : List ℕ)
+        → Ahead window.old (S.left source.old) bytes → SaidSoFar was page.old (W.written sink.old) said
+        → SaysOn (next_in (R.version records)) record_lines number bytes was said result window.new (S.left source.new) page.new (W.written sink.new) }
+    ensures source_mark { S.has_failed source.new ≡ (S.has_failed source.old || is_read_failed result) }
+    ensures writes { Paid W.takes_all (W.writes sink.old) (W.written sink.old) (S.reads source.old) (W.writes sink.new) (W.written sink.new) (S.reads source.new) (unpaid_after result page.new) }
+    ensures sink_mark { W.has_failed sink.new ≡ (W.has_failed sink.old || is_write_failed result) }
+    ensures reads { reads_beyond S.gives_all (S.reads source.old) (S.left source.old) ≤ reads_beyond S.gives_all (S.reads source.new) (S.left source.new) + 1 }
+    ensures taken { IfOk result (λ more. more ≡ true → reads_beyond S.gives_all (S.reads source.old) (S.left source.old) ≤ reads_beyond S.gives_all (S.reads source.new) (S.left source.new)) }
+    ensures effort { IfOk result (λ more. more ≡ true → effort (S.reads source.new) window.new < effort (S.reads source.old) window.old) }
+{
+    let_out(window, records.file(), page, sink)?;
+    let shown = show_next(window, source, message, page, sink, records, number);
+    stop_at_fault(
+        source,
+        &shown,
+        number.saturating_sub(1),
+        window.unread().len(),
+    );
+    shown
 }
 
 // Shows the records behind the header.
@@ -57,13 +93,13 @@ fn show_records<S: Source, W: Sink, R: Records>(
         → Ahead window.old (S.left source.old) bytes → SaidSoFar was page.old (W.written sink.old) said
         → SaysFrom (next_in (R.version records)) record_lines 1 bytes was said result (S.left source.new) page.new (W.written sink.new) }
     ensures source_mark { S.has_failed source.new ≡ (S.has_failed source.old || is_read_failed result) }
-    ensures writes { bytes_and_writes W.takes_all (W.writes sink.old) (W.written sink.old) ≤ bytes_and_writes W.takes_all (W.writes sink.new) (W.written sink.new) + lost_pieces (is_write_failed result) }
+    ensures writes { Paid W.takes_all (W.writes sink.old) (W.written sink.old) (S.reads source.old) (W.writes sink.new) (W.written sink.new) (S.reads source.new) (unpaid (is_write_failed result) page.new) }
     ensures sink_mark { W.has_failed sink.new ≡ (W.has_failed sink.old || is_write_failed result) }
     ensures reads { reads_beyond S.gives_all (S.reads source.old) (S.left source.old) ≤ reads_beyond S.gives_all (S.reads source.new) (S.left source.new) + 1 }
 {
     let mut message = Bits::new();
     let mut number = 1u32;
-    while show_next(window, source, &mut message, page, sink, records, number)? {
+    while show_on(window, source, &mut message, page, sink, records, number)? {
         number = number.saturating_add(1);
     }
     Ok(())
@@ -80,7 +116,7 @@ fn show_file<S: Source, W: Sink>(
         → S.left source.old ≡ Some bytes → W.written sink.old ≡ Some was
         → Says ShownAs ShownCut bytes was result (S.left source.new) page.new (W.written sink.new) }
     ensures source_mark { S.has_failed source.new ≡ (S.has_failed source.old || is_read_failed result) }
-    ensures writes { bytes_and_writes W.takes_all (W.writes sink.old) (W.written sink.old) ≤ bytes_and_writes W.takes_all (W.writes sink.new) (W.written sink.new) + lost_pieces (is_write_failed result) }
+    ensures writes { Paid W.takes_all (W.writes sink.old) (W.written sink.old) (S.reads source.old) (W.writes sink.new) (W.written sink.new) (S.reads source.new) (unpaid (is_write_failed result) page.new) }
     ensures sink_mark { W.has_failed sink.new ≡ (W.has_failed sink.old || is_write_failed result) }
     ensures reads { reads_beyond S.gives_all (S.reads source.old) (S.left source.old) ≤ reads_beyond S.gives_all (S.reads source.new) (S.left source.new) + 1 }
 {
@@ -96,8 +132,8 @@ fn show_file<S: Source, W: Sink>(
 /// Writes the lines of each record of a message file, up to its first fault, and answers that
 /// fault.
 ///
-/// It allocates nothing, and reads and writes in pieces of at least 4 KiB, the last one written
-/// apart. After a failed read the lines of the records that were read whole are written; after a
+/// It allocates nothing, and reads and writes in pieces of at least 4 KiB; but before more is waited for, all lines of
+/// the records that came whole are written. After a failed read the lines of the records that were read whole are written; after a
 /// failed write a beginning of the lines is.
 pub fn show<S: Source, W: Sink>(source: &mut S, sink: &mut W) -> Result<(), FileFault>
     requires source_clean { S.has_failed source.old ≡ false }
@@ -119,11 +155,11 @@ pub fn show<S: Source, W: Sink>(source: &mut S, sink: &mut W) -> Result<(), File
     ensures reads { (bytes : List ℕ) → S.left source.old ≡ Some bytes
         → S.reads source.old ≤ S.reads source.new + reads_for S.gives_all (length bytes) + 1 }
 
-    // A sink that takes all that it can is written to no more than once for each 4 KiB, and twice
+    // A sink that takes all that it can is written to no more than once for each 4 KiB, once for each read, and twice
     // more.
     ensures writes { (was : List ℕ) (now : List ℕ) → W.takes_all ≡ true
         → W.written sink.old ≡ Some was → W.written sink.new ≡ Some now
-        → W.writes sink.old ≤ W.writes sink.new + (length now - length was) / LEAST_PIECE + 2 }
+        → W.writes sink.old ≤ W.writes sink.new + (length now - length was) / LEAST_PIECE + (S.reads source.old - S.reads source.new) + 2 }
 {
     let mut page = Page::new();
     let shown = show_file(source, &mut page, sink);

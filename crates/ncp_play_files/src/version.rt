@@ -1,8 +1,9 @@
 //! The two versions of a message file: their headers, and the records of both.
-ghost use Rattle.std.specs.Prelude.{◌≡◌, ℕ, ◌+◌, ◌<◌, ◌≤◌, ◌||◌, List, true, false, length, is_some, IfSome, IfOk, OnOk};
+ghost use Rattle.std.specs.Prelude.{◌≡◌, ℕ, ◌+◌, ◌<◌, ◌≤◌, ◌||◌, List, true, false, length, drop, is_some, IfSome, IfOk, OnOk};
 ghost use Rattle.ncp_play_files.specs.File.{version_of};
 ghost use Rattle.ncp_play_files.specs.Versions.{direction_by, next_passage, next_in};
 ghost use Rattle.ncp_play_files.specs.Results.{is_read_failed, is_write_failed};
+ghost use Rattle.ncp_play_files.specs.Waiting.{is_waiting};
 ghost use Rattle.ncp_play_files.specs.Steps.{ReadsVersion, ReadsOne, StandsWhole, FindsNext, ReadsNext};
 ghost use Rattle.ncp_play_page.specs.Windows.{effort};
 ghost use Rattle.ncp_play_stream.specs.Pieces.{reads_beyond};
@@ -43,8 +44,8 @@ pub(crate) struct Found {
 /// How many bytes a header has.
 pub const HEADER: usize = 4;
 
-// How many bytes a passage has.
-const PASSAGE: usize = 2;
+/// How many bytes a passage has.
+pub(crate) const PASSAGE: usize = 2;
 
 // The version that a header names.
 fn version_in(head: &[u8]) -> Option<Version>
@@ -69,6 +70,7 @@ pub fn read_version<S: Source>(window: &mut Window, source: &mut S) -> Result<Ve
     ensures other { is_write_failed result ≡ false }
     ensures reads { reads_beyond S.gives_all (S.reads source.old) (S.left source.old) ≤ reads_beyond S.gives_all (S.reads source.new) (S.left source.new) + 1 }
     ensures taken { OnOk result (reads_beyond S.gives_all (S.reads source.old) (S.left source.old) ≤ reads_beyond S.gives_all (S.reads source.new) (S.left source.new)) }
+    ensures lowers { S.reads source.new ≤ S.reads source.old }
 {
     if !window.need(source, HEADER)? {
         return Err(FileFault::BadHeader);
@@ -104,6 +106,8 @@ fn read_passage<S: Source>(
     ensures reads { reads_beyond S.gives_all (S.reads source.old) (S.left source.old) ≤ reads_beyond S.gives_all (S.reads source.new) (S.left source.new) + 1 }
     ensures taken { IfOk result (λ found. is_some found ≡ true → reads_beyond S.gives_all (S.reads source.old) (S.left source.old) ≤ reads_beyond S.gives_all (S.reads source.new) (S.left source.new)) }
     ensures effort { effort (S.reads source.new) window.new ≤ effort (S.reads source.old) window.old }
+    ensures lowers { S.reads source.new ≤ S.reads source.old }
+    ensures unread { IfOk result (λ found. is_some found ≡ true → S.reads source.new ≡ S.reads source.old → window.new ≡ drop PASSAGE window.old) }
 {
     if !window.need(source, 1)? {
         return Ok(None);
@@ -129,6 +133,10 @@ pub(crate) trait Records: Copy {
     /// The version of the file.
     ghost version: { Self → Version };
 
+    /// The version of the file.
+    fn file(self) -> Version
+        ensures { result ≡ version self };
+
     /// Reads until the window has the message of the next record, if there is one. What is in front of
     /// the message is used up.
     fn find_next<S: Source>(
@@ -142,7 +150,9 @@ pub(crate) trait Records: Copy {
         ensures other { is_write_failed result ≡ false }
         ensures reads { reads_beyond S.gives_all (S.reads source.old) (S.left source.old) ≤ reads_beyond S.gives_all (S.reads source.new) (S.left source.new) + 1 }
         ensures taken { IfOk result (λ next. is_some next ≡ true → reads_beyond S.gives_all (S.reads source.old) (S.left source.old) ≤ reads_beyond S.gives_all (S.reads source.new) (S.left source.new)) }
-        ensures effort { effort (S.reads source.new) window.new ≤ effort (S.reads source.old) window.old };
+        ensures effort { effort (S.reads source.new) window.new ≤ effort (S.reads source.old) window.old }
+        ensures lowers { S.reads source.new ≤ S.reads source.old }
+        ensures waited { IfOk result (λ next. is_some next ≡ true → is_waiting (version self) window.old ≡ true → S.reads source.new < S.reads source.old) };
 }
 
 /// The records of a file of version 1, whose messages all go this way.
@@ -155,6 +165,10 @@ impl Records for PlainRecords {
     ghost use Rattle.ncp_play_files.specs.declared.version.Version.TheVariants.{One};
 
     ghost version = { λ records. One records.direction };
+
+    fn file(self) -> Version {
+        Version::One(self.direction)
+    }
 
     #[inline(always)]
     fn find_next<S: Source>(
@@ -182,6 +196,10 @@ impl Records for PlacedRecords {
     ghost use Rattle.ncp_play_files.specs.declared.version.Version.TheVariants.{Two};
 
     ghost version = { λ _. Two };
+
+    fn file(self) -> Version {
+        Version::Two
+    }
 
     #[inline(always)]
     fn find_next<S: Source>(
@@ -214,6 +232,8 @@ pub(crate) fn read_next_of<S: Source, R: Records>(
     ensures reads { reads_beyond S.gives_all (S.reads source.old) (S.left source.old) ≤ reads_beyond S.gives_all (S.reads source.new) (S.left source.new) + 1 }
     ensures taken { IfOk result (λ found. is_some found ≡ true → reads_beyond S.gives_all (S.reads source.old) (S.left source.old) ≤ reads_beyond S.gives_all (S.reads source.new) (S.left source.new)) }
     ensures effort { IfOk result (λ found. is_some found ≡ true → effort (S.reads source.new) window.new < effort (S.reads source.old) window.old) }
+    ensures lowers { S.reads source.new ≤ S.reads source.old }
+    ensures waited { IfOk result (λ found. is_some found ≡ true → is_waiting (R.version records) window.old ≡ true → S.reads source.new < S.reads source.old) }
 {
     let Some(found) = records.find_next(window, source)? else {
         return Ok(None);
@@ -237,6 +257,8 @@ pub fn read_next<S: Source>(
     ensures reads { reads_beyond S.gives_all (S.reads source.old) (S.left source.old) ≤ reads_beyond S.gives_all (S.reads source.new) (S.left source.new) + 1 }
     ensures taken { IfOk result (λ found. is_some found ≡ true → reads_beyond S.gives_all (S.reads source.old) (S.left source.old) ≤ reads_beyond S.gives_all (S.reads source.new) (S.left source.new)) }
     ensures effort { IfOk result (λ found. is_some found ≡ true → effort (S.reads source.new) window.new < effort (S.reads source.old) window.old) }
+    ensures lowers { S.reads source.new ≤ S.reads source.old }
+    ensures waited { IfOk result (λ found. is_some found ≡ true → is_waiting version window.old ≡ true → S.reads source.new < S.reads source.old) }
 {
     match version {
         Version::One(direction) => {

@@ -1,8 +1,8 @@
 -- How many writes a piece takes.
-use Rattle.std.proofs.Common.{◌≡◌, ℕ, ◌+◌, ◌-◌, ◌<◌, ◌≤◌, ◌⊎◌, inl, inr, min, Bool, true, false, List, length, Option, Some, None, refl, ap, ◌∙◌, arith}
+use Rattle.std.proofs.Common.{◌≡◌, ℕ, ◌+◌, ◌-◌, ◌<◌, ◌≤◌, ◌⊎◌, inl, inr, min, Bool, true, false, List, [], ◌∷◌, length, Option, Some, None, refl, ap, ◌∙◌, arith}
 use Rattle.std.proofs.lemmas.List.{length-append}
 use Rattle.std.specs.Io.KnownBytes.{Appends}
-use Rattle.ncp_play_stream.specs.Pieces.{bytes_and_writes, lost_pieces}
+use Rattle.ncp_play_stream.specs.Pieces.{bytes_and_writes, lost_pieces, unpaid}
 
 -- a piece was not written yet, or once: whole, or as much of it as there was room for
 abbrev pub WrittenOnce : (was now room len done : ℕ) → Type 0
@@ -26,3 +26,18 @@ written_twice false was now a b piece h two = omega arith
 written_twice true was now None b piece h two = omega arith
 written_twice true was now (Some xs) None piece h two = absurd h
 written_twice true was now (Some xs) (Some ys) piece h two = let l : length ys ≡ length xs + length piece = ap length h ∙ length-append xs piece in omega (arith, two refl)
+
+-- a page that is written at once: not at all where it is empty
+pub written_one : (full : Bool) (was now : ℕ) (a b : Option (List ℕ)) (piece : List ℕ) → Appends a b piece → (full ≡ true → was ≤ now + min 1 (length piece)) → bytes_and_writes full was a + unpaid false piece ≤ bytes_and_writes full now b + 4096
+written_one false was now a b [] h one = omega arith
+written_one false was now a b (x ∷ piece) h one = omega arith
+written_one true was now None b [] h one = omega arith
+written_one true was now None b (x ∷ piece) h one = omega arith
+written_one true was now (Some xs) None piece h one = absurd h
+written_one true was now (Some xs) (Some ys) [] h one = let l : length ys ≡ length xs + 0 = ap length h ∙ length-append xs [] in omega (arith, one refl)
+written_one true was now (Some xs) (Some ys) (x ∷ piece) h one = let l : length ys ≡ length xs + length (x ∷ piece) = ap length h ∙ length-append xs (x ∷ piece) in omega (arith, one refl)
+
+-- one that has bytes leaves nothing unpaid
+pub none_unpaid : (page : List ℕ) → 0 < length page → unpaid false page ≡ 0
+none_unpaid [] h = absurd (omega arith)
+none_unpaid (x ∷ page) h = refl

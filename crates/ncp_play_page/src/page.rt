@@ -1,8 +1,8 @@
 //! `Page`: bytes for a sink, written in pieces.
-ghost use Rattle.std.specs.Prelude.{◌≡◌, ℕ, ◌+◌, ◌*◌, ◌<◌, ◌≤◌, ◌^◌, ◌||◌, true, [], ◌∷◌, ◌++◌, min, length, take, decimal, is_err, OnOk, OnErr};
+ghost use Rattle.std.specs.Prelude.{◌≡◌, ℕ, ◌+◌, ◌*◌, ◌<◌, ◌≤◌, ◌^◌, ◌||◌, true, false, [], ◌∷◌, ◌++◌, min, length, take, decimal, is_err, OnOk, OnErr};
 ghost use Rattle.std.specs.Io.KnownBytes.{Appends};
 ghost use Rattle.ncp_play_page.specs.Lines.{hex_of};
-ghost use Rattle.ncp_play_stream.specs.Pieces.{bytes_and_writes, lost_pieces};
+ghost use Rattle.ncp_play_stream.specs.Pieces.{bytes_and_writes, lost_pieces, unpaid};
 ghost use Rattle.ncp_play_stream.specs.Streams.{SaysText, SaysBeginning};
 
 use crate::hex::write_hex;
@@ -42,6 +42,7 @@ impl Model for Page {
 fn put_all<W: Sink>(sink: &mut W, piece: &[u8]) -> Result<(), Failed>
     ensures ok { OnOk result (Appends (W.written sink.old) (W.written sink.new) piece.now) }
     ensures err { OnErr result ((count : ℕ) × Appends (W.written sink.old) (W.written sink.new) (take count piece.now)) }
+    ensures some { OnErr result (0 < length piece.now) }
     ensures once { W.takes_all ≡ true → OnOk result (W.writes sink.old ≤ W.writes sink.new + min 1 (length piece.now)) }
     ensures twice { W.takes_all ≡ true → W.writes sink.old ≤ W.writes sink.new + 2 }
     ensures mark { W.has_failed sink.new ≡ (W.has_failed sink.old || is_err result) }
@@ -86,7 +87,8 @@ impl Page {
         ensures ok { OnOk result ((self.new ≡ []) × SaysText self.old (W.written sink.old) [] self.new (W.written sink.new)) }
         ensures err { OnErr result (SaysBeginning self.old (W.written sink.old) [] (W.written sink.new)) }
         ensures whole { LEAST_PIECE ≤ length self.old → bytes_and_writes W.takes_all (W.writes sink.old) (W.written sink.old) ≤ bytes_and_writes W.takes_all (W.writes sink.new) (W.written sink.new) + lost_pieces (is_err result) }
-        ensures writes { bytes_and_writes W.takes_all (W.writes sink.old) (W.written sink.old) ≤ bytes_and_writes W.takes_all (W.writes sink.new) (W.written sink.new) + lost_pieces true }
+        ensures one { OnOk result (bytes_and_writes W.takes_all (W.writes sink.old) (W.written sink.old) + unpaid false self.old ≤ bytes_and_writes W.takes_all (W.writes sink.new) (W.written sink.new) + LEAST_PIECE) }
+        ensures writes { bytes_and_writes W.takes_all (W.writes sink.old) (W.written sink.old) + unpaid false self.old ≤ bytes_and_writes W.takes_all (W.writes sink.new) (W.written sink.new) + lost_pieces true }
         ensures twice { W.takes_all ≡ true → W.writes sink.old ≤ W.writes sink.new + 2 }
         ensures mark { W.has_failed sink.new ≡ (W.has_failed sink.old || is_err result) }
     {

@@ -80,6 +80,8 @@ impl Window {
         ensures reads { reads_beyond S.gives_all (S.reads source.old) (S.left source.old) ≤ reads_beyond S.gives_all (S.reads source.new) (S.left source.new) + 1 }
         ensures taken { IfOk result (λ more. more ≡ true → reads_beyond S.gives_all (S.reads source.old) (S.left source.old) ≤ reads_beyond S.gives_all (S.reads source.new) (S.left source.new)) }
         ensures effort { effort (S.reads source.new) self.new ≤ effort (S.reads source.old) self.old }
+        ensures lowers { S.reads source.new ≡ S.reads source.old - 1 }
+        ensures read { IfOk result (λ more. S.reads source.new < S.reads source.old) }
         ensures mark { S.has_failed source.new ≡ (S.has_failed source.old || is_err result) }
     {
         move_to_front(&mut self.bytes, self.from, self.to);
@@ -103,6 +105,8 @@ impl Window {
         ensures reads { reads_beyond S.gives_all (S.reads source.old) (S.left source.old) ≤ reads_beyond S.gives_all (S.reads source.new) (S.left source.new) + 1 }
         ensures taken { IfOk result (λ there. there ≡ true → reads_beyond S.gives_all (S.reads source.old) (S.left source.old) ≤ reads_beyond S.gives_all (S.reads source.new) (S.left source.new)) }
         ensures effort { effort (S.reads source.new) self.new ≤ effort (S.reads source.old) self.old }
+        ensures lowers { S.reads source.new ≤ S.reads source.old }
+        ensures unread { IfOk result (λ there. S.reads source.new ≡ S.reads source.old → self.new ≡ self.old) }
         ensures mark { S.has_failed source.new ≡ (S.has_failed source.old || is_err result) }
     {
         while self.unread().len() < count {

@@ -1,5 +1,6 @@
 //! `Kept`: what is kept of bytes that are read, for a fault to be explained.
 
+use ncp_play_script::{is_skipped, text_of};
 use std::alloc::{AllocError, Global};
 
 // How many bytes are kept at the front of what is no script.
@@ -11,13 +12,21 @@ const LINE: usize = 4096;
 // How many bytes of a script are kept at least, once so many were read: more than the program reads ahead, with a line.
 const HALF: usize = 65536;
 
+/// Where a reader of a message file found a fault: behind so many records, and so many bytes of all that was read.
+#[derive(Clone, Copy, Drop)]
+pub(crate) struct Place {
+    pub records: u32,
+    pub bytes: u64,
+}
+
 /// What is kept of bytes that are read: their number and their beginning; of a script its first line that is played, and
-/// the last lines.
+/// the last lines; and where a reader of a message file found a fault.
 #[derive(Drop)]
 pub(crate) struct Kept {
     alloc: Global,
     is_script: bool,
     bytes: u64,
+    place: Option<Place>,
     first: Vec<u8>,
     found: bool,
     // How many lines ended before the older of the two halves that are kept.
@@ -31,16 +40,6 @@ fn ends_in(bytes: &[u8]) -> usize {
     bytes.iter().filter(|byte| **byte == b'\n').count()
 }
 
-// A line without the one CR that may stand at its end.
-fn without_return(line: &[u8]) -> &[u8] {
-    line.strip_suffix(b"\r").unwrap_or(line)
-}
-
-// Whether a line is skipped.
-fn is_skipped(line: &[u8]) -> bool {
-    without_return(line).is_empty() || line.starts_with(b"#")
-}
-
 impl Kept {
     /// Nothing is read yet.
     pub(crate) fn new(alloc: Global, is_script: bool) -> Self {
@@ -48,6 +47,7 @@ impl Kept {
             alloc,
             is_script,
             bytes: 0,
+            place: None,
             first: Vec::new(alloc),
             found: false,
             ended: 0,
@@ -64,7 +64,7 @@ impl Kept {
             }
             return Ok(());
         }
-        if is_skipped(self.first.as_slice()) {
+        if is_skipped(text_of(self.first.as_slice(), true)) {
             self.first.clear();
         } else {
             self.found = true;
@@ -111,9 +111,17 @@ impl Kept {
         };
     }
 
-    /// How many bytes came.
-    pub(crate) fn bytes(&self) -> u64 {
-        self.bytes
+    /// A reader of a message file found a fault behind so many records, and has not used up the last `ahead` bytes.
+    pub(crate) fn stop(&mut self, records: u32, ahead: usize) {
+        self.place = Some(Place {
+            records,
+            bytes: self.bytes.saturating_sub(ahead as u64),
+        });
+    }
+
+    /// Where a reader of a message file found a fault, if it found one.
+    pub(crate) fn place(&self) -> Option<Place> {
+        self.place
     }
 
     /// Of a message file its first bytes; of a script its first line that is played, empty where there is none.
@@ -122,10 +130,8 @@ impl Kept {
         if !self.is_script {
             return first;
         }
-        if !self.found && is_skipped(first) {
-            return &[];
-        }
-        without_return(first)
+        let text = text_of(first, self.found);
+        if is_skipped(text) { &[] } else { text }
     }
 
     /// The line of this number, as far as it is kept.

@@ -76,6 +76,29 @@ fn of_first_line(alloc: Global, order: Order, kept: &Kept) -> Result<String, All
     format!(in alloc; "  {text}\n  {wrong}\n")
 }
 
+// Where a fault of a message file was found, if that is known.
+fn place_in(alloc: Global, kept: &Kept) -> Result<Option<String>, AllocError> {
+    let Some(place) = kept.place() else {
+        return Ok(None);
+    };
+    let bytes = grouped(alloc, place.bytes)?;
+    if place.records == 0 {
+        return Ok(Some(format!(in alloc; "behind the header, at byte {bytes}")?));
+    }
+    let records = grouped(alloc, u64::from(place.records))?;
+    Ok(Some(format!(in alloc; "behind record {records}, at byte {bytes}")?))
+}
+
+// What is wrong with a message file behind `feed`. Its bytes are counted with those of the script in front of it.
+fn of_feed(alloc: Global, kept: &Kept, meant: &str) -> Result<String, AllocError> {
+    match place_in(alloc, kept)? {
+        Some(place) => format!(in alloc;
+            "  in the message file behind 'feed', {place} of the script: {meant}\n"
+        ),
+        None => format!(in alloc; "  in the message file behind 'feed': {meant}\n"),
+    }
+}
+
 // What is wrong with a message file.
 fn of_file(
     alloc: Global,
@@ -85,18 +108,18 @@ fn of_file(
 ) -> Result<String, AllocError> {
     let meant = meaning_of(fault.name());
     if order == Order::Host {
-        return format!(in alloc; "  in the message file behind 'feed': {meant}\n");
+        return of_feed(alloc, kept, meant);
     }
-    match fault {
-        FileFault::BadHeader => {
-            let wrong = wrong_header(alloc, kept.first())?;
-            format!(in alloc; "  {wrong}\n")
-        }
-        FileFault::Truncated => {
-            let bytes = grouped(alloc, kept.bytes())?;
-            format!(in alloc; "  behind all {bytes} bytes: {meant}\n")
-        }
-        _ => format!(in alloc; "  {meant}\n"),
+    if fault == FileFault::BadHeader {
+        let wrong = wrong_header(alloc, kept.first())?;
+        return format!(in alloc; "  {wrong}\n");
+    }
+    if fault == FileFault::WriteFailed {
+        return format!(in alloc; "  {meant}\n");
+    }
+    match place_in(alloc, kept)? {
+        Some(place) => format!(in alloc; "  {place}: {meant}\n"),
+        None => format!(in alloc; "  {meant}\n"),
     }
 }
 

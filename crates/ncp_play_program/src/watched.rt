@@ -30,4 +30,8 @@ impl<S: Source> Source for Watched<S> {
     fn failed(&self) -> bool {
         self.source.failed()
     }
+
+    fn stopped(&mut self, records: u32, ahead: usize) {
+        self.kept.stop(records, ahead);
+    }
 }

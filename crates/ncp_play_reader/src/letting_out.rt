@@ -4,19 +4,11 @@ ghost use Rattle.ncp_play_stream.specs.Streams.{SaidSoFar};
 
 use crate::lines::Lines;
 use ncp_play_page::Page;
+use ncp_play_script::{is_skipped, text_of};
 use ncp_play_stream::{Failed, Sink};
 
-// The bytes that end a line, that may stand before its end, and that begin a remark.
+// The byte that ends a line.
 const LF: u8 = b'\n';
-
-const CR: &[u8] = b"\r";
-
-const REMARK: &[u8] = b"#";
-
-// Whether a line that has ended is skipped.
-fn is_skipped(line: &[u8]) -> bool {
-    line.is_empty() || line == CR || line.starts_with(REMARK)
-}
 
 // Whether bytes that were read ahead have a line whole that is to be played. Nothing rests on the answer but when lines
 // go out.
@@ -24,7 +16,8 @@ fn has_line(ahead: &[u8]) -> bool {
     let mut begin = 0usize;
     for (place, byte) in ahead.iter().enumerate() {
         if *byte == LF {
-            if !is_skipped(ahead.get(begin..place).unwrap_or(&[])) {
+            let line = ahead.get(begin..place).unwrap_or(&[]);
+            if !is_skipped(text_of(line, true)) {
                 return true;
             }
             begin = place.saturating_add(1);

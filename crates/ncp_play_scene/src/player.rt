@@ -15,7 +15,7 @@ use crate::scene::Scene;
 use crate::teller::Teller;
 use ncp_play_notes::PlayFault;
 use ncp_play_page::Page;
-use ncp_play_reader::Lines;
+use ncp_play_reader::{Lines, let_out};
 use ncp_play_script::Words;
 use ncp_play_stream::{Sink, Source};
 use std::alloc::Global;
@@ -76,7 +76,8 @@ fn play_lines<C: Scene, T: Teller<C>, R: Source, W: Sink>(
     Ok(())
 }
 
-// Plays the lines behind the first: there are none where no LF ended it.
+// Plays the lines behind the first: there are none where no LF ended it. What is told before all notes goes out before
+// a line is waited for.
 fn play_rest<C: Scene, T: Teller<C>, R: Source, W: Sink>(
     alloc: Global,
     first: &C::First,
@@ -95,7 +96,10 @@ fn play_rest<C: Scene, T: Teller<C>, R: Source, W: Sink>(
     if !ended {
         return Ok(());
     }
-    play_lines::<C, T, R, W>(alloc, first, lines, source, player, sink)
+    match let_out(lines, &mut player.page, sink) {
+        Ok(()) => play_lines::<C, T, R, W>(alloc, first, lines, source, player, sink),
+        Err(_) => Err(PlayFault::WriteFailed),
+    }
 }
 
 // Whether a call was refused.

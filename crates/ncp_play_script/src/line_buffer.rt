@@ -1,7 +1,7 @@
 //! `LineBuffer`.
 ghost use Rattle.std.specs.Prelude.{◌≡◌, ◌+◌, ◌++◌, [], take, MatchOption, position, ℕ, None, Some};
 ghost use Rattle.std.specs.List.{before_first};
-ghost use Rattle.ncp_play_script.specs.Lines.{is_lf, text_of, kind_of};
+ghost use Rattle.ncp_play_script.specs.Lines.{is_lf, text_of, is_skipped, kind_of};
 
 use crate::cut::place_of;
 use arrayvec::ArrayVec;
@@ -31,6 +31,24 @@ pub enum LineKind {
     TooLong,
     /// Its words are read.
     Played,
+}
+
+/// What a line of these bytes says: where an LF `ended` it, one CR before that is dropped.
+pub fn text_of(line: &[u8], ended: bool) -> &[u8]
+    ensures { result.now ≡ text_of ended line.now }
+{
+    let len = line.len();
+    if ended && len > 0 && line[len - 1] == CR {
+        return &line[..len - 1];
+    }
+    line
+}
+
+/// Whether a line that says this is skipped: an empty one, or a remark.
+pub fn is_skipped(text: &[u8]) -> bool
+    ensures { result ≡ is_skipped text.now }
+{
+    text.is_empty() || text[0] == REMARK
 }
 
 /// The first [`MAX_KEPT`] bytes of a line. They come in pieces, and are all that is needed to say what
@@ -99,12 +117,7 @@ impl LineBuffer {
     pub fn text(&self, ended: bool) -> &[u8]
         ensures { result.now ≡ text_of ended self.now }
     {
-        let bytes = self.bytes.as_slice();
-        let len = bytes.len();
-        if ended && len > 0 && bytes[len - 1] == CR {
-            return &bytes[..len - 1];
-        }
-        bytes
+        text_of(self.bytes.as_slice(), ended)
     }
 
     /// What is to be done with the line.
@@ -112,7 +125,7 @@ impl LineBuffer {
         ensures { result ≡ kind_of (text_of ended self.now) }
     {
         let text = self.text(ended);
-        if text.is_empty() || text[0] == REMARK {
+        if is_skipped(text) {
             return LineKind::Skipped;
         }
         if text.len() > MAX_LINE {

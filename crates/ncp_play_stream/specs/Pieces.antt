@@ -1,5 +1,5 @@
 -- How many reads and writes bytes take.
-use Rattle.std.specs.Prelude.{ℕ, ◌+◌, ◌-◌, ◌*◌, Bool, true, false, List, length, Option, Some, None}
+use Rattle.std.specs.Prelude.{ℕ, ◌+◌, ◌-◌, ◌*◌, ◌≤◌, Bool, true, false, List, [], ◌∷◌, length, Option, Some, None}
 use Rattle.std.specs.Int.{div_ceil}
 use Rattle.ncp_play_stream.specs.declared.source.TheConstants.{LEAST_PIECE}
 
@@ -23,3 +23,15 @@ bytes_and_writes true writes (Some bytes) = length bytes + writes * LEAST_PIECE
 abbrev pub lost_pieces : Bool → ℕ
 lost_pieces false = 0
 lost_pieces true = 2 * LEAST_PIECE
+
+-- a write may write less than a piece where it leaves the page empty, since nothing is read behind it; and two, where
+-- one of them fails
+abbrev pub unpaid : Bool → List ℕ → ℕ
+unpaid true page = lost_pieces true
+unpaid false [] = LEAST_PIECE
+unpaid false (byte ∷ bytes) = 0
+
+-- each write was paid: by a piece of the bytes that were written, or by a read, but for these bytes
+abbrev pub Paid : Bool → ℕ → Option (List ℕ) → ℕ → ℕ → Option (List ℕ) → ℕ → ℕ → Type 0
+Paid full writes written reads writes' written' reads' short =
+    bytes_and_writes full writes written + reads' * LEAST_PIECE ≤ bytes_and_writes full writes' written' + reads * LEAST_PIECE + short

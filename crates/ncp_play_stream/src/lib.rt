@@ -8,4 +8,4 @@ mod source;
 
 pub use memory::{MemorySink, MemorySource};
 pub use sink::{Sink, ToWrite};
-pub use source::{Failed, FromRead, LEAST_PIECE, Source};
+pub use source::{Failed, FromRead, LEAST_PIECE, Source, stop_at_fault};

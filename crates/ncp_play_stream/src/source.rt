@@ -43,6 +43,31 @@ pub trait Source {
     /// Whether a read has failed.
     fn failed(&self) -> bool
         ensures { result ≡ has_failed self.now };
+
+    /// Hears where a reader of a message file found a fault: behind so many records, and with so many bytes ahead that
+    /// were read and are not used up. What is read stays the same; a source may keep it for a person.
+    fn stopped(&mut self, _records: u32, _ahead: usize)
+        ensures left { left self.new ≡ left self.old }
+        ensures reads { reads self.new ≡ reads self.old }
+        ensures mark { has_failed self.new ≡ has_failed self.old }
+    {}
+}
+
+/// Lets a source hear where a reader of a message file found a fault, if it found one, as [`Source::stopped`] says.
+#[inline(always)]
+pub fn stop_at_fault<S: Source, X, E>(
+    source: &mut S,
+    found: &Result<X, E>,
+    records: u32,
+    ahead: usize,
+)
+    ensures left { S.left source.new ≡ S.left source.old }
+    ensures reads { S.reads source.new ≡ S.reads source.old }
+    ensures mark { S.has_failed source.new ≡ S.has_failed source.old }
+{
+    if found.is_err() {
+        source.stopped(records, ahead);
+    }
 }
 
 /// Reads from a [`Read`], at most 4,294,967,295 times.

@@ -10,3 +10,5 @@ mod first_lines;
 mod lines;
 #[cfg(test)]
 mod names;
+#[cfg(test)]
+mod readers;

@@ -1,15 +1,17 @@
 //! Stored runs of the program `ncp`: each subcommand with each status that it has, and with a closed input and a closed
-//! output, over bytes in memory. Behind them the program itself plays the script that its command line names, and leaves with
-//! its status.
+//! output, over bytes in memory. Behind them stands a worked use of the players, and then the program itself plays the script
+//! that its command line names, and leaves with its status.
 #![tactic(auto)]
 
 mod runs;
+mod worked;
 
 use anyhow::Result;
 use ncp_play_program::{obey, run};
-use ncp_play_stream::{MemorySink, MemorySource};
+use ncp_player::{MemorySink, MemorySource};
 use runs::{EACH, RUNS};
 use std::process::ExitCode;
+use worked::use_players;
 
 /// Room for what a run writes, and for what it tells.
 const ROOM: usize = 4096;
@@ -58,7 +60,7 @@ fn print_run(
     Ok(())
 }
 
-// All runs, and each subcommand with a closed input and with a closed output.
+// All runs, each subcommand with a closed input and with a closed output, and the worked use of the players.
 fn print_all(rt: &HostRuntime) -> Result<()> {
     for (words, input) in RUNS {
         print_run(rt, words, input, None, None)?;
@@ -71,6 +73,8 @@ fn print_all(rt: &HostRuntime) -> Result<()> {
     for (words, input) in EACH {
         print_run(rt, words, input, None, Some(1))?;
     }
+    println!(rt; "the players")?;
+    use_players(rt)?;
     println!(rt; "by itself")?;
     Ok(())
 }

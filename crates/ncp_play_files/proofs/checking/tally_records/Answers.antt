@@ -17,8 +17,8 @@ returns-in_err-verdict-clause-told g c = λ bytes a.
     let p = err_from_is_err_and c.from_residual.result c.from_residual.ensures.1 in
     let before = c.loop-verdict.invariant.told bytes a in
     rw (p.1, p.2) (
-    before.2 (Err c.in_err-verdict.field-0.0) (g.S.Source.left c.judge_next.new.source) (
-    tallies_fault (g.R.Records.version c.args.records) before.0 (g.S.Source.left c.judge_next.new.source) c.loop-verdict.tally c.in_err-verdict.field-0.0 (c.in_err-verdict.ensures.told before.0 before.1)))
+    before.2 (Err c.in_err-verdict.field-0.0) (g.S.Source.left c.judge_on.new.source) (
+    tallies_fault (g.R.Records.version c.args.records) before.0 (g.S.Source.left c.judge_on.new.source) c.loop-verdict.tally c.in_err-verdict.field-0.0 (c.in_err-verdict.ensures.told before.0 before.1)))
 
 pub loop-verdict-preserved : goal.loop-verdict-preserved
 loop-verdict-preserved g c = record {
@@ -41,5 +41,5 @@ pub returns-clause-told : goal.returns-clause-told
 returns-clause-told g c = λ bytes a.
     let before = c.loop-verdict.invariant.told bytes a in
     let none = rw c.in_default.is at (c.in_ok-verdict.ensures.told before.0 before.1) in
-    let left = g.S.Source.left c.judge_next.new.source in
+    let left = g.S.Source.left c.judge_on.new.source in
     before.2 (Ok c.loop-verdict.tally) left (tallies_end (g.R.Records.version c.args.records) before.0 c.loop-verdict.tally left none)

@@ -1,4 +1,4 @@
-use Rattle.std.proofs.Common.{◌++◌, ◌∙◌, ◌||◌, List, [], ℕ, Some, drop, sym, ap, subst, le-add_right}
+use Rattle.std.proofs.Common.{◌++◌, ◌∙◌, ◌||◌, List, [], ℕ, Some, drop, sym, ap, subst, arith}
 use Rattle.std.proofs.Math.Bool.{or-false}
 use Rattle.std.proofs.lemmas.List.{append-nil}
 use Rattle.std.proofs.lemmas.Result.{err_from_is_err_and}
@@ -41,7 +41,7 @@ returns-clause-told g c = λ bytes was e f.
     found.0 turned)
 
 pub returns-in_err-version-clause-writes : goal.returns-in_err-version-clause-writes
-returns-in_err-version-clause-writes g c = le-add_right _ _
+returns-in_err-version-clause-writes g c = omega (arith, c.in_err-version.ensures.lowers)
 
 pub returns-in_err-version-clause-sink_mark : goal.returns-in_err-version-clause-sink_mark
 returns-in_err-version-clause-sink_mark g c =
@@ -54,7 +54,7 @@ returns-in_err-direction-clause-source_mark g c =
     rw (p.1, p.2) (c.in_err-direction.ensures.mark ∙ ap (λ b. b || is_read c.in_err-direction.field-0.0) (c.in_ok-version.ensures.mark ∙ or-false _))
 
 pub returns-in_err-direction-clause-writes : goal.returns-in_err-direction-clause-writes
-returns-in_err-direction-clause-writes g c = le-add_right _ _
+returns-in_err-direction-clause-writes g c = omega (arith, c.in_ok-version.ensures.lowers, c.in_err-direction.ensures.lowers)
 
 pub returns-in_err-direction-clause-sink_mark : goal.returns-in_err-direction-clause-sink_mark
 returns-in_err-direction-clause-sink_mark g c =
@@ -64,3 +64,6 @@ returns-in_err-direction-clause-sink_mark g c =
 pub returns-clause-source_mark : goal.returns-clause-source_mark
 returns-clause-source_mark g c =
     c.convert_messages.ensures.source_mark ∙ ap (λ b. b || is_read_failed c.convert_messages.result) (c.in_ok-direction.ensures.mark ∙ or-false _ ∙ c.in_ok-version.ensures.mark ∙ or-false _)
+
+pub returns-clause-writes : goal.returns-clause-writes
+returns-clause-writes g c = omega (arith, c.in_ok-version.ensures.lowers, c.in_ok-direction.ensures.lowers, c.convert_messages.ensures.writes)

@@ -1,4 +1,4 @@
-use Rattle.std.proofs.Common.{◌≡◌, ◌++◌, ◌∙◌, ◌||◌, List, [], ℕ, Some, sym, ap, add-zero, le_trans, le-add_right}
+use Rattle.std.proofs.Common.{◌≡◌, ◌++◌, ◌∙◌, ◌||◌, List, [], ℕ, Some, sym, ap, le_trans, arith}
 use Rattle.std.proofs.Math.Bool.{or-false}
 use Rattle.std.proofs.lemmas.List.{append-nil}
 use Rattle.std.proofs.lemmas.Result.{err_from_is_err_and}
@@ -15,7 +15,7 @@ returns-in_err-found-clause-told g c = λ bytes was a f.
     let turn = c.args.turn in
     let said : SaidSoFar was c.args.page.now (g.W.Sink.written c.args.sink.now) [] = ([], f ∙ ap Some (sym (append-nil was)), c.requires) in
     rw (p.1, p.2) (
-    turned_none turn.to turn.given (next_at turn.from turn.wanted) (at_front turn.from turn.wanted) was bytes c.args.page.now (g.S.Source.left c.take_next.new.source) (g.W.Sink.written c.args.sink.now) c.in_err-found.field-0.0
+    turned_none turn.to turn.given (next_at turn.from turn.wanted) (at_front turn.from turn.wanted) was bytes c.args.page.now (g.S.Source.left c.take_on.new.source) (g.W.Sink.written c.args.sink.now) c.in_err-found.field-0.0
     (c.in_err-found.ensures.told bytes a) said)
 
 pub returns-then-not-found-clause-told : goal.returns-then-not-found-clause-told
@@ -30,7 +30,7 @@ returns-in-Ok-clause-told g c = λ bytes was a f.
     let read = rw c.if-not-found.false at (c.in_ok-found.ensures.told bytes a) in
     let page : c.push_header.new.page ≡ header_of turn.to = c.push_header.ensures.bytes ∙ ap (λ (page : List ℕ). page ++ header_of turn.to) c.requires in
     let head : SaidSoFar was c.push_header.new.page (g.W.Sink.written c.args.sink.now) (header_of turn.to) = ([], f ∙ ap Some (sym (append-nil was)), page) in
-    turned_more turn.to turn.given (next_at turn.from turn.wanted) (at_front turn.from turn.wanted) was bytes read.0 c.take_next.new.message read.1 1 c.convert_rest.result c.convert_rest.new.page
+    turned_more turn.to turn.given (next_at turn.from turn.wanted) (at_front turn.from turn.wanted) was bytes read.0 c.take_on.new.message read.1 1 c.convert_rest.result c.convert_rest.new.page
     (g.S.Source.left c.convert_rest.new.source) (g.W.Sink.written c.convert_rest.new.sink) (c.convert_rest.ensures.told 1 read.0 was _ read.2 (c.in-Ok.ensures.told was (header_of turn.to) head))
 
 pub returns-in-Err-clause-told : goal.returns-in-Err-clause-told
@@ -40,11 +40,11 @@ returns-in-Err-clause-told g c = λ bytes was a f.
     let page : c.push_header.new.page ≡ header_of turn.to = c.push_header.ensures.bytes ∙ ap (λ (page : List ℕ). page ++ header_of turn.to) c.requires in
     let head : SaidSoFar was c.push_header.new.page (g.W.Sink.written c.args.sink.now) (header_of turn.to) = ([], f ∙ ap Some (sym (append-nil was)), page) in
     let broken = c.in-Err.ensures.told in
-    turned_broken turn.to turn.given (next_at turn.from turn.wanted) (at_front turn.from turn.wanted) was bytes read.0 c.take_next.new.message read.1 broken.0 c.say_message.new.page
-    (g.S.Source.left c.take_next.new.source) (g.W.Sink.written c.say_message.new.sink) (broken.1 was (header_of turn.to) head)
+    turned_broken turn.to turn.given (next_at turn.from turn.wanted) (at_front turn.from turn.wanted) was bytes read.0 c.take_on.new.message read.1 broken.0 c.say_message.new.page
+    (g.S.Source.left c.take_on.new.source) (g.W.Sink.written c.say_message.new.sink) (broken.1 was (header_of turn.to) head)
 
 pub returns-in_err-found-clause-writes : goal.returns-in_err-found-clause-writes
-returns-in_err-found-clause-writes g c = le-add_right _ _
+returns-in_err-found-clause-writes g c = omega (arith, c.in_err-found.ensures.lowers)
 
 pub returns-in_err-found-clause-sink_mark : goal.returns-in_err-found-clause-sink_mark
 returns-in_err-found-clause-sink_mark g c =
@@ -52,7 +52,7 @@ returns-in_err-found-clause-sink_mark g c =
     rw (p.1, p.2) (sym (or-false _) ∙ ap (λ b. g.W.Sink.has_failed c.args.sink.now || b) (sym c.in_err-found.ensures.other))
 
 pub returns-then-not-found-clause-writes : goal.returns-then-not-found-clause-writes
-returns-then-not-found-clause-writes g c = le-add_right _ _
+returns-then-not-found-clause-writes g c = omega (arith, c.in_ok-found.ensures.lowers)
 
 pub returns-then-not-found-clause-sink_mark : goal.returns-then-not-found-clause-sink_mark
 returns-then-not-found-clause-sink_mark g c = sym (or-false _)
@@ -61,10 +61,13 @@ pub returns-in-Ok-clause-source_mark : goal.returns-in-Ok-clause-source_mark
 returns-in-Ok-clause-source_mark g c = c.convert_rest.ensures.source_mark ∙ ap (λ b. b || is_read_failed c.convert_rest.result) (c.in_ok-found.ensures.mark ∙ or-false _)
 
 pub returns-in-Ok-clause-writes : goal.returns-in-Ok-clause-writes
-returns-in-Ok-clause-writes g c = le_trans (rw add-zero at c.in-Ok.ensures.writes) c.convert_rest.ensures.writes
+returns-in-Ok-clause-writes g c = omega (arith, c.in_ok-found.ensures.lowers, c.in-Ok.ensures.writes, c.convert_rest.ensures.writes)
 
 pub returns-in-Ok-clause-sink_mark : goal.returns-in-Ok-clause-sink_mark
 returns-in-Ok-clause-sink_mark g c = c.convert_rest.ensures.sink_mark ∙ ap (λ b. b || is_write_failed c.convert_rest.result) (c.in-Ok.ensures.mark ∙ or-false _)
 
 pub returns-in-Ok-clause-reads : goal.returns-in-Ok-clause-reads
 returns-in-Ok-clause-reads g c = le_trans (c.in_ok-found.ensures.taken c.if-not-found.false) c.convert_rest.ensures.reads
+
+pub returns-in-Err-clause-writes : goal.returns-in-Err-clause-writes
+returns-in-Err-clause-writes g c = omega (arith, c.in_ok-found.ensures.lowers, c.in-Err.ensures.writes)

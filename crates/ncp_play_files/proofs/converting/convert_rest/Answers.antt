@@ -5,29 +5,27 @@ use Rattle.ncp_play_page.specs.Lines.{number_after}
 use Rattle.ncp_play_files.specs.Converted.{next_at}
 use Rattle.ncp_play_files.specs.Turning.{message_told}
 use Rattle.ncp_play_files.proofs.Turned.{at_front}
-use Rattle.ncp_play_files.proofs.Progress.{from_end, from_err, from_more}
+use Rattle.ncp_play_files.proofs.Progress.{from_end, from_more}
 use Rattle.ncp_play_files.proofs.converting.convert_rest.Goals as goal
 
-pub returns-in_err-convert_next-clause-told : goal.returns-in_err-convert_next-clause-told
-returns-in_err-convert_next-clause-told g c = λ number bytes was said a k.
+pub returns-in_err-convert_on-clause-told : goal.returns-in_err-convert_on-clause-told
+returns-in_err-convert_on-clause-told g c = λ number bytes was said a k.
     let p = err_from_is_err_and c.from_residual.result c.from_residual.ensures.1 in
-    let left = g.S.Source.left c.convert_next.new.source in let written = g.W.Sink.written c.convert_next.new.sink in
+    let left = g.S.Source.left c.convert_on.new.source in let written = g.W.Sink.written c.convert_on.new.sink in
     let turn = c.args.turn in
-    let before = c.loop.invariant.told bytes was said a k in
+    let before = c.loop-records.invariant.told bytes was said a k in
     rw (p.1, p.2) (
-    before.4 (Err c.in_err-convert_next.field-0.0) left c.convert_next.new.page written
-    (λ n.
-    from_err (next_at turn.from turn.wanted) (at_front turn.from turn.wanted) (message_told turn.given) n before.0 was before.1 c.convert_next.new.window c.convert_next.new.page left written c.in_err-convert_next.field-0.0
-    (c.in_err-convert_next.ensures.told n before.0 was before.1 before.2 before.3))
+    before.4 (Err c.in_err-convert_on.field-0.0) left c.convert_on.new.page written
+    (λ n. c.in_err-convert_on.ensures.told n before.0 was before.1 before.2 before.3)
     number)
 
-pub loop-preserved : goal.loop-preserved
-loop-preserved g c =
+pub loop-records-preserved : goal.loop-records-preserved
+loop-records-preserved g c =
     let turn = c.args.turn in
     record {
       told = λ bytes was said a k.
-          let before = c.loop.invariant.told bytes was said a k in
-          let one = rw c.if-branch.true at (c.in_ok-convert_next.ensures.told 1 before.0 was before.1 before.2 before.3) in
+          let before = c.loop-records.invariant.told bytes was said a k in
+          let one = rw c.if-branch.true at (c.in_ok-convert_on.ensures.told 1 before.0 was before.1 before.2 before.3) in
           let more = before.1 ++ message_told turn.given 1 one.0 in (
             one.1,
             more,
@@ -37,19 +35,27 @@ loop-preserved g c =
                 before.4 r left page written
                 (λ n. from_more (next_at turn.from turn.wanted) (at_front turn.from turn.wanted) (message_told turn.given) n before.0 one.1 was before.1 page left written one.0 r one.2 (h (number_after n))),
           );
-      reads = let taken = c.in_ok-convert_next.ensures.taken c.if-branch.true in omega (arith, taken, c.loop.invariant.reads);
-      source_mark = c.in_ok-convert_next.ensures.source_mark ∙ or-false _ ∙ c.loop.invariant.source_mark;
-      writes = let one = c.in_ok-convert_next.ensures.writes in omega (arith, one, c.loop.invariant.writes);
-      sink_mark = c.in_ok-convert_next.ensures.sink_mark ∙ or-false _ ∙ c.loop.invariant.sink_mark;
+      reads = let taken = c.in_ok-convert_on.ensures.taken c.if-branch.true in omega (arith, taken, c.loop-records.invariant.reads);
+      source_mark = c.in_ok-convert_on.ensures.source_mark ∙ or-false _ ∙ c.loop-records.invariant.source_mark;
+      writes = let one = rw c.if-branch.true at c.in_ok-convert_on.ensures.writes in omega (arith, one, c.loop-records.invariant.writes);
+      sink_mark = c.in_ok-convert_on.ensures.sink_mark ∙ or-false _ ∙ c.loop-records.invariant.sink_mark;
     }
 
 pub returns-clause-told : goal.returns-clause-told
 returns-clause-told g c = λ number bytes was said a k.
-    let left = g.S.Source.left c.convert_next.new.source in let written = g.W.Sink.written c.convert_next.new.sink in
+    let left = g.S.Source.left c.convert_on.new.source in let written = g.W.Sink.written c.convert_on.new.sink in
     let turn = c.args.turn in
-    let before = c.loop.invariant.told bytes was said a k in
-    before.4 (Ok tt) left c.convert_next.new.page written
+    let before = c.loop-records.invariant.told bytes was said a k in
+    before.4 (Ok tt) left c.convert_on.new.page written
     (λ n.
-    from_end (next_at turn.from turn.wanted) (at_front turn.from turn.wanted) (message_told turn.given) n before.0 was before.1 c.convert_next.new.window c.convert_next.new.page left written
-    (rw c.if-branch.false at (c.in_ok-convert_next.ensures.told n before.0 was before.1 before.2 before.3)))
+    from_end (next_at turn.from turn.wanted) (at_front turn.from turn.wanted) (message_told turn.given) n before.0 was before.1 c.convert_on.new.window c.convert_on.new.page left written
+    (rw c.if-branch.false at (c.in_ok-convert_on.ensures.told n before.0 was before.1 before.2 before.3)))
     number
+
+pub returns-in_err-convert_on-clause-writes : goal.returns-in_err-convert_on-clause-writes
+returns-in_err-convert_on-clause-writes g c =
+    let p = err_from_is_err_and c.from_residual.result c.from_residual.ensures.1 in
+    rw (p.1, p.2) (omega (arith, c.in_err-convert_on.ensures.writes, c.loop-records.invariant.writes))
+
+pub returns-clause-writes : goal.returns-clause-writes
+returns-clause-writes g c = let one = rw c.if-branch.false at c.in_ok-convert_on.ensures.writes in omega (arith, one, c.loop-records.invariant.writes)

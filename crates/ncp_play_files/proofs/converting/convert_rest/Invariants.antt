@@ -1,6 +1,6 @@
 use Rattle.std.proofs.Common.{◌≡◌, ◌≤◌, ℕ, List, Option, Result}
 use Rattle.ncp_play_files.specs.declared.file.FileFault.{FileFault}
-use Rattle.ncp_play_stream.specs.Pieces.{reads_beyond, bytes_and_writes}
+use Rattle.ncp_play_stream.specs.Pieces.{reads_beyond, Paid}
 use Rattle.ncp_play_stream.specs.Streams.{Ahead, SaidSoFar}
 use Rattle.ncp_play_page.specs.Windows.{effort}
 use Rattle.ncp_play_files.specs.Converted.{next_at}
@@ -9,8 +9,8 @@ use Rattle.ncp_play_files.specs.Turning.{message_told}
 use Rattle.ncp_play_files.proofs.converting.convert_rest.Given as goal
 
 -- what holds of the rest, with whatever number, holds of all
-abbrev pub invariant-loop : goal.invariant-loop
-invariant-loop g l =
+abbrev pub invariant-loop-records : goal.invariant-loop-records
+invariant-loop-records g l =
     let s = g.S.Source in let w = g.W.Sink in
     record {
       told : (bytes was said : List ℕ) → Ahead l.initial.window (s.left l.initial.source) bytes → SaidSoFar was l.initial.page (w.written l.initial.sink) said
@@ -20,9 +20,9 @@ invariant-loop g l =
           → (number : ℕ) → SaysFrom (next_at l.turn.from l.turn.wanted) (message_told l.turn.given) number bytes was said r left page written);
       reads : reads_beyond s.gives_all (s.reads l.initial.source) (s.left l.initial.source) ≤ reads_beyond s.gives_all (s.reads l.source) (s.left l.source);
       source_mark : s.has_failed l.source ≡ s.has_failed l.initial.source;
-      writes : bytes_and_writes w.takes_all (w.writes l.initial.sink) (w.written l.initial.sink) ≤ bytes_and_writes w.takes_all (w.writes l.sink) (w.written l.sink);
+      writes : Paid w.takes_all (w.writes l.initial.sink) (w.written l.initial.sink) (s.reads l.initial.source) (w.writes l.sink) (w.written l.sink) (s.reads l.source) 0;
       sink_mark : w.has_failed l.sink ≡ w.has_failed l.initial.sink;
     }
 
-abbrev pub decreases-loop : goal.decreases-loop
-decreases-loop g l = effort (g.S.Source.reads l.source) l.window
+abbrev pub decreases-loop-records : goal.decreases-loop-records
+decreases-loop-records g l = effort (g.S.Source.reads l.source) l.window

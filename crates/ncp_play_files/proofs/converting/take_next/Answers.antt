@@ -31,3 +31,6 @@ returns-clause-taken g c = λ more. c.in_ok-passage.ensures.taken (ap is_some c.
 
 pub returns-clause-effort : goal.returns-clause-effort
 returns-clause-effort g c = λ more. c.in_ok-passage.ensures.effort (ap is_some c.in-Some.is)
+
+pub returns-clause-waited : goal.returns-clause-waited
+returns-clause-waited g c = λ more. c.in_ok-passage.ensures.waited (ap is_some c.in-Some.is)

@@ -94,3 +94,18 @@ returns-clause-taken g c = λ found. le_trans (c.in_ok-need.ensures.taken c.if-n
 
 pub returns-clause-effort : goal.returns-clause-effort
 returns-clause-effort g c = le_trans c.in_ok-need-2.ensures.effort c.in_ok-need.ensures.effort
+
+pub returns-in_err-need-2-clause-lowers : goal.returns-in_err-need-2-clause-lowers
+returns-in_err-need-2-clause-lowers g c = le_trans c.in_err-need-2.ensures.lowers c.in_ok-need.ensures.lowers
+
+pub returns-then-not-branch-2-clause-lowers : goal.returns-then-not-branch-2-clause-lowers
+returns-then-not-branch-2-clause-lowers g c = le_trans c.in_ok-need-2.ensures.lowers c.in_ok-need.ensures.lowers
+
+pub returns-clause-lowers : goal.returns-clause-lowers
+returns-clause-lowers g c = le_trans c.in_ok-need-2.ensures.lowers c.in_ok-need.ensures.lowers
+
+pub returns-clause-unread : goal.returns-clause-unread
+returns-clause-unread g c = λ found same.
+    let second : g.S.Source.reads c.need-2.new.source ≡ g.S.Source.reads c.need.new.source = omega (arith, same, c.in_ok-need-2.ensures.lowers, c.in_ok-need.ensures.lowers) in
+    let first : g.S.Source.reads c.need.new.source ≡ g.S.Source.reads c.args.source.now = omega (arith, same, c.in_ok-need-2.ensures.lowers, c.in_ok-need.ensures.lowers) in
+    c.in_ok-need-2.ensures.unread second ∙ c.in_ok-need.ensures.unread first

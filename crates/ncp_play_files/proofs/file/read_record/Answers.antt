@@ -1,6 +1,7 @@
 use Rattle.std.proofs.Common.{◌∙◌, ◌||◌, is_some, sym, ap, lt_of_lt_of_le}
 use Rattle.std.proofs.lemmas.Result.{err_from_is_err_and}
 use Rattle.ncp_play_files.proofs.Files.{fault_read, effort_shorter}
+use Rattle.ncp_play_files.proofs.Waiting.{waited_plain}
 use Rattle.ncp_play_files.proofs.file.read_record.Goals as goal
 
 pub returns-in_err-len-clause-told : goal.returns-in_err-len-clause-told
@@ -38,3 +39,9 @@ returns-clause-taken g c = λ found. c.in_ok-len.ensures.taken (ap is_some c.in-
 
 pub returns-clause-effort : goal.returns-clause-effort
 returns-clause-effort g c = λ found. lt_of_lt_of_le (effort_shorter (g.S.Source.reads c.need_record.new.source) c.need_record.new.window c.take_record.new.window c.in_ok-take_record.ensures.shorter) c.in_ok-len.ensures.effort
+
+pub returns-clause-waited : goal.returns-clause-waited
+returns-clause-waited g c = λ found.
+    let s = g.S.Source in
+    let whole = rw c.in-Some.is at c.in_ok-len.ensures.stands in
+    waited_plain (s.reads c.args.source.now) (s.reads c.need_record.new.source) c.args.window.now c.need_record.new.window c.in-Some.len c.in_ok-len.ensures.lowers (c.in_ok-len.ensures.unread (ap is_some c.in-Some.is)) whole

@@ -1,4 +1,4 @@
-use Rattle.std.proofs.Common.{◌++◌, ◌∙◌, List, [], ℕ, Some, drop, sym, ap}
+use Rattle.std.proofs.Common.{◌++◌, ◌∙◌, List, [], ℕ, Some, drop, sym, ap, arith}
 use Rattle.std.proofs.lemmas.List.{append-nil}
 use Rattle.std.proofs.lemmas.Result.{err_from_is_err_and}
 use Rattle.ncp_play_stream.specs.Streams.{Ahead, SaidSoFar}
@@ -30,3 +30,12 @@ returns-in-Two-clause-told g c = λ bytes was e f.
     let read = rw c.in-Two.is at (c.in_ok-direction.ensures.told bytes ahead) in
     file_shown bytes was c.show_records-in-Two.new.page (g.S.Source.left c.show_records-in-Two.new.source) (g.W.Sink.written c.show_records-in-Two.new.sink) Two c.show_records-in-Two.result read.0
     (c.show_records-in-Two.ensures.told (drop 4 bytes) was [] read.1 said)
+
+pub returns-in_err-direction-clause-writes : goal.returns-in_err-direction-clause-writes
+returns-in_err-direction-clause-writes g c = omega (arith, c.in_err-direction.ensures.lowers)
+
+pub returns-in-One-clause-writes : goal.returns-in-One-clause-writes
+returns-in-One-clause-writes g c = omega (arith, c.in_ok-direction.ensures.lowers, c.show_records.ensures.writes)
+
+pub returns-in-Two-clause-writes : goal.returns-in-Two-clause-writes
+returns-in-Two-clause-writes g c = omega (arith, c.in_ok-direction.ensures.lowers, c.show_records-in-Two.ensures.writes)

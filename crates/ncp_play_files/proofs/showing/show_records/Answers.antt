@@ -5,25 +5,24 @@ use Rattle.ncp_play_files.specs.Versions.{next_in}
 use Rattle.ncp_play_files.specs.Lines.{record_lines}
 use Rattle.ncp_play_files.specs.Steps.{SaysFrom}
 use Rattle.ncp_play_files.proofs.Placing.{in_front}
-use Rattle.ncp_play_files.proofs.Progress.{from_end, from_err, from_more}
+use Rattle.ncp_play_files.proofs.Progress.{from_end, from_more}
 use Rattle.ncp_play_files.proofs.showing.show_records.Goals as goal
 
-pub returns-in_err-show_next-clause-told : goal.returns-in_err-show_next-clause-told
-returns-in_err-show_next-clause-told g c = λ bytes was said a k.
+pub returns-in_err-show_on-clause-told : goal.returns-in_err-show_on-clause-told
+returns-in_err-show_on-clause-told g c = λ bytes was said a k.
     let p = err_from_is_err_and c.from_residual.result c.from_residual.ensures.1 in
-    let left = g.S.Source.left c.show_next.new.source in let written = g.W.Sink.written c.show_next.new.sink in
+    let left = g.S.Source.left c.show_on.new.source in let written = g.W.Sink.written c.show_on.new.sink in
     let before = c.loop-number.invariant.told bytes was said a k in
-    let one = c.in_err-show_next.ensures.told before.0 was before.1 before.2 before.3 in
+    let one = c.in_err-show_on.ensures.told before.0 was before.1 before.2 before.3 in
     rw (p.1, p.2) (
-    before.4 (Err c.in_err-show_next.field-0.0) left c.show_next.new.page written
-    (from_err (next_in (g.R.Records.version c.args.records)) (in_front (g.R.Records.version c.args.records)) record_lines c.loop-number.number before.0 was before.1 c.show_next.new.window c.show_next.new.page left written c.in_err-show_next.field-0.0 one))
+    before.4 (Err c.in_err-show_on.field-0.0) left c.show_on.new.page written one)
 
 pub loop-number-preserved : goal.loop-number-preserved
 loop-number-preserved g c =
     record {
       told = λ bytes was said a k.
           let before = c.loop-number.invariant.told bytes was said a k in
-          let one = rw c.if-branch.true at (c.in_ok-show_next.ensures.told before.0 was before.1 before.2 before.3) in
+          let one = rw c.if-branch.true at (c.in_ok-show_on.ensures.told before.0 was before.1 before.2 before.3) in
           let more = before.1 ++ record_lines c.loop-number.number one.0 in (
             one.1,
             more,
@@ -34,16 +33,24 @@ loop-number-preserved g c =
                 from_more (next_in (g.R.Records.version c.args.records)) (in_front (g.R.Records.version c.args.records)) record_lines c.loop-number.number before.0 one.1 was before.1 page left written one.0 r one.2
                 (subst (λ (n : ℕ). SaysFrom (next_in (g.R.Records.version c.args.records)) record_lines n one.1 was more r left page written) c.saturating_add-number.ensures h)),
           );
-      reads = let taken = c.in_ok-show_next.ensures.taken c.if-branch.true in omega (arith, taken, c.loop-number.invariant.reads);
-      source_mark = c.in_ok-show_next.ensures.source_mark ∙ or-false _ ∙ c.loop-number.invariant.source_mark;
-      writes = let one = c.in_ok-show_next.ensures.writes in omega (arith, one, c.loop-number.invariant.writes);
-      sink_mark = c.in_ok-show_next.ensures.sink_mark ∙ or-false _ ∙ c.loop-number.invariant.sink_mark;
+      reads = let taken = c.in_ok-show_on.ensures.taken c.if-branch.true in omega (arith, taken, c.loop-number.invariant.reads);
+      source_mark = c.in_ok-show_on.ensures.source_mark ∙ or-false _ ∙ c.loop-number.invariant.source_mark;
+      writes = let one = rw c.if-branch.true at c.in_ok-show_on.ensures.writes in omega (arith, one, c.loop-number.invariant.writes);
+      sink_mark = c.in_ok-show_on.ensures.sink_mark ∙ or-false _ ∙ c.loop-number.invariant.sink_mark;
     }
 
 pub returns-clause-told : goal.returns-clause-told
 returns-clause-told g c = λ bytes was said a k.
-    let left = g.S.Source.left c.show_next.new.source in let written = g.W.Sink.written c.show_next.new.sink in
+    let left = g.S.Source.left c.show_on.new.source in let written = g.W.Sink.written c.show_on.new.sink in
     let before = c.loop-number.invariant.told bytes was said a k in
-    let one = rw c.if-branch.false at (c.in_ok-show_next.ensures.told before.0 was before.1 before.2 before.3) in
-    before.4 (Ok tt) left c.show_next.new.page written
-    (from_end (next_in (g.R.Records.version c.args.records)) (in_front (g.R.Records.version c.args.records)) record_lines c.loop-number.number before.0 was before.1 c.show_next.new.window c.show_next.new.page left written one)
+    let one = rw c.if-branch.false at (c.in_ok-show_on.ensures.told before.0 was before.1 before.2 before.3) in
+    before.4 (Ok tt) left c.show_on.new.page written
+    (from_end (next_in (g.R.Records.version c.args.records)) (in_front (g.R.Records.version c.args.records)) record_lines c.loop-number.number before.0 was before.1 c.show_on.new.window c.show_on.new.page left written one)
+
+pub returns-in_err-show_on-clause-writes : goal.returns-in_err-show_on-clause-writes
+returns-in_err-show_on-clause-writes g c =
+    let p = err_from_is_err_and c.from_residual.result c.from_residual.ensures.1 in
+    rw (p.1, p.2) (omega (arith, c.in_err-show_on.ensures.writes, c.loop-number.invariant.writes))
+
+pub returns-clause-writes : goal.returns-clause-writes
+returns-clause-writes g c = let one = rw c.if-branch.false at c.in_ok-show_on.ensures.writes in omega (arith, one, c.loop-number.invariant.writes)

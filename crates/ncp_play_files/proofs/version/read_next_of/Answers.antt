@@ -42,3 +42,6 @@ returns-clause-taken g c = λ found. c.in_ok-found.ensures.taken (ap is_some c.i
 
 pub returns-clause-effort : goal.returns-clause-effort
 returns-clause-effort g c = λ found. lt_of_lt_of_le (effort_shorter (g.S.Source.reads c.find_next.new.source) c.find_next.new.window c.take_record.new.window c.in_ok-take_record.ensures.shorter) c.in_ok-found.ensures.effort
+
+pub returns-clause-waited : goal.returns-clause-waited
+returns-clause-waited g c = λ found. c.in_ok-found.ensures.waited (ap is_some c.in-Some.is)

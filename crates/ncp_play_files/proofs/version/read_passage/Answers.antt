@@ -1,4 +1,4 @@
-use Rattle.std.proofs.Common.{◌≡◌, ◌++◌, ◌∙◌, ◌||◌, true, None, Some, Ok, drop, slice_index_or, refl, sym, ap, le_trans}
+use Rattle.std.proofs.Common.{◌≡◌, ◌++◌, ◌∙◌, ◌||◌, true, None, Some, Ok, drop, slice_index_or, refl, sym, ap, le_trans, arith}
 use Rattle.std.proofs.Math.Bool.{or-false}
 use Rattle.std.proofs.lemmas.Result.{err_from_is_err_and}
 use Rattle.ncp_play_files.specs.Versions.{placed, direction_by, next_passage}
@@ -89,3 +89,18 @@ returns-clause-taken g c = λ found. le_trans (c.in_ok-need.ensures.taken c.if-n
 pub returns-clause-effort : goal.returns-clause-effort
 returns-clause-effort g c =
     le_trans (effort_dropped (g.S.Source.reads c.need-2.new.source) 2 c.need-2.new.self c.skip.new.self c.skip.ensures) (le_trans c.in_ok-need-2.ensures.effort c.in_ok-need.ensures.effort)
+
+pub returns-in_err-need-2-clause-lowers : goal.returns-in_err-need-2-clause-lowers
+returns-in_err-need-2-clause-lowers g c = le_trans c.in_err-need-2.ensures.lowers c.in_ok-need.ensures.lowers
+
+pub returns-then-not-branch-2-clause-lowers : goal.returns-then-not-branch-2-clause-lowers
+returns-then-not-branch-2-clause-lowers g c = le_trans c.in_ok-need-2.ensures.lowers c.in_ok-need.ensures.lowers
+
+pub returns-clause-lowers : goal.returns-clause-lowers
+returns-clause-lowers g c = le_trans c.in_ok-need-2.ensures.lowers c.in_ok-need.ensures.lowers
+
+pub returns-clause-unread : goal.returns-clause-unread
+returns-clause-unread g c = λ found same.
+    let second : g.S.Source.reads c.need-2.new.source ≡ g.S.Source.reads c.need.new.source = omega (arith, same, c.in_ok-need-2.ensures.lowers, c.in_ok-need.ensures.lowers) in
+    let first : g.S.Source.reads c.need.new.source ≡ g.S.Source.reads c.args.source.now = omega (arith, same, c.in_ok-need-2.ensures.lowers, c.in_ok-need.ensures.lowers) in
+    c.skip.ensures ∙ ap (λ w. drop 2 w) (c.in_ok-need-2.ensures.unread second ∙ c.in_ok-need.ensures.unread first)

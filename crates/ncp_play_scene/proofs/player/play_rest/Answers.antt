@@ -1,7 +1,21 @@
+use Rattle.std.proofs.Common.{◌∙◌, ◌||◌, ap}
+use Rattle.std.proofs.Math.Bool.{or-false}
+use Rattle.ncp_play_notes.specs.Faults.{is_write_failed}
+use Rattle.ncp_play_scene.specs.NextEvents.{course_of}
+use Rattle.ncp_play_scene.proofs.PlayedLines.{none_first}
 use Rattle.ncp_play_scene.proofs.player.play_rest.Goals as goal
 
-pub returns-clause-events : goal.returns-clause-events
-returns-clause-events g c = λ bytes ahead none. c.play_lines.ensures.events bytes ahead
+pub returns-in-Ok-clause-events : goal.returns-in-Ok-clause-events
+returns-in-Ok-clause-events g c = λ bytes ahead none. c.play_lines.ensures.events bytes ahead
 
-pub returns-clause-told : goal.returns-clause-told
-returns-clause-told g c = c.play_lines.ensures.told
+pub returns-in-Ok-clause-told : goal.returns-in-Ok-clause-told
+returns-in-Ok-clause-told g c = λ began was told. c.play_lines.ensures.told began was (told.0, told.1, c.in-Ok.ensures.ok was _ told.2)
+
+pub returns-in-Err-clause-events : goal.returns-in-Err-clause-events
+returns-in-Err-clause-events g c = λ bytes ahead none. none_first g.C.Scene.rules (course_of g.C.Scene.rules c.args.first.now c.args.lines.now.number bytes) c.args.player.now.hosts
+
+pub returns-in-Err-clause-told : goal.returns-in-Err-clause-told
+returns-in-Err-clause-told g c = λ began was told. (c.in-Err.ensures.err.0, c.in-Err.ensures.err.1 was _ told.2)
+
+pub returns-in-Ok-clause-sink_mark : goal.returns-in-Ok-clause-sink_mark
+returns-in-Ok-clause-sink_mark g c = c.play_lines.ensures.sink_mark ∙ ap (λ b. b || is_write_failed c.play_lines.result) (c.in-Ok.ensures.mark ∙ or-false _)

@@ -1,10 +1,11 @@
-use Rattle.std.proofs.Common.{◌∙◌, ◌||◌, Err, is_some, ap, le_trans}
+use Rattle.std.proofs.Common.{◌∙◌, ◌||◌, Err, is_some, ap, le_trans, arith}
 use Rattle.std.proofs.Math.Bool.{or-false}
 use Rattle.std.proofs.lemmas.Result.{err_from_is_err_and}
 use Rattle.ncp_play_files.specs.declared.file.FileFault.TheVariants.{Truncated}
 use Rattle.ncp_play_files.specs.Versions.{recorded, behind_passage}
 use Rattle.ncp_play_files.proofs.Placing.{passage_stops, message_stops}
 use Rattle.ncp_play_files.specs.Results.{is_read}
+use Rattle.ncp_play_files.proofs.Waiting.{waited_placed}
 use Rattle.ncp_play_files.proofs.version.PlacedRecordsRecords.find_next.Goals as goal
 
 pub returns-in_err-passage-clause-told : goal.returns-in_err-passage-clause-told
@@ -66,3 +67,19 @@ returns-clause-taken g c = λ found. le_trans (c.in_ok-passage.ensures.taken (ap
 
 pub returns-clause-effort : goal.returns-clause-effort
 returns-clause-effort g c = le_trans c.in_ok-len.ensures.effort c.in_ok-passage.ensures.effort
+
+pub returns-in_err-len-clause-lowers : goal.returns-in_err-len-clause-lowers
+returns-in_err-len-clause-lowers g c = le_trans c.in_err-len.ensures.lowers c.in_ok-passage.ensures.lowers
+
+pub returns-in_default-2-clause-lowers : goal.returns-in_default-2-clause-lowers
+returns-in_default-2-clause-lowers g c = le_trans c.in_ok-len.ensures.lowers c.in_ok-passage.ensures.lowers
+
+pub returns-clause-lowers : goal.returns-clause-lowers
+returns-clause-lowers g c = le_trans c.in_ok-len.ensures.lowers c.in_ok-passage.ensures.lowers
+
+pub returns-clause-waited : goal.returns-clause-waited
+returns-clause-waited g c = λ found.
+    let s = g.S.Source in
+    let whole = rw c.in-Some-2.is at c.in_ok-len.ensures.stands in
+    waited_placed (s.reads c.args.source.now) (s.reads c.read_passage.new.source) (s.reads c.need_record.new.source) c.args.window.now c.read_passage.new.window c.need_record.new.window c.in-Some-2.len c.in_ok-len.ensures.lowers
+    c.in_ok-passage.ensures.lowers (c.in_ok-passage.ensures.unread (ap is_some c.in-Some.is)) (c.in_ok-len.ensures.unread (ap is_some c.in-Some-2.is)) (omega (arith, whole.inside)) whole

@@ -1,7 +1,8 @@
-use Rattle.std.proofs.Common.{Ok, None, refl, ap}
+use Rattle.std.proofs.Common.{Ok, None, is_some, refl, ap}
 use Rattle.std.proofs.lemmas.Result.{err_from_is_err_and}
 use Rattle.ncp_play_files.specs.Versions.{plain, recorded}
 use Rattle.ncp_play_files.proofs.Placing.{one_stops}
+use Rattle.ncp_play_files.proofs.Waiting.{waited_plain}
 use Rattle.ncp_play_files.proofs.version.PlainRecordsRecords.find_next.Goals as goal
 
 pub returns-in_err-len-clause-told : goal.returns-in_err-len-clause-told
@@ -14,3 +15,9 @@ returns-in_default-clause-told g c = λ bytes a. ap (recorded (plain c.args.self
 
 pub returns-clause-told : goal.returns-clause-told
 returns-clause-told g c = λ bytes a. (bytes, Ok None, refl, rw c.in-Some.is at (c.in_ok-len.ensures.told bytes a))
+
+pub returns-clause-waited : goal.returns-clause-waited
+returns-clause-waited g c = λ found.
+    let s = g.S.Source in
+    let whole = rw c.in-Some.is at c.in_ok-len.ensures.stands in
+    waited_plain (s.reads c.args.source.now) (s.reads c.need_record.new.source) c.args.window.now c.need_record.new.window c.in-Some.len c.in_ok-len.ensures.lowers (c.in_ok-len.ensures.unread (ap is_some c.in-Some.is)) whole

@@ -1,9 +1,10 @@
-use Rattle.std.proofs.Common.{◌∙◌, [], List, ℕ, length, take, refl, ap, subst, arith}
+use Rattle.std.proofs.Common.{◌∙◌, ◌+◌, ◌≤◌, false, [], List, ℕ, length, take, refl, ap, subst, le_trans, arith}
 use Rattle.std.proofs.lemmas.List.{append-nil}
 use Rattle.std.specs.Io.KnownBytes.{Appends}
 use Rattle.std.proofs.lemmas.Result.{err_from_is_err_and}
 use Rattle.ncp_play_page.proofs.Outcomes.{on_err_always}
-use Rattle.ncp_play_page.proofs.Pieces.{written_whole, written_twice}
+use Rattle.ncp_play_stream.specs.Pieces.{bytes_and_writes, unpaid}
+use Rattle.ncp_play_page.proofs.Pieces.{written_whole, written_twice, written_one, none_unpaid}
 use Rattle.ncp_play_stream.proofs.Saying.{says_flushed, says_flushed_front}
 use Rattle.ncp_play_page.proofs.page.Page.flush.Goals as goal
 
@@ -24,8 +25,17 @@ pub returns-clause-whole : goal.returns-clause-whole
 returns-clause-whole g c = λ long.
     written_whole g.W.Sink.takes_all (g.W.Sink.writes c.args.sink.now) (g.W.Sink.writes c.put_all.new.sink) (g.W.Sink.written c.args.sink.now) (g.W.Sink.written c.put_all.new.sink) (take c.self.inside.len c.self.inside.bytes) c.in_ok-put_all.ensures.ok (λ all. omega (arith, c.in_ok-put_all.ensures.once all)) (omega (arith, ap length c.self.view_is))
 
+pub returns-clause-one : goal.returns-clause-one
+returns-clause-one g c =
+    let page : List ℕ = take c.self.inside.len c.self.inside.bytes in
+    let w = g.W.Sink in
+    subst (λ (p : List ℕ). bytes_and_writes w.takes_all (w.writes c.args.sink.now) (w.written c.args.sink.now) + unpaid false p ≤ bytes_and_writes w.takes_all (w.writes c.put_all.new.sink) (w.written c.put_all.new.sink) + 4096)
+    c.self.view_is
+    (written_one w.takes_all (w.writes c.args.sink.now) (w.writes c.put_all.new.sink) (w.written c.args.sink.now) (w.written c.put_all.new.sink) page c.in_ok-put_all.ensures.ok c.in_ok-put_all.ensures.once)
+
 pub returns-clause-writes : goal.returns-clause-writes
-returns-clause-writes g c = written_twice g.W.Sink.takes_all (g.W.Sink.writes c.args.sink.now) (g.W.Sink.writes c.put_all.new.sink) (g.W.Sink.written c.args.sink.now) (g.W.Sink.written c.put_all.new.sink) (take c.self.inside.len c.self.inside.bytes) c.in_ok-put_all.ensures.ok c.put_all.ensures.twice
+unfolding returns-clause-one
+returns-clause-writes g c = le_trans (returns-clause-one g c) (omega arith)
 
 pub returns-in_err-put_all-clause-whole : goal.returns-in_err-put_all-clause-whole
 returns-in_err-put_all-clause-whole g c = λ long.
@@ -36,4 +46,6 @@ returns-in_err-put_all-clause-whole g c = λ long.
 pub returns-in_err-put_all-clause-writes : goal.returns-in_err-put_all-clause-writes
 returns-in_err-put_all-clause-writes g c =
     let front = c.in_err-put_all.ensures.err in
-    written_twice g.W.Sink.takes_all (g.W.Sink.writes c.args.sink.now) (g.W.Sink.writes c.put_all.new.sink) (g.W.Sink.written c.args.sink.now) (g.W.Sink.written c.put_all.new.sink) (take front.0 (take c.self.inside.len c.self.inside.bytes)) front.1 c.put_all.ensures.twice
+    let twice = written_twice g.W.Sink.takes_all (g.W.Sink.writes c.args.sink.now) (g.W.Sink.writes c.put_all.new.sink) (g.W.Sink.written c.args.sink.now) (g.W.Sink.written c.put_all.new.sink) (take front.0 (take c.self.inside.len c.self.inside.bytes)) front.1 c.put_all.ensures.twice in
+    let none = none_unpaid c.args.self.now (omega (arith, ap length c.self.view_is, c.in_err-put_all.ensures.some)) in
+    omega (arith, twice, none)

@@ -36,6 +36,8 @@ loop-self-preserved g c =
       grows = grows_more c.args.self.now c.loop-self.self c.refill.new.self c.loop-self.invariant.grows c.refill.ensures.grows;
       effort = omega (arith, c.loop-self.invariant.effort, c.refill.ensures.effort);
       reads = omega (arith, c.loop-self.invariant.reads, c.in_ok-refill.ensures.taken c.if-not-branch.false);
+      lowers = omega (arith, c.loop-self.invariant.lowers, c.refill.ensures.lowers);
+      unread = λ same. absurd (omega (arith, same, c.loop-self.invariant.lowers, c.in_ok-refill.ensures.read));
       mark = c.in_ok-refill.ensures.mark ∙ or-false _ ∙ c.loop-self.invariant.mark;
     }
 
@@ -50,3 +52,18 @@ returns-clause-taken g c = λ _. c.loop-self.invariant.reads
 
 pub returns-clause-mark : goal.returns-clause-mark
 returns-clause-mark g c = c.loop-self.invariant.mark ∙ sym (or-false _)
+
+pub returns-in_err-refill-clause-lowers : goal.returns-in_err-refill-clause-lowers
+returns-in_err-refill-clause-lowers g c = omega (arith, c.loop-self.invariant.lowers, c.refill.ensures.lowers)
+
+pub returns-then-not-branch-clause-lowers : goal.returns-then-not-branch-clause-lowers
+returns-then-not-branch-clause-lowers g c = omega (arith, c.loop-self.invariant.lowers, c.refill.ensures.lowers)
+
+pub returns-then-not-branch-clause-unread : goal.returns-then-not-branch-clause-unread
+returns-then-not-branch-clause-unread g c = λ same. absurd (omega (arith, same, c.loop-self.invariant.lowers, c.in_ok-refill.ensures.read))
+
+pub returns-clause-lowers : goal.returns-clause-lowers
+returns-clause-lowers g c = c.loop-self.invariant.lowers
+
+pub returns-clause-unread : goal.returns-clause-unread
+returns-clause-unread g c = c.loop-self.invariant.unread

@@ -12,6 +12,8 @@ invariant-loop-self g l =
       grows : (piece : List ℕ) × (l.self ≡ l.initial.self ++ piece);
       effort : effort (s.reads l.source) l.self ≤ effort (s.reads l.initial.source) l.initial.self;
       reads : reads_beyond s.gives_all (s.reads l.initial.source) (s.left l.initial.source) ≤ reads_beyond s.gives_all (s.reads l.source) (s.left l.source);
+      lowers : s.reads l.source ≤ s.reads l.initial.source;
+      unread : s.reads l.source ≡ s.reads l.initial.source → l.self ≡ l.initial.self;
       mark : s.has_failed l.source ≡ s.has_failed l.initial.source;
     }
 

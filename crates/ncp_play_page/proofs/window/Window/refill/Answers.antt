@@ -61,3 +61,13 @@ returns-clause-more g c = λ some.
 
 pub returns-clause-mark : goal.returns-clause-mark
 returns-clause-mark g c = c.in_ok-count.ensures.mark
+
+pub returns-in_err-count-clause-lowers : goal.returns-in_err-count-clause-lowers
+returns-in_err-count-clause-lowers g c =
+    let window : length c.args.self.now ≡ c.self.inside.to - c.self.inside.from = sym (ap length (c.move_to_front.ensures ∙ c.self.view_is)) ∙ length-take-le (c.self.inside.to - c.self.inside.from) c.move_to_front.new.bytes (omega arith) in
+    c.read.ensures.lowers (omega arith)
+
+pub returns-clause-lowers : goal.returns-clause-lowers
+returns-clause-lowers g c =
+    let window : length c.args.self.now ≡ c.self.inside.to - c.self.inside.from = sym (ap length (c.move_to_front.ensures ∙ c.self.view_is)) ∙ length-take-le (c.self.inside.to - c.self.inside.from) c.move_to_front.new.bytes (omega arith) in
+    c.read.ensures.lowers (omega arith)

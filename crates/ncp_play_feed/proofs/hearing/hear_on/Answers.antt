@@ -1,0 +1,51 @@
+use Rattle.std.proofs.Common.{◌∙◌, ◌||◌, List, Option, ℕ, [], refl, sym, ap, subst, arith}
+use Rattle.std.proofs.Math.Bool.{or-false}
+use Rattle.ncp_play_files.specs.Waiting.{lacks_message}
+use Rattle.ncp_play_files.proofs.Contents.{holds_some}
+use Rattle.ncp_play_notes.specs.Faults.{is_write_failed}
+use Rattle.ncp_play_feed.specs.Steps.{HearsOn}
+use Rattle.ncp_play_feed.proofs.Arrivals.{hears_on, paid_on}
+use Rattle.ncp_play_feed.proofs.hearing.hear_on.Goals as goal
+
+pub returns-in-Ok-clause-events : goal.returns-in-Ok-clause-events
+returns-in-Ok-clause-events g c = λ bytes ahead.
+    let r = c.hear_next-heard.result in
+    subst (λ (left : Option (List ℕ)). HearsOn bytes c.args.alone.now r c.hear_next-heard.new.alone c.hear_next-heard.new.window left) (sym c.stop_at_fault.ensures.left)
+    (hears_on bytes c.hear_next-heard.new.window (g.R.Source.left c.hear_next-heard.new.source) c.args.alone.now c.hear_next-heard.new.alone r (c.hear_next-heard.ensures.events bytes ahead))
+
+pub returns-in-Ok-clause-told : goal.returns-in-Ok-clause-told
+returns-in-Ok-clause-told g c = λ was first told. c.hear_next-heard.ensures.told was first (told.0, c.in-Ok.ensures.told was _ told.1)
+
+pub returns-in-Ok-clause-source_mark : goal.returns-in-Ok-clause-source_mark
+returns-in-Ok-clause-source_mark g c = c.stop_at_fault.ensures.mark ∙ c.hear_next-heard.ensures.source_mark
+
+pub returns-in-Ok-clause-sink_mark : goal.returns-in-Ok-clause-sink_mark
+returns-in-Ok-clause-sink_mark g c = c.hear_next-heard.ensures.sink_mark ∙ ap (λ b. b || is_write_failed c.hear_next-heard.result) (c.in-Ok.ensures.mark ∙ or-false _)
+
+pub returns-in-Ok-clause-reads : goal.returns-in-Ok-clause-reads
+returns-in-Ok-clause-reads g c = rw (c.stop_at_fault.ensures.left, c.stop_at_fault.ensures.reads) c.hear_next-heard.ensures.reads
+
+pub returns-in-Ok-clause-taken : goal.returns-in-Ok-clause-taken
+returns-in-Ok-clause-taken g c = rw (c.stop_at_fault.ensures.left, c.stop_at_fault.ensures.reads) c.hear_next-heard.ensures.taken
+
+pub returns-in-Ok-clause-effort : goal.returns-in-Ok-clause-effort
+returns-in-Ok-clause-effort g c = rw c.stop_at_fault.ensures.reads c.hear_next-heard.ensures.effort
+
+pub returns-in-Ok-clause-writes : goal.returns-in-Ok-clause-writes
+returns-in-Ok-clause-writes g c =
+    let w = g.W.Sink in let s = g.R.Source in
+    rw c.stop_at_fault.ensures.reads (
+    paid_on w.takes_all (w.writes c.args.sink.now) (w.writes c.let_out.new.sink) (w.writes c.hear_next-heard.new.sink) (w.written c.args.sink.now) (w.written c.let_out.new.sink) (w.written c.hear_next-heard.new.sink)
+    (s.reads c.args.source.now) (s.reads c.hear_next-heard.new.source) (lacks_message 0 c.args.window.now) c.hear_next-heard.result c.in-Ok.ensures.writes c.hear_next-heard.ensures.writes c.hear_next-heard.ensures.lowers c.hear_next-heard.ensures.waited)
+
+pub returns-in-Err-clause-events : goal.returns-in-Err-clause-events
+returns-in-Err-clause-events g c = λ bytes ahead. let all = holds_some bytes in ([], all.0, all.1, all.2, refl)
+
+pub returns-in-Err-clause-told : goal.returns-in-Err-clause-told
+returns-in-Err-clause-told g c = λ was first told. (c.in-Err.ensures.told.1, c.in-Err.ensures.told.2 was _ told.1)
+
+pub returns-in-Err-clause-sink_mark : goal.returns-in-Err-clause-sink_mark
+returns-in-Err-clause-sink_mark g c = rw c.in-Err.ensures.told.0 at c.in-Err.ensures.mark
+
+pub returns-in-Err-clause-writes : goal.returns-in-Err-clause-writes
+returns-in-Err-clause-writes g c = omega (arith, c.in-Err.ensures.writes)

@@ -1,0 +1,12 @@
+use Rattle.std.proofs.Common.{List, ℕ, subst, refl}
+use Rattle.std.proofs.lemmas.List.{append-nil}
+use Rattle.ncp_play_stream.specs.Streams.{SaidSoFar}
+use Rattle.ncp_play_files.proofs.letting_out.let_out.Goals as goal
+
+pub returns-in-Ok-clause-told : goal.returns-in-Ok-clause-told
+returns-in-Ok-clause-told g c = λ was said told.
+    subst (λ (text : List ℕ). SaidSoFar was c.flush.new.self (g.W.Sink.written c.flush.new.sink) text) (append-nil said) (c.in-Ok.ensures.ok.1 was said told)
+
+pub returns-in-Err-clause-told : goal.returns-in-Err-clause-told
+returns-in-Err-clause-told g c =
+    (refl, c.in-Err.ensures.err.0, λ was said told. subst (λ (text : List ℕ). SaidSoFar was c.in-Err.ensures.err.0 (g.W.Sink.written c.flush.new.sink) text) (append-nil said) (c.in-Err.ensures.err.1 was said told))

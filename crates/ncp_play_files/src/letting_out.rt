@@ -1,0 +1,66 @@
+//! `let_out`: what was said goes out before more of a message file is waited for.
+ghost use Rattle.std.specs.Prelude.{◌≡◌, ◌+◌, ◌≤◌, ◌||◌, [], true, false, OnOk};
+ghost use Rattle.ncp_play_stream.specs.Pieces.{bytes_and_writes};
+ghost use Rattle.ncp_play_files.specs.Results.{is_write_failed};
+ghost use Rattle.ncp_play_files.specs.Steps.{LetsOut, unpaid_out};
+ghost use Rattle.ncp_play_files.specs.Waiting.{lacks_message, is_waiting};
+
+use crate::file::{FileFault, LENGTH};
+use crate::version::{PASSAGE, Version};
+use byteorder::{BigEndian, ByteOrder};
+use ncp_bits::MAX_BITS;
+use ncp_play_page::{Page, Window};
+use ncp_play_stream::Sink;
+
+// How many bytes a record has at most, of either version.
+const LONGEST_RECORD: usize = PASSAGE + LENGTH + MAX_BITS / 8;
+
+// Whether the length of a message is missing behind so many bytes, or bytes of the message are.
+fn lacks_message(ahead: &[u8], front: usize) -> bool
+    requires { front ≤ PASSAGE }
+    ensures { result ≡ lacks_message front ahead.now }
+{
+    if ahead.len() < front + LENGTH {
+        return true;
+    }
+    let bits = usize::from(BigEndian::read_u16(&ahead[front..]));
+    bits <= MAX_BITS && ahead.len() < front + LENGTH + bits.div_ceil(8)
+}
+
+// Whether the first record of these bytes is not whole. Mostly many are.
+#[inline(always)]
+fn is_waiting(ahead: &[u8], version: Version) -> bool
+    ensures { result ≡ is_waiting version ahead.now }
+{
+    if ahead.len() >= LONGEST_RECORD {
+        return false;
+    }
+    match version {
+        Version::One(_) => lacks_message(ahead, 0),
+        Version::Two => lacks_message(ahead, PASSAGE),
+    }
+}
+
+/// Writes the page where the next record of a file of this version did not come whole yet, so that what was said goes
+/// out before the program waits for more. A failed write is `WriteFailed`, and a beginning of what was said is written.
+#[inline(always)]
+pub fn let_out<W: Sink>(
+    window: &Window,
+    version: Version,
+    page: &mut Page,
+    sink: &mut W,
+) -> Result<(), FileFault>
+    ensures told { LetsOut page.old (W.written sink.old) result page.new (W.written sink.new) }
+    ensures out { OnOk result (is_waiting version window.now ≡ true → page.new ≡ []) }
+    ensures stays { is_waiting version window.now ≡ false → page.new ≡ page.old }
+    ensures writes { bytes_and_writes W.takes_all (W.writes sink.old) (W.written sink.old) ≤ bytes_and_writes W.takes_all (W.writes sink.new) (W.written sink.new) + unpaid_out result (is_waiting version window.now) }
+    ensures mark { W.has_failed sink.new ≡ (W.has_failed sink.old || is_write_failed result) }
+{
+    if !is_waiting(window.unread(), version) {
+        return Ok(());
+    }
+    match page.flush(sink) {
+        Ok(()) => Ok(()),
+        Err(_) => Err(FileFault::WriteFailed),
+    }
+}

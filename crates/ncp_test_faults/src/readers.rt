@@ -1,0 +1,270 @@
+//! That what is told of a line agrees with the readers of scripts: on the words that name what is to be done, on what
+//! stands behind each, and on the names of faults.
+
+use ncp_leader::MessageFault;
+use ncp_model::CallFault;
+use ncp_play_faults::{NAMES, Player, meaning, verbs, wrong_line};
+use ncp_play_files::FileFault;
+use ncp_play_notes::PlayFault;
+use ncp_play_script::{TwoHosts, Words, host_line};
+use ncp_play_world_lines::{many_line, world_line};
+use std::alloc::{AllocError, Global};
+use std::process::Abort;
+use std::test::Fail;
+
+// What is told of a line in which nothing is wrong that can be seen without its hosts.
+const LAST_RESORT: &str = "a host that it names is none of the first line's";
+
+// A script, and what stands in its lines: in front of all, and behind the word where that names a call, or a move of the
+// subnet.
+#[derive(Clone, Copy, Drop)]
+enum Script {
+    OneHost,
+    Sides,
+    Numbers,
+}
+
+// The words behind the one that names what is to be done.
+type Row = (&'static str, &'static [&'static str]);
+
+// Calls, each with the greatest numbers that it can have.
+const CALLS: &[Row] = &[
+    ("reset", &[]),
+    ("wake", &[]),
+    ("phase", &[]),
+    ("echoed", &[]),
+    ("errors", &[]),
+    ("counts", &[]),
+    ("echo", &["255"]),
+    ("interrupt", &["4294967295", "4294967295"]),
+    ("close", &["4294967295", "4294967295"]),
+    ("state", &["4294967295", "4294967295"]),
+    (
+        "ask-send",
+        &["4294967295", "4294967295", "255", "4294967295"],
+    ),
+    ("ask-receive", &["4294967295", "4294967295", "4294967295"]),
+    ("give", &["4294967295", "4294967295", "12", "abc0"]),
+    ("take", &["4294967295", "4294967295", "4294967295"]),
+    (
+        "allocate",
+        &["4294967295", "4294967295", "65535", "4294967295"],
+    ),
+    ("call-back", &["4294967295", "4294967295", "255", "255"]),
+];
+
+const PLAIN: &[Row] = &[("ignored", &[]), ("out", &[])];
+
+const OF_ONE_HOST: &[Row] = &[("in", &["12", "abc0"]), ("feed", &[])];
+
+const OF_THE_SUBNET: &[Row] = &[
+    ("deliver", &["255"]),
+    ("lose", &["255"]),
+    ("dead", &["255"]),
+    ("answer", &["255"]),
+];
+
+// How many words the four tables have.
+const ALL: usize = 24;
+
+// Whether the reader of these scripts takes a line. It tells the prover nothing.
+fn is_taken(alloc: Global, script: Script, line: &[u8]) -> Result<bool, AllocError> {
+    let mut words = Words::new(line);
+    match script {
+        Script::OneHost => Ok(host_line(alloc, &mut words)?.is_some()),
+        Script::Sides => Ok(world_line(alloc, TwoHosts { a: 1, b: 2 }, &mut words)?.is_some()),
+        Script::Numbers => Ok(many_line(alloc, &[1, 2, 3], &mut words)?.is_some()),
+    }
+}
+
+// Whether nothing is found wrong with a line.
+fn is_well(alloc: Global, script: Script, line: &[u8]) -> Result<bool, AllocError> {
+    let told = match script {
+        Script::OneHost => wrong_line(alloc, Player::Host, b"host 1 2", line)?,
+        Script::Sides => wrong_line(alloc, Player::World, b"hosts 1 2", line)?,
+        Script::Numbers => wrong_line(alloc, Player::World, b"many 1 2 3", line)?,
+    };
+    Ok(told.as_str() == LAST_RESORT || told.starts_with("behind 'feed' "))
+}
+
+// A line: the words in front, and those behind.
+fn line_of(alloc: Global, front: &[&str], behind: &[&str]) -> Result<String, AllocError> {
+    let mut line = front.join(alloc, " ")?;
+    for word in behind {
+        line.push_str(" ")?;
+        line.push_str(word)?;
+    }
+    Ok(line)
+}
+
+// Whether both agree on a line, and take it or not, as is wanted.
+fn agree_on(
+    alloc: Global,
+    script: Script,
+    front: &[&str],
+    behind: &[&str],
+    wanted: bool,
+) -> Result<bool, AllocError> {
+    let line = line_of(alloc, front, behind)?;
+    let taken = is_taken(alloc, script, line.as_bytes())?;
+    let well = is_well(alloc, script, line.as_bytes())?;
+    Ok(taken == wanted && well == wanted)
+}
+
+// The same words, of which the last is ten times as great: a number that is too great, or other digits than the bits
+// have.
+fn with_greater(alloc: Global, behind: &[&str]) -> Result<String, AllocError> {
+    let mut text = behind.join(alloc, " ")?;
+    text.push_str("0")?;
+    Ok(text)
+}
+
+// Whether both take a line as it should be, and refuse it with one word more, with one less, and with a greater number.
+fn agree(
+    alloc: Global,
+    script: Script,
+    front: &[&str],
+    behind: &[&str],
+) -> Result<bool, AllocError> {
+    let whole = agree_on(alloc, script, front, behind, true)?;
+    let longer = line_of(alloc, front, behind)?;
+    let more = agree_on(alloc, script, &[longer.as_str()], &["7"], false)?;
+    if behind.is_empty() {
+        return Ok(whole && more);
+    }
+    let fewer = behind.get(..behind.len().saturating_sub(1)).unwrap_or(&[]);
+    let less = agree_on(alloc, script, front, fewer, false)?;
+    let greater = with_greater(alloc, behind)?;
+    let much = agree_on(alloc, script, front, &[greater.as_str()], false)?;
+    Ok(whole && more && less && much)
+}
+
+// Stops where the readers and what is told do not agree on each of these words.
+fn expect(
+    rt: &impl Abort,
+    alloc: Global,
+    script: Script,
+    front: &[&str],
+    peer: &[&str],
+    rows: &[Row],
+) -> Result<(), Fail> {
+    for (verb, behind) in rows {
+        let named = line_of(alloc, front, &[verb])?;
+        let line = line_of(alloc, &[named.as_str()], peer)?;
+        // A line of one host has nothing in front.
+        let first = line.as_str().strip_prefix(" ").unwrap_or(line.as_str());
+        assert!(rt; agree(alloc, script, &[first], behind)?, "{first}");
+    }
+    Ok(())
+}
+
+#[test]
+fn lines_of_one_host_are_read_so(rt: HostRuntime) -> Result<(), Fail> {
+    expect(&rt, rt.alloc(), Script::OneHost, &[], &["255"], CALLS)?;
+    expect(&rt, rt.alloc(), Script::OneHost, &[], &[], PLAIN)?;
+    expect(&rt, rt.alloc(), Script::OneHost, &[], &[], OF_ONE_HOST)
+}
+
+#[test]
+fn lines_of_sides_are_read_so(rt: HostRuntime) -> Result<(), Fail> {
+    expect(&rt, rt.alloc(), Script::Sides, &["b"], &[], CALLS)?;
+    expect(&rt, rt.alloc(), Script::Sides, &["b"], &[], PLAIN)?;
+    expect(&rt, rt.alloc(), Script::Sides, &["a"], &[], OF_THE_SUBNET)
+}
+
+#[test]
+fn lines_of_numbers_are_read_so(rt: HostRuntime) -> Result<(), Fail> {
+    expect(&rt, rt.alloc(), Script::Numbers, &["3"], &["2"], CALLS)?;
+    expect(&rt, rt.alloc(), Script::Numbers, &["3"], &[], PLAIN)?;
+    expect(
+        &rt,
+        rt.alloc(),
+        Script::Numbers,
+        &["1"],
+        &["3"],
+        OF_THE_SUBNET,
+    )
+}
+
+// Whether a word is one of these rows.
+fn is_in(rows: &[Row], word: &str) -> bool {
+    rows.iter().any(|row| row.0 == word)
+}
+
+#[test]
+fn no_other_word_is_a_verb(rt: HostRuntime) -> Result<(), Fail> {
+    let words = verbs(rt.alloc())?;
+    assert!(rt; words.len() == ALL);
+    for word in words.iter() {
+        let known = is_in(CALLS, word)
+            || is_in(PLAIN, word)
+            || is_in(OF_ONE_HOST, word)
+            || is_in(OF_THE_SUBNET, word);
+        assert!(rt; known, "{word}");
+    }
+    Ok(())
+}
+
+// The names of all faults, and of the refusals of calls.
+const FILES: &[FileFault] = &[
+    FileFault::BadHeader,
+    FileFault::Truncated,
+    FileFault::TooLong,
+    FileFault::SpareNotZero,
+    FileFault::ReadFailed,
+    FileFault::WriteFailed,
+    FileFault::BadDirection,
+    FileFault::Mixed,
+];
+
+const SCRIPTS: &[PlayFault] = &[
+    PlayFault::BadLine(1),
+    PlayFault::LineTooLong(1),
+    PlayFault::BadHosts,
+    PlayFault::OutOfMemory,
+];
+
+const REFUSALS: &[CallFault] = &[
+    CallFault::UnknownPeer,
+    CallFault::NotUp,
+    CallFault::BadSex,
+    CallFault::BadSize,
+    CallFault::BadRoom,
+    CallFault::NoEntry,
+    CallFault::AlreadyAsked,
+    CallFault::Closing,
+    CallFault::NotOpen,
+    CallFault::WrongEnd,
+    CallFault::NotWhole,
+    CallFault::Busy,
+    CallFault::NoRoom,
+    CallFault::TooMuch,
+    CallFault::TableFull,
+    CallFault::QueueFull,
+];
+
+const MESSAGES: &[MessageFault] = &[
+    MessageFault::ShortPrefix,
+    MessageFault::M1NotZero,
+    MessageFault::SizeZero,
+    MessageFault::M2NotZero,
+    MessageFault::TextMissing,
+];
+
+#[test]
+fn each_name_that_is_printed_is_explained(rt: HostRuntime) {
+    for fault in FILES {
+        assert!(rt; meaning(fault.name()).is_some(), "{}", fault.name());
+    }
+    for fault in SCRIPTS {
+        assert!(rt; meaning(fault.name()).is_some(), "{}", fault.name());
+    }
+    for fault in REFUSALS {
+        assert!(rt; meaning(fault.name()).is_some(), "{}", fault.name());
+    }
+    for fault in MESSAGES {
+        assert!(rt; meaning(fault.name()).is_some(), "{}", fault.name());
+    }
+    let count = FILES.len() + SCRIPTS.len() + REFUSALS.len() + MESSAGES.len();
+    assert!(rt; NAMES.len() == count);
+}
