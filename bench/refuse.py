@@ -32,6 +32,7 @@ CALLS = [
             "alone::what_is_read_is_noted",
         ],
     ),
+    ("Auditor::new", "ncp_test_audit", ["refused::auditor_new"]),
     ("World::new", "ncp_test_world", ["refused::world::world_new"]),
     ("World::step", "ncp_test_world", ["refused::world::world_step"]),
     ("World::settle", "ncp_test_world", ["refused::world::world_settle"]),
@@ -193,6 +194,7 @@ def works():
     """Each subcommand with each example that it reads."""
     for file in sorted(glob.glob(os.path.join(TOP, "examples", "*.ncp"))):
         yield from ((["show"], file), (["check"], file), (["convert", "--at", "1"], file))
+    yield ["audit"], os.path.join(TOP, "examples", "broken.ncp")  # one with findings, so that something is written
     for script in sorted(glob.glob(os.path.join(TOP, "examples", "*.script"))):
         with open(script) as lines:
             first = next(line for line in lines if line.strip() and not line.startswith("#")).split()[0]

@@ -1,3 +1,4 @@
+mod Flags
 mod Numbers
 mod Subcommands
 mod Words

@@ -1,12 +1,13 @@
 -- The command line of the program, in clap's words.
-use Rattle.std.specs.Prelude.{ℕ, true, List, [], Option, Some, None, option_and_then, pos, codes, if◌then◌else◌}
+use Rattle.std.specs.Prelude.{ℕ, Bool, true, false, List, [], Option, Some, None, option_and_then, pos, codes, if◌then◌else◌}
 use Rattle.std.specs.Option.{option_map_or}
 use Rattle.std.specs.Str.{bytes_eq}
 use Rattle.clap.specs.Simple.{App, Shape, new_app, new_rule, new_shape, with_rule, with_subcommand, subcommand_of}
 use Rattle.clap.specs.Walk.{Row, Rule, Text, byte_or_zero, one_of, first_of}
+use Rattle.clap.specs.declared.builder.action.ArgAction.TheVariants.{SetTrue}
 use Rattle.clap.specs.declared.builder.value_parser.ValueParser.TheVariants.{Signed}
 use Rattle.ncp_play_command_line.specs.declared.orders.Order.{Order}
-use Rattle.ncp_play_command_line.specs.declared.orders.Order.TheVariants.{Show, Check, Convert, Host, World, Record, Explain}
+use Rattle.ncp_play_command_line.specs.declared.orders.Order.TheVariants.{Show, Check, Convert, Audit, Host, World, Record, Explain}
 
 -- `--at H`, which is required: a number from 0 to 255
 abbrev pub number_wanted : Rule
@@ -21,7 +22,7 @@ number_wanted = record (new_rule (codes "at")) {
 abbrev pub file_named : Rule
 file_named = record (new_rule (codes "word")) { value_names = 1 }
 
--- or the name of a fault or of a refusal, which has to be there
+-- or the name of a fault, of a refusal or of a rule, which has to be there
 abbrev pub name_wanted : Rule
 name_wanted = record file_named { required = true }
 
@@ -32,6 +33,14 @@ reading name = (with_rule (new_app name) file_named).top
 -- `convert`, with that number, and a file
 abbrev pub converting : Shape
 converting = (with_rule (with_rule (new_app (codes "convert")) number_wanted) file_named).top
+
+-- an argument of this name without a value, as `--part`
+abbrev pub flag_asked : Text → Rule
+flag_asked name = record (new_rule name) { long = Some name; action = Some SetTrue }
+
+-- `audit`, with `--part`, `--standard`, and a file
+abbrev pub auditing : Shape
+auditing = (with_rule (with_rule (with_rule (new_app (codes "audit")) (flag_asked (codes "part"))) (flag_asked (codes "standard"))) file_named).top
 
 -- `explain`, with a name
 abbrev pub explaining : Shape
@@ -45,9 +54,13 @@ bare_program = record { top = record (new_shape (codes "ncp")) { has_version = t
 abbrev pub of_files : App
 of_files = with_subcommand (with_subcommand (with_subcommand bare_program (reading (codes "show"))) (reading (codes "check"))) converting
 
+-- and with the one that judges them
+abbrev pub of_readers : App
+of_readers = with_subcommand of_files auditing
+
 -- and with those that play scripts
 abbrev pub of_players : App
-of_players = with_subcommand (with_subcommand of_files (reading (codes "host"))) (reading (codes "world"))
+of_players = with_subcommand (with_subcommand of_readers (reading (codes "host"))) (reading (codes "world"))
 
 -- and with the one that records
 abbrev pub of_recorders : App
@@ -61,11 +74,16 @@ program = with_subcommand of_recorders explaining
 abbrev pub number_in : List Row → ℕ
 number_in given = option_map_or byte_or_zero (one_of (codes "at") given) 0
 
+-- whether an argument without a value is among the arguments that clap found
+abbrev pub flag_in : Text → List Row → Bool
+flag_in name given = option_map_or (λ text. bytes_eq text (codes "true")) (one_of name given) false
+
 -- the order that a subcommand with these arguments is
 abbrev pub named : Text → List Row → Order
 named name given =
     if bytes_eq name (codes "check") then Check
     else if bytes_eq name (codes "convert") then Convert (number_in given)
+    else if bytes_eq name (codes "audit") then Audit (flag_in (codes "part") given) (flag_in (codes "standard") given)
     else if bytes_eq name (codes "host") then Host
     else if bytes_eq name (codes "world") then World
     else if bytes_eq name (codes "record") then Record

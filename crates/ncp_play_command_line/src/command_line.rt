@@ -1,6 +1,6 @@
 //! The command line of the program `ncp`.
 ghost use Rattle.std.specs.Prelude.{◌≡◌, IfOk, map, option_map, false};
-ghost use Rattle.ncp_play_command_line.specs.CommandLine.{bare_program, converting, explaining, named, number_in, of_files, of_players, of_recorders, order_in, order_of, program, reading, file_named, word_in, word_of};
+ghost use Rattle.ncp_play_command_line.specs.CommandLine.{auditing, bare_program, converting, explaining, flag_asked, flag_in, named, number_in, of_files, of_players, of_readers, of_recorders, order_in, order_of, program, reading, file_named, word_in, word_of};
 ghost use Rattle.clap.specs.Faults.{fault_of};
 ghost use Rattle.clap.specs.Kinds.{FailsBy};
 ghost use Rattle.clap.specs.Simple.{app_of, shape_of, subcommand_rows_of, with_subcommand};
@@ -9,10 +9,10 @@ ghost use Rattle.clap.specs.declared.builder.command.Command.TheViews.{out-Comma
 ghost use Rattle.clap.specs.Walk.{first_of, rows_of, rule_of};
 
 use crate::help::{
-    CHECKED, CONVERTED, EXPLAINED, PLAYED, PLAYED_HOST, PROGRAM_HELP, RECORDED, SHOWN,
+    AUDITED, CHECKED, CONVERTED, EXPLAINED, PLAYED, PLAYED_HOST, PROGRAM_HELP, RECORDED, SHOWN,
 };
 use crate::orders::{Order, Request};
-use clap::{Arg, ArgMatches, Command, Error};
+use clap::{Arg, ArgAction, ArgMatches, Command, Error};
 use std::alloc::{AllocError, Global};
 use std::convert::AsStr;
 
@@ -21,12 +21,14 @@ const PROGRAM: &str = "ncp";
 
 const VERSION: &str = "1.1.0";
 
-// The names of its subcommands, of the argument of `convert`, and of the word behind a subcommand.
+// The names of its subcommands, of the arguments of `convert` and `audit`, and of the word behind a subcommand.
 const SHOW: &str = "show";
 
 const CHECK: &str = "check";
 
 const CONVERT: &str = "convert";
+
+const AUDIT: &str = "audit";
 
 const HOST: &str = "host";
 
@@ -38,6 +40,10 @@ const EXPLAIN: &str = "explain";
 
 const AT: &str = "at";
 
+const PART: &str = "part";
+
+const STANDARD: &str = "standard";
+
 const WORD: &str = "word";
 
 // The number of `--at`. clap wants one, so it is never the 0 that stands for none.
@@ -47,6 +53,13 @@ fn number_in(given: &ArgMatches) -> u8
     given.get_one::<u8>(AT).unwrap_or(0)
 }
 
+// Whether an argument without a value is there.
+fn flag_in(given: &ArgMatches, id: &'static str) -> bool
+    ensures { result ≡ flag_in id.now (rows_of (found_of given.now)) }
+{
+    given.get_one::<bool>(id).unwrap_or(false)
+}
+
 // The order that a subcommand with these arguments is.
 fn order_named(name: &str, given: &ArgMatches) -> Order
     ensures { result ≡ named name.now (rows_of (found_of given.now)) }
@@ -54,6 +67,10 @@ fn order_named(name: &str, given: &ArgMatches) -> Order
     match name {
         _ if name == CHECK => Order::Check,
         _ if name == CONVERT => Order::Convert(number_in(given)),
+        _ if name == AUDIT => Order::Audit {
+            part: flag_in(given, PART),
+            standard: flag_in(given, STANDARD),
+        },
         _ if name == HOST => Order::Host,
         _ if name == WORLD => Order::World,
         _ if name == RECORD => Order::Record,
@@ -130,16 +147,42 @@ fn converting<'a>(alloc: Global) -> Result<Command<'a>, AllocError>
         .arg(file(alloc))
 }
 
+// An argument without a value.
+fn flag<'a>(alloc: Global, id: &'static str, help: &'static str) -> Arg<'a>
+    ensures rule { rule_of result ≡ flag_asked id.now }
+    ensures local { result.global ≡ false }
+{
+    Arg::new(alloc, id)
+        .long(id)
+        .action(ArgAction::SetTrue)
+        .help(help)
+}
+
+// `audit`, with what may be asked of it.
+fn auditing<'a>(alloc: Global) -> Result<Command<'a>, AllocError>
+    ensures shape { IfOk result (λ command. shape_of command ≡ auditing) }
+    ensures local { IfOk result (λ command. (fields_of command).has_globals ≡ false) }
+{
+    let part = flag(alloc, PART, "The capture may begin in the middle");
+    let standard = flag(alloc, STANDARD, "Leave out what only this program asks for");
+    Command::new(alloc, AUDIT)
+        .about("Says which rules the messages of a message file break, and which host did")
+        .after_help(AUDITED)
+        .arg(part)?
+        .arg(standard)?
+        .arg(file(alloc))
+}
+
 // `explain`, with the name that it wants.
 fn explaining<'a>(alloc: Global) -> Result<Command<'a>, AllocError>
     ensures shape { IfOk result (λ command. shape_of command ≡ explaining) }
     ensures local { IfOk result (λ command. (fields_of command).has_globals ≡ false) }
 {
     let name = Arg::new(alloc, WORD).value_name("NAME").required(true).help(
-        "The name of a fault or of a refusal, as the program prints it",
+        "The name of a fault, of a refusal or of a rule, as the program prints it",
     );
     Command::new(alloc, EXPLAIN)
-        .about("Says what the name of a fault or of a refusal means")
+        .about("Says what the name of a fault, of a refusal or of a rule means")
         .after_help(EXPLAINED)
         .arg(name)
 }
@@ -174,6 +217,13 @@ fn and_convert<'a>(program: Command<'a>, alloc: Global) -> Result<Command<'a>, A
     program.subcommand(converting(alloc)?)
 }
 
+// The program with `audit` too.
+fn and_audit<'a>(program: Command<'a>, alloc: Global) -> Result<Command<'a>, AllocError>
+    ensures { IfOk result (λ command. app_of command ≡ with_subcommand (app_of program.entry) auditing) }
+{
+    program.subcommand(auditing(alloc)?)
+}
+
 // The program with `explain` too.
 fn and_explain<'a>(program: Command<'a>, alloc: Global) -> Result<Command<'a>, AllocError>
     ensures { IfOk result (λ command. app_of command ≡ with_subcommand (app_of program.entry) explaining) }
@@ -192,13 +242,20 @@ fn with_files<'a>(alloc: Global) -> Result<Command<'a>, AllocError>
     and_convert(program, alloc)
 }
 
+// The program with the subcommand that judges message files too.
+fn with_readers<'a>(alloc: Global) -> Result<Command<'a>, AllocError>
+    ensures { IfOk result (λ command. app_of command ≡ of_readers) }
+{
+    and_audit(with_files(alloc)?, alloc)
+}
+
 // The program with the subcommands that play scripts too.
 fn with_players<'a>(alloc: Global) -> Result<Command<'a>, AllocError>
     ensures { IfOk result (λ command. app_of command ≡ of_players) }
 {
     let host = "Plays a script of one host";
     let world = "Plays a script of two to eight hosts and the subnet between them";
-    let program = and_reading(with_files(alloc)?, alloc, HOST, host, PLAYED_HOST)?;
+    let program = and_reading(with_readers(alloc)?, alloc, HOST, host, PLAYED_HOST)?;
     and_reading(program, alloc, WORLD, world, PLAYED)
 }
 

@@ -8,11 +8,11 @@ Example:
 
 Statuses:
   0  all is good
-  1  'check' says no, or a call of a script was refused, or 'explain' does not know a name
+  1  'check' or 'audit' says no, or a call of a script was refused, or 'explain' does not know a name
   2  a fault, which is told on standard error
 
 The formats of files, scripts and lines stand in docs/FORMATS.md and in ncp(1).
-'ncp explain NAME' says what a fault or a refusal means.";
+'ncp explain NAME' says what a fault, a refusal or a rule means.";
 
 /// Of `show`.
 pub(crate) const SHOWN: &str = "Example:
@@ -26,7 +26,7 @@ A message file begins with the letters NCPH, NCPI or NCPJ: docs/FORMATS.md, and 
 
 /// Of `check`.
 pub(crate) const CHECKED: &str =
-    "Each message is judged by itself: its leader, its prefix, and its commands.
+    "Each message is judged by itself: its leader, its prefix, and its commands. 'ncp audit' says who broke which rule.
 
 Example:
   ncp check examples/first.ncp
@@ -47,6 +47,21 @@ Statuses:
   2  the file has a fault, or a record of another direction or host, or it could not be read or written
 
 A message file begins with the letters NCPH, NCPI or NCPJ: docs/FORMATS.md, and ncp(1).";
+
+/// Of `audit`.
+pub(crate) const AUDITED: &str =
+    "A line for each finding: the number of the record, the host at whose interface it was seen, who broke
+the rule, and the rule. 'ncp explain RULE' says what it asks for. The file is one of version 2.
+
+Example:
+  ncp record examples/one_connection.script | ncp audit
+
+Statuses:
+  0  nothing was found
+  1  something was
+  2  the file has a fault, or could not be read or written
+
+A message file of version 2 begins with the letters NCPJ: docs/FORMATS.md, and ncp(1).";
 
 /// Of `host`.
 pub(crate) const PLAYED_HOST: &str = "Example:

@@ -1,10 +1,10 @@
 //! Laws about orders and the command line: the contracts of functions.
-ghost use Rattle.std.specs.Prelude.{◌≡◌, ◌↔◌, ◌∷◌, [], None, Some, IsTrue, codes};
+ghost use Rattle.std.specs.Prelude.{◌≡◌, ◌↔◌, ◌∷◌, [], None, Some, true, false, IsTrue, codes};
 ghost use Rattle.clap.specs.Faults.{fault_of};
 ghost use Rattle.clap.specs.declared.error.kind.ErrorKind.TheVariants as kind;
 ghost use Rattle.ncp_play_command_line.specs.CommandLine.{order_in, program, word_in};
 ghost use Rattle.ncp_play_command_line.specs.Examples.{after_convert, after_ncp};
-ghost use Rattle.ncp_play_command_line.specs.declared.orders.Order.TheVariants.{Convert, Explain, Record, Show, World};
+ghost use Rattle.ncp_play_command_line.specs.declared.orders.Order.TheVariants.{Audit, Convert, Explain, Record, Show, World};
 
 use crate::orders::Order;
 
@@ -34,6 +34,15 @@ pub fn numbers_are_read_so()
     ensures great { fault_of program (after_convert (codes "--at=256" ∷ [])) ≡ kind.ValueValidation ∷ [] }
     ensures negative { fault_of program (after_convert (codes "--at=-1" ∷ [])) ≡ kind.ValueValidation ∷ [] }
     ensures twice { fault_of program (after_convert (codes "--at=7" ∷ codes "--at=7" ∷ [])) ≡ kind.ArgumentConflict ∷ [] }
+{}
+
+/// Worked command lines of `audit`: what is asked of it stands in any order, in front of the file or behind it.
+pub fn audits_are_read_so()
+    ensures bare { order_in (after_ncp (codes "audit" ∷ [])) ≡ Audit false false }
+    ensures part { order_in (after_ncp (codes "audit" ∷ codes "--part" ∷ [])) ≡ Audit true false }
+    ensures both { order_in (after_ncp (codes "audit" ∷ codes "--standard" ∷ codes "first.ncp" ∷ codes "--part" ∷ [])) ≡ Audit true true }
+    ensures file { word_in (after_ncp (codes "audit" ∷ codes "--standard" ∷ codes "first.ncp" ∷ codes "--part" ∷ [])) ≡ Some (codes "first.ncp") }
+    ensures valued { fault_of program (after_ncp (codes "audit" ∷ codes "--part=7" ∷ [])) ≡ kind.TooManyValues ∷ [] }
 {}
 
 /// Worked words behind a subcommand: a file leaves the order as it is, `-` is a word as any other, there is one at most,

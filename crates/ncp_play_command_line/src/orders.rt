@@ -9,13 +9,16 @@ pub enum Order {
     Check,
     /// Turn a file of one version into the other, where the host with this number has the interface.
     Convert(u8),
+    /// Say which rules the messages of a file break, and by whom: of a part of a capture, and of the standard's rules
+    /// alone.
+    Audit { part: bool, standard: bool },
     /// Play a script of one host.
     Host,
     /// Play a script of two to eight hosts and the subnet between them.
     World,
     /// Play a script of two to eight hosts, and write its messages as a message file.
     Record,
-    /// Say what the name of a fault or of a refusal means.
+    /// Say what the name of a fault, of a refusal or of a rule means.
     Explain,
 }
 

@@ -1,15 +1,18 @@
 -- What the program does of each order: what the subcommand promises of the bytes that it is to read and of what it
 -- writes, by its answer (this profile).
-use Rattle.std.specs.Prelude.{◌≡◌, ℕ, Bool, true, false, ◌||◌, List, Option, Some, Result, Ok, Err}
+use Rattle.std.specs.Prelude.{◌≡◌, ◌⊎◌, ℕ, Bool, true, false, ◌||◌, List, Option, Some, Result, Ok, Err, IfOk}
 use Rattle.ncp_play_command_line.specs.declared.orders.Order.{Order}
-use Rattle.ncp_play_command_line.specs.declared.orders.Order.TheVariants.{Show, Check, Convert, Host, World, Record, Explain}
+use Rattle.ncp_play_command_line.specs.declared.orders.Order.TheVariants.{Show, Check, Convert, Audit, Host, World, Record, Explain}
 use Rattle.ncp_play_files.specs.declared.file.FileFault.{FileFault}
 use Rattle.ncp_play_files.specs.Results as files
 use Rattle.ncp_play_files.specs.Shown.{Shown}
 use Rattle.ncp_play_files.specs.Checked.{Checked}
 use Rattle.ncp_play_files.specs.Converted.{Converted}
+use Rattle.ncp_play_files.specs.Writing.{Writes}
+use Rattle.ncp_umpire.specs.Judged.{new_umpire}
+use Rattle.ncp_play_audit.specs.Audited.{AuditedAs, AuditedCut, HasVerdict, done_of}
 use Rattle.ncp_play_notes.specs.declared.fault.PlayFault.{PlayFault}
-use Rattle.ncp_play_notes.specs.declared.fault.PlayFault.TheVariants.{Feed}
+use Rattle.ncp_play_notes.specs.declared.fault.PlayFault.TheVariants.{Feed, OutOfMemory}
 use Rattle.ncp_play_notes.specs.Faults.{is_read_failed, is_write_failed}
 use Rattle.ncp_play_host.specs.Played.{HostPlayed}
 use Rattle.ncp_play_world.specs.ManyRules.{is_many_script}
@@ -60,6 +63,17 @@ module _ (before : Streams) (answer : Result Bool PlayFault) (now : Streams) whe
       (checked : Result Bool FileFault) × (answer ≡ of_check checked) × Blames (files.is_read_failed checked) (files.is_write_failed checked) now
       × OfBytes before (λ bytes was. Checked bytes was now.left now.written checked)
 
+  -- the lines of the findings were written, and the answer is whether there is none
+  abbrev pub DoesAudit : Bool → Bool → Type 0
+  DoesAudit part standard =
+      (audited : Result Bool FileFault) × (answer ≡ of_check audited) × Blames (files.is_read_failed audited) (files.is_write_failed audited) now
+      × OfBytes before (λ bytes was. Writes (AuditedAs standard (new_umpire part)) (AuditedCut standard (new_umpire part)) bytes was now.left now.written (done_of audited)
+      × IfOk audited (HasVerdict standard (new_umpire part) bytes))
+
+  -- there was no memory for what is known of the hosts, and nothing was read or written
+  abbrev pub HasNoMemory : Type 0
+  HasNoMemory = (answer ≡ Err OutOfMemory) × (now ≡ before)
+
   -- a player kept what it promises by this answer
   abbrev pub Plays : (List ℕ → List ℕ → Type 0) → Type 0
   Plays P = Blames (is_read_failed answer) (is_write_failed answer) now × OfBytes before P
@@ -73,6 +87,7 @@ module _ (before : Streams) (answer : Result Bool PlayFault) (now : Streams) whe
   Does Show = DoesFile (λ done bytes was. Shown bytes was now.left now.written done)
   Does Check = DoesCheck
   Does (Convert at) = DoesFile (λ done bytes was. Converted at bytes was now.left now.written done)
+  Does (Audit part standard) = HasNoMemory ⊎ DoesAudit part standard
   Does Host = Plays (λ bytes was. HostPlayed bytes was answer now.left now.written)
   Does World = Plays (λ bytes was. (is_many_script bytes ≡ false → PlaysWorld lines_of_script bytes was answer now.left now.written)
       × (is_many_script bytes ≡ true → PlaysMany lines_of_many bytes was answer now.left now.written))

@@ -2,11 +2,13 @@
 ghost use Rattle.std.specs.Prelude.{◌≡◌, map, true, false, IsErr};
 ghost use Rattle.ncp_play_notes.specs.Faults.{is_read_failed, is_write_failed};
 ghost use Rattle.ncp_play_program.specs.Orders.{seen, Does};
+ghost use Rattle.ncp_play_command_line.specs.declared.orders.Order.TheVariants.{Audit};
 ghost use Rattle.ncp_play_program.specs.Obeying.{heard, Tells, status_of, status_after, Obeys};
 
 use crate::put::put;
 use crate::telling::explanation;
 use ncp_bits::PackedStore;
+use ncp_play_audit::{Auditor, audit};
 use ncp_play_command_line::{Order, request};
 use ncp_play_files::{check, convert, show};
 use ncp_play_host::play_host;
@@ -16,7 +18,7 @@ use ncp_play_world::{play_world, record_world};
 use std::alloc::{AllocGlobal, Global};
 use std::convert::AsStr;
 
-// Says what a name means, and answers whether it is the name of a fault or a refusal.
+// Says what a name means, and answers whether it is the name of a fault, a refusal or a rule.
 fn explain<W: Sink>(alloc: Global, name: &str, sink: &mut W) -> Result<bool, PlayFault>
     requires sink_clean { W.has_failed sink.old ≡ false }
     ensures read { is_read_failed result ≡ false }
@@ -28,6 +30,31 @@ fn explain<W: Sink>(alloc: Global, name: &str, sink: &mut W) -> Result<bool, Pla
     match put(sink, text.as_bytes()) {
         Ok(()) => Ok(known),
         Err(_) => Err(PlayFault::WriteFailed),
+    }
+}
+
+// Says the findings of a message file, and answers whether there is none.
+fn judge<S: Source, W: Sink>(
+    alloc: Global,
+    part: bool,
+    standard: bool,
+    source: &mut S,
+    sink: &mut W,
+) -> Result<bool, PlayFault>
+    requires source_clean { S.has_failed source.old ≡ false }
+    requires sink_clean { W.has_failed sink.old ≡ false }
+    ensures does { Does
+        (seen (S.left source.old) (S.has_failed source.old) (W.written sink.old) (W.has_failed sink.old)) result
+        (seen (S.left source.new) (S.has_failed source.new) (W.written sink.new) (W.has_failed sink.new)) (Audit part standard) }
+    ensures read_failed { S.has_failed source.new ≡ true → IsErr result }
+    ensures write_failed { W.has_failed sink.new ≡ true → IsErr result }
+{
+    let Ok(mut auditor) = Auditor::new(alloc, part) else {
+        return Err(PlayFault::OutOfMemory);
+    };
+    match audit(&mut auditor, standard, source, sink) {
+        Ok(good) => Ok(good),
+        Err(fault) => Err(PlayFault::Feed(fault)),
     }
 }
 
@@ -61,6 +88,7 @@ pub(crate) fn carry_out<S: Source, W: Sink>(
             Ok(()) => Ok(true),
             Err(fault) => Err(PlayFault::Feed(fault)),
         },
+        Order::Audit { part, standard } => judge(alloc, part, standard, source, sink),
         Order::Host => play_host::<PackedStore, _, _>(alloc, source, sink),
         Order::World => play_world::<PackedStore, _, _>(alloc, source, sink),
         Order::Record => record_world::<PackedStore, _, _>(alloc, source, sink),

@@ -2,6 +2,7 @@
 ghost use Rattle.std.specs.Prelude.{◌≡◌, ◌||◌, ◌++◌, ℕ, List, Some, is_err};
 
 use crate::kept::Kept;
+use ncp_play_audit::{RULES, rule_meaning};
 use ncp_play_command_line::Order;
 use ncp_play_faults::{
     NAMES, Player, meaning, nearest, wrong_first_line, wrong_header, wrong_line,
@@ -99,6 +100,16 @@ fn of_feed(alloc: Global, kept: &Kept, meant: &str) -> Result<String, AllocError
     }
 }
 
+// Whether an order judges a message file.
+fn is_audit(order: Order) -> bool {
+    matches!(order, Order::Audit { .. })
+}
+
+// Whether bytes begin as a message file of version 1.
+fn is_plain(head: &[u8]) -> bool {
+    head.starts_with(b"NCPH") || head.starts_with(b"NCPI")
+}
+
 // What is wrong with a message file.
 fn of_file(
     alloc: Global,
@@ -109,6 +120,11 @@ fn of_file(
     let meant = meaning_of(fault.name());
     if order == Order::Host {
         return of_feed(alloc, kept, meant);
+    }
+    if fault == FileFault::BadHeader && is_audit(order) && is_plain(kept.first()) {
+        return format!(in alloc;
+            "  this is a file of version 1, which names no host: 'ncp convert --at H' makes one of version 2\n"
+        );
     }
     if fault == FileFault::BadHeader {
         let wrong = wrong_header(alloc, kept.first())?;
@@ -144,7 +160,7 @@ pub(crate) fn explained(
 // All names, in the order of their table.
 fn all_names(alloc: Global) -> Result<String, AllocError> {
     let mut text = String::new(alloc);
-    for (name, _) in NAMES {
+    for (name, _) in NAMES.iter().chain(RULES.iter()) {
         text.push_str(" ")?;
         text.push_str(name)?;
     }
@@ -154,18 +170,24 @@ fn all_names(alloc: Global) -> Result<String, AllocError> {
 // What is said of a name that is none.
 fn unknown(alloc: Global, name: &str) -> Result<String, AllocError> {
     let word = shown(alloc, name.as_bytes())?;
-    let names: Vec<&str> = NAMES.iter().map(|known| known.0).collect(alloc)?;
+    let names: Vec<&str> = NAMES
+        .iter()
+        .chain(RULES.iter())
+        .map(|known| known.0)
+        .collect(alloc)?;
     let near = match nearest(name, names.as_slice()) {
         Some(near) => format!(in alloc; "; did you mean '{near}'?")?,
         None => String::new(alloc),
     };
     let all = all_names(alloc)?;
-    format!(in alloc; "'{word}' is no name of a fault or a refusal{near}\nThe names are{all}\n")
+    format!(in alloc;
+        "'{word}' is no name of a fault, a refusal or a rule{near}\nThe names are{all}\n"
+    )
 }
 
 /// What is said of a name, and whether it is one.
 pub(crate) fn explanation(alloc: Global, name: &str) -> Result<(String, bool), AllocError> {
-    match meaning(name) {
+    match meaning(name).or(rule_meaning(name)) {
         Some(text) => Ok((format!(in alloc; "{name}\n  {text}\n")?, true)),
         None => Ok((unknown(alloc, name)?, false)),
     }

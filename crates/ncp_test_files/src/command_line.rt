@@ -14,10 +14,11 @@ Commands:
   show     Shows each message of a message file
   check    Counts the messages of a message file, and says whether all are well formed
   convert  Turns a message file of one version into the other
+  audit    Says which rules the messages of a message file break, and which host did
   host     Plays a script of one host
   world    Plays a script of two to eight hosts and the subnet between them
   record   Plays a script of two to eight hosts, and writes its messages as a message file
-  explain  Says what the name of a fault or of a refusal means
+  explain  Says what the name of a fault, of a refusal or of a rule means
   help     Print this message or the help of the given subcommand(s)
 
 Options:
@@ -31,11 +32,11 @@ Example:
 
 Statuses:
   0  all is good
-  1  'check' says no, or a call of a script was refused, or 'explain' does not know a name
+  1  'check' or 'audit' says no, or a call of a script was refused, or 'explain' does not know a name
   2  a fault, which is told on standard error
 
 The formats of files, scripts and lines stand in docs/FORMATS.md and in ncp(1).
-'ncp explain NAME' says what a fault or a refusal means.
+'ncp explain NAME' says what a fault, a refusal or a rule means.
 ";
 
 // What `convert --help` writes.
@@ -96,6 +97,8 @@ fn name_of(alloc: Global, words: &[&str]) -> Option<&'static str> {
         Ok(Order::Show) => Some("show"),
         Ok(Order::Check) => Some("check"),
         Ok(Order::Convert(_)) => Some("convert"),
+        Ok(Order::Audit { part: false, .. }) => Some("audit"),
+        Ok(Order::Audit { part: true, .. }) => Some("audit of a part"),
         Ok(Order::Host) => Some("host"),
         Ok(Order::World) => Some("world"),
         Ok(Order::Record) => Some("record"),
@@ -110,6 +113,9 @@ fn reads_orders(rt: HostRuntime) {
         (&["ncp"], "show"),
         (&["ncp", "show"], "show"),
         (&["ncp", "check"], "check"),
+        (&["ncp", "audit"], "audit"),
+        (&["ncp", "audit", "--standard"], "audit"),
+        (&["ncp", "audit", "first.ncp", "--part"], "audit of a part"),
         (&["ncp", "host"], "host"),
         (&["ncp", "world"], "world"),
         (&["ncp", "record"], "record"),

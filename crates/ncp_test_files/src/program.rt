@@ -20,6 +20,18 @@ const FAULTY: &[u8] = &[0x4E, 0x43, 0x50, 0x48, 0, 72, 0, 2, 2, 0, 1, 0, 0, 0, 0
 // A file that ends inside its record.
 const CUT: &[u8] = &[0x4E, 0x43, 0x50, 0x48, 0, 32, 5, 2];
 
+// An answer to a message that went out, and one to none.
+const STRAY: &[u8] = &[
+    0x4E, 0x43, 0x50, 0x4A, 0x48, 7, 0, 80, 0, 2, 0, 0, 0, 8, 0, 1, 0, 12, 0x49, 7, 0, 32, 5, 2, 0,
+    0, 0x49, 7, 0, 32, 5, 2, 0, 0,
+];
+
+// The same without the last.
+const ANSWERED: &[u8] = &[
+    0x4E, 0x43, 0x50, 0x4A, 0x48, 7, 0, 80, 0, 2, 0, 0, 0, 8, 0, 1, 0, 12, 0x49, 7, 0, 32, 5, 2, 0,
+    0,
+];
+
 // One host, of which an output is asked.
 const HOST: &[u8] = b"host 1 2\nout\n";
 
@@ -130,6 +142,21 @@ fn conversions_end_with_each_status(rt: HostRuntime) -> Result<(), Fail> {
 }
 
 #[test]
+fn audits_end_with_each_status(rt: HostRuntime) -> Result<(), Fail> {
+    const FOUND: End<'static> = (1, b"3 at=7 imp stray type=5 link=0\n", b"");
+    const ROWS: &[Row<'static>] = &[
+        (&["ncp", "audit"], ANSWERED, (0, b"", b"")),
+        (&["ncp", "audit"], STRAY, FOUND),
+        (&["ncp", "audit", "--standard"], STRAY, FOUND),
+        (&["ncp", "audit", "--part"], ANSWERED, (0, b"", b"")),
+        (&["ncp", "audit"], SOUND, (2, b"", b"ncp: BadHeader\n")),
+    ];
+    let wrong = wrong_row(&rt, ROWS)?;
+    assert!(rt; wrong.is_none(), "at row {wrong:?}");
+    Ok(())
+}
+
+#[test]
 fn scripts_of_one_host_end_with_each_status(rt: HostRuntime) -> Result<(), Fail> {
     const WORDS: &[&str] = &["ncp", "host"];
     const NOTHING: &[u8] = b"1 out nothing\n";
@@ -165,10 +192,11 @@ fn scripts_of_two_hosts_end_with_each_status(rt: HostRuntime) -> Result<(), Fail
 }
 
 // The words of each subcommand, with what it may read.
-const EACH: [(&[&str], &[u8]); 6] = [
+const EACH: [(&[&str], &[u8]); 7] = [
     (&["ncp", "show"], SOUND),
     (&["ncp", "check"], SOUND),
     (&["ncp", "convert", "--at", "7"], SOUND),
+    (&["ncp", "audit"], STRAY),
     (&["ncp", "host"], HOST),
     (&["ncp", "world"], WORLD),
     (&["ncp", "record"], WORLD),

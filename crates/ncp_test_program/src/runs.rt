@@ -138,6 +138,10 @@ a deliver 0
 a answer 0
 ";
 
+/// An answer to a message that went out, and one to none.
+const STRAY: &[u8] =
+    b"NCPJH\x07\x00\x50\x00\x02\x00\x00\x00\x08\x00\x01\x00\x0cI\x07\x00\x20\x05\x02\x00\x00I\x07\x00\x20\x05\x02\x00\x00";
+
 /// The state of a connection that does not exist.
 const NO_ENTRY: &[u8] = b"hosts 1 2\nb state 2 3\n";
 
@@ -159,6 +163,9 @@ pub(crate) const RUNS: &[Row] = &[
     (&["ncp", "check"], CUT),
     (&["ncp", "convert", "--at", "7"], FIRST),
     (&["ncp", "convert", "--at", "1"], RECORDED),
+    (&["ncp", "audit"], RECORDED),
+    (&["ncp", "audit"], STRAY),
+    (&["ncp", "audit"], CUT),
     (&["ncp", "host"], OPENED),
     (&["ncp", "host"], ECHOES),
     (&["ncp", "host"], NO_LINE),
@@ -178,6 +185,7 @@ pub(crate) const RUNS: &[Row] = &[
     (&["ncp", "show", "first.ncp", "more.ncp"], b""),
     (&["ncp", "check", "first.ncp"], FAULTY),
     (&["ncp", "explain", "BadLine"], b""),
+    (&["ncp", "explain", "stray"], b""),
     (&["ncp", "explain", "BadLin"], b""),
     (&["ncp", "explain"], b""),
 ];
@@ -187,6 +195,7 @@ pub(crate) const EACH: &[Row] = &[
     (&["ncp", "show"], FIRST),
     (&["ncp", "check"], FIRST),
     (&["ncp", "convert", "--at", "7"], FIRST),
+    (&["ncp", "audit"], STRAY),
     (&["ncp", "host"], ECHOES),
     (&["ncp", "world"], ONE_CONNECTION),
     (&["ncp", "record"], RESET),

@@ -25,3 +25,6 @@ returns-in-World-clause-does g c = rw c.in-World.is
 pub returns-in-Record-clause-does : goal.returns-in-Record-clause-does
 returns-in-Record-clause-does g c = rw c.in-Record.is
     (record { read_failed = c.record_world.ensures.read_failed; write_failed = c.record_world.ensures.write_failed; blamed = c.record_world.ensures.blamed }, λ bytes was left written. (c.record_world.ensures.told bytes was left written, c.record_world.ensures.many bytes was left written))
+
+pub returns-in-Audit-clause-does : goal.returns-in-Audit-clause-does
+returns-in-Audit-clause-does g c = rw c.in-Audit.is c.judge.ensures.does

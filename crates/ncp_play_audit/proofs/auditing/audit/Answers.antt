@@ -1,0 +1,95 @@
+use Rattle.std.proofs.Common.{◌≡◌, ◌∙◌, ◌||◌, true, false, sym, ap, add-zero, le_refl, le_trans}
+use Rattle.std.proofs.Math.Bool.{or-false}
+use Rattle.ncp_play_files.specs.Results.{is_read_failed, is_write_failed}
+use Rattle.ncp_play_audit.specs.Audited.{AuditedAs, AuditedCut, done_of}
+use Rattle.ncp_play_files.proofs.Progress.{wrote_failed, wrote_flushed, wrote_broken}
+use Rattle.ncp_play_audit.proofs.Findings.{audited_longer, same_write}
+use Rattle.ncp_play_files.proofs.Limits.{reads_done, writes_done, lost_few}
+use Rattle.ncp_play_stream.specs.Pieces.{lost_pieces}
+use Rattle.ncp_play_audit.proofs.auditing.audit.Goals as goal
+
+pub returns-then-failed-clause-told : goal.returns-then-failed-clause-told
+returns-then-failed-clause-told g c = λ bytes was e f.
+    let shown = c.audit_file-audited.result in
+    let mark = c.audit_file-audited.ensures.sink_mark ∙ ap (λ b. b || is_write_failed shown) c.requires.sink_clean in
+    let blamed : is_write_failed (done_of shown) ≡ true = same_write shown ∙ sym mark ∙ sym c.failed.ensures ∙ c.if-failed.true in
+    wrote_failed (AuditedAs c.args.standard c.args.auditor.now.umpire) (AuditedCut c.args.standard c.args.auditor.now.umpire) (audited_longer c.args.standard c.args.auditor.now.umpire) bytes was c.audit_file-audited.new.page (g.S.Source.left c.audit_file-audited.new.source) (g.W.Sink.written c.audit_file-audited.new.sink) (done_of shown) (c.audit_file-audited.ensures.told bytes was e f) blamed
+
+pub returns-in-Ok-clause-told : goal.returns-in-Ok-clause-told
+returns-in-Ok-clause-told g c = λ bytes was e f.
+    let shown = c.audit_file-audited.result in
+    let mark = c.audit_file-audited.ensures.sink_mark ∙ ap (λ b. b || is_write_failed shown) c.requires.sink_clean in
+    let blamed : is_write_failed (done_of shown) ≡ false = same_write shown ∙ sym mark ∙ sym c.failed.ensures ∙ c.if-failed.false in
+    wrote_flushed (AuditedAs c.args.standard c.args.auditor.now.umpire) (AuditedCut c.args.standard c.args.auditor.now.umpire) (audited_longer c.args.standard c.args.auditor.now.umpire) bytes was c.audit_file-audited.new.page c.flush.new.self (g.S.Source.left c.audit_file-audited.new.source) (g.W.Sink.written c.audit_file-audited.new.sink) (g.W.Sink.written c.flush.new.sink) (done_of shown)
+    (c.audit_file-audited.ensures.told bytes was e f) c.in-Ok.ensures.ok blamed
+
+pub returns-in-Err-clause-told : goal.returns-in-Err-clause-told
+returns-in-Err-clause-told g c = λ bytes was e f.
+    let shown = c.audit_file-audited.result in
+    let mark = c.audit_file-audited.ensures.sink_mark ∙ ap (λ b. b || is_write_failed shown) c.requires.sink_clean in
+    let blamed : is_write_failed (done_of shown) ≡ false = same_write shown ∙ sym mark ∙ sym c.failed.ensures ∙ c.if-failed.false in
+    wrote_broken (AuditedAs c.args.standard c.args.auditor.now.umpire) (AuditedCut c.args.standard c.args.auditor.now.umpire) (audited_longer c.args.standard c.args.auditor.now.umpire) bytes was c.audit_file-audited.new.page (g.S.Source.left c.audit_file-audited.new.source) (g.W.Sink.written c.audit_file-audited.new.sink) (g.W.Sink.written c.flush.new.sink) (done_of shown)
+    (c.audit_file-audited.ensures.told bytes was e f) c.in-Err.ensures.err blamed
+
+pub returns-then-failed-clause-reads : goal.returns-then-failed-clause-reads
+returns-then-failed-clause-reads g c = λ bytes e.
+    let s = g.S.Source in
+    reads_done s.gives_all (s.reads c.args.source.now) (s.reads c.audit_file-audited.new.source) 1 bytes (s.left c.audit_file-audited.new.source) (rw e at c.audit_file-audited.ensures.reads)
+
+pub returns-then-failed-clause-writes : goal.returns-then-failed-clause-writes
+returns-then-failed-clause-writes g c = λ was now full e f.
+    let w = g.W.Sink in let lost = is_write_failed c.audit_file-audited.result in
+    writes_done was now (w.writes c.args.sink.now) (w.writes c.audit_file-audited.new.sink) (lost_pieces lost) (rw (full, e, f) at c.audit_file-audited.ensures.writes) (lost_few lost)
+
+pub returns-then-failed-clause-read_failed : goal.returns-then-failed-clause-read_failed
+returns-then-failed-clause-read_failed g c = λ h. c.audit_file-audited.ensures.source_mark ∙ ap (λ b. b || is_read_failed c.audit_file-audited.result) c.requires.source_clean ∙ h
+
+pub returns-then-failed-clause-blamed : goal.returns-then-failed-clause-blamed
+returns-then-failed-clause-blamed g c = λ h. ap (λ b. b || is_write_failed c.audit_file-audited.result) (sym (c.audit_file-audited.ensures.source_mark ∙ ap (λ b. b || is_read_failed c.audit_file-audited.result) c.requires.source_clean) ∙ h)
+
+pub returns-then-failed-clause-write_failed : goal.returns-then-failed-clause-write_failed
+returns-then-failed-clause-write_failed g c = c.audit_file-audited.ensures.sink_mark ∙ ap (λ b. b || is_write_failed c.audit_file-audited.result) c.requires.sink_clean
+
+pub returns-in-Ok-clause-reads : goal.returns-in-Ok-clause-reads
+returns-in-Ok-clause-reads g c = λ bytes e.
+    let s = g.S.Source in
+    reads_done s.gives_all (s.reads c.args.source.now) (s.reads c.audit_file-audited.new.source) 1 bytes (s.left c.audit_file-audited.new.source) (rw e at c.audit_file-audited.ensures.reads)
+
+pub returns-in-Ok-clause-writes : goal.returns-in-Ok-clause-writes
+returns-in-Ok-clause-writes g c = λ was now full e f.
+    let w = g.W.Sink in
+    let mark = c.audit_file-audited.ensures.sink_mark ∙ ap (λ b. b || is_write_failed c.audit_file-audited.result) c.requires.sink_clean in
+    let blamed : is_write_failed c.audit_file-audited.result ≡ false = sym mark ∙ sym c.failed.ensures ∙ c.if-failed.false in
+    let shown = rw (blamed, add-zero) at c.audit_file-audited.ensures.writes in
+    writes_done was now (w.writes c.args.sink.now) (w.writes c.flush.new.sink) 8192 (rw (full, e, f) at (le_trans shown c.in-Ok.ensures.writes)) (le_refl 8192)
+
+pub returns-in-Ok-clause-read_failed : goal.returns-in-Ok-clause-read_failed
+returns-in-Ok-clause-read_failed g c = λ h. c.audit_file-audited.ensures.source_mark ∙ ap (λ b. b || is_read_failed c.audit_file-audited.result) c.requires.source_clean ∙ h
+
+pub returns-in-Ok-clause-blamed : goal.returns-in-Ok-clause-blamed
+returns-in-Ok-clause-blamed g c = λ h. ap (λ b. b || is_write_failed c.audit_file-audited.result) (sym (c.audit_file-audited.ensures.source_mark ∙ ap (λ b. b || is_read_failed c.audit_file-audited.result) c.requires.source_clean) ∙ h)
+
+pub returns-in-Ok-clause-write_failed : goal.returns-in-Ok-clause-write_failed
+returns-in-Ok-clause-write_failed g c = c.in-Ok.ensures.mark ∙ or-false _ ∙ c.audit_file-audited.ensures.sink_mark ∙ ap (λ b. b || is_write_failed c.audit_file-audited.result) c.requires.sink_clean
+
+pub returns-in-Err-clause-reads : goal.returns-in-Err-clause-reads
+returns-in-Err-clause-reads g c = λ bytes e.
+    let s = g.S.Source in
+    reads_done s.gives_all (s.reads c.args.source.now) (s.reads c.audit_file-audited.new.source) 1 bytes (s.left c.audit_file-audited.new.source) (rw e at c.audit_file-audited.ensures.reads)
+
+pub returns-in-Err-clause-writes : goal.returns-in-Err-clause-writes
+returns-in-Err-clause-writes g c = λ was now full e f.
+    let w = g.W.Sink in
+    let mark = c.audit_file-audited.ensures.sink_mark ∙ ap (λ b. b || is_write_failed c.audit_file-audited.result) c.requires.sink_clean in
+    let blamed : is_write_failed c.audit_file-audited.result ≡ false = sym mark ∙ sym c.failed.ensures ∙ c.if-failed.false in
+    let shown = rw (blamed, add-zero) at c.audit_file-audited.ensures.writes in
+    writes_done was now (w.writes c.args.sink.now) (w.writes c.flush.new.sink) 8192 (rw (full, e, f) at (le_trans shown c.in-Err.ensures.writes)) (le_refl 8192)
+
+pub returns-in-Err-clause-write_failed : goal.returns-in-Err-clause-write_failed
+returns-in-Err-clause-write_failed g c = c.in-Err.ensures.mark ∙ ap (λ b. b || true) (sym c.failed.ensures ∙ c.if-failed.false)
+
+pub returns-then-failed-clause-verdict : goal.returns-then-failed-clause-verdict
+returns-then-failed-clause-verdict g c = λ bytes was e f. c.audit_file-audited.ensures.verdict bytes was e f
+
+pub returns-in-Ok-clause-verdict : goal.returns-in-Ok-clause-verdict
+returns-in-Ok-clause-verdict g c = λ bytes was e f. c.audit_file-audited.ensures.verdict bytes was e f

@@ -1,0 +1,105 @@
+-- The line of a finding: the number of its record, the host at whose interface it is seen, who broke the rule, the name of
+-- the rule, and the words that show it.
+use Rattle.std.specs.Prelude.{ℕ, ◌&&◌, not, Bool, true, false, List, [], ◌++◌, codes, decimal, if◌then◌else◌}
+use Rattle.ncp_leader.specs.Fault.{name_of}
+use Rattle.ncp_play_page.specs.Lines.{field}
+use Rattle.ncp_play_files.specs.Lines.{bad_words}
+use Rattle.ncp_umpire.specs.declared.finding.Finding.{Finding}
+use Rattle.ncp_umpire.specs.declared.finding.Rule.{Rule}
+use Rattle.ncp_umpire.specs.declared.finding.Rule.TheVariants.{Short, OwnHost, Kind, Fault, WrongLink, WrongSize, Extras, Occupied, Changed, Stray, Unsent, FalseAnswer, Bad, Early, RstAgain, RrpUnasked, Unquiet, RrpFirst, MissingRrp}
+use Rattle.ncp_umpire.specs.declared.finding.Thing.{Thing}
+use Rattle.ncp_umpire.specs.declared.finding.Thing.TheVariants as a
+use Rattle.ncp_umpire.specs.declared.finding.Unsent.{Unsent as Why}
+use Rattle.ncp_umpire.specs.declared.finding.Unsent.TheVariants.{NotOut, Twice, Altered}
+use Rattle.ncp_umpire.specs.declared.finding.Who.{Who}
+use Rattle.ncp_umpire.specs.declared.finding.Who.TheVariants.{Host, Imp}
+
+abbrev pub who_words : Who → List ℕ
+who_words (Host host) = field (codes " host=") host
+who_words Imp = codes " imp"
+
+abbrev pub thing_word : Thing → List ℕ
+thing_word a.Text = codes "text"
+thing_word a.Bad = codes "bad"
+thing_word a.Nop = codes "NOP"
+thing_word a.Rts = codes "RTS"
+thing_word a.Str = codes "STR"
+thing_word a.Cls = codes "CLS"
+thing_word a.All = codes "ALL"
+thing_word a.Gvb = codes "GVB"
+thing_word a.Ret = codes "RET"
+thing_word a.Inr = codes "INR"
+thing_word a.Ins = codes "INS"
+thing_word a.Eco = codes "ECO"
+thing_word a.Erp = codes "ERP"
+thing_word a.Err = codes "ERR"
+
+abbrev pub why_word : Why → List ℕ
+why_word NotOut = codes "not-out"
+why_word Twice = codes "twice"
+why_word Altered = codes "altered"
+
+-- 1 where it is so
+abbrev pub flag : Bool → ℕ
+flag so = if so then 1 else 0
+
+abbrev pub coming_word : Bool → List ℕ
+coming_word came = if came then codes "came" else codes "not-come"
+
+abbrev pub unquiet_word : Bool → List ℕ
+unquiet_word reply = if reply then codes "RRP" else codes "RST"
+
+abbrev pub rule_words : Rule → List ℕ
+rule_words (Short bits) = field (codes "short bits=") bits
+rule_words (OwnHost kind link) = field (codes "own-host type=") kind ++ field (codes " link=") link
+rule_words (Kind kind) = field (codes "kind type=") kind
+rule_words (Fault fault link) = codes "fault name=" ++ name_of fault ++ field (codes " link=") link
+rule_words (WrongLink link) = field (codes "wrong-link link=") link
+rule_words (WrongSize size) = field (codes "wrong-size size=") size
+rule_words (Extras flags low text rest) = field (codes "extras flags=") flags ++ field (codes " low=") low ++ field (codes " text=") text ++ field (codes " rest=") rest
+rule_words (Occupied link) = field (codes "occupied link=") link
+rule_words (Changed link) = field (codes "changed link=") link
+rule_words (Stray kind link) = field (codes "stray type=") kind ++ field (codes " link=") link
+rule_words (Unsent host link why) = field (codes "unsent host=") host ++ field (codes " link=") link ++ codes " " ++ why_word why
+rule_words (FalseAnswer kind host link came) =
+    field (codes "false-answer type=") kind ++ field (codes " host=") host ++ field (codes " link=") link ++ codes " " ++ coming_word came
+rule_words (Bad fault) = bad_words fault
+rule_words (Early thing began waits owes) =
+    codes "early " ++ thing_word thing ++ field (codes " began=") (flag began) ++ field (codes " wait=") (flag waits) ++ field (codes " owe=") (flag owes)
+rule_words RstAgain = codes "rst-again"
+rule_words RrpUnasked = codes "rrp-unasked"
+rule_words (Unquiet reply link) = codes "unquiet " ++ unquiet_word reply ++ field (codes " link=") link
+rule_words RrpFirst = codes "rrp-first"
+rule_words MissingRrp = codes "missing RRP"
+
+abbrev pub finding_line : ℕ → ℕ → Finding → List ℕ
+finding_line number at finding = decimal number ++ field (codes " at=") at ++ who_words finding.who ++ codes " " ++ rule_words finding.rule ++ codes "\n"
+
+-- the rule is the standard's; the others are this project's profile
+abbrev pub is_standard : Rule → Bool
+is_standard (Short bits) = true
+is_standard (OwnHost kind link) = false
+is_standard (Kind kind) = false
+is_standard (Fault fault link) = true
+is_standard (WrongLink link) = true
+is_standard (WrongSize size) = true
+is_standard (Extras flags low text rest) = false
+is_standard (Occupied link) = true
+is_standard (Changed link) = false
+is_standard (Stray kind link) = true
+is_standard (Unsent host link why) = true
+is_standard (FalseAnswer kind host link came) = true
+is_standard (Bad fault) = true
+is_standard (Early thing began waits owes) = began
+is_standard RstAgain = false
+is_standard RrpUnasked = true
+is_standard (Unquiet reply link) = false
+is_standard RrpFirst = false
+is_standard MissingRrp = false
+
+-- a finding is told, unless the rules of the standard alone are asked for and it is none
+unfoldable pub is_told : Bool → Finding → Bool
+is_told standard finding = not (standard && not (is_standard finding.rule))
+
+unfoldable pub told_line : Bool → ℕ → ℕ → Finding → List ℕ
+told_line standard number at finding = if is_told standard finding then finding_line number at finding else []

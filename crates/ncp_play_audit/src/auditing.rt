@@ -1,0 +1,218 @@
+//! `audit`: which rules the messages of a file break, and by whom, line by line.
+ghost use Rattle.std.specs.Prelude.{◌≡◌, ℕ, ◌+◌, ◌-◌, ◌/◌, ◌<◌, ◌≤◌, ◌&&◌, ◌||◌, [], List, Some, true, false, length, drop, is_some, IfOk};
+ghost use Rattle.ncp_play_stream.specs.Pieces.{reads_for, reads_beyond, bytes_and_writes, lost_pieces};
+ghost use Rattle.ncp_play_stream.specs.Streams.{Ahead, SaidSoFar};
+ghost use Rattle.ncp_play_page.specs.Windows.{effort};
+ghost use Rattle.ncp_play_files.specs.Results.{is_read_failed, is_write_failed};
+ghost use Rattle.ncp_play_files.specs.Steps.{Says};
+ghost use Rattle.ncp_play_files.specs.Writing.{Writes};
+ghost use Rattle.ncp_umpire.specs.Judged.{new_umpire};
+ghost use Rattle.ncp_play_audit.specs.Audited.{host_of, way_of, AuditedAs, AuditedCut, HasVerdict, done_of};
+ghost use Rattle.ncp_play_audit.specs.AuditSteps.{AuditsNext, AuditsFrom};
+
+use crate::finding_line::{is_clean, say_findings};
+use ncp_bits::Bits;
+use ncp_play_files::{Direction, FileFault, Version, read_next, read_version};
+use ncp_play_page::{Page, Window};
+use ncp_play_stream::{LEAST_PIECE, Sink, Source};
+use ncp_umpire::{Findings, Umpire, Way};
+use std::alloc::{AllocError, Global};
+
+/// An umpire, with room for the findings of a record.
+#[derive(Drop)]
+pub struct Auditor {
+    umpire: Umpire,
+    found: Findings,
+}
+
+impl Auditor {
+    /// One that has seen nothing. Of a part of a capture it knows nothing that was before. It alone takes memory, once:
+    /// some 6 MB, of which most is not touched.
+    pub fn new(alloc: Global, part: bool) -> Result<Auditor, AllocError>
+        ensures { IfOk result (λ auditor. auditor.umpire ≡ new_umpire part) }
+    {
+        Ok(Auditor {
+            umpire: Umpire::new(alloc, part)?,
+            found: Findings::new(alloc)?,
+        })
+    }
+}
+
+// The host at whose interface a record is.
+fn host_of(at: Option<u8>) -> u8
+    ensures { result ≡ host_of at }
+{
+    at.unwrap_or(0)
+}
+
+// Which way a record went.
+fn way_of(direction: Direction) -> Way
+    ensures { result ≡ way_of direction }
+{
+    match direction {
+        Direction::ToImp => Way::ToImp,
+        Direction::FromImp => Way::FromImp,
+    }
+}
+
+// Reads the next record into `message` and says its findings. It answers whether none is told, if there was a record.
+fn audit_next<S: Source, W: Sink>(
+    window: &mut Window,
+    source: &mut S,
+    message: &mut Bits,
+    page: &mut Page,
+    sink: &mut W,
+    auditor: &mut Auditor,
+    standard: bool,
+    number: u32,
+) -> Result<Option<bool>, FileFault>
+    ensures told { (bytes : List ℕ) (was : List ℕ) (said : List ℕ)
+        → Ahead window.old (S.left source.old) bytes → SaidSoFar was page.old (W.written sink.old) said
+        → AuditsNext standard auditor.old.umpire number bytes was said result auditor.new.umpire window.new (S.left source.new) page.new (W.written sink.new) }
+    ensures source_mark { S.has_failed source.new ≡ (S.has_failed source.old || is_read_failed result) }
+    ensures writes { bytes_and_writes W.takes_all (W.writes sink.old) (W.written sink.old) ≤ bytes_and_writes W.takes_all (W.writes sink.new) (W.written sink.new) + lost_pieces (is_write_failed result) }
+    ensures sink_mark { W.has_failed sink.new ≡ (W.has_failed sink.old || is_write_failed result) }
+    ensures reads { reads_beyond S.gives_all (S.reads source.old) (S.left source.old) ≤ reads_beyond S.gives_all (S.reads source.new) (S.left source.new) + 1 }
+    ensures taken { IfOk result (λ next. is_some next ≡ true → reads_beyond S.gives_all (S.reads source.old) (S.left source.old) ≤ reads_beyond S.gives_all (S.reads source.new) (S.left source.new)) }
+    ensures effort { IfOk result (λ next. is_some next ≡ true → effort (S.reads source.new) window.new < effort (S.reads source.old) window.old) }
+{
+    let Some(passage) = read_next(window, source, Version::Two, message)? else {
+        return Ok(None);
+    };
+    let at = host_of(passage.at);
+    auditor
+        .umpire
+        .judge(way_of(passage.direction), at, message, &mut auditor.found);
+    let found = auditor.found.as_slice();
+    let clean = is_clean(standard, found);
+    match say_findings(page, sink, standard, number, at, found) {
+        Ok(()) => Ok(Some(clean)),
+        Err(_) => Err(FileFault::WriteFailed),
+    }
+}
+
+// Whether both are so.
+fn both(one: bool, other: bool) -> bool
+    ensures { result ≡ (one && other) }
+{
+    one && other
+}
+
+// Says the findings of the records behind the header, and answers whether none is told.
+fn audit_records<S: Source, W: Sink>(
+    window: &mut Window,
+    source: &mut S,
+    page: &mut Page,
+    sink: &mut W,
+    auditor: &mut Auditor,
+    standard: bool,
+) -> Result<bool, FileFault>
+    ensures told { (bytes : List ℕ) (was : List ℕ) (said : List ℕ)
+        → Ahead window.old (S.left source.old) bytes → SaidSoFar was page.old (W.written sink.old) said
+        → AuditsFrom standard auditor.old.umpire 1 bytes was said true result (S.left source.new) page.new (W.written sink.new) }
+    ensures source_mark { S.has_failed source.new ≡ (S.has_failed source.old || is_read_failed result) }
+    ensures writes { bytes_and_writes W.takes_all (W.writes sink.old) (W.written sink.old) ≤ bytes_and_writes W.takes_all (W.writes sink.new) (W.written sink.new) + lost_pieces (is_write_failed result) }
+    ensures sink_mark { W.has_failed sink.new ≡ (W.has_failed sink.old || is_write_failed result) }
+    ensures reads { reads_beyond S.gives_all (S.reads source.old) (S.left source.old) ≤ reads_beyond S.gives_all (S.reads source.new) (S.left source.new) + 1 }
+{
+    let mut message = Bits::new();
+    let mut number = 1u32;
+    let mut clean = true;
+    while let Some(one) = audit_next(
+        window,
+        source,
+        &mut message,
+        page,
+        sink,
+        auditor,
+        standard,
+        number,
+    )? {
+        number = number.saturating_add(1);
+        clean = both(clean, one);
+    }
+    Ok(clean)
+}
+
+// Says the findings of a file, but for what stays on the page, and answers whether none is told.
+fn audit_file<S: Source, W: Sink>(
+    source: &mut S,
+    page: &mut Page,
+    sink: &mut W,
+    auditor: &mut Auditor,
+    standard: bool,
+) -> Result<bool, FileFault>
+    requires { page.old ≡ [] }
+    ensures told { (bytes : List ℕ) (was : List ℕ)
+        → S.left source.old ≡ Some bytes → W.written sink.old ≡ Some was
+        → Says (AuditedAs standard auditor.old.umpire) (AuditedCut standard auditor.old.umpire) bytes was (done_of result) (S.left source.new) page.new (W.written sink.new) }
+    ensures verdict { (bytes : List ℕ) (was : List ℕ)
+        → S.left source.old ≡ Some bytes → W.written sink.old ≡ Some was
+        → IfOk result (λ good. HasVerdict standard auditor.old.umpire bytes good) }
+    ensures source_mark { S.has_failed source.new ≡ (S.has_failed source.old || is_read_failed result) }
+    ensures writes { bytes_and_writes W.takes_all (W.writes sink.old) (W.written sink.old) ≤ bytes_and_writes W.takes_all (W.writes sink.new) (W.written sink.new) + lost_pieces (is_write_failed result) }
+    ensures sink_mark { W.has_failed sink.new ≡ (W.has_failed sink.old || is_write_failed result) }
+    ensures reads { reads_beyond S.gives_all (S.reads source.old) (S.left source.old) ≤ reads_beyond S.gives_all (S.reads source.new) (S.left source.new) + 1 }
+{
+    let mut window = Window::new();
+    let version = read_version(&mut window, source)?;
+    match version {
+        Version::One(_) => Err(FileFault::BadHeader),
+        Version::Two => audit_records(&mut window, source, page, sink, auditor, standard),
+    }
+}
+
+/// Writes a line for each finding of a message file of version 2, up to its first fault, and answers whether there is
+/// none; or that fault. Of `standard` the findings of this project's rules are left out, as if there were none.
+///
+/// A file of version 1 names no host at whose interface its messages stand: its header is a `BadHeader`.
+///
+/// It takes no memory, passes once over the file, and reads and writes in pieces of at least 4 KiB, the last one written
+/// apart. After a failed read the lines of the records that were read whole are written; after a failed write a beginning
+/// of the lines is.
+pub fn audit<S: Source, W: Sink>(
+    auditor: &mut Auditor,
+    standard: bool,
+    source: &mut S,
+    sink: &mut W,
+) -> Result<bool, FileFault>
+    requires source_clean { S.has_failed source.old ≡ false }
+    requires sink_clean { W.has_failed sink.old ≡ false }
+
+    // Of bytes that are told, the lines of the findings of the records before the first fault are written, and nothing
+    // else.
+    ensures told { (bytes : List ℕ) (was : List ℕ)
+        → S.left source.old ≡ Some bytes → W.written sink.old ≡ Some was
+        → Writes (AuditedAs standard auditor.old.umpire) (AuditedCut standard auditor.old.umpire) bytes was (S.left source.new) (W.written sink.new) (done_of result) }
+
+    // The answer is whether no finding is told.
+    ensures verdict { (bytes : List ℕ) (was : List ℕ)
+        → S.left source.old ≡ Some bytes → W.written sink.old ≡ Some was
+        → IfOk result (λ good. HasVerdict standard auditor.old.umpire bytes good) }
+
+    // Reading and writing are blamed only where they failed.
+    ensures read_failed { is_read_failed result ≡ true → S.has_failed source.new ≡ true }
+    ensures write_failed { W.has_failed sink.new ≡ is_write_failed result }
+    ensures blamed { S.has_failed source.new ≡ true → (is_read_failed result || is_write_failed result) ≡ true }
+
+    // A source that gives all that it can is read no more than once for each 4 KiB, and once more;
+    // any source no more than once for each byte, and once more.
+    ensures reads { (bytes : List ℕ) → S.left source.old ≡ Some bytes
+        → S.reads source.old ≤ S.reads source.new + reads_for S.gives_all (length bytes) + 1 }
+
+    // A sink that takes all that it can is written to no more than once for each 4 KiB, and twice
+    // more.
+    ensures writes { (was : List ℕ) (now : List ℕ) → W.takes_all ≡ true
+        → W.written sink.old ≡ Some was → W.written sink.new ≡ Some now
+        → W.writes sink.old ≤ W.writes sink.new + (length now - length was) / LEAST_PIECE + 2 }
+{
+    let mut page = Page::new();
+    let audited = audit_file(source, &mut page, sink, auditor, standard);
+    if sink.failed() {
+        return audited;
+    }
+    match page.flush(sink) {
+        Ok(()) => audited,
+        Err(_) => Err(FileFault::WriteFailed),
+    }
+}

@@ -1,0 +1,11 @@
+//! `audit`: the findings of the umpire on a message file of version 2, line by line.
+#![tactic(auto)]
+
+mod auditing;
+mod finding_line;
+mod rule_words;
+mod rules;
+
+pub use auditing::{Auditor, audit};
+pub use finding_line::LONGEST_FINDING;
+pub use rules::{RULES, rule_meaning};

@@ -1,0 +1,265 @@
+//! The words of a rule that was broken.
+ghost use Rattle.std.specs.Prelude.{◌≡◌, ◌+◌, ◌≤◌, ◌++◌, length, codes};
+ghost use Rattle.ncp_play_page.specs.Lines.{field};
+ghost use Rattle.ncp_play_audit.specs.FindingLines.{thing_word, why_word, flag, coming_word, unquiet_word, rule_words, is_standard};
+
+use ncp_leader::MessageFault;
+use ncp_play_page::{PAGE_SIZE, Page, push_field};
+use ncp_terms::CommandFault;
+use ncp_umpire::{Rule, Thing, Unsent};
+
+/// How many bytes the words of a rule have at most.
+pub(crate) const LONGEST_RULE: usize = 80;
+
+// The name of what comes early.
+fn thing_word(thing: Thing) -> &'static [u8]
+    ensures word { result.now ≡ thing_word thing }
+    ensures len { length result.now ≤ 4 }
+{
+    match thing {
+        Thing::Text => b"text",
+        Thing::Bad => b"bad",
+        Thing::Nop => b"NOP",
+        Thing::Rts => b"RTS",
+        Thing::Str => b"STR",
+        Thing::Cls => b"CLS",
+        Thing::All => b"ALL",
+        Thing::Gvb => b"GVB",
+        Thing::Ret => b"RET",
+        Thing::Inr => b"INR",
+        Thing::Ins => b"INS",
+        Thing::Eco => b"ECO",
+        Thing::Erp => b"ERP",
+        Thing::Err => b"ERR",
+    }
+}
+
+// Why a message was not sent so.
+fn why_word(why: Unsent) -> &'static [u8]
+    ensures word { result.now ≡ why_word why }
+    ensures len { length result.now ≤ 7 }
+{
+    match why {
+        Unsent::NotOut => b"not-out",
+        Unsent::Twice => b"twice",
+        Unsent::Altered => b"altered",
+    }
+}
+
+// Whether it came.
+fn coming_word(came: bool) -> &'static [u8]
+    ensures word { result.now ≡ coming_word came }
+    ensures len { length result.now ≤ 8 }
+{
+    if came { b"came" } else { b"not-come" }
+}
+
+// What was sent while a data link was busy.
+fn unquiet_word(reply: bool) -> &'static [u8]
+    ensures word { result.now ≡ unquiet_word reply }
+    ensures len { length result.now ≡ 3 }
+{
+    if reply { b"RRP" } else { b"RST" }
+}
+
+// 1 where it is so.
+fn flag(so: bool) -> u32
+    ensures { result ≡ flag so }
+{
+    if so { 1 } else { 0 }
+}
+
+// Appends two names, each with its number.
+fn push_numbers(page: &mut Page, name: &[u8], number: u8, other: &[u8], another: u8)
+    requires name { length name.now ≤ 13 }
+    requires other { length other.now ≤ 5 }
+    requires room { length page.old + LONGEST_RULE ≤ PAGE_SIZE }
+    ensures bytes { page.new ≡ page.old ++ (field name.now number ++ field other.now another) }
+    ensures len { length page.new ≤ length page.old + 40 }
+{
+    push_field(page, name, u32::from(number));
+    push_field(page, other, u32::from(another));
+}
+
+// Appends how many bits a text has, and how many stand behind it.
+fn push_lengths(page: &mut Page, text: u32, rest: u32)
+    requires { length page.old + 40 ≤ PAGE_SIZE }
+    ensures bytes { page.new ≡ page.old ++ (field (codes " text=") text ++ field (codes " rest=") rest) }
+    ensures len { length page.new ≤ length page.old + 40 }
+{
+    push_field(page, b" text=", text);
+    push_field(page, b" rest=", rest);
+}
+
+// Appends the words of extras.
+fn push_extras(page: &mut Page, flags: u8, low: u8, text: u32, rest: u32)
+    requires { length page.old + LONGEST_RULE ≤ PAGE_SIZE }
+    ensures bytes { page.new ≡ page.old ++ rule_words (Rule.Extras flags low text rest) }
+    ensures len { length page.new ≤ length page.old + LONGEST_RULE }
+{
+    push_numbers(page, b"extras flags=", flags, b" low=", low);
+    push_lengths(page, text, rest);
+}
+
+// Appends the words of a message that was not sent so.
+fn push_unsent(page: &mut Page, host: u8, link: u8, why: Unsent)
+    requires { length page.old + LONGEST_RULE ≤ PAGE_SIZE }
+    ensures bytes { page.new ≡ page.old ++ rule_words (Rule.Unsent host link why) }
+    ensures len { length page.new ≤ length page.old + LONGEST_RULE }
+{
+    push_field(page, b"unsent host=", u32::from(host));
+    push_field(page, b" link=", u32::from(link));
+    page.push(b' ');
+    page.push_text(why_word(why));
+}
+
+// Appends the words of a false answer.
+fn push_false_answer(page: &mut Page, kind: u8, host: u8, link: u8, came: bool)
+    requires { length page.old + LONGEST_RULE ≤ PAGE_SIZE }
+    ensures bytes { page.new ≡ page.old ++ rule_words (Rule.FalseAnswer kind host link came) }
+    ensures len { length page.new ≤ length page.old + LONGEST_RULE }
+{
+    push_field(page, b"false-answer type=", u32::from(kind));
+    push_field(page, b" host=", u32::from(host));
+    push_field(page, b" link=", u32::from(link));
+    page.push(b' ');
+    page.push_text(coming_word(came));
+}
+
+// Appends the words of what comes early.
+fn push_early(page: &mut Page, thing: Thing, began: bool, waits: bool, owes: bool)
+    requires { length page.old + LONGEST_RULE ≤ PAGE_SIZE }
+    ensures bytes { page.new ≡ page.old ++ rule_words (Rule.Early thing began waits owes) }
+    ensures len { length page.new ≤ length page.old + LONGEST_RULE }
+{
+    page.push_text(b"early ");
+    page.push_text(thing_word(thing));
+    push_field(page, b" began=", flag(began));
+    push_field(page, b" wait=", flag(waits));
+    push_field(page, b" owe=", flag(owes));
+}
+
+// Appends the words of a fault of a message.
+fn push_fault(page: &mut Page, fault: MessageFault, link: u8)
+    requires { length page.old + LONGEST_RULE ≤ PAGE_SIZE }
+    ensures bytes { page.new ≡ page.old ++ rule_words (Rule.Fault fault link) }
+    ensures len { length page.new ≤ length page.old + LONGEST_RULE }
+{
+    page.push_text(b"fault name=");
+    page.push_text(fault.name().as_bytes());
+    push_field(page, b" link=", u32::from(link));
+}
+
+// Appends the words of a fault of a control text.
+fn push_bad(page: &mut Page, fault: &CommandFault)
+    requires { length page.old + LONGEST_RULE ≤ PAGE_SIZE }
+    ensures bytes { page.new ≡ page.old ++ rule_words (Rule.Bad fault.now) }
+    ensures len { length page.new ≤ length page.old + LONGEST_RULE }
+{
+    push_field(page, b"bad code=", u32::from(fault.code));
+    page.push_text(b" data=");
+    page.push_hex(&fault.bytes);
+}
+
+// Appends the words of an RST or RRP while a data link is busy.
+fn push_unquiet(page: &mut Page, reply: bool, link: u8)
+    requires { length page.old + LONGEST_RULE ≤ PAGE_SIZE }
+    ensures bytes { page.new ≡ page.old ++ rule_words (Rule.Unquiet reply link) }
+    ensures len { length page.new ≤ length page.old + LONGEST_RULE }
+{
+    page.push_text(b"unquiet ");
+    page.push_text(unquiet_word(reply));
+    push_field(page, b" link=", u32::from(link));
+}
+
+// Appends a name and its only number.
+fn push_one(page: &mut Page, name: &[u8], number: u8)
+    requires name { length name.now ≤ 20 }
+    requires room { length page.old + LONGEST_RULE ≤ PAGE_SIZE }
+    ensures bytes { page.new ≡ page.old ++ field name.now number }
+    ensures len { length page.new ≤ length page.old + LONGEST_RULE }
+{
+    push_field(page, name, u32::from(number));
+}
+
+// Appends a name, a type and a link.
+fn push_kind_and_link(page: &mut Page, name: &[u8], kind: u8, link: u8)
+    requires name { length name.now ≤ 20 }
+    requires room { length page.old + LONGEST_RULE ≤ PAGE_SIZE }
+    ensures bytes { page.new ≡ page.old ++ (field name.now kind ++ field (codes " link=") link) }
+    ensures len { length page.new ≤ length page.old + LONGEST_RULE }
+{
+    push_field(page, name, u32::from(kind));
+    push_field(page, b" link=", u32::from(link));
+}
+
+/// Appends the words of a rule that was broken.
+pub(crate) fn push_rule(page: &mut Page, rule: &Rule)
+    requires { length page.old + LONGEST_RULE ≤ PAGE_SIZE }
+    ensures bytes { page.new ≡ page.old ++ rule_words rule.now }
+    ensures len { length page.new ≤ length page.old + LONGEST_RULE }
+{
+    match *rule {
+        Rule::Short { bits } => push_field(page, b"short bits=", bits),
+        Rule::OwnHost { kind, link } => push_kind_and_link(page, b"own-host type=", kind, link),
+        Rule::Kind { kind } => push_one(page, b"kind type=", kind),
+        Rule::Fault { fault, link } => push_fault(page, fault, link),
+        Rule::WrongLink { link } => push_one(page, b"wrong-link link=", link),
+        Rule::WrongSize { size } => push_one(page, b"wrong-size size=", size),
+        Rule::Extras {
+            flags,
+            low,
+            text,
+            rest,
+        } => push_extras(page, flags, low, text, rest),
+        Rule::Occupied { link } => push_one(page, b"occupied link=", link),
+        Rule::Changed { link } => push_one(page, b"changed link=", link),
+        Rule::Stray { kind, link } => push_kind_and_link(page, b"stray type=", kind, link),
+        Rule::Unsent { host, link, why } => push_unsent(page, host, link, why),
+        Rule::FalseAnswer {
+            kind,
+            host,
+            link,
+            came,
+        } => push_false_answer(page, kind, host, link, came),
+        Rule::Bad { ref fault } => push_bad(page, fault),
+        Rule::Early {
+            thing,
+            began,
+            waits,
+            owes,
+        } => push_early(page, thing, began, waits, owes),
+        Rule::RstAgain => page.push_text(b"rst-again"),
+        Rule::RrpUnasked => page.push_text(b"rrp-unasked"),
+        Rule::Unquiet { reply, link } => push_unquiet(page, reply, link),
+        Rule::RrpFirst => page.push_text(b"rrp-first"),
+        Rule::MissingRrp => page.push_text(b"missing RRP"),
+    }
+}
+
+/// Whether a rule is the standard's, and not this project's.
+pub(crate) fn is_standard(rule: &Rule) -> bool
+    ensures { result ≡ is_standard rule.now }
+{
+    match *rule {
+        Rule::Short { .. }
+        | Rule::Fault { .. }
+        | Rule::WrongLink { .. }
+        | Rule::WrongSize { .. }
+        | Rule::Occupied { .. }
+        | Rule::Stray { .. }
+        | Rule::Unsent { .. }
+        | Rule::FalseAnswer { .. }
+        | Rule::Bad { .. }
+        | Rule::RrpUnasked => true,
+        Rule::Early { began, .. } => began,
+        Rule::OwnHost { .. }
+        | Rule::Kind { .. }
+        | Rule::Extras { .. }
+        | Rule::Changed { .. }
+        | Rule::RstAgain
+        | Rule::Unquiet { .. }
+        | Rule::RrpFirst
+        | Rule::MissingRrp => false,
+    }
+}

@@ -1,0 +1,42 @@
+use Rattle.std.proofs.Common.{◌≡◌, ◌∙◌, List, ◌∷◌, [], ◌++◌, length, Result, sym, ap, add-one, arith}
+use Rattle.std.proofs.lemmas.List.{append_assoc, append-nil, length-append}
+use Rattle.ncp_terms.specs.declared.command.Command.{Command}
+use Rattle.ncp_terms.specs.declared.fault.CommandFault.{CommandFault}
+use Rattle.ncp_umpire.specs.declared.finding.Finding.{Finding}
+use Rattle.ncp_umpire.specs.Phases.{items_findings, after_items}
+use Rattle.ncp_umpire.specs.Judged.{items_said}
+use Rattle.ncp_umpire.proofs.Items.{found_more, view_more, fewer}
+use Rattle.ncp_umpire.proofs.umpire.judge_items.Goals as goal
+
+pub judge_item-view-requires : goal.judge_item-view-requires
+judge_item-view-requires c =
+    let n = fewer c.loop-item.yielded c.loop-item.item-iterator c.into_iter-item-iterator.result c.in-Some.item c.next.new.self c.loop-item.invariant.items c.in-Some.ensures.steps in
+    let m = ap (λ (xs : List (Result Command CommandFault)). length xs) c.into_iter-item-iterator.ensures.into_iter_gives in
+    omega (arith, n, m, c.new-item-items.ensures.count, c.len-bits.ensures.len, c.len-bits.ensures.fits, c.loop-item.invariant.len, c.requires.few)
+
+pub loop-item-preserved : goal.loop-item-preserved
+loop-item-preserved c = record {
+  can = tt;
+  ends = tt;
+  items = append_assoc c.loop-item.yielded (c.in-Some.item ∷ []) c.next.new.self ∙ ap (λ items. c.loop-item.yielded ++ items) (sym c.in-Some.ensures.steps) ∙ c.loop-item.invariant.items;
+  view = view_more c.args.turn.now c.loop-item.yielded c.in-Some.item c.args.view c.loop-item.view c.judge_item-view.result c.loop-item.invariant.view c.judge_item-view.ensures.view;
+  found = found_more c.args.turn.now c.loop-item.yielded c.in-Some.item c.args.view c.loop-item.view c.args.found.now c.loop-item.found c.judge_item-view.new.found
+      c.loop-item.invariant.view c.loop-item.invariant.found c.judge_item-view.ensures.found;
+  len = let l = length-append c.loop-item.yielded (c.in-Some.item ∷ []) in omega (arith, l, c.judge_item-view.ensures.len, c.loop-item.invariant.len);
+}
+
+pub returns-clause-view : goal.returns-clause-view
+returns-clause-view c =
+    let all : c.loop-item.yielded ≡ items_said c.args.text = sym (append-nil c.loop-item.yielded) ∙ ap (λ items. c.loop-item.yielded ++ items) (sym c.in-None.ensures.steps.0) ∙ c.loop-item.invariant.items ∙ c.into_iter-item-iterator.ensures.into_iter_gives ∙ c.new-item-items.ensures.items in
+    c.loop-item.invariant.view ∙ ap (λ items. after_items c.args.turn.now items c.args.view) all
+
+pub returns-clause-found : goal.returns-clause-found
+returns-clause-found c =
+    let all : c.loop-item.yielded ≡ items_said c.args.text = sym (append-nil c.loop-item.yielded) ∙ ap (λ items. c.loop-item.yielded ++ items) (sym c.in-None.ensures.steps.0) ∙ c.loop-item.invariant.items ∙ c.into_iter-item-iterator.ensures.into_iter_gives ∙ c.new-item-items.ensures.items in
+    c.loop-item.invariant.found ∙ ap (λ items. c.args.found.now ++ items_findings c.args.turn.now items c.args.view) all
+
+pub returns-clause-len : goal.returns-clause-len
+returns-clause-len c =
+    let all = sym (append-nil c.loop-item.yielded) ∙ ap (λ items. c.loop-item.yielded ++ items) (sym c.in-None.ensures.steps.0) ∙ c.loop-item.invariant.items ∙ c.into_iter-item-iterator.ensures.into_iter_gives in
+    let n = ap (λ (xs : List (Result Command CommandFault)). length xs) all in
+    omega (arith, n, c.new-item-items.ensures.count, c.len-bits.ensures.len, c.len-bits.ensures.fits, c.loop-item.invariant.len, c.requires.few)

@@ -1,0 +1,42 @@
+-- Messages by which the definitions show what they mean: at the interface of host 1, of host 1 to host 2 and back.
+use Rattle.std.specs.Prelude.{true, false, List, [], ◌∷◌, None, Result, Ok}
+use Rattle.ncp_terms.specs.declared.command.Command.{Command}
+use Rattle.ncp_terms.specs.declared.command.Command.TheVariants.{Nop, Rst, Rrp}
+use Rattle.ncp_terms.specs.declared.fault.CommandFault.{CommandFault}
+use Rattle.ncp_umpire.specs.declared.phase.Turn.{Turn}
+use Rattle.ncp_umpire.specs.declared.view.View.{View}
+use Rattle.ncp_umpire.specs.Phases.{after_items, after_room}
+use Rattle.ncp_umpire.specs.Views.{new_view}
+
+-- while no data link of host 1 is busy, and its link 0 is known
+
+abbrev pub goes_out : Turn
+goes_out = record { by = 1; sent = true; busy = None; zero = true }
+
+abbrev pub comes : Turn
+comes = record { by = 2; sent = false; busy = None; zero = true }
+
+abbrev pub nop : Result Command CommandFault
+nop = Ok Nop
+
+abbrev pub rst : Result Command CommandFault
+rst = Ok Rst
+
+abbrev pub rrp : Result Command CommandFault
+rrp = Ok Rrp
+
+-- what is seen after host 1 sends these items, or hears them
+
+abbrev pub sends : List (Result Command CommandFault) → View → View
+sends items view = after_items goes_out items view
+
+abbrev pub hears : List (Result Command CommandFault) → View → View
+hears items view = after_items comes items view
+
+-- two resets of host 2, of which each is answered; then a third, and a reset of host 1, which alone is answered
+abbrev pub answered_twice : View
+answered_twice = hears (rrp ∷ []) (sends (rst ∷ []) (hears (rst ∷ []) (sends (rrp ∷ rrp ∷ []) (hears (rst ∷ rst ∷ []) (new_view false)))))
+
+-- a capture that begins in the middle, behind a control message of host 1 with room for one more command
+abbrev pub in_the_middle : View
+in_the_middle = after_room goes_out true (sends (nop ∷ []) (new_view true))

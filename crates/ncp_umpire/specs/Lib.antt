@@ -1,0 +1,9 @@
+pub mod Views
+pub mod Acts
+pub mod Phases
+pub mod Slots
+pub mod Tables
+pub mod Events
+pub mod Messages
+pub mod Judged
+pub mod Examples

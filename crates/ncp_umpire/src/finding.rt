@@ -1,0 +1,140 @@
+//! `Finding`: a rule that was broken, and who broke it.
+use ncp_leader::MessageFault;
+use ncp_terms::CommandFault;
+
+/// Who broke a rule.
+#[derive(Clone, Copy, Debug, Drop, PartialEq, Eq)]
+pub enum Who {
+    /// The host with this number.
+    Host(u8),
+    /// The IMP, that is the subnet.
+    Imp,
+}
+
+/// Why a message cannot have come from the host that its leader names.
+#[derive(Clone, Copy, Debug, Drop, PartialEq, Eq)]
+pub enum Unsent {
+    /// None of this link is out.
+    NotOut,
+    /// The one that is out came before.
+    Twice,
+    /// The one that is out has other bits.
+    Altered,
+}
+
+/// What comes early: a text on a data link, a fault of a control text, or a command.
+#[derive(Clone, Copy, Debug, Drop, PartialEq, Eq)]
+pub enum Thing {
+    Text,
+    Bad,
+    Nop,
+    Rts,
+    Str,
+    Cls,
+    All,
+    Gvb,
+    Ret,
+    Inr,
+    Ins,
+    Eco,
+    Erp,
+    Err,
+}
+
+/// A rule that was broken, with the numbers that show it.
+#[derive(Clone, Copy, Debug, Drop, PartialEq, Eq)]
+pub enum Rule {
+    /// A message has fewer bits than a leader (BBN 1822, section 3).
+    Short {
+        bits: u32,
+    },
+    /// The leader names the host itself (this profile).
+    OwnHost {
+        kind: u8,
+        link: u8,
+    },
+    /// A host sends a message of another type than 0 (this profile).
+    Kind {
+        kind: u8,
+    },
+    /// A message of type 0 is no regular message (NIC 8246, message form).
+    Fault {
+        fault: MessageFault,
+        link: u8,
+    },
+    /// A link that carries neither control nor a connection: 1, or over 71 (NIC 8246).
+    WrongLink {
+        link: u8,
+    },
+    /// Link 0 with another byte size than 8 (NIC 8246).
+    WrongSize {
+        size: u8,
+    },
+    /// Flags, a low field, bits behind the text, no text, or a longer text than this profile makes.
+    Extras {
+        flags: u8,
+        low: u8,
+        text: u32,
+        rest: u32,
+    },
+    /// A message on a link whose last one is not answered (BBN 1822, section 3).
+    Occupied {
+        link: u8,
+    },
+    /// Another message than the one that was not delivered (this profile).
+    Changed {
+        link: u8,
+    },
+    /// An answer on a link on which nothing is out (BBN 1822, section 3).
+    Stray {
+        kind: u8,
+        link: u8,
+    },
+    /// A message that the host in its leader did not send so.
+    Unsent {
+        host: u8,
+        link: u8,
+        why: Unsent,
+    },
+    /// An answer that says of a message that it came, or did not come, where it is otherwise.
+    FalseAnswer {
+        kind: u8,
+        host: u8,
+        link: u8,
+        came: bool,
+    },
+    /// A control text has a fault (NIC 8246).
+    Bad {
+        fault: CommandFault,
+    },
+    /// A command or a text before the reset is over: the flags are whether the side began, waits for a reply, and owes
+    /// one.
+    Early {
+        thing: Thing,
+        began: bool,
+        waits: bool,
+        owes: bool,
+    },
+    /// A second RST before the RRP (this profile).
+    RstAgain,
+    /// An RRP for which no RST asked (NIC 8246).
+    RrpUnasked,
+    /// An RST, or an RRP, while a data link is busy (this profile).
+    Unquiet {
+        reply: bool,
+        link: u8,
+    },
+    /// An RST before the RRP that is owed, where that had to wait for a data link (this profile).
+    RrpFirst,
+    /// The RRP that is owed was left out (this profile).
+    MissingRrp,
+}
+
+/// A rule that was broken, and who broke it.
+#[derive(Clone, Copy, Debug, Drop, PartialEq, Eq)]
+pub struct Finding {
+    /// Who broke it.
+    pub who: Who,
+    /// The rule.
+    pub rule: Rule,
+}

@@ -1,0 +1,37 @@
+//! Laws about the rules of phases: the contracts of functions.
+ghost use Rattle.std.specs.Prelude.{◌≡◌, ◌∷◌, [], true, false, None};
+ghost use Rattle.ncp_umpire.specs.declared.finding.Rule.TheVariants as rule;
+ghost use Rattle.ncp_umpire.specs.declared.finding.Thing.TheVariants as thing;
+ghost use Rattle.ncp_umpire.specs.Phases.{by, items_findings, early_finding};
+ghost use Rattle.ncp_umpire.specs.Views.{new_view};
+ghost use Rattle.ncp_umpire.specs.Examples.{goes_out, comes, nop, rst, rrp, sends, hears, answered_twice, in_the_middle};
+
+/// Worked phases at the interface of host 1: what each side may say before a reset, while it waits for the reply, and while
+/// it owes one.
+pub fn phases_are_judged_so()
+    ensures before { items_findings goes_out (nop ∷ []) (new_view false) ≡ by goes_out (rule.Early thing.Nop false false false) ∷ [] }
+    ensures reset { items_findings goes_out (rst ∷ nop ∷ rst ∷ []) (new_view false) ≡ by goes_out (rule.Early thing.Nop true true false) ∷ by goes_out rule.RstAgain ∷ [] }
+    ensures replied { items_findings goes_out (nop ∷ []) (hears (rrp ∷ []) (sends (rst ∷ []) (new_view false))) ≡ [] }
+    ensures owed { items_findings goes_out (nop ∷ rrp ∷ nop ∷ rrp ∷ []) (hears (rst ∷ []) (new_view false)) ≡ by goes_out (rule.Early thing.Nop false false true) ∷ by goes_out rule.RrpUnasked ∷ [] }
+    ensures peer { items_findings comes (rst ∷ nop ∷ []) (new_view false) ≡ by comes (rule.Early thing.Nop true true false) ∷ [] }
+{}
+
+/// Where one acts on what the other has not shown, nobody is blamed for what the wire does not tell: a reply that nobody
+/// asked for may answer an RST that still waits; a text may pass an RRP behind a peer that does not wait; and after a reset
+/// of the peer that was never answered, or a second one of the host, the session is at rest.
+pub fn nobody_is_blamed_at_rest()
+    ensures unasked { items_findings goes_out (rst ∷ nop ∷ []) (hears (rrp ∷ []) (new_view false)) ≡ [] }
+    ensures passing { early_finding goes_out thing.Text (hears (rst ∷ nop ∷ []) (new_view false)) ≡ None }
+    ensures twice { early_finding goes_out thing.Text answered_twice ≡ None }
+    ensures again { (hears (rrp ∷ []) (sends (rst ∷ nop ∷ rst ∷ []) (new_view false))).rests ≡ true }
+{}
+
+/// A capture that begins in the middle: nothing is told of the phase before an RST, nor by one that may have been answered
+/// before. Then both sides may be up, and one reply is admitted for which no RST asked.
+pub fn parts_are_judged_so()
+    ensures untold { items_findings goes_out (nop ∷ rrp ∷ rst ∷ nop ∷ []) (new_view true) ≡ [] }
+    ensures told { items_findings goes_out (rst ∷ nop ∷ []) in_the_middle ≡ by goes_out (rule.Early thing.Nop true true false) ∷ [] }
+    ensures crossing { items_findings comes (nop ∷ []) (sends (rst ∷ []) in_the_middle) ≡ [] }
+    ensures replies { items_findings comes (rrp ∷ rrp ∷ rrp ∷ []) (sends (rst ∷ []) in_the_middle) ≡ by comes rule.RrpUnasked ∷ [] }
+    ensures unknown { (hears (rst ∷ []) (new_view true)).told ≡ false }
+{}

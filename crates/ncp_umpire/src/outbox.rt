@@ -1,0 +1,148 @@
+//! `Outbox`: the messages that are out or are to go out again.
+ghost use Rattle.std.specs.Prelude.{◌≡◌, ◌<◌, ◌≤◌, ◌||◌, [], length, IfOk, IfSome};
+ghost use Rattle.std.specs.List.{position};
+ghost use Rattle.ncp_umpire.specs.Slots.{is_of, is_busy, same_bits, same_but_host, place_of, kept_at, busy_link, gone_out, has_room, with_out, with_slot, with_answered};
+
+use crate::kept::{Kept, Slot};
+use ncp_bits::Bits;
+use std::alloc::{AllocError, Global};
+use std::marker::Model;
+
+/// How many messages are kept at most: one for each link between eight hosts, and a few more.
+pub const MAX_KEPT: usize = 4096;
+
+/// The messages that are out or are to go out again, in the order in which their links were taken. Their room is made at
+/// once.
+#[derive(Drop)]
+pub struct Outbox {
+    all: Vec<Kept>,
+}
+
+impl Model for Outbox {
+    ghost use Rattle.std.specs.Prelude.{◌≤◌, List};
+    ghost use Rattle.std.specs.Vec.{vec_capacity, vec_len};
+    ghost use Rattle.ncp_umpire.specs.declared.kept.Kept.{Kept};
+    ghost use Rattle.ncp_umpire.specs.declared.outbox.TheConstants.{MAX_KEPT};
+
+    ghost Value = { List Kept };
+
+    ghost view = { λ outbox. outbox.all.items };
+
+    ghost invariant = { λ outbox. MAX_KEPT ≤ vec_capacity outbox.all };
+}
+
+// The first place of a message of a link.
+fn place_in(kept: &[Kept], from: u8, to: u8, link: u8) -> Option<usize>
+    ensures place { result ≡ place_of from to link kept.now }
+    ensures inside { IfSome result (λ place. place < length kept.now) }
+{
+    kept.iter().position(|one| one.is_of(from, to, link))
+}
+
+// The first place of a message that makes a data link busy.
+fn busy_in(kept: &[Kept], from: u8, to: u8) -> Option<usize>
+    ensures place { result ≡ position (is_busy from to) kept.now }
+    ensures inside { IfSome result (λ place. place < length kept.now) }
+{
+    kept.iter().position(|one| one.is_busy(from, to))
+}
+
+impl Outbox {
+    /// Nothing is kept. It alone takes memory, once.
+    pub(crate) fn new(alloc: Global) -> Result<Outbox, AllocError>
+        ensures { IfOk result (λ outbox. outbox ≡ []) }
+    {
+        Ok(Outbox {
+            all: Vec::with_capacity(alloc, MAX_KEPT)?,
+        })
+    }
+
+    /// Where the message of a link is, if one is kept.
+    pub(crate) fn place_of(&self, from: u8, to: u8, link: u8) -> Option<usize>
+        ensures place { result ≡ place_of from to link self.now }
+        ensures inside { IfSome result (λ place. place < length self.now) }
+    {
+        place_in(self.all.as_slice(), from, to, link)
+    }
+
+    /// A data link that is busy, if one is.
+    pub(crate) fn busy_link(&self, from: u8, to: u8) -> Option<u8>
+        ensures { result ≡ busy_link from to self.now }
+    {
+        match busy_in(self.all.as_slice(), from, to) {
+            Some(place) => Some(self.all[place].link),
+            None => None,
+        }
+    }
+
+    /// What became of the message at a place.
+    pub(crate) fn slot(&self, place: usize) -> Slot
+        requires { place < length self.now }
+        ensures { result ≡ (kept_at self.now place).slot }
+    {
+        self.all[place].slot
+    }
+
+    /// Whether the message at a place has these bits.
+    pub(crate) fn is_same(&self, place: usize, message: &Bits) -> bool
+        requires { place < length self.now }
+        ensures { result ≡ same_bits (kept_at self.now place).message message.now }
+    {
+        self.all[place].is_same(message)
+    }
+
+    /// Whether the message at a place has these bits but for the host in its leader.
+    pub(crate) fn is_same_but_host(&self, place: usize, message: &Bits) -> bool
+        requires { place < length self.now }
+        ensures { result ≡ same_but_host (kept_at self.now place).message message.now }
+    {
+        self.all[place].is_same_but_host(message)
+    }
+
+    /// Keeps a message that went out, in the place of the last one of its link, and answers whether there was room.
+    pub(crate) fn put(&mut self, place: Option<usize>, new: Kept) -> bool
+        requires { IfSome place (λ p. p < length self.old) }
+        ensures room { result ≡ has_room self.old place }
+        ensures kept { self.new ≡ with_out self.old place new }
+    {
+        match place {
+            Some(place) => {
+                self.all[place] = new;
+                true
+            }
+            None => self.push(new),
+        }
+    }
+
+    // Keeps one more, if there is room.
+    fn push(&mut self, new: Kept) -> bool
+        ensures room { result ≡ has_room self.old None }
+        ensures kept { self.new ≡ with_out self.old None new }
+    {
+        if self.all.len() >= MAX_KEPT {
+            return false;
+        }
+        self.all.push_reserved(new);
+        true
+    }
+
+    /// Says what became of the message at a place.
+    pub(crate) fn set(&mut self, place: usize, slot: Slot)
+        requires { place < length self.old }
+        ensures { self.new ≡ with_slot self.old place slot }
+    {
+        self.all[place].slot = slot;
+    }
+
+    /// The message at a place was delivered.
+    pub(crate) fn answered(&mut self, known: bool, place: usize)
+        requires { place < length self.old }
+        ensures { self.new ≡ with_answered known self.old place }
+    {
+        if known {
+            let _gone = self.all.remove(place);
+        } else {
+            self.set(place, Slot::Empty);
+        }
+    }
+}

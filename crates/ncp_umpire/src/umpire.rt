@@ -1,0 +1,546 @@
+//! `Umpire`.
+ghost use Rattle.std.specs.Prelude.{◌≡◌, ◌<◌, ◌≤◌, ◌+◌, ◌%◌, ◌++◌, [], not, false, length, replicate, option_map, IfOk, IfSome};
+ghost use Rattle.std.specs.Option.{option_to_list};
+ghost use Rattle.ncp_umpire.specs.declared.findings.TheConstants.{MAX_FINDINGS};
+ghost use Rattle.ncp_umpire.specs.Slots.{slot_at, same_at, same_but_host_at, gone_out, has_room, with_out};
+ghost use Rattle.ncp_umpire.specs.Phases.{by, items_findings, after_items, after_room};
+ghost use Rattle.ncp_umpire.specs.Tables.{with_view};
+ghost use Rattle.ncp_umpire.specs.declared.views.TheConstants.{HOSTS};
+ghost use Rattle.ncp_bits.specs.declared.bits.TheConstants.{MAX_BITS};
+ghost use Rattle.ncp_umpire.specs.Messages.{rule_of_message, reading_of};
+ghost use Rattle.ncp_umpire.specs.Judged.{new_umpire, view_of, knows_zero, sender_of, out_rule, is_fresh, changes, by_host, by_imp, out_finding, fresh_out, view_after_out, after_out, false_rule, stray_rule, sees_both, answer_findings, is_out, with_answer, after_answer, unsent_why, unsent_finding, with_coming, after_in, turn_at, items_said, is_roomy, control_findings, read_findings, after_read, regular_findings, after_regular, message_findings, after_message, event_findings, after_event, record_findings, after_record};
+
+use crate::event::{Event, event_of};
+use crate::finding::{Finding, Rule, Thing, Unsent, Who};
+use crate::findings::Findings;
+use crate::kept::{Kept, Slot};
+use crate::message::{Reading, reading_of, rule_of_message};
+use crate::outbox::Outbox;
+use crate::phase::{Turn, after_room, judge_item, judge_thing, missing_finding};
+use crate::view::View;
+use crate::views::{HOSTS, Views};
+use crate::way::Way;
+use ncp_bits::{Bits, Part};
+use ncp_control::Commands;
+use ncp_leader::{MessageFault, RFNM, Regular, read_regular};
+use std::alloc::{AllocError, Global};
+
+// How many bits a control text has at most that has room for one more command (NIC 8246: 120 bytes, and the longest
+// command has 12).
+const ROOMY_BITS: usize = 864;
+
+/// What the records of a capture have shown so far.
+#[derive(Drop)]
+pub struct Umpire {
+    /// Whether the capture may begin in the middle.
+    part: bool,
+    /// Whether more messages were out at once than are kept. From then on messages are judged by themselves alone.
+    full: bool,
+    /// The hosts at whose interface there was a record.
+    seen: [bool; HOSTS],
+    /// The phase of each host with each other.
+    views: Views,
+    /// The messages that are out or are to go out again.
+    kept: Outbox,
+}
+
+// Who is blamed for what a message is that goes out of a host, or comes to it.
+fn sender_of(way: Way, at: u8) -> Who
+    ensures { result ≡ sender_of way at }
+{
+    match way {
+        Way::ToImp => Who::Host(at),
+        Way::FromImp => Who::Imp,
+    }
+}
+
+// The rule that a message breaks which goes out on a link with this slot.
+fn out_rule(slot: Slot, same: bool, link: u8) -> Option<Rule>
+    ensures { result ≡ out_rule slot same link }
+{
+    match slot {
+        Slot::Unknown | Slot::Empty => None,
+        Slot::Out | Slot::Came => Some(Rule::Occupied { link }),
+        Slot::Again => {
+            if same {
+                None
+            } else {
+                Some(Rule::Changed { link })
+            }
+        }
+    }
+}
+
+// A message that goes out.
+fn gone_out(from: u8, to: u8, link: u8, message: &Bits) -> Kept
+    ensures { result ≡ gone_out from to link message.now }
+{
+    Kept {
+        from,
+        to,
+        link,
+        slot: Slot::Out,
+        message: message.whole().to_bits(),
+    }
+}
+
+// Whether it goes out for the first time.
+fn is_fresh(slot: Slot, same: bool) -> bool
+    ensures { result ≡ is_fresh slot same }
+{
+    match slot {
+        Slot::Unknown => false,
+        Slot::Empty | Slot::Out | Slot::Came => true,
+        Slot::Again => !same,
+    }
+}
+
+// The rule that an answer breaks on a link with this slot, by what is known of the message.
+fn false_rule(slot: Slot, kind: u8, host: u8, link: u8) -> Option<Rule>
+    ensures { result ≡ false_rule slot kind host link }
+{
+    match slot {
+        Slot::Out if kind == RFNM => Some(Rule::FalseAnswer {
+            kind,
+            host,
+            link,
+            came: false,
+        }),
+        Slot::Came if kind != RFNM => Some(Rule::FalseAnswer {
+            kind,
+            host,
+            link,
+            came: true,
+        }),
+        _ => None,
+    }
+}
+
+// And if nothing is out on it.
+fn stray_rule(slot: Slot, kind: u8, link: u8) -> Option<Rule>
+    ensures { result ≡ stray_rule slot kind link }
+{
+    match slot {
+        Slot::Empty | Slot::Again => Some(Rule::Stray { kind, link }),
+        Slot::Unknown | Slot::Out | Slot::Came => None,
+    }
+}
+
+// Why a message that comes was not sent so, by the slot of its link.
+fn unsent_why(slot: Slot, same: bool) -> Option<Unsent>
+    ensures { result ≡ unsent_why slot same }
+{
+    match slot {
+        Slot::Unknown | Slot::Empty | Slot::Again => Some(Unsent::NotOut),
+        Slot::Came => Some(Unsent::Twice),
+        Slot::Out => { if same { None } else { Some(Unsent::Altered) } }
+    }
+}
+
+// A rule that the subnet broke.
+fn by_imp(rule: Rule) -> Finding
+    ensures { result ≡ by_imp rule }
+{
+    Finding {
+        who: Who::Imp,
+        rule,
+    }
+}
+
+// A rule that a host broke.
+fn by_host(at: u8, rule: Rule) -> Finding
+    ensures { result ≡ by_host at rule }
+{
+    Finding {
+        who: Who::Host(at),
+        rule,
+    }
+}
+
+// Whether another message goes out than the one that was not delivered.
+fn changes(slot: Slot, same: bool) -> bool
+    ensures { result ≡ changes slot same }
+{
+    match slot {
+        Slot::Unknown | Slot::Empty | Slot::Out | Slot::Came => false,
+        Slot::Again => !same,
+    }
+}
+
+// Whether a message is out.
+fn is_out(slot: Slot) -> bool
+    ensures { result ≡ is_out slot }
+{
+    match slot {
+        Slot::Unknown | Slot::Empty | Slot::Again => false,
+        Slot::Out | Slot::Came => true,
+    }
+}
+
+// Judges the items of a control text, and gives the view after them.
+fn judge_items(turn: &Turn, text: Part<'_>, view: View, found: &mut Findings) -> View
+    requires whole { length text % 8 ≡ 0 }
+    requires few { length found.old ≤ 8 }
+    ensures view { result ≡ after_items turn.now (items_said text.entry) view }
+    ensures found { found.new ≡ found.old ++ items_findings turn.now (items_said text.entry) view }
+    ensures len { length found.new < MAX_FINDINGS }
+{
+    let _bits = text.len();
+    let mut view = view;
+    for item in Commands::new(text) {
+        view = judge_item(turn, &item, view, found);
+    }
+    view
+}
+
+// Judges a control text, and gives the view after it.
+fn judge_control(turn: &Turn, text: Part<'_>, view: View, found: &mut Findings) -> View
+    requires whole { length text % 8 ≡ 0 }
+    requires few { length found.old ≤ 8 }
+    ensures view { result ≡ after_room turn.now (is_roomy text.entry) (after_items turn.now (items_said text.entry) view) }
+    ensures found { found.new ≡ found.old ++ control_findings turn.now text.entry view }
+{
+    let room = text.len() <= ROOMY_BITS;
+    let after = judge_items(turn, text, view, found);
+    found.push_some(missing_finding(turn, room, after));
+    after_room(turn, room, after)
+}
+
+// Judges what is read on of a message, and gives the view after it.
+fn judge_read(turn: &Turn, regular: &Regular<'_>, view: View, found: &mut Findings) -> View
+    requires few { length found.old ≤ 8 }
+    ensures view { result ≡ after_read (reading_of regular.now) turn.now regular.now.text view }
+    ensures found { found.new ≡ found.old ++ read_findings (reading_of regular.now) turn.now regular.now.text view }
+{
+    match reading_of(regular) {
+        Reading::Stop => view,
+        Reading::Text => judge_thing(turn, Thing::Text, view, found),
+        Reading::Control => judge_control(turn, regular.text(), view, found),
+    }
+}
+
+// The rule that a message of so many bits breaks by itself.
+fn message_finding(
+    turn: &Turn,
+    read: &Result<Regular<'_>, MessageFault>,
+    link: u8,
+    len: usize,
+) -> Option<Finding>
+    requires { len ≤ MAX_BITS }
+    ensures { result ≡ option_map (by turn.now) (rule_of_message read.now link len) }
+{
+    match rule_of_message(read, link, len) {
+        Some(rule) => Some(turn.finding(rule)),
+        None => None,
+    }
+}
+
+// No host was seen.
+fn none_seen() -> [bool; HOSTS]
+    ensures { result ≡ replicate HOSTS false }
+{
+    [false; HOSTS]
+}
+
+impl Umpire {
+    /// Nothing was seen. In a part of a capture nothing is known of what was before. It alone takes memory, once.
+    pub fn new(alloc: Global, part: bool) -> Result<Umpire, AllocError>
+        ensures { IfOk result (λ umpire. umpire ≡ new_umpire part) }
+    {
+        let views = Views::new(alloc, part)?;
+        let kept = Outbox::new(alloc)?;
+        Ok(Umpire {
+            part,
+            full: false,
+            seen: none_seen(),
+            views,
+            kept,
+        })
+    }
+
+    // What is seen at a host of a peer.
+    fn view_of(&self, at: u8, peer: u8) -> View
+        ensures { result ≡ view_of self.now at peer }
+    {
+        let view = self.views.of(at, peer);
+        View {
+            told: view.told && !self.full,
+            ..view
+        }
+    }
+
+    // The slot of a link, by the place of its message.
+    fn slot_at(&self, known: bool, place: Option<usize>) -> Slot
+        requires { IfSome place (λ p. p < length self.now.kept) }
+        ensures { result ≡ slot_at known self.now.kept place }
+    {
+        match place {
+            Some(place) => self.kept.slot(place),
+            None => { if known { Slot::Empty } else { Slot::Unknown } }
+        }
+    }
+
+    // Whether the message at a place has these bits.
+    fn is_same(&self, place: Option<usize>, message: &Bits) -> bool
+        requires { IfSome place (λ p. p < length self.now.kept) }
+        ensures { result ≡ same_at self.now.kept place message.now }
+    {
+        match place {
+            Some(place) => self.kept.is_same(place, message),
+            None => false,
+        }
+    }
+
+    // Whether the message at a place has these bits but for the host in its leader.
+    fn is_same_but_host(&self, place: Option<usize>, message: &Bits) -> bool
+        requires { IfSome place (λ p. p < length self.now.kept) }
+        ensures { result ≡ same_but_host_at self.now.kept place message.now }
+    {
+        match place {
+            Some(place) => self.kept.is_same_but_host(place, message),
+            None => false,
+        }
+    }
+
+    // Whether the slot of link 0 is known.
+    fn knows_zero(&self, at: u8, peer: u8) -> bool
+        ensures { result ≡ knows_zero self.now at peer }
+    {
+        let place = self.kept.place_of(at, peer, 0);
+        !self.full && self.slot_at(self.views.of(at, peer).known, place) != Slot::Unknown
+    }
+
+    // A message between a host and a peer, seen at the host.
+    fn turn_at(&self, at: u8, peer: u8, by: u8, sent: bool) -> Turn
+        ensures { result ≡ turn_at self.now at peer by sent }
+    {
+        Turn {
+            by,
+            sent,
+            busy: self.kept.busy_link(at, peer),
+            zero: self.knows_zero(at, peer),
+        }
+    }
+
+    // Whether both interfaces are in the capture, which does not begin in the middle.
+    fn sees_both(&self, peer: u8) -> bool
+        ensures { result ≡ sees_both self.now peer }
+    {
+        !self.part && self.seen[usize::from(peer)]
+    }
+
+    // A message goes out: judges its link, and answers whether it goes out for the first time.
+    fn judge_out(
+        &mut self,
+        at: u8,
+        peer: u8,
+        link: u8,
+        message: &Bits,
+        found: &mut Findings,
+    ) -> bool
+        requires { length found.old ≤ 4 }
+        ensures fresh { result ≡ fresh_out self.old at peer link message.now }
+        ensures after { self.new ≡ after_out self.old at peer link message.now }
+        ensures found { found.new ≡ found.old ++ option_to_list (out_finding self.old at peer link message.now) }
+        ensures len { length found.new ≤ length found.old + 1 }
+    {
+        if self.full {
+            return true;
+        }
+        let view = self.views.of(at, peer);
+        let place = self.kept.place_of(at, peer, link);
+        let slot = self.slot_at(view.known, place);
+        let same = self.is_same(place, message);
+        if let Some(rule) = out_rule(slot, same, link) {
+            found.push(by_host(at, rule));
+        }
+        self.keep(
+            at,
+            peer,
+            view,
+            place,
+            gone_out(at, peer, link, message),
+            changes(slot, same),
+        );
+        is_fresh(slot, same)
+    }
+
+    // Keeps a message that went out.
+    fn keep(&mut self, at: u8, peer: u8, view: View, place: Option<usize>, new: Kept, changed: bool)
+        requires { IfSome place (λ p. p < length self.old.kept) }
+        ensures { self.new ≡ record self.old { full = not (has_room self.old.kept place); views = with_view self.old.views at peer (view_after_out view changed); kept = with_out self.old.kept place new } }
+    {
+        let view = View {
+            rests: view.rests || changed,
+            ..view
+        };
+        self.views.set(at, peer, view);
+        self.full = !self.kept.put(place, new);
+    }
+
+    // An answer comes: judges it.
+    fn judge_answer(&mut self, kind: u8, at: u8, peer: u8, link: u8, found: &mut Findings)
+        requires { length found.old ≤ 4 }
+        ensures after { self.new ≡ after_answer self.old kind at peer link }
+        ensures found { found.new ≡ found.old ++ answer_findings self.old kind at peer link }
+    {
+        if self.full {
+            return;
+        }
+        let known = self.views.of(at, peer).known;
+        let place = self.kept.place_of(at, peer, link);
+        let slot = self.slot_at(known, place);
+        if self.sees_both(peer) {
+            if let Some(rule) = false_rule(slot, kind, peer, link) {
+                found.push(by_imp(rule));
+            }
+        }
+        if let Some(rule) = stray_rule(slot, kind, link) {
+            found.push(by_imp(rule));
+        }
+        self.answer(known, kind, place);
+    }
+
+    // An answer comes: says what became of the message at a place.
+    fn answer(&mut self, known: bool, kind: u8, place: Option<usize>)
+        requires { IfSome place (λ p. p < length self.old.kept) }
+        ensures { self.new ≡ record self.old { kept = with_answer known kind self.old.kept place } }
+    {
+        let Some(place) = place else {
+            return;
+        };
+        if !is_out(self.kept.slot(place)) {
+            return;
+        }
+        if kind == RFNM {
+            self.kept.answered(known, place);
+        } else {
+            self.kept.set(place, Slot::Again);
+        }
+    }
+
+    // A message comes: judges whether it was sent so.
+    fn judge_in(&mut self, at: u8, peer: u8, link: u8, message: &Bits, found: &mut Findings)
+        requires { length found.old ≤ 4 }
+        ensures after { self.new ≡ after_in self.old at peer link }
+        ensures found { found.new ≡ found.old ++ option_to_list (unsent_finding self.old at peer link message.now) }
+        ensures len { length found.new ≤ length found.old + 1 }
+    {
+        if self.full || !self.sees_both(peer) {
+            return;
+        }
+        let place = self.kept.place_of(peer, at, link);
+        let slot = self.slot_at(true, place);
+        let same = self.is_same_but_host(place, message);
+        if let Some(why) = unsent_why(slot, same) {
+            found.push(by_imp(Rule::Unsent {
+                host: peer,
+                link,
+                why,
+            }));
+        }
+        self.come(place);
+    }
+
+    // A message comes: says so of the one at a place, if it is out.
+    fn come(&mut self, place: Option<usize>)
+        requires { IfSome place (λ p. p < length self.old.kept) }
+        ensures { self.new ≡ record self.old { kept = with_coming self.old.kept place } }
+    {
+        let Some(place) = place else {
+            return;
+        };
+        if is_out(self.kept.slot(place)) {
+            self.kept.set(place, Slot::Came);
+        }
+    }
+
+    // Judges what a regular message says.
+    fn judge_regular(
+        &mut self,
+        at: u8,
+        peer: u8,
+        turn: &Turn,
+        fresh: bool,
+        regular: &Regular<'_>,
+        found: &mut Findings,
+    )
+        requires { length found.old ≤ 8 }
+        ensures after { self.new ≡ after_regular self.old at peer turn.now fresh regular.now }
+        ensures found { found.new ≡ found.old ++ regular_findings self.old at peer turn.now fresh regular.now }
+    {
+        if !fresh {
+            return;
+        }
+        let view = self.view_of(at, peer);
+        let after = judge_read(turn, regular, view, found);
+        self.views.set(at, peer, after);
+    }
+
+    // Judges a message by itself, and then what it says.
+    fn judge_message(
+        &mut self,
+        at: u8,
+        peer: u8,
+        turn: &Turn,
+        fresh: bool,
+        link: u8,
+        message: &Bits,
+        found: &mut Findings,
+    )
+        requires { length found.old ≤ 5 }
+        ensures after { self.new ≡ after_message self.old at peer turn.now fresh message.now }
+        ensures found { found.new ≡ found.old ++ message_findings self.old at peer turn.now fresh link message.now }
+    {
+        let read = read_regular(message);
+        found.push_some(message_finding(turn, &read, link, message.len()));
+        if let Ok(regular) = &read {
+            self.judge_regular(at, peer, turn, fresh, regular, found);
+        }
+    }
+
+    // Judges what a record is.
+    fn judge_event(&mut self, way: Way, at: u8, event: Event, message: &Bits, found: &mut Findings)
+        requires { found.old ≡ [] }
+        ensures after { self.new ≡ after_event self.old at message.now event }
+        ensures found { found.new ≡ event_findings self.old way at message.now event }
+    {
+        match event {
+            Event::Short => found.push(Finding {
+                who: sender_of(way, at),
+                rule: Rule::Short {
+                    bits: message.len() as u32,
+                },
+            }),
+            Event::Nothing => {}
+            Event::Own { kind, link } => found.push(Finding {
+                who: sender_of(way, at),
+                rule: Rule::OwnHost { kind, link },
+            }),
+            Event::Other { kind } => found.push(by_host(at, Rule::Kind { kind })),
+            Event::Out { peer, link } => {
+                let fresh = self.judge_out(at, peer, link, message, found);
+                let turn = self.turn_at(at, peer, at, true);
+                self.judge_message(at, peer, &turn, fresh, link, message, found);
+            }
+            Event::Answer { kind, peer, link } => self.judge_answer(kind, at, peer, link, found),
+            Event::In { peer, link } => {
+                self.judge_in(at, peer, link, message, found);
+                let turn = self.turn_at(at, peer, peer, false);
+                self.judge_message(at, peer, &turn, true, link, message, found);
+            }
+        }
+    }
+
+    /// Judges a record: a message that went this way at the interface of a host. `found` has then the findings, in
+    /// order: of its leader, of the two interfaces, of its link, of the message by itself, of its commands in order,
+    /// and of what was left out.
+    pub fn judge(&mut self, way: Way, at: u8, message: &Bits, found: &mut Findings)
+        ensures after { self.new ≡ after_record self.old way at message.now }
+        ensures found { found.new ≡ record_findings self.old way at message.now }
+    {
+        found.clear();
+        self.seen[usize::from(at)] = true;
+        self.judge_event(way, at, event_of(way, at, message), message, found);
+    }
+}
