@@ -82,22 +82,27 @@ fn run_of(alloc: Global, byte: u8, count: usize) -> Result<Vec<u8>, Fail> {
     Ok(bytes)
 }
 
-/// As many bytes as a line may have are judged by what they say.
+/// A script whose third line has as many bytes as a line may have, which are judged by what they say.
+fn longest_line_is_played(
+    rt: &impl Abort,
+    alloc: Global,
+    first: &[u8],
+    lines: &[u8],
+) -> Result<(), Fail> {
+    let line = run_of(alloc, b'a', 4096)?;
+    let script = joined(alloc, &[first, &line, b"\na out\n"])?;
+    expect(rt, alloc, &script, Err(PlayFault::BadLine(3)), lines)
+}
+
 #[test]
 fn lines_of_4096_bytes_are_played(rt: HostRuntime) -> Result<(), Fail> {
-    let alloc = rt.alloc();
-    let line = run_of(alloc, b'a', 4096)?;
-    for (first, lines) in [
-        (
-            b"hosts 1 2\na out\n".as_slice(),
-            b"1 a out nothing\n".as_slice(),
-        ),
-        (b"many 1 2 3\n3 out\n", b"1 3 out nothing\n"),
-    ] {
-        let script = joined(alloc, &[first, &line, b"\na out\n"])?;
-        expect(&rt, alloc, &script, Err(PlayFault::BadLine(3)), lines)?;
-    }
-    Ok(())
+    longest_line_is_played(&rt, rt.alloc(), b"hosts 1 2\na out\n", b"1 a out nothing\n")?;
+    longest_line_is_played(
+        &rt,
+        rt.alloc(),
+        b"many 1 2 3\n3 out\n",
+        b"1 3 out nothing\n",
+    )
 }
 
 /// How many hexadecimal digits the longest text has.
