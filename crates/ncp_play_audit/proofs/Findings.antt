@@ -23,7 +23,7 @@ use Rattle.ncp_umpire.specs.declared.finding.Finding.{Finding}
 use Rattle.ncp_umpire.specs.declared.umpire.Umpire.{Umpire}
 use Rattle.ncp_play_audit.specs.Audited.{host_of, findings_of, umpire_after, finding_lines, audit_lines, is_clean_record, is_clean, AuditedIn, AuditedAs, AuditedCut, HasVerdict, done_of}
 use Rattle.ncp_play_audit.specs.FindingLines.{told_line}
-use Rattle.ncp_play_audit.specs.AuditSteps.{AuditsNext, AuditsLines, AuditsFrom}
+use Rattle.ncp_play_audit.specs.AuditSteps.{AuditsNext, AuditsLines, AuditsFrom, AuditsOn, more_of}
 
 and_true : (b : Bool) → b ≡ (b && true)
 and_true true = refl
@@ -78,6 +78,18 @@ module _ (standard : Bool) (umpire : Umpire) (number : ℕ) (bytes was said : Li
       let cut = h.0 in
       (cut.0, cut.1, cut.2, cut.3, cut.4, cut.5, no_lines cut.0 page written cut.2 cut.6 h.1)
   from_err clean after window page left written WriteFailed h = from_broken written h.0 h.1 h.2 h.3 h.4
+
+  -- a failed write before it was read: nothing is said of it, nor of those behind it
+  pub from_lost : (clean : Bool) (lost page : List ℕ) (left written : Option (List ℕ)) → SaidSoFar was lost written said → AuditsFrom standard umpire number bytes was said clean (Err WriteFailed) left page written
+  from_lost clean lost page left written k =
+      let all = by_some (next_in Two) (in_front Two) bytes in
+      let more = audit_lines standard umpire number all.0 in
+      (all.1, lost ++ more, (all.0, all.2, (k.0, k.1, sym (append_assoc k.0 lost more) ∙ ap (λ xs. xs ++ more) k.2)))
+
+  pub audits_on : (after : Umpire) (window page : List ℕ) (left written : Option (List ℕ)) (r : Result (Option Bool) FileFault) → AuditsNext standard umpire number bytes was said r after window left page written
+      → AuditsOn standard umpire number bytes was said r after window left page written
+  audits_on after window page left written (Ok next) h = h
+  audits_on after window page left written (Err fault) h = from_err true after window page left written fault h
 
   more_lines : (given rest page : List ℕ) (written : Option (List ℕ)) (first : Recorded) (fault : Option FileFault) → next_in Two given ≡ Ok (Some (first, rest))
       → AuditsLines standard (umpire_after umpire first) (number_after number) bytes was (said ++ finding_lines standard umpire number first) rest fault page written
@@ -238,3 +250,7 @@ same_read (Err fault) = refl
 pub same_write : {X : Type 0} (r : Result X FileFault) → is_write_failed (done_of r) ≡ is_write_failed r
 same_write (Ok x) = refl
 same_write (Err fault) = refl
+
+pub same_more : (r : Result (Option Bool) FileFault) → is_write_failed (more_of r) ≡ is_write_failed r
+same_more (Ok next) = refl
+same_more (Err fault) = refl

@@ -1,5 +1,5 @@
 -- What the parts of `audit` do to the bytes that are to come, to the text that was said, and to what is known.
-use Rattle.std.specs.Prelude.{◌≡◌, ℕ, ◌&&◌, Bool, List, ◌++◌, drop, Option, Some, None, Result, Ok, Err}
+use Rattle.std.specs.Prelude.{◌≡◌, ℕ, ◌&&◌, Bool, true, List, ◌++◌, drop, Option, Some, None, is_some, Result, Ok, Err}
 use Rattle.ncp_play_files.specs.declared.file.FileFault.{FileFault}
 use Rattle.ncp_play_files.specs.declared.version.Version.TheVariants.{Two}
 use Rattle.ncp_play_files.specs.Results.{MatchFault}
@@ -9,6 +9,11 @@ use Rattle.ncp_play_files.specs.Steps.{IsInside, StopsShort, EndsWith, BreaksRec
 use Rattle.ncp_play_stream.specs.Streams.{Ahead, SaidSoFar}
 use Rattle.ncp_umpire.specs.declared.umpire.Umpire.{Umpire}
 use Rattle.ncp_play_audit.specs.Audited.{umpire_after, finding_lines, audit_lines, is_clean_record, is_clean}
+
+-- an answer, but for whether the record is clean: whether there was one
+abbrev pub more_of : Result (Option Bool) FileFault → Result Bool FileFault
+more_of (Ok next) = Ok (is_some next)
+more_of (Err fault) = Err fault
 
 module _ (standard : Bool) (umpire : Umpire) (number : ℕ) (bytes was said : List ℕ) where
   -- the findings of the next record were said, or there is none, or a fault stands there
@@ -40,3 +45,9 @@ module _ (standard : Bool) (umpire : Umpire) (number : ℕ) (bytes was said : Li
       MatchFault (λ f. AuditsLines bytes (Some f) page written)
       ((given : List ℕ) × (rest : List ℕ) × (ends : Option FileFault) × (bytes ≡ given ++ rest) × (left ≡ Some rest) × IsInside ends × AuditsLines given ends page written)
       ((ends : Option FileFault) × (lost : List ℕ) × AuditsLines bytes ends lost written) fault
+
+  -- the findings of the next record were said, or there is none; or with it all ends, since a fault stands there or a
+  -- write failed
+  abbrev pub AuditsOn : Result (Option Bool) FileFault → Umpire → List ℕ → Option (List ℕ) → List ℕ → Option (List ℕ) → Type 0
+  AuditsOn (Ok next) after window left page written = AuditsNext (Ok next) after window left page written
+  AuditsOn (Err fault) after window left page written = AuditsFrom true (Err fault) left page written

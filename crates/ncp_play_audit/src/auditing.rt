@@ -1,20 +1,22 @@
 //! `audit`: which rules the messages of a file break, and by whom, line by line.
 ghost use Rattle.std.specs.Prelude.{◌≡◌, ℕ, ◌+◌, ◌-◌, ◌/◌, ◌<◌, ◌≤◌, ◌&&◌, ◌||◌, [], List, Some, true, false, length, drop, is_some, IfOk};
-ghost use Rattle.ncp_play_stream.specs.Pieces.{reads_for, reads_beyond, bytes_and_writes, lost_pieces};
+ghost use Rattle.ncp_play_stream.specs.Pieces.{reads_for, reads_beyond, bytes_and_writes, lost_pieces, unpaid, Paid};
 ghost use Rattle.ncp_play_stream.specs.Streams.{Ahead, SaidSoFar};
 ghost use Rattle.ncp_play_page.specs.Windows.{effort};
 ghost use Rattle.ncp_play_files.specs.Results.{is_read_failed, is_write_failed};
-ghost use Rattle.ncp_play_files.specs.Steps.{Says};
+ghost use Rattle.ncp_play_files.specs.Steps.{Says, says_nothing, unpaid_after};
+ghost use Rattle.ncp_play_files.specs.Waiting.{is_waiting};
+ghost use Rattle.ncp_play_files.specs.declared.version.Version.TheVariants.{Two};
 ghost use Rattle.ncp_play_files.specs.Writing.{Writes};
 ghost use Rattle.ncp_umpire.specs.Judged.{new_umpire};
 ghost use Rattle.ncp_play_audit.specs.Audited.{host_of, way_of, AuditedAs, AuditedCut, HasVerdict, done_of};
-ghost use Rattle.ncp_play_audit.specs.AuditSteps.{AuditsNext, AuditsFrom};
+ghost use Rattle.ncp_play_audit.specs.AuditSteps.{AuditsNext, AuditsOn, AuditsFrom, more_of};
 
 use crate::finding_line::{is_clean, say_findings};
 use ncp_bits::Bits;
-use ncp_play_files::{Direction, FileFault, Version, read_next, read_version};
+use ncp_play_files::{Direction, FileFault, Version, let_out, read_next, read_version};
 use ncp_play_page::{Page, Window};
-use ncp_play_stream::{LEAST_PIECE, Sink, Source};
+use ncp_play_stream::{LEAST_PIECE, Sink, Source, stop_at_fault};
 use ncp_umpire::{Findings, Umpire, Way};
 use std::alloc::{AllocError, Global};
 
@@ -75,6 +77,9 @@ fn audit_next<S: Source, W: Sink>(
     ensures reads { reads_beyond S.gives_all (S.reads source.old) (S.left source.old) ≤ reads_beyond S.gives_all (S.reads source.new) (S.left source.new) + 1 }
     ensures taken { IfOk result (λ next. is_some next ≡ true → reads_beyond S.gives_all (S.reads source.old) (S.left source.old) ≤ reads_beyond S.gives_all (S.reads source.new) (S.left source.new)) }
     ensures effort { IfOk result (λ next. is_some next ≡ true → effort (S.reads source.new) window.new < effort (S.reads source.old) window.old) }
+    ensures lowers { S.reads source.new ≤ S.reads source.old }
+    ensures waited { says_nothing (more_of result) ≡ false → is_waiting Two window.old ≡ true → S.reads source.new < S.reads source.old }
+    ensures kept { says_nothing (more_of result) ≡ true → page.new ≡ page.old }
 {
     let Some(passage) = read_next(window, source, Version::Two, message)? else {
         return Ok(None);
@@ -89,6 +94,40 @@ fn audit_next<S: Source, W: Sink>(
         Ok(()) => Ok(Some(clean)),
         Err(_) => Err(FileFault::WriteFailed),
     }
+}
+
+// Says the findings of the next record as `audit_next` does. Before more is waited for, all that was said is written.
+fn audit_on<S: Source, W: Sink>(
+    window: &mut Window,
+    source: &mut S,
+    message: &mut Bits,
+    page: &mut Page,
+    sink: &mut W,
+    auditor: &mut Auditor,
+    standard: bool,
+    number: u32,
+) -> Result<Option<bool>, FileFault>
+    ensures told { (bytes : List ℕ) (was : List ℕ) (said : List ℕ)
+        → Ahead window.old (S.left source.old) bytes → SaidSoFar was page.old (W.written sink.old) said
+        → AuditsOn standard auditor.old.umpire number bytes was said result auditor.new.umpire window.new (S.left source.new) page.new (W.written sink.new) }
+    ensures source_mark { S.has_failed source.new ≡ (S.has_failed source.old || is_read_failed result) }
+    ensures writes { Paid W.takes_all (W.writes sink.old) (W.written sink.old) (S.reads source.old) (W.writes sink.new) (W.written sink.new) (S.reads source.new) (unpaid_after (more_of result) page.new) }
+    ensures sink_mark { W.has_failed sink.new ≡ (W.has_failed sink.old || is_write_failed result) }
+    ensures reads { reads_beyond S.gives_all (S.reads source.old) (S.left source.old) ≤ reads_beyond S.gives_all (S.reads source.new) (S.left source.new) + 1 }
+    ensures taken { IfOk result (λ next. is_some next ≡ true → reads_beyond S.gives_all (S.reads source.old) (S.left source.old) ≤ reads_beyond S.gives_all (S.reads source.new) (S.left source.new)) }
+    ensures effort { IfOk result (λ next. is_some next ≡ true → effort (S.reads source.new) window.new < effort (S.reads source.old) window.old) }
+{
+    let_out(window, Version::Two, page, sink)?;
+    let judged = audit_next(
+        window, source, message, page, sink, auditor, standard, number,
+    );
+    stop_at_fault(
+        source,
+        &judged,
+        number.saturating_sub(1),
+        window.unread().len(),
+    );
+    judged
 }
 
 // Whether both are so.
@@ -111,14 +150,14 @@ fn audit_records<S: Source, W: Sink>(
         → Ahead window.old (S.left source.old) bytes → SaidSoFar was page.old (W.written sink.old) said
         → AuditsFrom standard auditor.old.umpire 1 bytes was said true result (S.left source.new) page.new (W.written sink.new) }
     ensures source_mark { S.has_failed source.new ≡ (S.has_failed source.old || is_read_failed result) }
-    ensures writes { bytes_and_writes W.takes_all (W.writes sink.old) (W.written sink.old) ≤ bytes_and_writes W.takes_all (W.writes sink.new) (W.written sink.new) + lost_pieces (is_write_failed result) }
+    ensures writes { Paid W.takes_all (W.writes sink.old) (W.written sink.old) (S.reads source.old) (W.writes sink.new) (W.written sink.new) (S.reads source.new) (unpaid (is_write_failed result) page.new) }
     ensures sink_mark { W.has_failed sink.new ≡ (W.has_failed sink.old || is_write_failed result) }
     ensures reads { reads_beyond S.gives_all (S.reads source.old) (S.left source.old) ≤ reads_beyond S.gives_all (S.reads source.new) (S.left source.new) + 1 }
 {
     let mut message = Bits::new();
     let mut number = 1u32;
     let mut clean = true;
-    while let Some(one) = audit_next(
+    while let Some(one) = audit_on(
         window,
         source,
         &mut message,
@@ -150,7 +189,7 @@ fn audit_file<S: Source, W: Sink>(
         → S.left source.old ≡ Some bytes → W.written sink.old ≡ Some was
         → IfOk result (λ good. HasVerdict standard auditor.old.umpire bytes good) }
     ensures source_mark { S.has_failed source.new ≡ (S.has_failed source.old || is_read_failed result) }
-    ensures writes { bytes_and_writes W.takes_all (W.writes sink.old) (W.written sink.old) ≤ bytes_and_writes W.takes_all (W.writes sink.new) (W.written sink.new) + lost_pieces (is_write_failed result) }
+    ensures writes { Paid W.takes_all (W.writes sink.old) (W.written sink.old) (S.reads source.old) (W.writes sink.new) (W.written sink.new) (S.reads source.new) (unpaid (is_write_failed result) page.new) }
     ensures sink_mark { W.has_failed sink.new ≡ (W.has_failed sink.old || is_write_failed result) }
     ensures reads { reads_beyond S.gives_all (S.reads source.old) (S.left source.old) ≤ reads_beyond S.gives_all (S.reads source.new) (S.left source.new) + 1 }
 {
@@ -167,9 +206,9 @@ fn audit_file<S: Source, W: Sink>(
 ///
 /// A file of version 1 names no host at whose interface its messages stand: its header is a `BadHeader`.
 ///
-/// It takes no memory, passes once over the file, and reads and writes in pieces of at least 4 KiB, the last one written
-/// apart. After a failed read the lines of the records that were read whole are written; after a failed write a beginning
-/// of the lines is.
+/// It takes no memory, passes once over the file, and reads and writes in pieces of at least 4 KiB; but before more is
+/// waited for, all lines of the records that came whole are written. After a failed read the lines of the records that
+/// were read whole are written; after a failed write a beginning of the lines is.
 pub fn audit<S: Source, W: Sink>(
     auditor: &mut Auditor,
     standard: bool,
@@ -200,11 +239,11 @@ pub fn audit<S: Source, W: Sink>(
     ensures reads { (bytes : List ℕ) → S.left source.old ≡ Some bytes
         → S.reads source.old ≤ S.reads source.new + reads_for S.gives_all (length bytes) + 1 }
 
-    // A sink that takes all that it can is written to no more than once for each 4 KiB, and twice
+    // A sink that takes all that it can is written to no more than once for each 4 KiB, once for each read, and twice
     // more.
     ensures writes { (was : List ℕ) (now : List ℕ) → W.takes_all ≡ true
         → W.written sink.old ≡ Some was → W.written sink.new ≡ Some now
-        → W.writes sink.old ≤ W.writes sink.new + (length now - length was) / LEAST_PIECE + 2 }
+        → W.writes sink.old ≤ W.writes sink.new + (length now - length was) / LEAST_PIECE + (S.reads source.old - S.reads source.new) + 2 }
 {
     let mut page = Page::new();
     let audited = audit_file(source, &mut page, sink, auditor, standard);

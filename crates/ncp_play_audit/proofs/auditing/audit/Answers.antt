@@ -1,11 +1,12 @@
-use Rattle.std.proofs.Common.{◌≡◌, ◌∙◌, ◌||◌, true, false, sym, ap, add-zero, le_refl, le_trans}
+use Rattle.std.proofs.Common.{◌≡◌, ◌∙◌, ◌||◌, true, false, sym, ap, le_refl}
 use Rattle.std.proofs.Math.Bool.{or-false}
 use Rattle.ncp_play_files.specs.Results.{is_read_failed, is_write_failed}
 use Rattle.ncp_play_audit.specs.Audited.{AuditedAs, AuditedCut, done_of}
 use Rattle.ncp_play_files.proofs.Progress.{wrote_failed, wrote_flushed, wrote_broken}
 use Rattle.ncp_play_audit.proofs.Findings.{audited_longer, same_write}
-use Rattle.ncp_play_files.proofs.Limits.{reads_done, writes_done, lost_few}
-use Rattle.ncp_play_stream.specs.Pieces.{lost_pieces}
+use Rattle.ncp_play_files.proofs.Limits.{reads_done, writes_done, unpaid_few}
+use Rattle.ncp_play_files.proofs.Waiting.{paid_flushed}
+use Rattle.ncp_play_stream.specs.Pieces.{unpaid}
 use Rattle.ncp_play_audit.proofs.auditing.audit.Goals as goal
 
 pub returns-then-failed-clause-told : goal.returns-then-failed-clause-told
@@ -38,8 +39,9 @@ returns-then-failed-clause-reads g c = λ bytes e.
 
 pub returns-then-failed-clause-writes : goal.returns-then-failed-clause-writes
 returns-then-failed-clause-writes g c = λ was now full e f.
-    let w = g.W.Sink in let lost = is_write_failed c.audit_file-audited.result in
-    writes_done was now (w.writes c.args.sink.now) (w.writes c.audit_file-audited.new.sink) (lost_pieces lost) (rw (full, e, f) at c.audit_file-audited.ensures.writes) (lost_few lost)
+    let w = g.W.Sink in let s = g.S.Source in let lost = is_write_failed c.audit_file-audited.result in
+    writes_done was now (w.writes c.args.sink.now) (w.writes c.audit_file-audited.new.sink) (s.reads c.args.source.now) (s.reads c.audit_file-audited.new.source) (unpaid lost c.audit_file-audited.new.page)
+    (rw (full, e, f) at c.audit_file-audited.ensures.writes) (unpaid_few lost c.audit_file-audited.new.page)
 
 pub returns-then-failed-clause-read_failed : goal.returns-then-failed-clause-read_failed
 returns-then-failed-clause-read_failed g c = λ h. c.audit_file-audited.ensures.source_mark ∙ ap (λ b. b || is_read_failed c.audit_file-audited.result) c.requires.source_clean ∙ h
@@ -57,11 +59,13 @@ returns-in-Ok-clause-reads g c = λ bytes e.
 
 pub returns-in-Ok-clause-writes : goal.returns-in-Ok-clause-writes
 returns-in-Ok-clause-writes g c = λ was now full e f.
-    let w = g.W.Sink in
+    let w = g.W.Sink in let s = g.S.Source in
     let mark = c.audit_file-audited.ensures.sink_mark ∙ ap (λ b. b || is_write_failed c.audit_file-audited.result) c.requires.sink_clean in
     let blamed : is_write_failed c.audit_file-audited.result ≡ false = sym mark ∙ sym c.failed.ensures ∙ c.if-failed.false in
-    let shown = rw (blamed, add-zero) at c.audit_file-audited.ensures.writes in
-    writes_done was now (w.writes c.args.sink.now) (w.writes c.flush.new.sink) 8192 (rw (full, e, f) at (le_trans shown c.in-Ok.ensures.writes)) (le_refl 8192)
+    let shown = rw blamed at c.audit_file-audited.ensures.writes in
+    let paid = paid_flushed w.takes_all (w.writes c.args.sink.now) (w.writes c.audit_file-audited.new.sink) (w.writes c.flush.new.sink) (w.written c.args.sink.now) (w.written c.audit_file-audited.new.sink) (w.written c.flush.new.sink)
+    (s.reads c.args.source.now) (s.reads c.audit_file-audited.new.source) c.audit_file-audited.new.page shown c.flush.ensures.writes in
+    writes_done was now (w.writes c.args.sink.now) (w.writes c.flush.new.sink) (s.reads c.args.source.now) (s.reads c.audit_file-audited.new.source) 8192 (rw (full, e, f) at paid) (le_refl 8192)
 
 pub returns-in-Ok-clause-read_failed : goal.returns-in-Ok-clause-read_failed
 returns-in-Ok-clause-read_failed g c = λ h. c.audit_file-audited.ensures.source_mark ∙ ap (λ b. b || is_read_failed c.audit_file-audited.result) c.requires.source_clean ∙ h
@@ -79,11 +83,13 @@ returns-in-Err-clause-reads g c = λ bytes e.
 
 pub returns-in-Err-clause-writes : goal.returns-in-Err-clause-writes
 returns-in-Err-clause-writes g c = λ was now full e f.
-    let w = g.W.Sink in
+    let w = g.W.Sink in let s = g.S.Source in
     let mark = c.audit_file-audited.ensures.sink_mark ∙ ap (λ b. b || is_write_failed c.audit_file-audited.result) c.requires.sink_clean in
     let blamed : is_write_failed c.audit_file-audited.result ≡ false = sym mark ∙ sym c.failed.ensures ∙ c.if-failed.false in
-    let shown = rw (blamed, add-zero) at c.audit_file-audited.ensures.writes in
-    writes_done was now (w.writes c.args.sink.now) (w.writes c.flush.new.sink) 8192 (rw (full, e, f) at (le_trans shown c.in-Err.ensures.writes)) (le_refl 8192)
+    let shown = rw blamed at c.audit_file-audited.ensures.writes in
+    let paid = paid_flushed w.takes_all (w.writes c.args.sink.now) (w.writes c.audit_file-audited.new.sink) (w.writes c.flush.new.sink) (w.written c.args.sink.now) (w.written c.audit_file-audited.new.sink) (w.written c.flush.new.sink)
+    (s.reads c.args.source.now) (s.reads c.audit_file-audited.new.source) c.audit_file-audited.new.page shown c.flush.ensures.writes in
+    writes_done was now (w.writes c.args.sink.now) (w.writes c.flush.new.sink) (s.reads c.args.source.now) (s.reads c.audit_file-audited.new.source) 8192 (rw (full, e, f) at paid) (le_refl 8192)
 
 pub returns-in-Err-clause-write_failed : goal.returns-in-Err-clause-write_failed
 returns-in-Err-clause-write_failed g c = c.in-Err.ensures.mark ∙ ap (λ b. b || true) (sym c.failed.ensures ∙ c.if-failed.false)

@@ -1,4 +1,4 @@
-use Rattle.std.proofs.Common.{◌++◌, ◌∙◌, List, [], ℕ, Some, drop, sym, ap}
+use Rattle.std.proofs.Common.{◌++◌, ◌∙◌, List, [], ℕ, Some, drop, sym, ap, arith}
 use Rattle.std.proofs.lemmas.List.{append-nil}
 use Rattle.std.proofs.lemmas.Result.{err_from_is_err_and}
 use Rattle.ncp_play_stream.specs.Streams.{Ahead, SaidSoFar}
@@ -36,3 +36,12 @@ returns-in-Two-clause-verdict g c = λ bytes was e f.
     let read = rw c.in-Two.is at (c.in_ok-version.ensures.told bytes ahead) in
     file_verdict c.args.standard c.args.auditor.now.umpire bytes was c.audit_records.new.page (g.S.Source.left c.audit_records.new.source) (g.W.Sink.written c.audit_records.new.sink) c.audit_records.result read.0
     (c.audit_records.ensures.told (drop 4 bytes) was [] read.1 said)
+
+pub returns-in_err-version-clause-writes : goal.returns-in_err-version-clause-writes
+returns-in_err-version-clause-writes g c = omega (arith, c.in_err-version.ensures.lowers)
+
+pub returns-in-One-clause-writes : goal.returns-in-One-clause-writes
+returns-in-One-clause-writes g c = omega (arith, c.in_ok-version.ensures.lowers)
+
+pub returns-in-Two-clause-writes : goal.returns-in-Two-clause-writes
+returns-in-Two-clause-writes g c = omega (arith, c.in_ok-version.ensures.lowers, c.audit_records.ensures.writes)

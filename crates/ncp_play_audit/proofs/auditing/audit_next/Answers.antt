@@ -74,3 +74,9 @@ returns-in-Ok-clause-taken g c = λ more. c.in_ok-passage.ensures.taken (ap is_s
 
 pub returns-in-Ok-clause-effort : goal.returns-in-Ok-clause-effort
 returns-in-Ok-clause-effort g c = λ more. c.in_ok-passage.ensures.effort (ap is_some c.in-Some.is)
+
+pub returns-in-Ok-clause-waited : goal.returns-in-Ok-clause-waited
+returns-in-Ok-clause-waited g c = λ some. c.in_ok-passage.ensures.waited (ap is_some c.in-Some.is)
+
+pub returns-in-Err-clause-waited : goal.returns-in-Err-clause-waited
+returns-in-Err-clause-waited g c = λ some. c.in_ok-passage.ensures.waited (ap is_some c.in-Some.is)

@@ -5,18 +5,17 @@ use Rattle.ncp_play_page.specs.Lines.{number_after}
 use Rattle.ncp_umpire.specs.declared.umpire.Umpire.{Umpire}
 use Rattle.ncp_play_audit.specs.Audited.{umpire_after, finding_lines}
 use Rattle.ncp_play_audit.specs.AuditSteps.{AuditsFrom}
-use Rattle.ncp_play_audit.proofs.Findings.{from_end, from_err, from_more}
+use Rattle.ncp_play_audit.proofs.Findings.{from_end, from_more}
 use Rattle.ncp_play_audit.proofs.auditing.audit_records.Goals as goal
 
 pub returns-in_err-one-clause-told : goal.returns-in_err-one-clause-told
 returns-in_err-one-clause-told g c = λ bytes was said a k.
     let p = err_from_is_err_and c.from_residual.result c.from_residual.ensures.1 in
-    let left = g.S.Source.left c.audit_next.new.source in let written = g.W.Sink.written c.audit_next.new.sink in
+    let left = g.S.Source.left c.audit_on.new.source in let written = g.W.Sink.written c.audit_on.new.sink in
     let before = c.loop-one.invariant.told bytes was said a k in
     let one = c.in_err-one.ensures.told before.0 was before.1 before.2 before.3 in
     rw (p.1, p.2) (
-    before.4 (Err c.in_err-one.field-0.0) left c.audit_next.new.page written
-    (from_err c.args.standard c.loop-one.auditor.umpire c.loop-one.number before.0 was before.1 c.loop-one.clean c.audit_next.new.auditor.umpire c.audit_next.new.window c.audit_next.new.page left written c.in_err-one.field-0.0 one))
+    before.4 (Err c.in_err-one.field-0.0) left c.audit_on.new.page written one)
 
 pub loop-one-preserved : goal.loop-one-preserved
 loop-one-preserved g c =
@@ -35,19 +34,27 @@ loop-one-preserved g c =
                 before.4 r left page written (
                 from_more c.args.standard umpire number before.0 was before.1 c.loop-one.clean c.in-Some.one one.1 page left written one.0 r one.2 one.6
                 (subst (λ (u : Umpire). AuditsFrom c.args.standard u (number_after number) one.1 was more (c.loop-one.clean && c.in-Some.one) r left page written) one.5
-                (subst (λ (n : ℕ). AuditsFrom c.args.standard c.audit_next.new.auditor.umpire n one.1 was more (c.loop-one.clean && c.in-Some.one) r left page written) c.saturating_add-number.ensures
-                (subst (λ (b : Bool). AuditsFrom c.args.standard c.audit_next.new.auditor.umpire c.saturating_add-number.result one.1 was more b r left page written) c.both-clean.ensures h)))),
+                (subst (λ (n : ℕ). AuditsFrom c.args.standard c.audit_on.new.auditor.umpire n one.1 was more (c.loop-one.clean && c.in-Some.one) r left page written) c.saturating_add-number.ensures
+                (subst (λ (b : Bool). AuditsFrom c.args.standard c.audit_on.new.auditor.umpire c.saturating_add-number.result one.1 was more b r left page written) c.both-clean.ensures h)))),
           );
       reads = let taken = c.in_ok-one.ensures.taken (ap is_some c.in-Some.is) in omega (arith, taken, c.loop-one.invariant.reads);
       source_mark = c.in_ok-one.ensures.source_mark ∙ or-false _ ∙ c.loop-one.invariant.source_mark;
-      writes = let one = c.in_ok-one.ensures.writes in omega (arith, one, c.loop-one.invariant.writes);
+      writes = let one = rw c.in-Some.is at c.in_ok-one.ensures.writes in omega (arith, one, c.loop-one.invariant.writes);
       sink_mark = c.in_ok-one.ensures.sink_mark ∙ or-false _ ∙ c.loop-one.invariant.sink_mark;
     }
 
 pub returns-clause-told : goal.returns-clause-told
 returns-clause-told g c = λ bytes was said a k.
-    let left = g.S.Source.left c.audit_next.new.source in let written = g.W.Sink.written c.audit_next.new.sink in
+    let left = g.S.Source.left c.audit_on.new.source in let written = g.W.Sink.written c.audit_on.new.sink in
     let before = c.loop-one.invariant.told bytes was said a k in
     let none = rw c.in_default.is at (c.in_ok-one.ensures.told before.0 was before.1 before.2 before.3) in
-    before.4 (Ok c.loop-one.clean) left c.audit_next.new.page written
-    (from_end c.args.standard c.loop-one.auditor.umpire c.loop-one.number before.0 was before.1 c.loop-one.clean c.audit_next.new.auditor.umpire c.audit_next.new.window c.audit_next.new.page left written none)
+    before.4 (Ok c.loop-one.clean) left c.audit_on.new.page written
+    (from_end c.args.standard c.loop-one.auditor.umpire c.loop-one.number before.0 was before.1 c.loop-one.clean c.audit_on.new.auditor.umpire c.audit_on.new.window c.audit_on.new.page left written none)
+
+pub returns-in_err-one-clause-writes : goal.returns-in_err-one-clause-writes
+returns-in_err-one-clause-writes g c =
+    let p = err_from_is_err_and c.from_residual.result c.from_residual.ensures.1 in
+    rw (p.1, p.2) (omega (arith, c.in_err-one.ensures.writes, c.loop-one.invariant.writes))
+
+pub returns-clause-writes : goal.returns-clause-writes
+returns-clause-writes g c = let one = rw c.in_default.is at c.in_ok-one.ensures.writes in omega (arith, one, c.loop-one.invariant.writes)

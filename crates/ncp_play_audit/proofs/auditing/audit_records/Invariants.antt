@@ -1,6 +1,6 @@
 use Rattle.std.proofs.Common.{◌≡◌, ◌≤◌, ℕ, Bool, true, List, Option, Result}
 use Rattle.ncp_play_files.specs.declared.file.FileFault.{FileFault}
-use Rattle.ncp_play_stream.specs.Pieces.{reads_beyond, bytes_and_writes}
+use Rattle.ncp_play_stream.specs.Pieces.{reads_beyond, Paid}
 use Rattle.ncp_play_stream.specs.Streams.{Ahead, SaidSoFar}
 use Rattle.ncp_play_page.specs.Windows.{effort}
 use Rattle.ncp_play_audit.specs.AuditSteps.{AuditsFrom}
@@ -16,7 +16,7 @@ invariant-loop-one g l =
           → AuditsFrom l.standard l.initial.auditor.umpire 1 bytes was said true r left page written);
       reads : reads_beyond s.gives_all (s.reads l.initial.source) (s.left l.initial.source) ≤ reads_beyond s.gives_all (s.reads l.source) (s.left l.source);
       source_mark : s.has_failed l.source ≡ s.has_failed l.initial.source;
-      writes : bytes_and_writes w.takes_all (w.writes l.initial.sink) (w.written l.initial.sink) ≤ bytes_and_writes w.takes_all (w.writes l.sink) (w.written l.sink);
+      writes : Paid w.takes_all (w.writes l.initial.sink) (w.written l.initial.sink) (s.reads l.initial.source) (w.writes l.sink) (w.written l.sink) (s.reads l.source) 0;
       sink_mark : w.has_failed l.sink ≡ w.has_failed l.initial.sink;
     }
 

@@ -1,0 +1,68 @@
+use Rattle.std.proofs.Common.{◌∙◌, ◌||◌, true, List, Option, ℕ, Err, sym, ap, subst, arith}
+use Rattle.std.proofs.Math.Bool.{or-false}
+use Rattle.std.proofs.lemmas.Result.{err_from_is_err_and}
+use Rattle.ncp_play_files.specs.declared.file.FileFault.{FileFault}
+use Rattle.ncp_play_files.specs.declared.version.Version.TheVariants.{Two}
+use Rattle.ncp_play_files.specs.Results.{is_write_failed}
+use Rattle.ncp_play_files.specs.Waiting.{is_waiting}
+use Rattle.ncp_play_files.proofs.Waiting.{paid_on}
+use Rattle.ncp_play_audit.specs.AuditSteps.{AuditsOn, AuditsFrom, more_of}
+use Rattle.ncp_play_audit.proofs.Findings.{from_lost, audits_on, same_more}
+use Rattle.ncp_play_audit.proofs.auditing.audit_on.Goals as goal
+
+pub returns-in_err-let_out-clause-told : goal.returns-in_err-let_out-clause-told
+returns-in_err-let_out-clause-told g c = λ bytes was said a k.
+    let p = err_from_is_err_and c.from_residual.result c.from_residual.ensures.1 in
+    let out = c.in_err-let_out.ensures.told in
+    let left = g.S.Source.left c.args.source.now in let written = g.W.Sink.written c.let_out.new.sink in
+    rw (p.1, p.2) (
+    subst (λ (fault : FileFault). AuditsFrom c.args.standard c.args.auditor.now.umpire c.args.number bytes was said true (Err fault) left c.let_out.new.page written) (sym out.0)
+    (from_lost c.args.standard c.args.auditor.now.umpire c.args.number bytes was said true out.1 c.let_out.new.page left written (out.2 was said k)))
+
+pub returns-in_err-let_out-clause-sink_mark : goal.returns-in_err-let_out-clause-sink_mark
+returns-in_err-let_out-clause-sink_mark g c =
+    let p = err_from_is_err_and c.from_residual.result c.from_residual.ensures.1 in
+    rw (p.1, p.2) c.in_err-let_out.ensures.mark
+
+pub returns-in_err-let_out-clause-source_mark : goal.returns-in_err-let_out-clause-source_mark
+returns-in_err-let_out-clause-source_mark g c =
+    let p = err_from_is_err_and c.from_residual.result c.from_residual.ensures.1 in
+    rw (p.1, p.2, c.in_err-let_out.ensures.told.0) (sym (or-false _))
+
+pub returns-in_err-let_out-clause-writes : goal.returns-in_err-let_out-clause-writes
+returns-in_err-let_out-clause-writes g c =
+    let p = err_from_is_err_and c.from_residual.result c.from_residual.ensures.1 in
+    rw (p.1, p.2, c.in_err-let_out.ensures.told.0) (omega (arith, c.in_err-let_out.ensures.writes))
+
+pub returns-clause-told : goal.returns-clause-told
+returns-clause-told g c = λ bytes was said a k.
+    let umpire = c.args.auditor.now.umpire in let after = c.audit_next-judged.new.auditor.umpire in
+    let r = c.audit_next-judged.result in
+    let page = c.audit_next-judged.new.page in let window = c.audit_next-judged.new.window in let written = g.W.Sink.written c.audit_next-judged.new.sink in
+    subst (λ (left : Option (List ℕ)). AuditsOn c.args.standard umpire c.args.number bytes was said r after window left page written) (sym c.stop_at_fault.ensures.left)
+    (audits_on c.args.standard umpire c.args.number bytes was said after window page (g.S.Source.left c.audit_next-judged.new.source) written r
+    (c.audit_next-judged.ensures.told bytes was said a (c.in_ok-let_out.ensures.told was said k)))
+
+pub returns-clause-source_mark : goal.returns-clause-source_mark
+returns-clause-source_mark g c = c.stop_at_fault.ensures.mark ∙ c.audit_next-judged.ensures.source_mark
+
+pub returns-clause-sink_mark : goal.returns-clause-sink_mark
+returns-clause-sink_mark g c = c.audit_next-judged.ensures.sink_mark ∙ ap (λ b. b || is_write_failed c.audit_next-judged.result) (c.in_ok-let_out.ensures.mark ∙ or-false _)
+
+pub returns-clause-reads : goal.returns-clause-reads
+returns-clause-reads g c = rw (c.stop_at_fault.ensures.left, c.stop_at_fault.ensures.reads) c.audit_next-judged.ensures.reads
+
+pub returns-clause-taken : goal.returns-clause-taken
+returns-clause-taken g c = rw (c.stop_at_fault.ensures.left, c.stop_at_fault.ensures.reads) c.audit_next-judged.ensures.taken
+
+pub returns-clause-effort : goal.returns-clause-effort
+returns-clause-effort g c = rw c.stop_at_fault.ensures.reads c.audit_next-judged.ensures.effort
+
+pub returns-clause-writes : goal.returns-clause-writes
+returns-clause-writes g c =
+    let w = g.W.Sink in let s = g.S.Source in
+    let r = c.audit_next-judged.result in
+    rw c.stop_at_fault.ensures.reads (
+    paid_on w.takes_all (w.writes c.args.sink.now) (w.writes c.let_out.new.sink) (w.writes c.audit_next-judged.new.sink) (w.written c.args.sink.now) (w.written c.let_out.new.sink) (w.written c.audit_next-judged.new.sink)
+    (s.reads c.args.source.now) (s.reads c.audit_next-judged.new.source) c.let_out.new.page c.audit_next-judged.new.page (is_waiting Two c.args.window.now) (more_of r) c.in_ok-let_out.ensures.writes (rw (same_more r) c.audit_next-judged.ensures.writes)
+    c.audit_next-judged.ensures.lowers c.in_ok-let_out.ensures.out c.audit_next-judged.ensures.waited c.audit_next-judged.ensures.kept)
