@@ -4,6 +4,18 @@
 //!
 //! It has no code of its own. Each item stands in a crate below, and so do the definitions that the contracts cite:
 //! `specs/Lib.antt` passes these on, so that whoever uses a call names this crate alone.
+//!
+//! ```text
+//! let mut source = MemorySource::new(bytes, None);             // or FromRead::new(rt.stdin())
+//! let mut sink = ToWrite::new(rt.stdout());
+//! show(&mut source, &mut sink)?;                               // the lines of a message file
+//! play_world::<PackedStore, _, _>(rt.alloc(), &mut source, &mut sink)?;    // or those of a script
+//! ```
+//!
+//! - *Use:* `worked` of `ncp_test_program` goes through the players and the files.
+//! - *Proved:* what is written is a stated function of what is read (clause `told` of each call), and no failure of a
+//!   read or a write is hidden (`read_failed`, `write_failed`).
+//! - *Tests:* `ncp_test_files`, `ncp_test_play_host` and `ncp_test_play_world`, and the runs of `ncp_test_program`.
 #![tactic(auto)]
 
 pub use ncp_play_audit::{Auditor, audit};

@@ -1,6 +1,6 @@
-//! The worked rows, as tests of what the crates below show to everybody: of message files and of the
-//! command line, with printed texts, streams that fail and memory; and of a table of connections. They
-//! stand in a crate of their own, since a crate with tests is proved twice.
+//! Message files, the command line and the program, with printed texts, streams that fail and memory, and a table of
+//! connections, as tests of what the crates below show to everybody. They stand in a crate of their own, since a crate
+//! with tests is proved twice.
 #![tactic(auto)]
 
 #[cfg(test)]

@@ -1,5 +1,5 @@
-//! Scripts of two hosts, and of two to eight, with their lines and with their recordings, byte for byte, as tests of the
-//! public calls. They stand in a crate of their own, since a crate with tests is proved twice.
+//! Scripts of two hosts, and of two to eight, with their lines and with their recordings, byte for byte, as tests of
+//! the public calls. They stand in a crate of their own, since a crate with tests is proved twice.
 #![tactic(auto)]
 
 #[cfg(test)]

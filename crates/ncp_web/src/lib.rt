@@ -4,6 +4,11 @@
 //! What a page has to uphold: a handle is all zeros before its first use, and then what these functions left there,
 //! neither altered nor copied and used twice; pointers lead to as much as their length says, and do not overlap. Each
 //! buffer for bytes has its length behind it, and how many bytes were written is answered in `written`.
+//!
+//! - *Use:* `web/ncp.html`, whose module this library is.
+//! - *Proved:* what is written is what the players and the readers of files write (clauses `played`, `recorded`,
+//!   `shown` and `checked`), and what only reads a session leaves it as it was (`session`).
+//! - *Tests:* `web/test`, in a browser.
 #![tactic(auto)]
 
 mod answer;
