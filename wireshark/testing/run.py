@@ -32,7 +32,7 @@ def tell(what, wrong):
 
 def ncp(word, data):
     done = subprocess.run([NCP, word], input=data, capture_output=True)
-    fault = done.stderr.decode().strip().removeprefix("ncp: ") or None
+    fault = done.stderr.decode().partition("\n")[0].removeprefix("ncp: ") or None
     return done.stdout, fault
 
 
