@@ -67,6 +67,9 @@ class TestAudit(unittest.TestCase):
         self.assertEqual(self.audit("sample")[1][-1], "1 refused, 0 proved")
         self.assertEqual(self.audit("--changed"), (0, ["audit: nothing that the audits of audit/PASSED rest on has changed"]))
 
+        self.write("crates/sample/src/lib.rt", f"// What a comment says is nothing that an audit rests on.\n\n{SOURCE}")
+        self.assertEqual(self.audit("--changed"), (0, ["audit: nothing that the audits of audit/PASSED rest on has changed"]))
+
         self.write("crates/sample/src/lib.rt", SOURCE.replace("result ≡ x", "result ≡ result"))
         status, lines = self.audit("--changed")
         self.assertEqual((status, lines[0], lines[-1]), (1, "audit: changed since it was passed: sample", "0 refused, 1 proved"))
