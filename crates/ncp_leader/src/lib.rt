@@ -3,6 +3,17 @@
 //! A leader is the 32 bits in front of every message (BBN Report 1822, section 3). A regular
 //! message is a leader of any type, a prefix with the byte size and the byte count, and a text of
 //! so many bytes (NIC 8246, message form).
+//!
+//! ```text
+//! let leader = Leader { flags: 0, kind: REGULAR, host: 2, link: 2, low: 0 };
+//! let message = put_regular(&leader, 8, text.whole())?;        // 72 bits, and the text in bytes of 8 bits
+//! read_regular(&message)?.text();                              // the same text, whatever stands behind it
+//! ```
+//!
+//! - *Proved:* a message is read exactly where bits begin with one, and is that one (`read_regular`, clauses `exact`,
+//!   `found` and `only`); what is written is read as the same (`laws::written_is_read`); faults come in the order of
+//!   `MessageFault` (`laws::faults_are_in_order`).
+//! - *Tests:* `leader` of `ncp_test_host`.
 #![tactic(auto)]
 
 pub mod equality;

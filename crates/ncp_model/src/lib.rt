@@ -4,6 +4,15 @@
 //! The definitions stand in `specs/`, the laws over them are the contracts of functions that do
 //! nothing. Beside them stand the words that the crates above share: a pair of sockets, the
 //! refusals of a call, and what a command or a text that came gave.
+//!
+//! A rule of an end stands where its happening does: `specs/Calls.antt` (a user calls), `Commands.antt` (a command
+//! comes), `Texts.antt` (a text is admitted, goes out or is answered). The limits are in `src/limits.rt`.
+//!
+//! - *Use:* `ncp_conn` and `ncp_host` do what the rules say, and cite them. The worked rows are in `rows`:
+//!   `rows::hearing_text` has each text that is admitted or refused.
+//! - *Proved:* each row, computed from the definitions; what phases let through (`phases`, `peers`) and where links
+//!   lead (`links`). `ncp_proof_rules` says the rules once more, another way.
+//! - *Tests:* `model` of `ncp_test_host`.
 #![tactic(auto)]
 
 mod amounts;

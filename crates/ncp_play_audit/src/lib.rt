@@ -1,4 +1,8 @@
 //! `audit`: the findings of the umpire on a message file of version 2, line by line.
+//!
+//! - *Use:* `ncp audit examples/broken.ncp`.
+//! - *Proved:* the lines are those of the findings, up to the first fault of the file (`audit`, clause `told`).
+//! - *Tests:* `ncp_test_audit`, and `examples/broken.audit`.
 #![tactic(auto)]
 
 mod auditing;

@@ -1,5 +1,9 @@
 //! What faults and refusals mean, and what is wrong with a script, in words for the person who wrote it. A fault itself
 //! is found elsewhere; here it is only explained, so nothing rests on it.
+//!
+//! - *Use:* `meaning("BadLine")` is what `ncp explain BadLine` prints; `wrong_line` says what is wrong with a line.
+//! - *Proved:* that it returns. Its texts are only tested.
+//! - *Tests:* `ncp_test_faults`.
 #![tactic(auto)]
 
 mod arguments;

@@ -1,5 +1,14 @@
 //! What players of scripts have in common: one input at a time, the lines that are told of its note,
 //! and why a script is not played on.
+//!
+//! The line of a note is written in `note_lines.rt` (`say_note`), its result in `results.rt`, what became of bits in
+//! `arrived.rt`.
+//!
+//! - *Use:* `ncp_play_host` and `ncp_play_feed` play inputs by `play_input`; `ncp_play_world_lines` writes notes of
+//!   hosts by `say_note`.
+//! - *Proved:* the lines are `NoteLines.antt` of the note (`say_note`, clause `told`); a fault has its number and its
+//!   name (`PlayFault::tell`).
+//! - *Tests:* `lines`, `said` and `faults` of `ncp_test_play_host`; worked lines in `laws`.
 #![tactic(auto)]
 
 mod arrived;

@@ -1,4 +1,10 @@
 //! `Window`, which reads ahead of a source, and `Page`, on which lines are written for a sink.
+//!
+//! - *Use:* `ncp_play_files/src/detail.rt`: `make_room` for a line, then `push_..` its words.
+//! - *Proved:* a page has the bytes that were pushed, and what does not fit is written first (`Page::make_room`,
+//!   clauses `ok` and `room`); a window has what was read and not used up (`Window::need`, clauses `moved` and
+//!   `there`).
+//! - *Tests:* `said` of `ncp_test_play_host`, and the files of `ncp_test_files`.
 #![tactic(auto)]
 
 mod field;

@@ -1,6 +1,11 @@
 //! The program `ncp`: what it does with the words of its command line, and with message files and scripts of ARPANET
-//! hosts, read from the file that is named, or from standard input. It stands in a library so that more than one run of the program can be stored:
-//! each is a crate with a thin `main`.
+//! hosts, read from the file that is named, or from standard input. It stands in a library so that more than one run of
+//! the program can be stored: each is a crate with a thin `main`.
+//!
+//! - *Use:* `ncp` is a `main` that calls `run`; `ncp_test_program` does what words say by `obey`, over bytes in memory.
+//! - *Proved:* each subcommand does what its part promises, with its status, and no failure is hidden (`obey`, clauses
+//!   `obeyed`, `read_failed` and `write_failed`; `specs/Orders.antt`).
+//! - *Tests:* `program` of `ncp_test_files`, and the stored runs `ncp_test_program`.
 #![tactic(auto)]
 
 pub mod examples;

@@ -1,5 +1,10 @@
 //! The player of scripts, whatever hosts they have: lines are read, the event that each asks for happens, and
 //! what is told of its note is written.
+//!
+//! - *Use:* `ncp_play_world` has a `Scene` of two hosts, one of many, and two `Teller`s: lines, and a recording.
+//! - *Proved:* the events are those of the bytes, and what is written is what the teller tells of the notes
+//!   (`play_first`, clause `told`), of whichever scene.
+//! - *Tests:* `ncp_test_play_world`.
 #![tactic(auto)]
 
 mod first_line;

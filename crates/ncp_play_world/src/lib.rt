@@ -1,5 +1,14 @@
 //! Scripts of two hosts, or of two to eight, and a subnet: the player, which tells the lines of what is noted, or
 //! records its messages as a message file of version 2.
+//!
+//! ```text
+//! let is_good = play_world::<PackedStore, _, _>(alloc, &mut source, &mut sink)?;    // false if a call was refused
+//! record_world::<PackedStore, _, _>(alloc, &mut source, &mut sink)?;               // its messages, as a file
+//! ```
+//!
+//! - *Proved:* what is written is what is told of a transcript of the script's events (`play_world`, clauses `told` and
+//!   `many`), so all that is proved of transcripts holds of what is printed.
+//! - *Tests:* `ncp_test_play_world`; worked lines in `laws`.
 #![tactic(auto)]
 
 pub mod examples;

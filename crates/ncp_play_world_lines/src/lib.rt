@@ -1,5 +1,11 @@
 //! Scripts of two hosts, or of two to eight, line by line, with no world: what a line asks for, the lines that
 //! are told of a note, and what is recorded of one.
+//!
+//! - *Use:* `ncp_play_world/src/two.rt` and `many.rt` read lines by `world_line` and `many_line`, and write notes by
+//!   `say_world_note` and `say_many_note`.
+//! - *Proved:* a line asks for the event that the definition says, and a note has its lines or its record (clause
+//!   `event`, `told`).
+//! - *Tests:* worked lines in `examples` and `laws`; whole scripts in `ncp_test_play_world`.
 #![tactic(auto)]
 
 pub mod examples;

@@ -8,6 +8,19 @@
 //!
 //! A contract sees the slots as a map from links to slots, and a slot as empty, ready, travelling
 //! or held, with its message as a list of bits.
+//!
+//! ```text
+//! slots.put(2, &message)?;                                     // ready on link 2
+//! slots.hand(2);                                               // Some: it travels
+//! slots.answer(2, Answer::Incomplete)?;                        // ready again
+//! slots.hand(2);                                               // Some: the same message
+//! slots.answer(2, Answer::Rfnm)?;                              // the slot is empty
+//! ```
+//!
+//! - *Proved:* over any list of events exactly one accepted answer stands between two messages handed out on a link,
+//!   and what goes out after Incomplete Transmission is the same message (`laws::run_link`, clauses `between` and
+//!   `again`). Only `Slots::new` and `run_link` take memory.
+//! - *Tests:* `slot` of `ncp_test_host`; want of memory in its `refused`.
 #![tactic(auto)]
 
 pub mod laws;

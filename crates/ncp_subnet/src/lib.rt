@@ -8,6 +8,18 @@
 //!
 //! A contract sees the subnet as a finite map: from a sender, a destination and a link to what is
 //! in transit there, and a message as a list of bits.
+//!
+//! ```text
+//! let mut subnet = Subnet::new(alloc, 1, 2)?;                  // between hosts 1 and 2
+//! subnet.accept(1, &message)?;                                 // host 1 sends it to host 2 on link 0
+//! subnet.deliver(1, 2, 0);                                     // Some: the message, as one from host 1
+//! subnet.answer(1, 2, 0);                                      // Some: 05 02 00 00, RFNM for host 2 on link 0
+//! ```
+//!
+//! - *Proved:* a message is delivered at most once and answered once: by RFNM where it came, and otherwise not
+//!   (`laws::each_message_is_answered_once`); it comes with its bits, but for the sender's number in place of the
+//!   destination's (`deliver`, clause `message`).
+//! - *Tests:* `subnet` of `ncp_test_host`, and of `ncp_test_world` among hosts.
 #![tactic(auto)]
 
 mod addressed;

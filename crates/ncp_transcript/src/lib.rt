@@ -1,5 +1,18 @@
 //! One host with its transcript: calls and bits come in, and each input is noted with what came of
 //! it.
+//!
+//! ```text
+//! let mut alone: Alone<PackedStore> = Alone::new(alloc, 1, &[2])?;
+//! alone.step(&Input::Call(Call::Reset { peer: 2 }))?;
+//! alone.step(&Input::Out)?;                                    // the host is asked for its next message
+//! alone.transcript();                                          // two notes: the reset, and the RST that went out
+//! ```
+//!
+//! The lines that a script prints of a note are written in `ncp_play_notes`.
+//!
+//! - *Proved:* each input is one note, which says what the rules say at the state that the notes before it leave
+//!   (`Alone::step`, clause `step`; `run`), and after want of memory nothing has happened (`err`).
+//! - *Tests:* `alone` of `ncp_test_host`.
 #![tactic(auto)]
 
 mod acts;

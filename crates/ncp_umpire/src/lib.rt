@@ -1,5 +1,10 @@
 //! The umpire: which rules of messages, slots and phases the records of a message file of version 2 show broken, and by
 //! whom. It reads each record once, in order, and looks at no file and writes no line.
+//!
+//! - *Use:* `ncp_play_audit` judges a message file with it, record by record.
+//! - *Proved:* the findings of a record, and the umpire after it, are those of the definitions (`Umpire::judge`,
+//!   clauses `found` and `after`). That it finds nothing in what honest hosts send is only tested.
+//! - *Tests:* worked cases in `laws`; captures in `ncp_test_audit`.
 #![tactic(auto)]
 
 mod act;
