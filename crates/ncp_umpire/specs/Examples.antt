@@ -1,5 +1,5 @@
 -- Messages by which the definitions show what they mean: at the interface of host 1, of host 1 to host 2 and back.
-use Rattle.std.specs.Prelude.{ℕ, Bool, true, false, List, [], ◌∷◌, None, Result, Ok}
+use Rattle.std.specs.Prelude.{Bool, true, false, List, [], ◌∷◌, None, Result, Ok}
 use Rattle.ncp_terms.specs.declared.command.Command.{Command}
 use Rattle.ncp_terms.specs.declared.command.Command.TheVariants.{Nop, Rst, Rrp}
 use Rattle.ncp_terms.specs.declared.fault.CommandFault.{CommandFault}

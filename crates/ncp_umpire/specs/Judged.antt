@@ -1,5 +1,5 @@
 -- What a record shows: the rules that are seen broken by it, in order, and what is known behind it.
-use Rattle.std.specs.Prelude.{ℕ, ◌==◌, not, ◌&&◌, ◌||◌, nat_le, Bool, true, false, List, [], ◌∷◌, ◌++◌, length, replicate, get_or, slice_set, Option, Some, None, is_some, option_map, Result, Ok, Err, if◌then◌else◌}
+use Rattle.std.specs.Prelude.{ℕ, ◌==◌, not, ◌&&◌, ◌||◌, nat_le, Bool, true, false, List, [], ◌∷◌, ◌++◌, length, replicate, get_or, slice_set, Option, Some, None, option_map, Result, Ok, Err, if◌then◌else◌}
 use Rattle.std.specs.Option.{option_to_list}
 use Rattle.ncp_numbers.specs.Bytes.{bytes_of}
 use Rattle.ncp_leader.specs.declared.fault.MessageFault.{MessageFault}
