@@ -1,6 +1,6 @@
 -- The line of a finding: the number of its record, the host at whose interface it is seen, who broke the rule, the name of
 -- the rule, and the words that show it.
-use Rattle.std.specs.Prelude.{ℕ, ◌&&◌, not, Bool, true, false, List, [], ◌++◌, codes, decimal, if◌then◌else◌}
+use Rattle.std.specs.Prelude.{ℕ, ◌&&◌, ◌||◌, not, Bool, true, false, List, [], ◌++◌, codes, decimal, if◌then◌else◌}
 use Rattle.ncp_leader.specs.Fault.{name_of}
 use Rattle.ncp_play_page.specs.Lines.{field}
 use Rattle.ncp_play_files.specs.Lines.{bad_words}
@@ -75,7 +75,8 @@ rule_words MissingRrp = codes "missing RRP"
 abbrev pub finding_line : ℕ → ℕ → Finding → List ℕ
 finding_line number at finding = decimal number ++ field (codes " at=") at ++ who_words finding.who ++ codes " " ++ rule_words finding.rule ++ codes "\n"
 
--- the rule is the standard's; the others are this project's profile
+-- the rule is the standard's; the others are this project's profile. That a host begins by an RST is the profile's; what
+-- an RST asks for, of the host that sends it and of the one that owes the RRP, is the standard's
 abbrev pub is_standard : Rule → Bool
 is_standard (Short bits) = true
 is_standard (OwnHost kind link) = false
@@ -90,7 +91,7 @@ is_standard (Stray kind link) = true
 is_standard (Unsent host link why) = true
 is_standard (FalseAnswer kind host link came) = true
 is_standard (Bad fault) = true
-is_standard (Early thing began waits owes) = began
+is_standard (Early thing began waits owes) = began || owes
 is_standard RstAgain = false
 is_standard RrpUnasked = true
 is_standard (Unquiet reply link) = false

@@ -252,7 +252,7 @@ pub(crate) fn is_standard(rule: &Rule) -> bool
         | Rule::FalseAnswer { .. }
         | Rule::Bad { .. }
         | Rule::RrpUnasked => true,
-        Rule::Early { began, .. } => began,
+        Rule::Early { began, owes, .. } => began || owes,
         Rule::OwnHost { .. }
         | Rule::Kind { .. }
         | Rule::Extras { .. }

@@ -114,6 +114,16 @@ fn broken_rules_are_told(rt: HostRuntime) -> Result<(), Fail> {
             b"NCPJ\x49\x01\x00\x50\x00\x02\x00\x00\x00\x08\x00\x01\x00\x0c\x48\x01\x00\x50\x00\x02\x00\x00\x00\x08\x00\x01\x00\x0c",
             b"2 at=1 host=1 missing RRP\n",
         ),
+        // Two messages are out at once on a link, and both come: the subnet is blamed for none.
+        (
+            b"NCPJ\x48\x01\x00\x50\x00\x02\x00\x00\x00\x08\x00\x01\x00\x0c\x48\x01\x00\x50\x00\x02\x00\x00\x00\x08\x00\x01\x00\x00\x49\x02\x00\x50\x00\x01\x00\x00\x00\x08\x00\x01\x00\x0c\x49\x01\x00\x20\x05\x02\x00\x00\x49\x02\x00\x50\x00\x01\x00\x00\x00\x08\x00\x01\x00\x00",
+            b"2 at=1 host=1 occupied link=0\n2 at=1 host=1 early NOP began=1 wait=1 owe=0\n5 at=2 host=1 early NOP began=1 wait=1 owe=0\n",
+        ),
+        // Nor for the answer to the first, where the second goes out between.
+        (
+            b"NCPJ\x48\x01\x00\x50\x00\x02\x00\x00\x00\x08\x00\x01\x00\x0c\x49\x02\x00\x50\x00\x01\x00\x00\x00\x08\x00\x01\x00\x0c\x48\x01\x00\x50\x00\x02\x00\x00\x00\x08\x00\x01\x00\x00\x49\x01\x00\x20\x05\x02\x00\x00",
+            b"3 at=1 host=1 occupied link=0\n3 at=1 host=1 early NOP began=1 wait=1 owe=0\n",
+        ),
     ];
     expect(&rt, rt.alloc(), (false, false), ROWS)
 }
@@ -156,6 +166,12 @@ fn nothing_is_told_of_honest_hosts(rt: HostRuntime) -> Result<(), Fail> {
 const MIXED: &[u8] =
     b"NCPJ\x48\x01\x00\x50\x00\x02\x00\x00\x00\x08\x00\x01\x00\x0cH\x01\x00\x50\x00\x02\x00\x00\x00\x08\x00\x01\x00\x0cI\x01\x00\x50\x00\x02\x01\x00\x00\x08\x00\x01\x00\x61";
 
+// A host that never began owes an RRP, and sends an NOP in its place; and one that was asked for none begins by an NOP.
+const OWED: Row<'static> = (
+    b"NCPJ\x49\x01\x00\x50\x00\x02\x00\x00\x00\x08\x00\x01\x00\x0c\x48\x01\x00\x50\x00\x02\x00\x00\x00\x08\x00\x01\x00\x00\x48\x03\x00\x50\x00\x04\x00\x00\x00\x08\x00\x01\x00\x00",
+    b"2 at=1 host=1 early NOP began=0 wait=0 owe=1\n",
+);
+
 #[test]
 fn the_rules_of_the_standard_are_told_alone(rt: HostRuntime) -> Result<(), Fail> {
     let all: Row<'_> = (
@@ -168,6 +184,7 @@ fn the_rules_of_the_standard_are_told_alone(rt: HostRuntime) -> Result<(), Fail>
     );
     assert!(rt; tells(rt.alloc(), (false, false), &all, Ok(false))?);
     assert!(rt; tells(rt.alloc(), (false, true), &standard, Ok(false))?);
+    assert!(rt; tells(rt.alloc(), (false, true), &OWED, Ok(false))?);
     Ok(())
 }
 

@@ -1,12 +1,14 @@
 -- Messages by which the definitions show what they mean: at the interface of host 1, of host 1 to host 2 and back.
-use Rattle.std.specs.Prelude.{true, false, List, [], ◌∷◌, None, Result, Ok}
+use Rattle.std.specs.Prelude.{Bool, true, false, List, [], ◌∷◌, None, Result, Ok}
 use Rattle.ncp_terms.specs.declared.command.Command.{Command}
 use Rattle.ncp_terms.specs.declared.command.Command.TheVariants.{Nop, Rst, Rrp}
 use Rattle.ncp_terms.specs.declared.fault.CommandFault.{CommandFault}
 use Rattle.ncp_umpire.specs.declared.phase.Turn.{Turn}
+use Rattle.ncp_umpire.specs.declared.umpire.Umpire.{Umpire}
 use Rattle.ncp_umpire.specs.declared.view.View.{View}
 use Rattle.ncp_umpire.specs.Phases.{after_items, after_room}
 use Rattle.ncp_umpire.specs.Views.{new_view}
+use Rattle.ncp_umpire.specs.Judged.{after_out, after_in}
 
 -- while no data link of host 1 is busy, and its link 0 is known
 
@@ -40,3 +42,25 @@ answered_twice = hears (rrp ∷ []) (sends (rst ∷ []) (hears (rst ∷ []) (sen
 -- a capture that begins in the middle, behind a control message of host 1 with room for one more command
 abbrev pub in_the_middle : View
 in_the_middle = after_room goes_out true (sends (nop ∷ []) (new_view true))
+
+-- ---- between hosts 0 and 1, of both of which there were records: messages on link 2 of host 0, which are bits alone
+
+abbrev pub both_seen : Umpire
+both_seen = record { part = false; full = false; seen = true ∷ true ∷ []; views = new_view false ∷ new_view false ∷ []; kept = [] }
+
+abbrev pub one_message : List Bool
+one_message = true ∷ []
+
+abbrev pub another_message : List Bool
+another_message = false ∷ []
+
+-- a message goes out; and then another before any answer
+abbrev pub one_out : Umpire
+one_out = after_out both_seen 0 1 2 one_message
+
+abbrev pub two_out : Umpire
+two_out = after_out one_out 0 1 2 another_message
+
+-- the first came before the other went out
+abbrev pub one_came_two_out : Umpire
+one_came_two_out = after_out (after_in one_out 1 0 2) 0 1 2 another_message

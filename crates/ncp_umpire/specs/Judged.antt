@@ -1,5 +1,5 @@
 -- What a record shows: the rules that are seen broken by it, in order, and what is known behind it.
-use Rattle.std.specs.Prelude.{ℕ, ◌==◌, not, ◌&&◌, ◌||◌, nat_le, Bool, true, false, List, [], ◌∷◌, ◌++◌, length, replicate, get_or, slice_set, Option, Some, None, is_some, option_map, Result, Ok, Err, if◌then◌else◌}
+use Rattle.std.specs.Prelude.{ℕ, ◌==◌, not, ◌&&◌, ◌||◌, nat_le, Bool, true, false, List, [], ◌∷◌, ◌++◌, length, replicate, get_or, slice_set, Option, Some, None, option_map, Result, Ok, Err, if◌then◌else◌}
 use Rattle.std.specs.Option.{option_to_list}
 use Rattle.ncp_numbers.specs.Bytes.{bytes_of}
 use Rattle.ncp_leader.specs.declared.fault.MessageFault.{MessageFault}
@@ -104,19 +104,27 @@ out_finding umpire at peer link bits =
 abbrev pub fresh_out : Umpire → ℕ → ℕ → ℕ → List Bool → Bool
 fresh_out umpire at peer link bits = umpire.full || is_fresh (slot_of umpire at peer link) (same_of umpire at peer link bits)
 
--- the session rests where another message went out than the one that was not delivered
-abbrev pub view_after_out : View → Bool → View
-view_after_out view changed = record view { rests = view.rests || changed }
+-- the message is out
+abbrev pub is_out : Slot → Bool
+is_out slot.Unknown = false
+is_out slot.Empty = false
+is_out slot.Out = true
+is_out slot.Came = true
+is_out slot.Again = false
+
+-- the session rests where another message went out than the one that was not delivered; where the last one is still out,
+-- it is not known any more which of the two comes, or is answered
+abbrev pub view_after_out : View → Slot → Bool → View
+view_after_out view slot same = record view { rests = view.rests || changes slot same; crowded = view.crowded || is_out slot }
 
 abbrev pub after_out : Umpire → ℕ → ℕ → ℕ → List Bool → Umpire
 after_out umpire at peer link bits =
     let place = place_of at peer link umpire.kept in
-    let changed = changes (slot_of umpire at peer link) (same_of umpire at peer link bits) in
     if umpire.full then umpire
     else
     record umpire {
       full = not (has_room umpire.kept place);
-      views = with_view umpire.views at peer (view_after_out (view_in umpire.views at peer) changed);
+      views = with_view umpire.views at peer (view_after_out (view_in umpire.views at peer) (slot_of umpire at peer link) (same_of umpire at peer link bits));
       kept = with_out umpire.kept place (gone_out at peer link bits);
     }
 
@@ -142,9 +150,13 @@ stray_rule slot.Again kind link = Some (rule.Stray kind link)
 abbrev pub sees_both : Umpire → ℕ → Bool
 sees_both umpire peer = not umpire.part && has_seen umpire peer
 
+-- of the messages of a host to another two were out at once on one link
+abbrev pub is_crowded : Umpire → ℕ → ℕ → Bool
+is_crowded umpire from to = (view_in umpire.views from to).crowded
+
 abbrev pub false_finding : Umpire → ℕ → ℕ → ℕ → ℕ → Option Finding
 false_finding umpire kind at peer link =
-    if sees_both umpire peer then option_map by_imp (false_rule (slot_of umpire at peer link) kind peer link) else None
+    if sees_both umpire peer && not (is_crowded umpire at peer) then option_map by_imp (false_rule (slot_of umpire at peer link) kind peer link) else None
 
 abbrev pub stray_finding : Umpire → ℕ → ℕ → ℕ → ℕ → Option Finding
 stray_finding umpire kind at peer link = option_map by_imp (stray_rule (slot_of umpire at peer link) kind link)
@@ -152,14 +164,6 @@ stray_finding umpire kind at peer link = option_map by_imp (stray_rule (slot_of 
 abbrev pub answer_findings : Umpire → ℕ → ℕ → ℕ → ℕ → List Finding
 answer_findings umpire kind at peer link =
     if umpire.full then [] else option_to_list (false_finding umpire kind at peer link) ++ option_to_list (stray_finding umpire kind at peer link)
-
--- the message is out
-abbrev pub is_out : Slot → Bool
-is_out slot.Unknown = false
-is_out slot.Empty = false
-is_out slot.Out = true
-is_out slot.Came = true
-is_out slot.Again = false
 
 abbrev pub with_answer : Bool → ℕ → List Kept → Option ℕ → List Kept
 with_answer known kind kept None = kept
@@ -183,8 +187,8 @@ unsent_why slot.Out same = if same then None else Some Altered
 unsent_why slot.Came same = Some Twice
 unsent_why slot.Again same = Some NotOut
 
-abbrev pub judges_coming : Umpire → ℕ → Bool
-judges_coming umpire peer = not umpire.full && sees_both umpire peer
+abbrev pub judges_coming : Umpire → ℕ → ℕ → Bool
+judges_coming umpire at peer = not umpire.full && sees_both umpire peer && not (is_crowded umpire peer at)
 
 abbrev pub unsent_at : Umpire → ℕ → ℕ → ℕ → List Bool → Option Unsent
 unsent_at umpire at peer link bits =
@@ -192,7 +196,7 @@ unsent_at umpire at peer link bits =
 
 abbrev pub unsent_finding : Umpire → ℕ → ℕ → ℕ → List Bool → Option Finding
 unsent_finding umpire at peer link bits =
-    if judges_coming umpire peer then option_map (λ why. by_imp (rule.Unsent peer link why)) (unsent_at umpire at peer link bits)
+    if judges_coming umpire at peer then option_map (λ why. by_imp (rule.Unsent peer link why)) (unsent_at umpire at peer link bits)
     else None
 
 -- what is out came
@@ -202,7 +206,7 @@ with_coming kept (Some place) = if is_out (kept_at kept place).slot then with_sl
 
 abbrev pub after_in : Umpire → ℕ → ℕ → ℕ → Umpire
 after_in umpire at peer link =
-    if judges_coming umpire peer then record umpire { kept = with_coming umpire.kept (place_of peer at link umpire.kept) } else umpire
+    if judges_coming umpire at peer then record umpire { kept = with_coming umpire.kept (place_of peer at link umpire.kept) } else umpire
 
 -- ---- what a message says
 

@@ -2,7 +2,7 @@
 -- that sends an RST waits for an RRP of the other, and drops till then what comes of it; a host that is asked for an RRP
 -- sends nothing else before it. Both go out while no data link is busy. Where one acts on what the other has not shown,
 -- the session is at rest until the next reset: the wire does not tell what was done.
-use Rattle.std.specs.Prelude.{ℕ, ◌==◌, not, ◌&&◌, ◌||◌, Bool, true, false, List, [], ◌∷◌, ◌++◌, Option, Some, None, is_some, option_map, Result, Ok, if◌then◌else◌}
+use Rattle.std.specs.Prelude.{◌==◌, not, ◌&&◌, ◌||◌, Bool, true, false, List, [], ◌∷◌, ◌++◌, Option, Some, None, is_some, option_map, Result, Ok, if◌then◌else◌}
 use Rattle.std.specs.declared.result.Result.TheVariants.{Err as Fault}
 use Rattle.std.specs.Option.{option_to_list}
 use Rattle.ncp_terms.specs.declared.command.Command.{Command}

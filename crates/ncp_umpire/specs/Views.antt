@@ -60,6 +60,7 @@ new_view part = record {
   first = false;
   spoilt = false;
   rests = false;
+  crowded = false;
   told = not part;
   known = not part;
 }

@@ -1,10 +1,12 @@
-//! Laws about the rules of phases: the contracts of functions.
-ghost use Rattle.std.specs.Prelude.{◌≡◌, ◌∷◌, [], true, false, None};
+//! Laws about the rules of links and phases: the contracts of functions.
+ghost use Rattle.std.specs.Prelude.{◌≡◌, ◌∷◌, [], true, false, Some, None};
 ghost use Rattle.ncp_umpire.specs.declared.finding.Rule.TheVariants as rule;
 ghost use Rattle.ncp_umpire.specs.declared.finding.Thing.TheVariants as thing;
+ghost use Rattle.ncp_umpire.specs.declared.finding.Unsent.TheVariants as why;
 ghost use Rattle.ncp_umpire.specs.Phases.{by, items_findings, early_finding};
 ghost use Rattle.ncp_umpire.specs.Views.{new_view};
-ghost use Rattle.ncp_umpire.specs.Examples.{goes_out, comes, nop, rst, rrp, sends, hears, answered_twice, in_the_middle};
+ghost use Rattle.ncp_umpire.specs.Judged.{by_imp, unsent_finding, false_finding};
+ghost use Rattle.ncp_umpire.specs.Examples.{goes_out, comes, nop, rst, rrp, sends, hears, answered_twice, in_the_middle, one_out, one_message, two_out, one_came_two_out};
 
 /// Worked phases at the interface of host 1: what each side may say before a reset, while it waits for the reply, and while
 /// it owes one.
@@ -34,4 +36,13 @@ pub fn parts_are_judged_so()
     ensures crossing { items_findings comes (nop ∷ []) (sends (rst ∷ []) in_the_middle) ≡ [] }
     ensures replies { items_findings comes (rrp ∷ rrp ∷ rrp ∷ []) (sends (rst ∷ []) in_the_middle) ≡ by comes rule.RrpUnasked ∷ [] }
     ensures unknown { (hears (rst ∷ []) (new_view true)).told ≡ false }
+{}
+
+/// Of two messages that are out at once on a link either may come, and the answer may be to either: then the subnet is not
+/// blamed. Of one alone it is.
+pub fn messages_out_at_once_are_not_followed()
+    ensures alone { unsent_finding one_out 1 0 2 one_message ≡ Some (by_imp (rule.Unsent 0 2 why.Altered)) }
+    ensures comes { unsent_finding two_out 1 0 2 one_message ≡ None }
+    ensures unanswered { false_finding one_out 5 0 1 2 ≡ Some (by_imp (rule.FalseAnswer 5 1 2 false)) }
+    ensures answered { false_finding one_came_two_out 5 0 1 2 ≡ None }
 {}

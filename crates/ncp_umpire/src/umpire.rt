@@ -8,7 +8,7 @@ ghost use Rattle.ncp_umpire.specs.Tables.{with_view};
 ghost use Rattle.ncp_umpire.specs.declared.views.TheConstants.{HOSTS};
 ghost use Rattle.ncp_bits.specs.declared.bits.TheConstants.{MAX_BITS};
 ghost use Rattle.ncp_umpire.specs.Messages.{rule_of_message, reading_of};
-ghost use Rattle.ncp_umpire.specs.Judged.{new_umpire, view_of, knows_zero, sender_of, out_rule, is_fresh, changes, by_host, by_imp, out_finding, fresh_out, view_after_out, after_out, false_rule, stray_rule, sees_both, answer_findings, is_out, with_answer, after_answer, unsent_why, unsent_finding, with_coming, after_in, turn_at, items_said, is_roomy, control_findings, read_findings, after_read, regular_findings, after_regular, message_findings, after_message, event_findings, after_event, record_findings, after_record};
+ghost use Rattle.ncp_umpire.specs.Judged.{new_umpire, view_of, knows_zero, sender_of, out_rule, is_fresh, changes, by_host, by_imp, out_finding, fresh_out, is_out, view_after_out, after_out, false_rule, stray_rule, sees_both, is_crowded, judges_coming, answer_findings, with_answer, after_answer, unsent_why, unsent_finding, with_coming, after_in, turn_at, items_said, is_roomy, control_findings, read_findings, after_read, regular_findings, after_regular, message_findings, after_message, event_findings, after_event, record_findings, after_record};
 
 use crate::event::{Event, event_of};
 use crate::finding::{Finding, Rule, Thing, Unsent, Who};
@@ -177,6 +177,17 @@ fn is_out(slot: Slot) -> bool
     }
 }
 
+// The view of a host of which a message goes out on a link with this slot.
+fn view_after_out(view: View, slot: Slot, same: bool) -> View
+    ensures { result ≡ view_after_out view slot same }
+{
+    View {
+        rests: view.rests || changes(slot, same),
+        crowded: view.crowded || is_out(slot),
+        ..view
+    }
+}
+
 // Judges the items of a control text, and gives the view after them.
 fn judge_items(turn: &Turn, text: Part<'_>, view: View, found: &mut Findings) -> View
     requires whole { length text % 8 ≡ 0 }
@@ -329,6 +340,20 @@ impl Umpire {
         !self.part && self.seen[usize::from(peer)]
     }
 
+    // Whether two messages of a host to another were out at once on one link.
+    fn is_crowded(&self, from: u8, to: u8) -> bool
+        ensures { result ≡ is_crowded self.now from to }
+    {
+        self.views.of(from, to).crowded
+    }
+
+    // Whether a message that comes is judged by the interface of the host that sent it.
+    fn judges_coming(&self, at: u8, peer: u8) -> bool
+        ensures { result ≡ judges_coming self.now at peer }
+    {
+        !self.full && self.sees_both(peer) && !self.is_crowded(peer, at)
+    }
+
     // A message goes out: judges its link, and answers whether it goes out for the first time.
     fn judge_out(
         &mut self,
@@ -357,23 +382,18 @@ impl Umpire {
         self.keep(
             at,
             peer,
-            view,
+            view_after_out(view, slot, same),
             place,
             gone_out(at, peer, link, message),
-            changes(slot, same),
         );
         is_fresh(slot, same)
     }
 
-    // Keeps a message that went out.
-    fn keep(&mut self, at: u8, peer: u8, view: View, place: Option<usize>, new: Kept, changed: bool)
+    // Keeps a message that went out, and the view after it.
+    fn keep(&mut self, at: u8, peer: u8, view: View, place: Option<usize>, new: Kept)
         requires { IfSome place (λ p. p < length self.old.kept) }
-        ensures { self.new ≡ record self.old { full = not (has_room self.old.kept place); views = with_view self.old.views at peer (view_after_out view changed); kept = with_out self.old.kept place new } }
+        ensures { self.new ≡ record self.old { full = not (has_room self.old.kept place); views = with_view self.old.views at peer view; kept = with_out self.old.kept place new } }
     {
-        let view = View {
-            rests: view.rests || changed,
-            ..view
-        };
         self.views.set(at, peer, view);
         self.full = !self.kept.put(place, new);
     }
@@ -390,7 +410,7 @@ impl Umpire {
         let known = self.views.of(at, peer).known;
         let place = self.kept.place_of(at, peer, link);
         let slot = self.slot_at(known, place);
-        if self.sees_both(peer) {
+        if self.sees_both(peer) && !self.is_crowded(at, peer) {
             if let Some(rule) = false_rule(slot, kind, peer, link) {
                 found.push(by_imp(rule));
             }
@@ -426,7 +446,7 @@ impl Umpire {
         ensures found { found.new ≡ found.old ++ option_to_list (unsent_finding self.old at peer link message.now) }
         ensures len { length found.new ≤ length found.old + 1 }
     {
-        if self.full || !self.sees_both(peer) {
+        if !self.judges_coming(at, peer) {
             return;
         }
         let place = self.kept.place_of(peer, at, link);

@@ -83,6 +83,9 @@ pub struct View {
     pub spoilt: bool,
     /// Whether the session is at rest: one acted on what the other had not shown, so the wire does not tell what it did.
     pub rests: bool,
+    /// Whether two messages of the host were out at once on one link: from then on the interface of the peer does not tell
+    /// what the subnet did to its messages.
+    pub crowded: bool,
     /// Whether the phase is judged: not before the first reset, in a capture that begins in the middle.
     pub told: bool,
     /// Whether a slot of which nothing was seen is empty.
@@ -130,6 +133,7 @@ impl View {
             first: false,
             spoilt: false,
             rests: false,
+            crowded: false,
             told: !part,
             known: !part,
         }

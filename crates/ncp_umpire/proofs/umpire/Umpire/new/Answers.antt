@@ -1,6 +1,3 @@
-use Rattle.std.proofs.Common.{◌≡◌, List, Bool, refl, ap, ◌∙◌}
-use Rattle.ncp_umpire.specs.declared.view.View.{View}
-use Rattle.ncp_umpire.specs.declared.kept.Kept.{Kept}
 use Rattle.ncp_umpire.proofs.Events.{made_new}
 use Rattle.ncp_umpire.proofs.umpire.Umpire.new.Goals as goal
 
