@@ -3,7 +3,8 @@
 #include "ncp.h"
 
 /* The functions of the library, in the sources of crates/ncp_embed. No pointer of theirs may be null. A `handle` whose
- * `at` is null has no host, and is answered NCP_NO_HOST by these too, behind what they say of bits and buffers. */
+ * `at` is null has no host, and is answered NCP_NO_HOST by these too, behind what they say of bits and buffers; so a `net`
+ * NCP_NO_SUBNET. */
 uint32_t ncp_embed_new(struct ncp_host *handle, uint8_t me, const uint8_t *peers, size_t peers_len);
 void ncp_embed_free(struct ncp_host *handle);
 uint32_t ncp_embed_receive(struct ncp_host *handle, const uint8_t *bytes, size_t bytes_len, size_t bits, struct ncp_arrived *arrived);
@@ -30,6 +31,13 @@ uint32_t ncp_embed_ignored(struct ncp_host *handle, struct ncp_discarded *out);
 uint32_t ncp_embed_waiting(struct ncp_host *handle, uint8_t peer, uint32_t place, uint8_t *out, size_t out_len, size_t *bytes);
 uint32_t ncp_embed_kept(struct ncp_host *handle, uint8_t peer, uint8_t link, uint8_t *out, size_t out_len, size_t *bits);
 uint32_t ncp_embed_command(const uint8_t *bytes, size_t bytes_len, size_t bits, uint32_t place, uint8_t *out, size_t out_len, size_t *size);
+uint32_t ncp_embed_subnet_new(struct ncp_subnet *net, const uint8_t *hosts, size_t hosts_len);
+void ncp_embed_subnet_free(struct ncp_subnet *net);
+uint32_t ncp_embed_subnet_accept(struct ncp_subnet *net, uint8_t from, const uint8_t *bytes, size_t bytes_len, size_t bits);
+uint32_t ncp_embed_subnet_deliver(struct ncp_subnet *net, uint8_t from, uint8_t to, uint8_t link, uint8_t *out, size_t out_len, size_t *bits);
+uint32_t ncp_embed_subnet_lose(struct ncp_subnet *net, uint8_t from, uint8_t to, uint8_t link);
+uint32_t ncp_embed_subnet_dead(struct ncp_subnet *net, uint8_t from, uint8_t to, uint8_t link);
+uint32_t ncp_embed_subnet_answer(struct ncp_subnet *net, uint8_t from, uint8_t to, uint8_t link, uint8_t *out, size_t out_len, size_t *bits);
 uint32_t ncp_embed_name(uint32_t code, uint8_t *out, size_t out_len, size_t *bytes);
 
 bool ncp_is_made(const struct ncp_host *host)
@@ -203,6 +211,56 @@ uint32_t ncp_command(const uint8_t *bytes, size_t len, size_t bits, uint32_t pla
     return ncp_embed_command(bytes, len, bits, place, out, room, size);
 }
 
+static bool has_subnet(const struct ncp_subnet *subnet)
+{
+    return subnet != NULL && subnet->at != NULL;
+}
+
+uint32_t ncp_subnet_new(struct ncp_subnet *subnet, const uint8_t *hosts, size_t count)
+{
+    if (subnet == NULL) return NCP_NO_SUBNET;
+    if (hosts == NULL) return NCP_NO_POINTER;
+    return ncp_embed_subnet_new(subnet, hosts, count);
+}
+
+void ncp_subnet_free(struct ncp_subnet *subnet)
+{
+    if (has_subnet(subnet)) ncp_embed_subnet_free(subnet);
+}
+
+uint32_t ncp_subnet_accept(struct ncp_subnet *subnet, uint8_t from, const uint8_t *bytes, size_t len, size_t bits)
+{
+    if (!has_subnet(subnet)) return NCP_NO_SUBNET;
+    if (bytes == NULL) return NCP_NO_POINTER;
+    return ncp_embed_subnet_accept(subnet, from, bytes, len, bits);
+}
+
+uint32_t ncp_subnet_deliver(struct ncp_subnet *subnet, uint8_t from, uint8_t to, uint8_t link, uint8_t *out, size_t len, size_t *bits)
+{
+    if (!has_subnet(subnet)) return NCP_NO_SUBNET;
+    if (out == NULL || bits == NULL) return NCP_NO_POINTER;
+    return ncp_embed_subnet_deliver(subnet, from, to, link, out, len, bits);
+}
+
+uint32_t ncp_subnet_lose(struct ncp_subnet *subnet, uint8_t from, uint8_t to, uint8_t link)
+{
+    if (!has_subnet(subnet)) return NCP_NO_SUBNET;
+    return ncp_embed_subnet_lose(subnet, from, to, link);
+}
+
+uint32_t ncp_subnet_dead(struct ncp_subnet *subnet, uint8_t from, uint8_t to, uint8_t link)
+{
+    if (!has_subnet(subnet)) return NCP_NO_SUBNET;
+    return ncp_embed_subnet_dead(subnet, from, to, link);
+}
+
+uint32_t ncp_subnet_answer(struct ncp_subnet *subnet, uint8_t from, uint8_t to, uint8_t link, uint8_t *out, size_t len, size_t *bits)
+{
+    if (!has_subnet(subnet)) return NCP_NO_SUBNET;
+    if (out == NULL || bits == NULL) return NCP_NO_POINTER;
+    return ncp_embed_subnet_answer(subnet, from, to, link, out, len, bits);
+}
+
 uint32_t ncp_name(uint32_t code, char *out, size_t len, size_t *bytes)
 {
     if (out == NULL || bytes == NULL) return NCP_NO_POINTER;
@@ -234,11 +292,15 @@ const char *ncp_word(uint32_t code)
     case NCP_NO_POINTER: return "NoPointer";
     case NCP_SHORT_BUFFER: return "ShortBuffer";
     case NCP_NOTHING: return "Nothing";
+    case NCP_NO_SUBNET: return "NoSubnet";
     case NCP_TOO_LONG: return "TooLong";
     case NCP_SHORT_BYTES: return "ShortBytes";
     case NCP_SPARE_NOT_ZERO: return "SpareNotZero";
     case NCP_NEW_BAD_PEERS: return "BadPeers";
     case NCP_NEW_OUT_OF_MEMORY: return "OutOfMemory";
+    case NCP_SUBNET_NOT_REGULAR: return "NotRegular";
+    case NCP_SUBNET_NO_HOST: return "NoHost";
+    case NCP_SUBNET_OCCUPIED: return "Occupied";
     default: return "";
     }
 }

@@ -1,22 +1,23 @@
-/* A host of the ARPANET with its one to eight peers, as an emulator links it: C99 and C++.
+/* A host of the ARPANET with its one to eight peers, and a subnet between hosts, as an emulator links them: C99 and C++.
  *
  * Link libncp.a or libncp.so, which stand in prebuilt/, or are made by include/library and put in place by
  * include/install. docs/EMBEDDING.md says how a host is driven, examples/embed has whole programs.
  *
  * Every function whose result is a `uint32_t` answers a number: 0 where it was done, else why not.
  * What is refused changes nothing, neither the host nor a buffer. Refusals are judged in the order
- * in which they are listed, and first of all: NCP_NO_HOST (`host` is null, or has no host),
- * NCP_NO_POINTER (another pointer is null, also one to no bytes), then what is said of buffers and
- * bits. No function keeps a pointer that it was given: what the host keeps it has copied.
+ * in which they are listed, and first of all: NCP_NO_HOST (`host` is null, or has no host) or
+ * NCP_NO_SUBNET (`subnet` is null, or has no subnet), NCP_NO_POINTER (another pointer is null, also one to
+ * no bytes), then what is said of buffers and bits. No function keeps a pointer that it was given: what is
+ * kept is copied.
  *
  * Sizes of messages and texts are in bits, lengths of buffers in bytes. A bit string stands in bytes
  * from the most significant bit of the first byte; its spare bits in the last byte are zero.
  *
  * What the caller has to uphold, and nothing checks:
- * - A `struct ncp_host` is NCP_EMPTY before its first use. Later its content is what these functions
- *   left there: it may be moved to another place, but of two copies only one is used.
- * - One call at a time for each host, also of those that only read. A host may move to another thread
- *   where what orders the calls, as a lock or a join, stands between them.
+ * - A `struct ncp_host` and a `struct ncp_subnet` are NCP_EMPTY before their first use. Later their content
+ *   is what these functions left there: it may be moved to another place, but of two copies only one is used.
+ * - One call at a time for each host and each subnet, also of those that only read. Each may move to another
+ *   thread where what orders the calls, as a lock or a join, stands between them.
  * - A pointer that is not null leads to as much memory as the length beside it says, or to one of its
  *   type; no two of one call overlap, and each is aligned as its type asks.
  * - malloc, realloc and free are one allocator, which aligns a block to each power of two up to 16 that
@@ -64,15 +65,21 @@ enum {
     NCP_NO_POINTER = 33,
     NCP_SHORT_BUFFER = 34, /* less room than the longest answer takes */
     NCP_NOTHING = 35,      /* there is none */
+    NCP_NO_SUBNET = 36,
 
-    /* By ncp_receive and ncp_give: 40 and the number of the fault of bits. */
+    /* By functions that are given bits: 40 and the number of the fault of bits. */
     NCP_TOO_LONG = 41,       /* more than 8192 bits */
     NCP_SHORT_BYTES = 42,    /* fewer bytes than the bits take */
     NCP_SPARE_NOT_ZERO = 43, /* a spare bit of the last byte used is set */
 
-    /* By ncp_new: 64 and the number of the refusal. */
+    /* By ncp_new and ncp_subnet_new: 64 and the number of the refusal. */
     NCP_NEW_BAD_PEERS = 65,
-    NCP_NEW_OUT_OF_MEMORY = 66
+    NCP_NEW_OUT_OF_MEMORY = 66,
+
+    /* By ncp_subnet_accept: 72 and the number of the refusal. */
+    NCP_SUBNET_NOT_REGULAR = 73,
+    NCP_SUBNET_NO_HOST = 74,
+    NCP_SUBNET_OCCUPIED = 75
 };
 
 /* Lengths in bytes: of the longest message or text, command, and name. */
@@ -105,6 +112,11 @@ enum {
 /* A host, or none. NCP_EMPTY only initializes one, as in `struct ncp_host host = NCP_EMPTY;`; a static one, and one
  * that is all zeros, is empty too. */
 struct ncp_host {
+    void *at;
+};
+
+/* A subnet between hosts, or none: NCP_EMPTY as a host is. */
+struct ncp_subnet {
     void *at;
 };
 #define NCP_EMPTY {NULL}
@@ -302,6 +314,43 @@ uint32_t ncp_kept(struct ncp_host *host, uint8_t peer, uint8_t link, uint8_t *ou
  * Refused, in this order: NCP_NO_POINTER, NCP_TOO_LONG, NCP_SHORT_BYTES, NCP_SPARE_NOT_ZERO, NCP_SHORT_BUFFER (fewer than
  * NCP_LONGEST_COMMAND), NCP_NOTHING (fewer commands, or no control message). */
 uint32_t ncp_command(const uint8_t *bytes, size_t len, size_t bits, uint32_t place, uint8_t *out, size_t room, size_t *size);
+
+/* The subnet between hosts: of each message that a host gives to it the caller decides whether it is delivered, lost, or finds its
+ * destination dead, and when; then the subnet answers the host about it, and the next on its link may come. A message is delivered
+ * at most once and answered once: by RFNM where it was delivered, and else not (BBN 1822, section 3). */
+
+/* Makes a subnet between these hosts, each with each other, with nothing in transit. It has room for 256 messages each way: some
+ * 14 MiB for eight hosts; no other function of a subnet takes memory. A subnet that was there before is freed where NCP_DONE is
+ * answered. `subnet` need not have one, but may not be null. Refused: NCP_NEW_OUT_OF_MEMORY. */
+uint32_t ncp_subnet_new(struct ncp_subnet *subnet, const uint8_t *hosts, size_t count);
+
+/* Frees the subnet, if there is one. `subnet` is then NCP_EMPTY. */
+void ncp_subnet_free(struct ncp_subnet *subnet);
+
+/* Takes a copy of a message that the host `from` sends, as ncp_next_output gave it, of so many bits in `len` bytes; the destination
+ * and the link are those of its leader. Refused, in this order: NCP_TOO_LONG, NCP_SHORT_BYTES, NCP_SPARE_NOT_ZERO,
+ * NCP_SUBNET_NOT_REGULAR (shorter than a leader, or of another type), NCP_SUBNET_NO_HOST (`from` and the destination are not two
+ * hosts of the subnet), NCP_SUBNET_OCCUPIED (the last message on this link is not answered yet). */
+uint32_t ncp_subnet_accept(struct ncp_subnet *subnet, uint8_t from, const uint8_t *bytes, size_t len, size_t bits);
+
+/* Gives out the message on a link from one host to another at its destination, as ncp_receive takes it: `*bits` bits in the first
+ * bytes of `out`, which has `len` bytes. They are those that were accepted, but its leader names the host that it comes from.
+ * Refused, in this order: NCP_SHORT_BUFFER (fewer than NCP_LONGEST_MESSAGE), NCP_NOTHING (none was accepted, or it was delivered,
+ * was lost, or found its destination dead). */
+uint32_t ncp_subnet_deliver(struct ncp_subnet *subnet, uint8_t from, uint8_t to, uint8_t link, uint8_t *out, size_t len, size_t *bits);
+
+/* Loses the message on a link. Refused: NCP_NOTHING, as in ncp_subnet_deliver. */
+uint32_t ncp_subnet_lose(struct ncp_subnet *subnet, uint8_t from, uint8_t to, uint8_t link);
+
+/* The message on a link finds its destination dead. Refused: NCP_NOTHING, as in ncp_subnet_deliver. */
+uint32_t ncp_subnet_dead(struct ncp_subnet *subnet, uint8_t from, uint8_t to, uint8_t link);
+
+/* Gives the answer about the message on a link to the host `from`, as ncp_receive takes it, and has done with the message: `*bits`
+ * bits, which are 32, in the first bytes of `out`, which has `len` bytes. Its type is 5 (RFNM) where the message was delivered, 9
+ * (Incomplete Transmission) where it was lost, and 7 (Destination Dead) where it found its destination dead.
+ * Refused, in this order: NCP_SHORT_BUFFER (fewer than NCP_LONGEST_MESSAGE), NCP_NOTHING (none was accepted, or it may still be
+ * delivered). */
+uint32_t ncp_subnet_answer(struct ncp_subnet *subnet, uint8_t from, uint8_t to, uint8_t link, uint8_t *out, size_t len, size_t *bits);
 
 /* The name of what was answered, as "NoEntry": `*bytes` letters at the front of `out`, which has `len` bytes, and no
  * zero behind them. Refused, in this order: NCP_NO_POINTER, NCP_NOTHING (none answers this), NCP_SHORT_BUFFER (fewer

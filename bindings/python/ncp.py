@@ -1,4 +1,4 @@
-"""A host of the ARPANET with its one to eight peers, over libncp: include/ncp.h says what each call does and refuses, and in
+"""A host of the ARPANET with its one to eight peers, and a subnet between hosts, over libncp: include/ncp.h says what each call does and refuses, and in
 which order, and docs/EMBEDDING.md how a host is driven.
 
     host = Host(1, peers=[2])
@@ -70,7 +70,7 @@ class _Struct(ctypes.Structure):
         return f"{type(self).__name__}({', '.join(f'{name}={getattr(self, name)!r}' for name, _ in self._fields_)})"
 
 
-class _Host(_Struct):
+class _Handle(_Struct):
     _fields_ = [("at", c_void_p)]
 
 
@@ -110,9 +110,9 @@ def _library():
     return ctypes.PyDLL(os.environ.get("NCP_LIBRARY") or (str(built) if built.is_file() else "libncp.so.1"))
 
 
-_HOST, _BYTES, _SIZE, _BUFFER = POINTER(_Host), c_char_p, c_size_t, POINTER(c_uint8)
-_PEER, _AT = (c_uint8,), (c_uint8, c_uint32, c_uint32)
-# The functions by their parameters behind the host.
+_HANDLE, _BYTES, _SIZE, _BUFFER = POINTER(_Handle), c_char_p, c_size_t, POINTER(c_uint8)
+_PEER, _AT, _WAY = (c_uint8,), (c_uint8, c_uint32, c_uint32), (c_uint8, c_uint8, c_uint8)
+# The functions by their parameters behind the host, or the subnet.
 _CALLS = {
     "new": (c_uint8, _BYTES, _SIZE), "receive": (_BYTES, _SIZE, _SIZE, POINTER(_Arrived)), "next_output": (_BUFFER, _SIZE, POINTER(_SIZE)),
     "reset": _PEER, "ask_send": (*_AT, c_uint8, c_uint32), "ask_receive": (*_AT, c_uint32), "give": (*_AT, _BYTES, _SIZE, _SIZE),
@@ -121,12 +121,15 @@ _CALLS = {
     "phase": (*_PEER, POINTER(Flags)), "echoed": (*_PEER, POINTER(c_uint8)), "error": (*_PEER, c_uint32, POINTER(Noted)),
     "counts": (*_PEER, POINTER(Counted)), "ignored": (POINTER(Discarded),), "waiting": (*_PEER, c_uint32, _BUFFER, _SIZE, POINTER(_SIZE)),
     "kept": (*_PEER, c_uint8, _BUFFER, _SIZE, POINTER(_SIZE)),
+    "subnet_new": (_BYTES, _SIZE), "subnet_accept": (c_uint8, _BYTES, _SIZE, _SIZE), "subnet_deliver": (*_WAY, _BUFFER, _SIZE, POINTER(_SIZE)),
+    "subnet_lose": _WAY, "subnet_dead": _WAY, "subnet_answer": (*_WAY, _BUFFER, _SIZE, POINTER(_SIZE)),
 }
 _ncp = _library()
 for _name, _words in _CALLS.items():
-    getattr(_ncp, f"ncp_{_name}").argtypes = [_HOST, *_words]
+    getattr(_ncp, f"ncp_{_name}").argtypes = [_HANDLE, *_words]
     getattr(_ncp, f"ncp_{_name}").restype = c_uint32
-_ncp.ncp_free.argtypes, _ncp.ncp_free.restype = [_HOST], None
+_ncp.ncp_free.argtypes, _ncp.ncp_free.restype = [_HANDLE], None
+_ncp.ncp_subnet_free.argtypes, _ncp.ncp_subnet_free.restype = [_HANDLE], None
 _ncp.ncp_command.argtypes, _ncp.ncp_command.restype = [_BYTES, _SIZE, _SIZE, c_uint32, _BUFFER, _SIZE, POINTER(_SIZE)], c_uint32
 _ncp.ncp_word.argtypes, _ncp.ncp_word.restype = [c_uint32], c_char_p
 _ncp.ncp_version.argtypes, _ncp.ncp_version.restype = [], c_char_p
@@ -140,7 +143,7 @@ class Refused(Exception):
 
 
 def _refusals():
-    """A class for each name, and the class of each number: that of a new host and that of a call may have one name."""
+    """A class for each name, and the class of each number: two numbers may have one name."""
     classes, numbers = {}, {}
     for number in range(1, 256):
         name = _ncp.ncp_word(number).decode()
@@ -179,18 +182,16 @@ def commands(data, count=None):
     return found
 
 
-class Host:
-    """A host of the number `me`, which is down with each of its peers at first."""
+class _Handled:
+    """What stands behind a handle of the library."""
+    _free = None
 
-    def __init__(self, me, peers):
-        self._host = _Host()
-        self.me, self.peers = me, tuple(peers)
-        self._seen, self._known = {}, {}
-        self._do("new", me, bytes(self.peers), len(self.peers))
+    def __init__(self):
+        self._handle = _Handle()
 
     def free(self):
-        """Gives back what the host has. A call behind that is refused: NoHost."""
-        _ncp.ncp_free(byref(self._host))
+        """Gives back what the library has for it. A call behind that is refused: NoHost, NoSubnet."""
+        getattr(_ncp, self._free)(byref(self._handle))
 
     def __enter__(self):
         return self
@@ -199,7 +200,7 @@ class Host:
         self.free()
 
     def __del__(self):
-        if getattr(self, "_host", None) and _ncp:
+        if getattr(self, "_handle", None) and _ncp:
             self.free()
 
     def _answer(self, name, *words):
@@ -207,7 +208,7 @@ class Host:
         for kind, word in zip(_CALLS[name], words):
             if isinstance(word, int) and not 0 <= word < 1 << 8 * ctypes.sizeof(kind):
                 raise OverflowError(f"{name}: {word} has no place in {8 * ctypes.sizeof(kind)} bits")
-        return getattr(_ncp, f"ncp_{name}")(byref(self._host), *words)
+        return getattr(_ncp, f"ncp_{name}")(byref(self._handle), *words)
 
     def _do(self, name, *words):
         _judge(self._answer(name, *words))
@@ -233,6 +234,17 @@ class Host:
     def _message(self, name, *words):
         found = self._bytes(name, *words)
         return found and Bits(found[0][:(found[1] + 7) // 8], found[1])
+
+
+class Host(_Handled):
+    """A host of the number `me`, which is down with each of its peers at first."""
+    _free = "ncp_free"
+
+    def __init__(self, me, peers):
+        super().__init__()
+        self.me, self.peers = me, tuple(peers)
+        self._seen, self._known = {}, {}
+        self._do("new", me, bytes(self.peers), len(self.peers))
 
     # Messages.
 
@@ -374,6 +386,44 @@ class Host:
             yield at._replace(what="allowed", told=(now.messages, now.bits))
         if now.interrupts > was.interrupts:
             yield at._replace(what="interrupted", told=now.interrupts)
+
+
+class Subnet(_Handled):
+    """The subnet between hosts: of each message the caller says whether it is delivered, lost, or finds its destination dead; then the
+    subnet answers its sender, and the next on its link may come."""
+    _free = "ncp_subnet_free"
+
+    def __init__(self, hosts):
+        super().__init__()
+        self.hosts = tuple(hosts)
+        self._do("subnet_new", bytes(self.hosts), len(self.hosts))
+
+    def accept(self, sender, data, count=None):
+        """Takes a message of a host. Its destination and link are those of its leader."""
+        bits = _bits(data, count)
+        self._do("subnet_accept", sender, bits.data, len(bits.data), bits.count)
+
+    def deliver(self, sender, to, link):
+        """The message on a link as it comes, or None where there is none."""
+        return self._message("subnet_deliver", sender, to, link)
+
+    def _is_done(self, name, *words):
+        number = self._answer(name, *words)
+        if number != NOTHING:
+            _judge(number)
+        return number == DONE
+
+    def lose(self, sender, to, link):
+        """Whether there was a message on a link, which is lost now."""
+        return self._is_done("subnet_lose", sender, to, link)
+
+    def dead(self, sender, to, link):
+        """Whether there was a message on a link, which found its destination dead now."""
+        return self._is_done("subnet_dead", sender, to, link)
+
+    def answer(self, sender, to, link):
+        """What is answered to the sender about the message on a link, or None where it may still be delivered, or there is none."""
+        return self._message("subnet_answer", sender, to, link)
 
 
 class Capture:

@@ -114,6 +114,28 @@ class Binding(unittest.TestCase):
         self.assertEqual(list(host.events()), [("text", 2, 2, 3, 16)])
         self.assertEqual(host.take(2, 2, 3), (b"hi", 16))
 
+    def test_a_subnet(self):
+        subnet, way = ncp.Subnet([1, 2]), (1, 2, 0)
+        self.assertIsNone(subnet.deliver(*way))
+        self.assertFalse(subnet.lose(*way))
+        subnet.accept(1, bytes.fromhex(RST))
+        with self.assertRaises(ncp.Occupied):
+            subnet.accept(1, bytes.fromhex(RST))
+        self.assertIsNone(subnet.answer(*way))
+        self.assertEqual(subnet.deliver(*way), (bytes.fromhex("0001000000080001000c"), 80))
+        self.assertEqual(subnet.answer(*way), (bytes.fromhex(RFNM), 32))
+        for becomes, answer in ((subnet.lose, "09020000"), (subnet.dead, "07020000")):
+            subnet.accept(1, bytes.fromhex(RST))
+            self.assertTrue(becomes(*way))
+            self.assertEqual(subnet.answer(*way).data, bytes.fromhex(answer))
+        for name, number, sender, message in (("NotRegular", 73, 1, RFNM), ("NoHost", 74, 3, RST), ("ShortBytes", 42, 1, "")):
+            with self.assertRaises(getattr(ncp, name)) as found:
+                subnet.accept(sender, bytes.fromhex(message), 32)
+            self.assertEqual(found.exception.number, number)
+        subnet.free()
+        with self.assertRaises(ncp.NoSubnet):
+            subnet.deliver(*way)
+
     def test_a_capture(self):
         file = io.BytesIO()
         capture = ncp.Capture(file)

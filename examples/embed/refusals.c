@@ -80,6 +80,78 @@ static void no_host(struct ncp_host *host)
     is_untouched(__LINE__);
 }
 
+/* Of no subnet, and of a null handle. */
+static void no_subnet(struct ncp_subnet *subnet)
+{
+    ncp_subnet_free(subnet);
+    IS(NCP_NO_SUBNET, ncp_subnet_accept(subnet, ME, out, sizeof out, 32));
+    IS(NCP_NO_SUBNET, ncp_subnet_deliver(subnet, ME, PEER, 0, out, sizeof out, &size));
+    IS(NCP_NO_SUBNET, ncp_subnet_lose(subnet, ME, PEER, 0));
+    IS(NCP_NO_SUBNET, ncp_subnet_dead(subnet, ME, PEER, 0));
+    IS(NCP_NO_SUBNET, ncp_subnet_answer(subnet, ME, PEER, 0, out, sizeof out, &size));
+    is_untouched(__LINE__);
+}
+
+/* A message that is in transit stays there until a call that is not refused takes it. */
+static void subnets(void)
+{
+    static const uint8_t two[] = {ME, PEER}, rst[] = {0, PEER, 0, 0, 0, 8, 0, 1, 0, 12}, came[] = {0, ME, 0, 0, 0, 8, 0, 1, 0, 12},
+        rfnm[] = {5, PEER, 0, 0}, incomplete[] = {9, PEER, 0, 0}, dead[] = {7, PEER, 0, 0}, far[] = {0, 3, 0, 0};
+    struct ncp_subnet subnet = NCP_EMPTY;
+    no_subnet(NULL);
+    no_subnet(&subnet);
+    IS(NCP_NO_SUBNET, ncp_subnet_new(NULL, two, 2));
+    IS(NCP_NO_POINTER, ncp_subnet_new(&subnet, NULL, 2));
+    left = 0;
+    IS(NCP_NEW_OUT_OF_MEMORY, ncp_subnet_new(&subnet, two, 2));
+    left = -1;
+    no_subnet(&subnet);
+    IS(NCP_DONE, ncp_subnet_new(&subnet, two, 2));
+    IS(NCP_NO_POINTER, ncp_subnet_accept(&subnet, ME, NULL, 4, 32));
+    IS(NCP_TOO_LONG, ncp_subnet_accept(&subnet, ME, out, sizeof out, 8193));
+    IS(NCP_SHORT_BYTES, ncp_subnet_accept(&subnet, ME, rst, 9, 80));
+    IS(NCP_SPARE_NOT_ZERO, ncp_subnet_accept(&subnet, ME, rst, 10, 77));
+    IS(NCP_SUBNET_NOT_REGULAR, ncp_subnet_accept(&subnet, ME, rst, 10, 24));
+    IS(NCP_SUBNET_NOT_REGULAR, ncp_subnet_accept(&subnet, ME, rfnm, 4, 32));
+    IS(NCP_SUBNET_NO_HOST, ncp_subnet_accept(&subnet, ME, far, 4, 32));
+    IS(NCP_SUBNET_NO_HOST, ncp_subnet_accept(&subnet, 3, rst, 10, 80));
+    IS(NCP_SUBNET_NO_HOST, ncp_subnet_accept(&subnet, PEER, rst, 10, 80));
+    IS(NCP_NOTHING, ncp_subnet_deliver(&subnet, ME, PEER, 0, out, sizeof out, &size));
+    IS(NCP_DONE, ncp_subnet_accept(&subnet, ME, rst, 10, 80));
+    IS(NCP_SUBNET_OCCUPIED, ncp_subnet_accept(&subnet, ME, rst, 10, 80));
+    IS(NCP_NO_POINTER, ncp_subnet_deliver(&subnet, ME, PEER, 0, NULL, sizeof out, &size));
+    IS(NCP_NO_POINTER, ncp_subnet_deliver(&subnet, ME, PEER, 0, out, sizeof out, NULL));
+    IS(NCP_SHORT_BUFFER, ncp_subnet_deliver(&subnet, ME, PEER, 0, out, NCP_LONGEST_MESSAGE - 1, &size));
+    IS(NCP_NOTHING, ncp_subnet_deliver(&subnet, ME, PEER, 1, out, sizeof out, &size));
+    IS(NCP_NOTHING, ncp_subnet_deliver(&subnet, PEER, ME, 0, out, sizeof out, &size));
+    IS(NCP_NOTHING, ncp_subnet_answer(&subnet, ME, PEER, 0, out, sizeof out, &size));
+    is_untouched(__LINE__);
+    IS(NCP_DONE, ncp_subnet_deliver(&subnet, ME, PEER, 0, out, sizeof out, &size));
+    IS(80, (uint32_t)size);
+    IS(0, (uint32_t)memcmp(came, out, sizeof came));
+    IS(NCP_NOTHING, ncp_subnet_lose(&subnet, ME, PEER, 0));
+    IS(NCP_NOTHING, ncp_subnet_dead(&subnet, ME, PEER, 0));
+    IS(NCP_NO_POINTER, ncp_subnet_answer(&subnet, ME, PEER, 0, NULL, sizeof out, &size));
+    IS(NCP_NO_POINTER, ncp_subnet_answer(&subnet, ME, PEER, 0, out, sizeof out, NULL));
+    IS(NCP_SHORT_BUFFER, ncp_subnet_answer(&subnet, ME, PEER, 0, out, NCP_LONGEST_MESSAGE - 1, &size));
+    IS(NCP_DONE, ncp_subnet_answer(&subnet, ME, PEER, 0, out, sizeof out, &size));
+    IS(32, (uint32_t)size);
+    IS(0, (uint32_t)memcmp(rfnm, out, sizeof rfnm));
+    IS(NCP_NOTHING, ncp_subnet_answer(&subnet, ME, PEER, 0, out, sizeof out, &size));
+    IS(NCP_DONE, ncp_subnet_accept(&subnet, ME, rst, 10, 80));
+    IS(NCP_DONE, ncp_subnet_lose(&subnet, ME, PEER, 0));
+    IS(NCP_DONE, ncp_subnet_answer(&subnet, ME, PEER, 0, out, sizeof out, &size));
+    IS(0, (uint32_t)memcmp(incomplete, out, sizeof incomplete));
+    IS(NCP_DONE, ncp_subnet_accept(&subnet, ME, rst, 10, 80));
+    IS(NCP_DONE, ncp_subnet_dead(&subnet, ME, PEER, 0));
+    IS(NCP_DONE, ncp_subnet_answer(&subnet, ME, PEER, 0, out, sizeof out, &size));
+    IS(0, (uint32_t)memcmp(dead, out, sizeof dead));
+    IS(NCP_DONE, ncp_subnet_new(&subnet, two, 0));
+    IS(NCP_SUBNET_NO_HOST, ncp_subnet_accept(&subnet, ME, rst, 10, 80));
+    ncp_subnet_free(&subnet);
+    IS(NCP_NO_SUBNET, ncp_subnet_lose(&subnet, ME, PEER, 0));
+}
+
 /* A host with something to send, so that a call that is not refused would take it. */
 static void no_pointer(struct ncp_host *host)
 {
@@ -274,6 +346,9 @@ int main(void)
     names();
     memset(out, MARK, sizeof out);
     commands();
+    memset(out, MARK, sizeof out);
+    size = MARK;
+    subnets();
     eight_peers();
     return 0;
 }

@@ -1,51 +1,52 @@
-/* An emulated IMP with three hosts, and a capture of all that crosses their interfaces, for `ncp show` and Wireshark:
- * `three_hosts [FILE]`. Host 3 is dead at first; then a connection of bytes of 8 bits and one of 36 send at once while every
- * third message is lost; then host 2 resets with a text on the way. What it prints stands in three_hosts.txt. */
+/* Three hosts over a subnet, and a capture of what crosses their interfaces: `three_hosts [FILE]`. Host 3 is dead at first; then
+ * bytes of 8 bits and of 36 are sent while every third message is lost; then host 2 resets with a text on the way. */
 #include "imp.h"
 #include "ncp_capture.h"
 
 enum { HOSTS = 3, ROOM = 4096, BYTES = 60 /* that each connection sends, two at a time */ };
 
-struct message { uint8_t from, bytes[NCP_LONGEST_MESSAGE]; size_t bits; };
+struct way { uint8_t from, to, link; };
 struct flow { uint8_t from, to; uint32_t odd, even; uint8_t size; unsigned given, taken; };
 
 static struct ncp_host hosts[HOSTS + 1]; /* by their numbers */
-static bool is_dead[HOSTS + 1], loses;
+static struct ncp_subnet subnet;
 static FILE *capture;
-
-static void note(enum ncp_direction direction, uint8_t at, const uint8_t *bytes, size_t bits)
-{
-    if (capture != NULL && !ncp_capture_message(capture, direction, at, bytes, bits)) exit(2);
-}
+static bool is_dead[HOSTS + 1], loses;
 
 static void bring(uint8_t at, const uint8_t *bytes, size_t bits)
 {
-    note(NCP_FROM_IMP, at, bytes, bits);
+    if (!ncp_capture_message(capture, NCP_FROM_IMP, at, bytes, bits)) exit(2);
     hand(&hosts[at], bytes, NCP_LONGEST_MESSAGE, bits);
 }
 
-static bool take_out(uint8_t from, struct message *it)
+/* The next message of a host goes into the subnet, if there is one: on which way. */
+static bool take_out(uint8_t from, struct way *it)
 {
-    it->from = from;
-    if (ncp_next_output(&hosts[from], it->bytes, sizeof it->bytes, &it->bits) != NCP_DONE) return false;
-    note(NCP_TO_IMP, from, it->bytes, it->bits);
+    uint8_t bytes[NCP_LONGEST_MESSAGE];
+    size_t bits;
+    if (ncp_next_output(&hosts[from], bytes, sizeof bytes, &bits) != NCP_DONE) return false;
+    if (!ncp_capture_message(capture, NCP_TO_IMP, from, bytes, bits)) exit(2);
+    want(NCP_DONE, ncp_subnet_accept(&subnet, from, bytes, sizeof bytes, bits), "accept");
+    it->from = from, it->to = bytes[1], it->link = bytes[2];
     return true;
 }
 
 /* What becomes of a message: it comes, is lost, or its destination is dead; and its sender is answered. */
-static void settle_one(struct message *it)
+static void settle_one(const struct way *it)
 {
     static unsigned seen;
-    uint8_t answer[NCP_LONGEST_MESSAGE] = {0}, to = it->bytes[1];
-    answer_of(is_dead[to] ? DEAD : loses && ++seen % 3 == 0 ? INCOMPLETE : RFNM, it->bytes, answer);
-    it->bytes[1] = it->from; /* the leader that comes names the host that it comes from */
-    if (answer[0] == RFNM) bring(to, it->bytes, it->bits);
-    bring(it->from, answer, 8 * LEADER);
+    uint8_t bytes[NCP_LONGEST_MESSAGE];
+    size_t bits;
+    if (is_dead[it->to]) ncp_subnet_dead(&subnet, it->from, it->to, it->link);
+    else if (loses && ++seen % 3 == 0) ncp_subnet_lose(&subnet, it->from, it->to, it->link);
+    else if (ncp_subnet_deliver(&subnet, it->from, it->to, it->link, bytes, sizeof bytes, &bits) == NCP_DONE) bring(it->to, bytes, bits);
+    want(NCP_DONE, ncp_subnet_answer(&subnet, it->from, it->to, it->link, bytes, sizeof bytes, &bits), "answer");
+    bring(it->from, bytes, bits);
 }
 
 static void settle(const char *when)
 {
-    struct message it;
+    struct way it;
     for (uint8_t from = 1; from <= HOSTS; from++)
         if (take_out(from, &it)) settle_one(&it), from = 0;
     if (when != NULL) printf("%s: 1-2 %d, 1-3 %d, 2-3 %d\n", when, ncp_is_up(&hosts[1], 2), ncp_is_up(&hosts[1], 3), ncp_is_up(&hosts[2], 3));
@@ -76,22 +77,24 @@ static void step(struct flow *it)
 int main(int argc, char **argv)
 {
     struct flow one = {1, 2, 3, 2, 8, 0, 0}, other = {3, 2, 5, 4, 36, 0, 0};
-    struct message late;
-    capture = argc > 1 ? fopen(argv[1], "wb") : NULL;
-    if (argc > 1 && (capture == NULL || !ncp_capture_begin(capture))) return 2;
+    struct way late;
+    const uint8_t numbers[] = {1, 2, 3, 1, 2}; /* behind each host its peers */
+    capture = argc > 1 ? fopen(argv[1], "wb") : tmpfile();
+    if (capture == NULL || !ncp_capture_begin(capture)) return 2;
+    want(NCP_DONE, ncp_subnet_new(&subnet, numbers, HOSTS), "subnet_new");
     for (uint8_t me = 1; me <= HOSTS; me++) {
-        const uint8_t peers[HOSTS - 1] = {(uint8_t)(me == 1 ? 2 : 1), (uint8_t)(me == HOSTS ? 2 : HOSTS)};
-        want(NCP_DONE, ncp_new(&hosts[me], me, peers, sizeof peers), "new");
+        want(NCP_DONE, ncp_new(&hosts[me], me, numbers + me, HOSTS - 1), "new");
         for (uint8_t peer = me; peer++ < HOSTS;) want(NCP_DONE, ncp_reset(&hosts[me], peer), "reset");
     }
     is_dead[3] = true, settle("up while 3 is dead");
     is_dead[3] = false, ncp_wake(&hosts[1], 3), ncp_wake(&hosts[2], 3), settle("up after the wake");
     begin(&one), begin(&other), loses = true;
     while (one.taken < BYTES || other.taken < BYTES) step(&one), step(&other), settle(NULL);
-    loses = false, one.given = 0, step(&one), take_out(1, &late);
-    want(NCP_DONE, ncp_reset(&hosts[2], 1), "reset"), settle("up with a text on the way");
+    loses = false, one.given = 0, step(&one), take_out(1, &late), want(NCP_DONE, ncp_reset(&hosts[2], 1), "reset");
+    settle("up with a text on the way");
     settle_one(&late), settle("up once it is answered");
     printf("open: 1 to 2 %d, 3 to 2 %d\n", ncp_is_open(&hosts[1], 2, 3, 2), ncp_is_open(&hosts[3], 2, 5, 4));
+    ncp_subnet_free(&subnet);
     for (uint8_t me = 1; me <= HOSTS; me++) ncp_free(&hosts[me]);
-    return capture != NULL && fclose(capture) != 0 ? 2 : 0;
+    return fclose(capture) == 0 ? 0 : 2;
 }

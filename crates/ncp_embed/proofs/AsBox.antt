@@ -23,7 +23,7 @@ use Rattle.std.proofs.alloc.Global.TheLaws as heap
 use Rattle.ncp_embed.specs.Handles.{handle_owns}
 use Rattle.ncp_embed.specs.contracts.handle.held.Held as Held
 use Rattle.ncp_embed.proofs.handle.held.Held.TheLaws as held
-use Rattle.ncp_embed.specs.contracts.handle.parts.Parts as Parts
+use Rattle.ncp_embed.specs.contracts.parts.Parts as Parts
 use Rattle.ncp_embed.specs.contracts.handle.Handle as Handle
 
 abbrev pub E : Bx

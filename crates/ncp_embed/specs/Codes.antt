@@ -5,8 +5,10 @@ use Rattle.ncp_bits.specs.declared.bits.BitsFault.TheVariants.{TooLong, ShortByt
 use Rattle.ncp_host.specs.declared.fault.HostFault.{HostFault}
 use Rattle.ncp_host.specs.declared.fault.HostFault.TheVariants.{BadPeers, OutOfMemory}
 use Rattle.ncp_model.specs.declared.call_fault.CallFault.{CallFault}
+use Rattle.ncp_subnet.specs.declared.fault.SubnetFault.{SubnetFault}
+use Rattle.ncp_subnet.specs.declared.fault.SubnetFault.TheVariants.{NotRegular, NoHost, Occupied}
 use Rattle.ncp_model.specs.Faults.{fault_number}
-use Rattle.ncp_embed.specs.declared.codes.TheConstants.{DONE, BITS, NEW}
+use Rattle.ncp_embed.specs.declared.codes.TheConstants.{DONE, BITS, NEW, SUBNET}
 
 -- of a call
 abbrev pub fault_code : CallFault → ℕ
@@ -20,6 +22,12 @@ code_of (Err fault) = fault_code fault
 abbrev pub host_code : HostFault → ℕ
 host_code BadPeers = NEW + 1
 host_code OutOfMemory = NEW + 2
+
+-- of a message that the subnet does not accept
+abbrev pub subnet_code : SubnetFault → ℕ
+subnet_code NotRegular = SUBNET + 1
+subnet_code NoHost = SUBNET + 2
+subnet_code Occupied = SUBNET + 3
 
 -- of bytes and the number of their bits
 abbrev pub bits_number : BitsFault → ℕ

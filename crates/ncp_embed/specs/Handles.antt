@@ -10,7 +10,7 @@ use Rattle.std.specs.Global.{Global}
 use Rattle.std.specs.contracts.impls.GlobalAllocator.TheImpl.{ghosts}
 use Rattle.ncp_embed.specs.contracts.handle.held.Held.{the_row}
 use Rattle.std.specs.declared.boxed.Box.{Box}
-use Rattle.ncp_embed.specs.declared.handle.parts.Parts.{Parts}
+use Rattle.ncp_embed.specs.declared.parts.Parts.{Parts}
 
 abbrev pub handle_owns : Global → Ptr → Option the_row.Denot → Fml
 handle_owns alloc p None = feq Ptr p null_ptr

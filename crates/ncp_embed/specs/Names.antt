@@ -4,17 +4,24 @@ use Rattle.ncp_bits.specs.declared.bits.BitsFault.{BitsFault}
 use Rattle.ncp_bits.specs.declared.bits.BitsFault.TheVariants.{TooLong, ShortBytes, SpareNotZero}
 use Rattle.ncp_host.specs.declared.fault.HostFault.{HostFault}
 use Rattle.ncp_host.specs.declared.fault.HostFault.TheVariants as new
+use Rattle.ncp_subnet.specs.declared.fault.SubnetFault.{SubnetFault}
+use Rattle.ncp_subnet.specs.declared.fault.SubnetFault.TheVariants as subnet
 use Rattle.ncp_model.specs.declared.call_fault.CallFault.TheVariants as call
 use Rattle.ncp_model.specs.Faults as call_names
-use Rattle.ncp_embed.specs.declared.codes.TheConstants.{DONE, NO_HOST, NO_POINTER, NOTHING, SHORT_BUFFER}
+use Rattle.ncp_embed.specs.declared.codes.TheConstants.{DONE, NO_HOST, NO_POINTER, NO_SUBNET, NOTHING, SHORT_BUFFER}
 use Rattle.ncp_embed.specs.declared.names.Answer.{Answer}
-use Rattle.ncp_embed.specs.declared.names.Answer.TheVariants.{Done, Call, New, NoHost, NoPointer, ShortBuffer, Nothing, Bits}
-use Rattle.ncp_embed.specs.Codes.{fault_code, host_code, bits_code}
+use Rattle.ncp_embed.specs.declared.names.Answer.TheVariants.{Done, Call, New, NoHost, NoPointer, ShortBuffer, Nothing, NoSubnet, Bits, Subnet}
+use Rattle.ncp_embed.specs.Codes.{fault_code, host_code, subnet_code, bits_code}
 use Rattle.ncp_embed.specs.Exports.{over, with_room}
 
 abbrev pub name_of_new : HostFault → List ℕ
 name_of_new new.BadPeers = codes "BadPeers"
 name_of_new new.OutOfMemory = codes "OutOfMemory"
+
+abbrev pub name_of_subnet : SubnetFault → List ℕ
+name_of_subnet subnet.NotRegular = codes "NotRegular"
+name_of_subnet subnet.NoHost = codes "NoHost"
+name_of_subnet subnet.Occupied = codes "Occupied"
 
 abbrev pub name_of_bits : BitsFault → List ℕ
 name_of_bits TooLong = codes "TooLong"
@@ -29,7 +36,9 @@ number_of NoHost = NO_HOST
 number_of NoPointer = NO_POINTER
 number_of ShortBuffer = SHORT_BUFFER
 number_of Nothing = NOTHING
+number_of NoSubnet = NO_SUBNET
 number_of (Bits fault) = bits_code fault
+number_of (Subnet fault) = subnet_code fault
 
 abbrev pub name_of : Answer → List ℕ
 name_of Done = codes "Done"
@@ -39,15 +48,18 @@ name_of NoHost = codes "NoHost"
 name_of NoPointer = codes "NoPointer"
 name_of ShortBuffer = codes "ShortBuffer"
 name_of Nothing = codes "Nothing"
+name_of NoSubnet = codes "NoSubnet"
 name_of (Bits fault) = name_of_bits fault
+name_of (Subnet fault) = name_of_subnet fault
 
 -- all that is answered
 abbrev pub answers : List Answer
 answers =
     Done ∷ Call call.UnknownPeer ∷ Call call.NotUp ∷ Call call.BadSex ∷ Call call.BadSize ∷ Call call.BadRoom ∷ Call call.NoEntry ∷ Call call.AlreadyAsked ∷ Call call.Closing
     ∷ Call call.NotOpen ∷ Call call.WrongEnd ∷ Call call.NotWhole ∷ Call call.Busy ∷ Call call.NoRoom ∷ Call call.TooMuch ∷ Call call.TableFull ∷ Call call.QueueFull
-    ∷ Call call.OutOfMemory ∷ NoHost ∷ NoPointer ∷ ShortBuffer ∷ Nothing ∷ Bits TooLong ∷ Bits ShortBytes ∷ Bits SpareNotZero
-    ∷ New new.BadPeers ∷ New new.OutOfMemory ∷ []
+    ∷ Call call.OutOfMemory ∷ NoHost ∷ NoPointer ∷ ShortBuffer ∷ Nothing ∷ NoSubnet ∷ Bits TooLong ∷ Bits ShortBytes ∷ Bits SpareNotZero
+    ∷ New new.BadPeers ∷ New new.OutOfMemory
+    ∷ Subnet subnet.NotRegular ∷ Subnet subnet.NoHost ∷ Subnet subnet.Occupied ∷ []
 
 -- the one of a number
 abbrev pub answer_among : List Answer → ℕ → Option Answer

@@ -1,10 +1,11 @@
 //! The numbers that C is answered.
 ghost use Rattle.std.specs.Prelude.{◌≡◌, ◌<◌, ◌≤◌};
-ghost use Rattle.ncp_embed.specs.Codes.{code_of, fault_code, host_code, bits_code};
+ghost use Rattle.ncp_embed.specs.Codes.{code_of, fault_code, host_code, subnet_code, bits_code};
 
 use ncp_bits::{BitsFault, MAX_BITS};
 use ncp_host::HostFault;
 use ncp_model::CallFault;
+use ncp_subnet::SubnetFault;
 
 /// It was done.
 pub const DONE: u32 = 0;
@@ -16,10 +17,14 @@ pub const NO_POINTER: u32 = 33;
 pub const SHORT_BUFFER: u32 = 34;
 /// There is nothing to tell.
 pub const NOTHING: u32 = 35;
+/// There is no subnet at the handle.
+pub const NO_SUBNET: u32 = 36;
 /// To this the number of a fault of bits is added.
 pub const BITS: u32 = 40;
 /// To this the number of why there is no new host is added.
 pub const NEW: u32 = 64;
+/// To this the number of why the subnet accepts no message is added.
+pub const SUBNET: u32 = 72;
 
 /// How many bytes the longest message takes.
 pub const LONGEST_MESSAGE: usize = MAX_BITS / 8;
@@ -45,6 +50,16 @@ pub(crate) fn host_code(fault: HostFault) -> u32
     match fault {
         HostFault::BadPeers => NEW + 1,
         HostFault::OutOfMemory => NEW + 2,
+    }
+}
+
+pub(crate) fn subnet_code(fault: SubnetFault) -> u32
+    ensures { result ≡ subnet_code fault }
+{
+    match fault {
+        SubnetFault::NotRegular => SUBNET + 1,
+        SubnetFault::NoHost => SUBNET + 2,
+        SubnetFault::Occupied => SUBNET + 3,
     }
 }
 

@@ -5,10 +5,9 @@ ghost use Rattle.ncp_embed.specs.declared.handle.held.Held.{Held};
 ghost use Rattle.ncp_embed.specs.Handles.{handle_owns, held_coded, held_in, boxed_in};
 
 mod held;
-mod parts;
 
+use crate::parts::Parts;
 pub(crate) use held::Held;
-use parts::Parts;
 use std::alloc::Global;
 use std::marker::Model;
 use std::mem::replace;

@@ -12,11 +12,14 @@ ghost use Rattle.ncp_model.specs.declared.outcomes.Took.{Took};
 ghost use Rattle.ncp_host.specs.declared.fault.HostFault.{HostFault};
 ghost use Rattle.ncp_host.specs.declared.flags.Flags.{Flags};
 ghost use Rattle.ncp_host.specs.declared.received.Received.{Received};
-ghost use Rattle.ncp_embed.specs.Codes.{code_of, host_code, bits_code};
+ghost use Rattle.ncp_subnet.specs.declared.fault.SubnetFault.{SubnetFault};
+ghost use Rattle.ncp_embed.specs.Codes.{code_of, host_code, subnet_code, bits_code};
 ghost use Rattle.ncp_embed.specs.Names.{number_of, answers, answer_among};
 ghost use Rattle.ncp_embed.specs.Told.{is_up, is_open, arrived_of, arrival, phase_of, counted_of, discarded_of, noted_of, connection_of};
 
-use crate::codes::{BITS, DONE, LONGEST_MESSAGE, NO_HOST, NO_POINTER, NOTHING, SHORT_BUFFER};
+use crate::codes::{
+    BITS, DONE, LONGEST_MESSAGE, NO_HOST, NO_POINTER, NO_SUBNET, NOTHING, SHORT_BUFFER,
+};
 
 /// The numbers that C is answered.
 pub fn codes_are_these()
@@ -25,11 +28,13 @@ pub fn codes_are_these()
     ensures no_pointer { NO_POINTER ≡ 33 }
     ensures short_buffer { SHORT_BUFFER ≡ 34 }
     ensures nothing { NOTHING ≡ 35 }
+    ensures no_subnet { NO_SUBNET ≡ 36 }
     ensures bits { BITS ≡ 40 }
     ensures longest { LONGEST_MESSAGE ≡ 1024 }
     ensures first { code_of {A = ℕ} (Err CallFault.UnknownPeer) ≡ 1 }
     ensures last { code_of {A = ℕ} (Err CallFault.OutOfMemory) ≡ 17 }
     ensures made { (host_code HostFault.BadPeers ≡ 65) × (host_code HostFault.OutOfMemory ≡ 66) }
+    ensures of_the_subnet { (subnet_code SubnetFault.NotRegular ≡ 73) × (subnet_code SubnetFault.NoHost ≡ 74) × (subnet_code SubnetFault.Occupied ≡ 75) }
     ensures of_bits { (bits_code BitsFault.TooLong ≡ 41) × (bits_code BitsFault.ShortBytes ≡ 42) × (bits_code BitsFault.SpareNotZero ≡ 43) }
 {}
 

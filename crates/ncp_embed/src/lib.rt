@@ -1,13 +1,13 @@
-//! One host with its peers, for C: each function here calls one of `ncp_host`, and states its clauses
-//! again.
+//! One host with its peers, and a subnet between hosts, for C: each function here calls one of `ncp_host` or
+//! `ncp_subnet`, and states its clauses again.
 //!
-//! What C has to uphold: a handle is all zeros before its first use, and then what these functions
-//! left there, neither altered nor copied and used twice; no two calls use one handle at a time;
+//! What C has to uphold: a handle or a net is all zeros before its first use, and then what these functions
+//! left there, neither altered nor copied and used twice; no two calls use one of them at a time;
 //! pointers are not null, are aligned, lead to as much as their length says, and do not overlap.
 //!
 //! - *Use:* through `include/ncp.h`: `examples/embed/two_hosts.c`. `docs/EMBEDDING.md` says how an emulator drives it.
-//! - *Proved:* the clauses of `Host`, of the host behind the handle (`code`, `host` and `err`), and of what is told
-//!   each byte (`told`, `bits`).
+//! - *Proved:* the clauses of `Host` and `Subnet`, of the host behind the handle and the subnet behind the net (`code`, `host`,
+//!   `subnet` and `err`), and of what is told each byte (`told`, `bits`).
 //! - *Tests:* `examples/embed/refusals.c` and `digest.c`, whose digest is that of `ncp_test_digest`; `include/compare`
 //!   compares header and sources.
 #![tactic(auto)]
@@ -22,13 +22,19 @@ mod handle;
 pub mod laws;
 mod life;
 mod names;
+mod net;
+mod parts;
 mod placing;
 mod readers;
+mod subnet;
 mod told;
 mod writing;
 
-pub use codes::{BITS, DONE, LONGEST_MESSAGE, NEW, NO_HOST, NO_POINTER, NOTHING, SHORT_BUFFER};
+pub use codes::{
+    BITS, DONE, LONGEST_MESSAGE, NEW, NO_HOST, NO_POINTER, NO_SUBNET, NOTHING, SHORT_BUFFER, SUBNET,
+};
 pub use connection::Connection;
 pub use handle::Handle;
 pub use names::Answer;
+pub use net::Net;
 pub use told::{Arrived, Counted, Discarded, Noted, Phase};

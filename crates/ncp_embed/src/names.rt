@@ -1,11 +1,14 @@
 //! The names of what the functions answer.
 ghost use Rattle.std.specs.Prelude.{◌≡◌, length};
-ghost use Rattle.ncp_embed.specs.Names.{number_of, name_of, name_of_new, name_of_bits, answer_among, answers, name_code, name_over, size_of_name};
+ghost use Rattle.ncp_embed.specs.Names.{number_of, name_of, name_of_new, name_of_subnet, name_of_bits, answer_among, answers, name_code, name_over, size_of_name};
 
-use crate::codes::{DONE, NO_HOST, NO_POINTER, NOTHING, SHORT_BUFFER, bits_code, host_code};
+use crate::codes::{
+    DONE, NO_HOST, NO_POINTER, NO_SUBNET, NOTHING, SHORT_BUFFER, bits_code, host_code, subnet_code,
+};
 use ncp_bits::BitsFault;
 use ncp_host::HostFault;
 use ncp_model::CallFault;
+use ncp_subnet::SubnetFault;
 
 /// What is answered.
 #[derive(Clone, Copy, Drop)]
@@ -17,11 +20,13 @@ pub enum Answer {
     NoPointer,
     ShortBuffer,
     Nothing,
+    NoSubnet,
     Bits(BitsFault),
+    Subnet(SubnetFault),
 }
 
 // All that is answered.
-const ANSWERS: [Answer; 27] = [
+const ANSWERS: [Answer; 31] = [
     Answer::Done,
     Answer::Call(CallFault::UnknownPeer),
     Answer::Call(CallFault::NotUp),
@@ -44,11 +49,15 @@ const ANSWERS: [Answer; 27] = [
     Answer::NoPointer,
     Answer::ShortBuffer,
     Answer::Nothing,
+    Answer::NoSubnet,
     Answer::Bits(BitsFault::TooLong),
     Answer::Bits(BitsFault::ShortBytes),
     Answer::Bits(BitsFault::SpareNotZero),
     Answer::New(HostFault::BadPeers),
     Answer::New(HostFault::OutOfMemory),
+    Answer::Subnet(SubnetFault::NotRegular),
+    Answer::Subnet(SubnetFault::NoHost),
+    Answer::Subnet(SubnetFault::Occupied),
 ];
 
 fn name_of_new(fault: HostFault) -> &'static str
@@ -57,6 +66,16 @@ fn name_of_new(fault: HostFault) -> &'static str
     match fault {
         HostFault::BadPeers => "BadPeers",
         HostFault::OutOfMemory => "OutOfMemory",
+    }
+}
+
+fn name_of_subnet(fault: SubnetFault) -> &'static str
+    ensures { result.now ≡ name_of_subnet fault }
+{
+    match fault {
+        SubnetFault::NotRegular => "NotRegular",
+        SubnetFault::NoHost => "NoHost",
+        SubnetFault::Occupied => "Occupied",
     }
 }
 
@@ -82,7 +101,9 @@ impl Answer {
             Answer::NoPointer => NO_POINTER,
             Answer::ShortBuffer => SHORT_BUFFER,
             Answer::Nothing => NOTHING,
+            Answer::NoSubnet => NO_SUBNET,
             Answer::Bits(fault) => bits_code(fault),
+            Answer::Subnet(fault) => subnet_code(fault),
         }
     }
 
@@ -97,7 +118,9 @@ impl Answer {
             Answer::NoPointer => "NoPointer",
             Answer::ShortBuffer => "ShortBuffer",
             Answer::Nothing => "Nothing",
+            Answer::NoSubnet => "NoSubnet",
             Answer::Bits(fault) => name_of_bits(fault),
+            Answer::Subnet(fault) => name_of_subnet(fault),
         }
     }
 }

@@ -16,6 +16,12 @@ pub struct ncp_host {
 }
 
 #[repr(C)]
+#[derive(Debug)]
+pub struct ncp_subnet {
+    pub at: *mut c_void,
+}
+
+#[repr(C)]
 #[derive(Clone, Copy, Debug, Default, PartialEq, Eq)]
 pub struct ncp_arrived {
     pub what: u32,
@@ -108,6 +114,13 @@ extern "C" {
     pub fn ncp_waiting(host: *mut ncp_host, peer: u8, place: u32, out: *mut u8, len: usize, bytes: *mut usize) -> u32;
     pub fn ncp_kept(host: *mut ncp_host, peer: u8, link: u8, out: *mut u8, len: usize, bits: *mut usize) -> u32;
     pub fn ncp_command(bytes: *const u8, len: usize, bits: usize, place: u32, out: *mut u8, room: usize, size: *mut usize) -> u32;
+    pub fn ncp_subnet_new(subnet: *mut ncp_subnet, hosts: *const u8, count: usize) -> u32;
+    pub fn ncp_subnet_free(subnet: *mut ncp_subnet);
+    pub fn ncp_subnet_accept(subnet: *mut ncp_subnet, from: u8, bytes: *const u8, len: usize, bits: usize) -> u32;
+    pub fn ncp_subnet_deliver(subnet: *mut ncp_subnet, from: u8, to: u8, link: u8, out: *mut u8, len: usize, bits: *mut usize) -> u32;
+    pub fn ncp_subnet_lose(subnet: *mut ncp_subnet, from: u8, to: u8, link: u8) -> u32;
+    pub fn ncp_subnet_dead(subnet: *mut ncp_subnet, from: u8, to: u8, link: u8) -> u32;
+    pub fn ncp_subnet_answer(subnet: *mut ncp_subnet, from: u8, to: u8, link: u8, out: *mut u8, len: usize, bits: *mut usize) -> u32;
     pub fn ncp_name(code: u32, out: *mut c_char, len: usize, bytes: *mut usize) -> u32;
     pub fn ncp_word(code: u32) -> *const c_char;
     pub fn ncp_version() -> *const c_char;

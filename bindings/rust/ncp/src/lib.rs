@@ -1,4 +1,4 @@
-//! A host of the ARPANET with its one to eight peers, over the proved library of `include/ncp.h`.
+//! A host of the ARPANET with its one to eight peers, and a subnet between hosts, over the proved library of `include/ncp.h`.
 //!
 //! That header says what each call does and refuses, and in which order; `docs/EMBEDDING.md` how a host is driven: what comes
 //! from the IMP goes into [`Host::receive`], what goes out comes from [`Host::next_output`], and the calls of a user are methods.
@@ -19,6 +19,7 @@
 #![no_std]
 
 mod refusal;
+mod subnet;
 
 use core::cell::UnsafeCell;
 use core::ffi::CStr;
@@ -26,6 +27,7 @@ use ncp_sys as sys;
 pub use ncp_sys::{ncp_connection as Connection, ncp_counted as Counted, ncp_discarded as Discarded, ncp_flags as Flags, ncp_noted as Noted};
 pub use refusal::Refusal;
 use refusal::{done, found};
+pub use subnet::Subnet;
 
 /// A buffer that has room for each message and each text.
 pub type Buffer = [u8; sys::NCP_LONGEST_MESSAGE];

@@ -27,6 +27,9 @@ pub enum Refusal {
     ShortBytes,
     SpareNotZero,
     BadPeers,
+    NotRegular,
+    NoHost,
+    Occupied,
     /// A number that the header does not name.
     Unnamed(u32),
 }
@@ -55,6 +58,9 @@ impl Refusal {
             42 => Refusal::ShortBytes,
             43 => Refusal::SpareNotZero,
             65 => Refusal::BadPeers,
+            73 => Refusal::NotRegular,
+            74 => Refusal::NoHost,
+            75 => Refusal::Occupied,
             _ => Refusal::Unnamed(number),
         }
     }
@@ -94,7 +100,7 @@ mod tests {
     use std::string::ToString;
 
     // What a safe caller is never answered.
-    const OF_C: [&str; 4] = ["NoHost", "NoPointer", "ShortBuffer", "Nothing"];
+    const OF_C: [&str; 5] = ["NoHost", "NoPointer", "ShortBuffer", "Nothing", "NoSubnet"];
 
     #[test]
     fn each_number_has_the_name_of_the_library() {

@@ -1,5 +1,5 @@
 //! Refusals by their names, what arrived and what is told, and a host that goes to another thread.
-use ncp::{Arrived, At, Bits, Host, Refusal, What, BUFFER};
+use ncp::{Arrived, At, Bits, Host, Refusal, Subnet, What, BUFFER};
 
 const RST: [u8; 10] = [0, 2, 0, 0, 0, 8, 0, 1, 0, 12];
 const RFNM: [u8; 4] = [5, 2, 0, 0];
@@ -66,6 +66,28 @@ fn commands_are_read() {
     assert_eq!(ncp::command(&message, 0, &mut buffer), Some(&[12][..]));
     assert_eq!(ncp::command(&message, 1, &mut buffer), Some(&[9, 65][..]));
     assert_eq!(ncp::command(&message, 2, &mut buffer), None);
+}
+
+#[test]
+fn a_subnet_delivers_once_and_answers() {
+    let mut subnet = Subnet::new(&[1, 2]).unwrap();
+    let mut buffer = BUFFER;
+    assert_eq!(subnet.deliver(1, 2, 0, &mut buffer), None);
+    assert!(!subnet.lose(1, 2, 0) && !subnet.dead(1, 2, 0));
+    subnet.accept(1, &RST).unwrap();
+    assert_eq!(subnet.accept(1, &RST), Err(Refusal::Occupied));
+    assert_eq!(subnet.answer(1, 2, 0, &mut buffer), None);
+    assert_eq!(subnet.deliver(1, 2, 0, &mut buffer), Some(Bits::from(&[0, 1, 0, 0, 0, 8, 0, 1, 0, 12])));
+    assert_eq!(subnet.answer(1, 2, 0, &mut buffer), Some(Bits::from(&RFNM)));
+    subnet.accept(1, &RST).unwrap();
+    assert!(subnet.lose(1, 2, 0));
+    assert_eq!(subnet.answer(1, 2, 0, &mut buffer), Some(Bits::from(&[9, 2, 0, 0])));
+    subnet.accept(1, &RST).unwrap();
+    assert!(subnet.dead(1, 2, 0));
+    assert_eq!(subnet.answer(1, 2, 0, &mut buffer), Some(Bits::from(&[7, 2, 0, 0])));
+    assert_eq!(subnet.accept(1, &RFNM), Err(Refusal::NotRegular));
+    assert_eq!(subnet.accept(3, &RST), Err(Refusal::NoHost));
+    assert_eq!(subnet.accept(1, Bits::new(&[0], 9)), Err(Refusal::ShortBytes));
 }
 
 #[test]

@@ -27,7 +27,7 @@ use Rattle.std.proofs.BoxSteps.Form.{D, word, box_ty, box_typed}
 use Rattle.std.proofs.BoxSteps.Steps.{box_in}
 use Rattle.ncp_embed.proofs.AsBox.{E, FromHandle as From, either}
 use Rattle.ncp_embed.specs.contracts.handle.held.Held as Held
-use Rattle.ncp_embed.specs.contracts.handle.parts.Parts as Parts
+use Rattle.ncp_embed.specs.contracts.parts.Parts as Parts
 use Rattle.ncp_embed.specs.contracts.handle.Handle as Handle
 use Rattle.std.specs.contracts.alloc.Global as Heap
 use Rattle.std.specs.contracts.impls.GlobalAllocator.TheImpl.{ghosts}

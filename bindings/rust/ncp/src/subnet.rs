@@ -1,0 +1,76 @@
+//! `Subnet`.
+use crate::refusal::{done, found};
+use crate::{front, Bits, Buffer, Refusal};
+use ncp_sys as sys;
+
+/// The subnet between hosts. Of each message its caller says whether it is delivered, lost, or finds its destination dead; then the
+/// subnet answers its sender, and the next on its link may come.
+///
+/// ```
+/// use ncp::{Host, Refusal, Subnet, BUFFER};
+///
+/// let (mut a, mut b, mut subnet) = (Host::new(1, &[2])?, Host::new(2, &[1])?, Subnet::new(&[1, 2])?);
+/// let mut buffer = BUFFER;
+/// a.reset(2)?;
+/// subnet.accept(1, a.next_output(&mut buffer).unwrap())?;
+/// b.receive(subnet.deliver(1, 2, 0, &mut buffer).unwrap())?;
+/// a.receive(subnet.answer(1, 2, 0, &mut buffer).unwrap())?;
+/// assert!(b.is_up(1));
+/// # Ok::<(), Refusal>(())
+/// ```
+#[derive(Debug)]
+pub struct Subnet {
+    handle: sys::ncp_subnet,
+}
+
+// SAFETY: the library has no state beside the subnet, and it asks for one call at a time: `&mut`.
+unsafe impl Send for Subnet {}
+
+impl Drop for Subnet {
+    fn drop(&mut self) {
+        // SAFETY: the handle is what the library left there.
+        unsafe { sys::ncp_subnet_free(&mut self.handle) }
+    }
+}
+
+impl Subnet {
+    /// A subnet between these hosts, each with each other. Refused: `OutOfMemory`.
+    pub fn new(hosts: &[u8]) -> Result<Subnet, Refusal> {
+        let mut subnet = Subnet { handle: sys::ncp_subnet { at: core::ptr::null_mut() } };
+        // SAFETY: in all calls here the handle has a subnet, or is empty as here; pointers lead to as much as the length beside them
+        // says, and none overlap.
+        done(unsafe { sys::ncp_subnet_new(&mut subnet.handle, hosts.as_ptr(), hosts.len()) })?;
+        Ok(subnet)
+    }
+
+    /// Takes a message of a host; its destination and link are those of its leader. Refused, in this order: `TooLong`, `ShortBytes`,
+    /// `SpareNotZero`, `NotRegular`, `NoHost`, `Occupied` (the last message on this link is not answered yet).
+    pub fn accept<'a>(&mut self, from: u8, message: impl Into<Bits<'a>>) -> Result<(), Refusal> {
+        let message = message.into();
+        done(unsafe { sys::ncp_subnet_accept(&mut self.handle, from, message.bytes().as_ptr(), message.bytes().len(), message.len()) })
+    }
+
+    /// The message on a link as it comes, if there is one that has not come.
+    pub fn deliver<'a>(&mut self, from: u8, to: u8, link: u8, buffer: &'a mut Buffer) -> Option<Bits<'a>> {
+        let mut len = 0;
+        let answer = unsafe { sys::ncp_subnet_deliver(&mut self.handle, from, to, link, buffer.as_mut_ptr(), buffer.len(), &mut len) };
+        (answer == sys::NCP_DONE).then(|| front(buffer, len))
+    }
+
+    /// Loses the message on a link: whether there was one that had not come.
+    pub fn lose(&mut self, from: u8, to: u8, link: u8) -> bool {
+        found(unsafe { sys::ncp_subnet_lose(&mut self.handle, from, to, link) }) == Ok(true)
+    }
+
+    /// The message on a link finds its destination dead: whether there was one that had not come.
+    pub fn dead(&mut self, from: u8, to: u8, link: u8) -> bool {
+        found(unsafe { sys::ncp_subnet_dead(&mut self.handle, from, to, link) }) == Ok(true)
+    }
+
+    /// What is answered to the sender about the message on a link, once it came or will not come.
+    pub fn answer<'a>(&mut self, from: u8, to: u8, link: u8, buffer: &'a mut Buffer) -> Option<Bits<'a>> {
+        let mut len = 0;
+        let answer = unsafe { sys::ncp_subnet_answer(&mut self.handle, from, to, link, buffer.as_mut_ptr(), buffer.len(), &mut len) };
+        (answer == sys::NCP_DONE).then(|| front(buffer, len))
+    }
+}

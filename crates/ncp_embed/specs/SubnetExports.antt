@@ -1,0 +1,74 @@
+-- What the functions for C do to the subnet of a net, if it has one. `NO_SUBNET` is answered where it has none, and then
+-- nothing changes.
+use Rattle.std.specs.Prelude.{ℕ, ◌≡◌, ◌⊎◌, Bool, if◌then◌else◌, List, Option, None, Some, Result, Ok, Err}
+use Rattle.std.specs.Option.{option_map_or}
+use Rattle.ncp_bits.specs.declared.bits.BitsFault.{BitsFault}
+use Rattle.ncp_bits.specs.Reasons.{IsFirst, NoneHolds}
+use Rattle.ncp_subnet.specs.declared.fault.SubnetFault.{SubnetFault}
+use Rattle.ncp_subnet.specs.declared.transit.Transit.TheVariants as transit
+use Rattle.ncp_subnet.specs.Messages.{host_in, link_in, arriving, answer_about}
+use Rattle.ncp_subnet.specs.Transit.{is_accepted}
+use Rattle.ncp_subnet.specs.Subnet.{Subnet, transit_at, with_transit, Refuses, refusals}
+use Rattle.ncp_embed.specs.declared.net.carried.Carried.{Carried}
+use Rattle.ncp_embed.specs.declared.codes.TheConstants.{DONE, NO_SUBNET, NOTHING}
+use Rattle.ncp_embed.specs.Codes.{bits_code, subnet_code}
+use Rattle.ncp_embed.specs.Exports.{any_of, code_if_any}
+
+abbrev pub carried : Subnet → Carried
+carried s = record { subnet = s }
+
+-- A message of a host is accepted, or refused for the first reason that holds.
+
+abbrev pub AcceptsIn : List Bool → ℕ → Subnet → Option Carried → ℕ → Type 0
+AcceptsIn came from s now code =
+    ((code ≡ DONE) × NoneHolds (Refuses s from came) refusals × (now ≡ Some (carried (with_transit s from (host_in came) (link_in came) (transit.Accepted came)))))
+    ⊎ ((fault : SubnetFault) × (code ≡ subnet_code fault) × IsFirst (Refuses s from came) refusals fault × (now ≡ Some (carried s)))
+
+abbrev pub Accepts : Result (List Bool) BitsFault → ℕ → Option Carried → Option Carried → ℕ → Type 0
+Accepts (Err fault) from before now code = (code ≡ bits_code fault) × (now ≡ before)
+Accepts (Ok came) from None now code = (code ≡ NO_SUBNET) × (now ≡ None)
+Accepts (Ok came) from (Some at) now code = AcceptsIn came from at.subnet now code
+
+-- What comes of a message, and what is answered about it.
+
+abbrev pub coming_in : ℕ → ℕ → ℕ → Subnet → Option (List Bool)
+coming_in from to link s = arriving from (transit_at s from to link)
+
+abbrev pub after_coming : ℕ → ℕ → ℕ → Subnet → Subnet
+after_coming from to link s = option_map_or (λ _. with_transit s from to link transit.Delivered) (coming_in from to link s) s
+
+abbrev pub answer_in : ℕ → ℕ → ℕ → Subnet → Option (List Bool)
+answer_in from to link s = answer_about to link (transit_at s from to link)
+
+abbrev pub after_answer : ℕ → ℕ → ℕ → Subnet → Subnet
+after_answer from to link s = option_map_or (λ _. with_transit s from to link transit.Free) (answer_in from to link s) s
+
+abbrev pub is_under_way : ℕ → ℕ → ℕ → Subnet → Bool
+is_under_way from to link s = is_accepted (transit_at s from to link)
+
+abbrev pub after_loss : ℕ → ℕ → ℕ → Subnet → Subnet
+after_loss from to link s = if is_under_way from to link s then with_transit s from to link transit.Lost else s
+
+abbrev pub after_death : ℕ → ℕ → ℕ → Subnet → Subnet
+after_death from to link s = if is_under_way from to link s then with_transit s from to link transit.Dead else s
+
+-- The same of a net: its code, the subnet after it, and what is written.
+
+abbrev pub code_in_net : {A : Type 0} → (Subnet → Option A) → Option Carried → ℕ
+code_in_net reply None = NO_SUBNET
+code_in_net reply (Some at) = code_if_any (reply at.subnet)
+
+abbrev pub code_if : Bool → ℕ
+code_if holds = if holds then DONE else NOTHING
+
+abbrev pub holds_code_in : (Subnet → Bool) → Option Carried → ℕ
+holds_code_in test None = NO_SUBNET
+holds_code_in test (Some at) = code_if (test at.subnet)
+
+abbrev pub changed_in : (Subnet → Subnet) → Option Carried → Option Carried
+changed_in after None = None
+changed_in after (Some at) = Some (carried (after at.subnet))
+
+abbrev pub found_over : {A B : Type 0} → (A → B → B) → (Subnet → Option A) → Option Carried → B → B
+found_over write reply None out = out
+found_over write reply (Some at) out = any_of write (reply at.subnet) out

@@ -1,0 +1,87 @@
+//! A subnet behind a pointer whose type names nothing, as C may hold it.
+ghost use Rattle.std.specs.Prelude.{◌≡◌, Option};
+ghost use Rattle.std.specs.declared.option.Option.TheVariants.{None, Some};
+ghost use Rattle.ncp_embed.specs.declared.net.carried.Carried.{Carried};
+ghost use Rattle.ncp_embed.specs.Nets.{net_owns, carried_coded, carried_in, boxed_net_in};
+
+mod carried;
+
+use crate::parts::Parts;
+pub(crate) use carried::Carried;
+use std::alloc::Global;
+use std::marker::Model;
+use std::mem::replace;
+use std::ptr::null_mut;
+
+/// Null where there is no subnet. C only stores it, and hands it back.
+#[repr(C)]
+pub struct Net {
+    at: *mut u8,
+    alloc: Global,
+    pub ghost subnet: { Option Carried } by { carried_coded },
+}
+
+impl Model for Net {
+    ghost also_owns = { λ h. net_owns h.alloc h.at h.subnet };
+}
+
+impl Net {
+    /// No subnet.
+    pub(crate) fn none(alloc: Global) -> Net
+        ensures { result.subnet ≡ None }
+    {
+        Net {
+            at: null_mut(),
+            alloc,
+        }
+    }
+
+    fn of_parts(parts: Parts<Carried, Global>) -> Net
+        ensures { result.subnet ≡ Some parts.value }
+    {
+        let Parts { ptr, alloc } = parts;
+        Net {
+            at: ptr as *mut u8,
+            alloc,
+        }
+    }
+
+    fn into_parts(self) -> Option<Parts<Carried, Global>>
+        ensures { carried_in result ≡ self.subnet }
+    {
+        let Net { at, alloc } = self;
+        if at.is_null() {
+            None
+        } else {
+            Some(Parts {
+                ptr: at as *mut Carried,
+                alloc,
+            })
+        }
+    }
+}
+
+impl Drop for Net {
+    fn drop(self) {
+        if let Some(parts) = self.into_parts() {
+            drop(parts.into_box());
+        }
+    }
+}
+
+/// What the net has, which it then has no more.
+pub(crate) fn take(alloc: Global, net: &mut Net) -> Option<Box<Carried>>
+    ensures carried { boxed_net_in result ≡ net.old.subnet }
+    ensures left { net.new.subnet ≡ None }
+{
+    match replace(net, Net::none(alloc)).into_parts() {
+        Some(parts) => Some(parts.into_box()),
+        None => None,
+    }
+}
+
+pub(crate) fn put(net: &mut Net, carried: Box<Carried>)
+    ensures { net.new.subnet ≡ Some carried.value }
+{
+    *net = Net::of_parts(Parts::of(carried));
+}

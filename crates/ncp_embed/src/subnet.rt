@@ -1,0 +1,191 @@
+//! A subnet for C: what happens to the messages between hosts. Each function here calls one of `ncp_subnet`, and states its
+//! clauses again.
+ghost use Rattle.std.specs.Prelude.{◌≡◌, ◌≢◌, ◌⊎◌};
+ghost use Rattle.std.specs.declared.option.Option.TheVariants.{None, Some};
+ghost use Rattle.ncp_bits.specs.Bits.{read_bytes};
+ghost use Rattle.ncp_subnet.specs.Subnet.{new_subnet};
+ghost use Rattle.ncp_host.specs.declared.fault.HostFault.TheVariants.{OutOfMemory};
+ghost use Rattle.ncp_embed.specs.Codes.{host_code};
+ghost use Rattle.ncp_embed.specs.Exports.{with_room, message_over, size_of_message};
+ghost use Rattle.ncp_embed.specs.SubnetExports.{carried, Accepts, coming_in, after_coming, answer_in, after_answer, is_under_way, after_loss, after_death, changed_in, holds_code_in, code_in_net, found_over};
+
+use crate::codes::{
+    DONE, LONGEST_MESSAGE, NO_SUBNET, NOTHING, SHORT_BUFFER, bits_code, host_code, subnet_code,
+};
+use crate::net::{Carried, Net, put, take};
+use crate::writing::write_message;
+use ncp_bits::Bits;
+use ncp_host::HostFault;
+use ncp_subnet::Subnet;
+use std::alloc::Global;
+
+/// `Subnet::among`, in the place of the subnet that the net had.
+#[unsafe(no_mangle)]
+pub extern "C" fn ncp_embed_subnet_new(alloc: Global, net: &mut Net, hosts: &[u8]) -> u32
+    ensures made { result ≡ DONE → net.new.subnet ≡ Some (carried (new_subnet hosts.now)) }
+    ensures kept { result ≢ DONE → net.new.subnet ≡ net.old.subnet }
+    ensures either { (result ≡ DONE) ⊎ (result ≡ host_code OutOfMemory) }
+{
+    let Ok(subnet) = Subnet::among(alloc, hosts) else {
+        return host_code(HostFault::OutOfMemory);
+    };
+    match Box::new(alloc, Carried { subnet }) {
+        Ok(carried) => {
+            put(net, carried);
+            DONE
+        }
+        Err(_) => host_code(HostFault::OutOfMemory),
+    }
+}
+
+/// Frees the subnet of the net, if it has one.
+#[unsafe(no_mangle)]
+pub extern "C" fn ncp_embed_subnet_free(alloc: Global, net: &mut Net)
+    ensures { net.new.subnet ≡ None }
+{
+    *net = Net::none(alloc);
+}
+
+/// `Subnet::accept`, of the first `bits` bits of a buffer.
+///
+/// Refused, in this order: `BITS` and the number of the fault of bits, `NO_SUBNET`, `SUBNET` and the number of the fault of
+/// the subnet.
+#[unsafe(no_mangle)]
+pub extern "C" fn ncp_embed_subnet_accept(
+    alloc: Global,
+    net: &mut Net,
+    from: u8,
+    bytes: &[u8],
+    bits: usize,
+) -> u32
+    ensures accepts { Accepts (read_bytes bytes.now bits) from net.old.subnet net.new.subnet result }
+    ensures err { result ≢ DONE → net.new.subnet ≡ net.old.subnet }
+{
+    let came = match Bits::from_bytes(bytes, bits) {
+        Ok(came) => came,
+        Err(fault) => return bits_code(fault),
+    };
+    let Some(mut carried) = take(alloc, net) else {
+        return NO_SUBNET;
+    };
+    let answer = carried.subnet.accept(from, &came);
+    put(net, carried);
+    match answer {
+        Ok(()) => DONE,
+        Err(fault) => subnet_code(fault),
+    }
+}
+
+/// `Subnet::deliver`, into the front of a buffer, with its length in bits.
+///
+/// Refused, in this order: `SHORT_BUFFER` (fewer than `LONGEST_MESSAGE` bytes), `NO_SUBNET`, `NOTHING` (none is under way).
+#[unsafe(no_mangle)]
+pub extern "C" fn ncp_embed_subnet_deliver(
+    alloc: Global,
+    net: &mut Net,
+    from: u8,
+    to: u8,
+    link: u8,
+    out: &mut [u8],
+    bits: &mut usize,
+) -> u32
+    ensures code { result ≡ with_room LONGEST_MESSAGE out.old SHORT_BUFFER (code_in_net (coming_in from to link) net.old.subnet) }
+    ensures subnet { net.new.subnet ≡ with_room LONGEST_MESSAGE out.old net.old.subnet (changed_in (after_coming from to link) net.old.subnet) }
+    ensures message { out.new ≡ with_room LONGEST_MESSAGE out.old out.old (found_over message_over (coming_in from to link) net.old.subnet out.old) }
+    ensures bits { bits.new ≡ with_room LONGEST_MESSAGE out.old bits.old (found_over size_of_message (coming_in from to link) net.old.subnet bits.old) }
+    ensures err { result ≢ DONE → net.new.subnet ≡ net.old.subnet }
+{
+    if out.len() < LONGEST_MESSAGE {
+        return SHORT_BUFFER;
+    }
+    let Some(mut carried) = take(alloc, net) else {
+        return NO_SUBNET;
+    };
+    let came = carried.subnet.deliver(from, to, link);
+    put(net, carried);
+    match came {
+        Some(message) => {
+            *bits = write_message(&message, out);
+            DONE
+        }
+        None => NOTHING,
+    }
+}
+
+/// `Subnet::lose`. `NOTHING` where no message is under way.
+#[unsafe(no_mangle)]
+pub extern "C" fn ncp_embed_subnet_lose(
+    alloc: Global,
+    net: &mut Net,
+    from: u8,
+    to: u8,
+    link: u8,
+) -> u32
+    ensures code { result ≡ holds_code_in (is_under_way from to link) net.old.subnet }
+    ensures subnet { net.new.subnet ≡ changed_in (after_loss from to link) net.old.subnet }
+    ensures err { result ≢ DONE → net.new.subnet ≡ net.old.subnet }
+{
+    let Some(mut carried) = take(alloc, net) else {
+        return NO_SUBNET;
+    };
+    let is_lost = carried.subnet.lose(from, to, link);
+    put(net, carried);
+    if is_lost { DONE } else { NOTHING }
+}
+
+/// `Subnet::dead`. `NOTHING` where no message is under way.
+#[unsafe(no_mangle)]
+pub extern "C" fn ncp_embed_subnet_dead(
+    alloc: Global,
+    net: &mut Net,
+    from: u8,
+    to: u8,
+    link: u8,
+) -> u32
+    ensures code { result ≡ holds_code_in (is_under_way from to link) net.old.subnet }
+    ensures subnet { net.new.subnet ≡ changed_in (after_death from to link) net.old.subnet }
+    ensures err { result ≢ DONE → net.new.subnet ≡ net.old.subnet }
+{
+    let Some(mut carried) = take(alloc, net) else {
+        return NO_SUBNET;
+    };
+    let is_dead = carried.subnet.dead(from, to, link);
+    put(net, carried);
+    if is_dead { DONE } else { NOTHING }
+}
+
+/// `Subnet::answer`, into the front of a buffer, with its length in bits.
+///
+/// Refused, in this order: `SHORT_BUFFER` (fewer than `LONGEST_MESSAGE` bytes), `NO_SUBNET`, `NOTHING` (no answer is due).
+#[unsafe(no_mangle)]
+pub extern "C" fn ncp_embed_subnet_answer(
+    alloc: Global,
+    net: &mut Net,
+    from: u8,
+    to: u8,
+    link: u8,
+    out: &mut [u8],
+    bits: &mut usize,
+) -> u32
+    ensures code { result ≡ with_room LONGEST_MESSAGE out.old SHORT_BUFFER (code_in_net (answer_in from to link) net.old.subnet) }
+    ensures subnet { net.new.subnet ≡ with_room LONGEST_MESSAGE out.old net.old.subnet (changed_in (after_answer from to link) net.old.subnet) }
+    ensures message { out.new ≡ with_room LONGEST_MESSAGE out.old out.old (found_over message_over (answer_in from to link) net.old.subnet out.old) }
+    ensures bits { bits.new ≡ with_room LONGEST_MESSAGE out.old bits.old (found_over size_of_message (answer_in from to link) net.old.subnet bits.old) }
+    ensures err { result ≢ DONE → net.new.subnet ≡ net.old.subnet }
+{
+    if out.len() < LONGEST_MESSAGE {
+        return SHORT_BUFFER;
+    }
+    let Some(mut carried) = take(alloc, net) else {
+        return NO_SUBNET;
+    };
+    let answer = carried.subnet.answer(from, to, link);
+    put(net, carried);
+    match answer {
+        Some(message) => {
+            *bits = write_message(&message, out);
+            DONE
+        }
+        None => NOTHING,
+    }
+}
