@@ -1,8 +1,9 @@
 -- What the parts of `check` do.
-use Rattle.std.specs.Prelude.{◌≡◌, ℕ, Bool, List, [], ◌∷◌, ◌++◌, Option, Some, None, Result, Ok, Err, if◌then◌else◌}
+use Rattle.std.specs.Prelude.{◌≡◌, ◌+◌, ℕ, Bool, List, [], ◌∷◌, ◌++◌, Option, Some, None, Result, Ok, Err, if◌then◌else◌}
 use Rattle.ncp_play_files.specs.declared.file.FileFault.{FileFault}
 use Rattle.ncp_play_files.specs.declared.tally.Verdict.{Verdict}
 use Rattle.ncp_play_files.specs.declared.tally.Tally.{Tally}
+use Rattle.ncp_play_files.specs.declared.tally.Counts.{Counts}
 use Rattle.ncp_play_files.specs.Results.{MatchFault}
 use Rattle.ncp_play_files.specs.declared.version.Version.{Version}
 use Rattle.ncp_play_files.specs.File.{next_record, HoldsBy, IsCut}
@@ -10,7 +11,7 @@ use Rattle.ncp_play_files.specs.Versions.{Recorded, next_in}
 use Rattle.ncp_play_files.specs.Steps.{IsInside, HasFaultInFront, Stops}
 use Rattle.ncp_play_page.specs.Lines.{number_after}
 use Rattle.ncp_play_stream.specs.Streams.{Ahead}
-use Rattle.ncp_play_files.specs.Checked.{verdict_of, verdict_of_record, is_short, is_of_type_0, is_faulty, is_bad, tally_of, FileHolds}
+use Rattle.ncp_play_files.specs.Checked.{verdict_of, verdict_of_record, capped, is_short, is_of_type_0, is_faulty, is_bad, tally_of, FileHolds}
 
 -- ---- one message
 
@@ -41,6 +42,16 @@ tally_with tally verdict = record {
   regular = one_more (is_of_type_0 verdict) tally.regular;
   faults = one_more (is_faulty verdict) tally.faults;
   bad = one_more (is_bad verdict) tally.bad;
+}
+
+-- what so many messages of each verdict are together
+abbrev pub put_together : Counts → Tally
+put_together counts = record {
+  messages = capped (counts.sound + counts.faulty + counts.bad + (counts.short + counts.other));
+  short = counts.short;
+  regular = capped (counts.sound + counts.faulty + counts.bad);
+  faults = counts.faulty;
+  bad = counts.bad;
 }
 
 -- and with these records more

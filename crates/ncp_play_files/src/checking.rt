@@ -9,7 +9,7 @@ ghost use Rattle.ncp_play_files.specs.Tallies.{no_messages, JudgesRecord, Judges
 ghost use Rattle.ncp_play_files.specs.Checked.{Checked};
 
 use crate::file::{FileFault, fault_of, message_bytes, skip_record};
-use crate::tally::{Tally, Verdict, judge, push_tally};
+use crate::tally::{Counts, Tally, Verdict, judge, push_tally};
 use crate::version::{PlacedRecords, PlainRecords, Records, Version, read_version};
 use ncp_bits::Part;
 use ncp_play_page::{Page, Window};
@@ -53,13 +53,13 @@ fn judge_next<S: Source, R: Records>(
     Ok(Some(verdict))
 }
 
-// Judges the next message as `judge_next` does, behind so many.
+// Judges the next message as `judge_next` does, behind those that were counted.
 #[inline(always)]
 fn judge_on<S: Source, R: Records>(
     window: &mut Window,
     source: &mut S,
     records: R,
-    messages: u32,
+    counts: &Counts,
 ) -> Result<Option<Verdict>, FileFault>
     ensures told { (bytes : List ℕ) → Ahead window.old (S.left source.old) bytes → JudgesNext (R.version records) bytes result window.new (S.left source.new) }
     ensures mark { S.has_failed source.new ≡ (S.has_failed source.old || is_read_failed result) }
@@ -69,7 +69,12 @@ fn judge_on<S: Source, R: Records>(
     ensures effort { IfOk result (λ found. is_some found ≡ true → effort (S.reads source.new) window.new < effort (S.reads source.old) window.old) }
 {
     let judged = judge_next(window, source, records);
-    stop_at_fault(source, &judged, messages, window.unread().len());
+    stop_at_fault(
+        source,
+        &judged,
+        counts.tally().messages,
+        window.unread().len(),
+    );
     judged
 }
 
@@ -84,11 +89,11 @@ fn tally_records<S: Source, R: Records>(
     ensures other { is_write_failed result ≡ false }
     ensures reads { reads_beyond S.gives_all (S.reads source.old) (S.left source.old) ≤ reads_beyond S.gives_all (S.reads source.new) (S.left source.new) + 1 }
 {
-    let mut tally = Tally::new();
-    while let Some(verdict) = judge_on(window, source, records, tally.messages)? {
-        tally = tally.count(verdict);
+    let mut counts = Counts::new();
+    while let Some(verdict) = judge_on(window, source, records, &counts)? {
+        counts.count(verdict);
     }
-    Ok(tally)
+    Ok(counts.tally())
 }
 
 // Counts the messages of a file.

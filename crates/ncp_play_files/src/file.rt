@@ -11,7 +11,7 @@ ghost use Rattle.ncp_play_page.specs.Windows.{effort};
 ghost use Rattle.ncp_play_stream.specs.Streams.{Ahead};
 ghost use Rattle.ncp_play_files.specs.declared.file.TheConstants.{LENGTH};
 
-use crate::version::{Version, read_version};
+use crate::version::{LONGEST_RECORD, Version, read_version};
 use byteorder::{BigEndian, ByteOrder};
 use ncp_bits::{Bits, BitsFault, MAX_BITS};
 use ncp_play_page::Window;
@@ -106,14 +106,10 @@ pub(crate) fn fault_of(fault: BitsFault) -> FileFault
     }
 }
 
-/// Reads until the window has the next record of a file of version 1, and answers how many bits its
-/// message has; `None` where no record begins. The record is not used up.
-// It stands in the loops that read, where most records take no more than this.
-#[inline(always)]
-pub(crate) fn need_record<S: Source>(
-    window: &mut Window,
-    source: &mut S,
-) -> Result<Option<usize>, FileFault>
+// Reads until the window has the next record of a file of version 1: first its length, and then what
+// the length says.
+#[inline(never)]
+fn need_parts<S: Source>(window: &mut Window, source: &mut S) -> Result<Option<usize>, FileFault>
     ensures told { (bytes : List ℕ) → Ahead window.old (S.left source.old) bytes → FindsRecord bytes result window.new (S.left source.new) }
     ensures stands { IfOk result (λ found. IfSome found (λ len. StandsWhole window.new len)) }
     ensures mark { S.has_failed source.new ≡ (S.has_failed source.old || is_read_failed result) }
@@ -137,6 +133,35 @@ pub(crate) fn need_record<S: Source>(
     }
     if !window.need(source, LENGTH + len.div_ceil(8))? {
         return Err(FileFault::Truncated);
+    }
+    Ok(Some(len))
+}
+
+/// Reads until the window has the next record of a file of version 1, and answers how many bits its
+/// message has; `None` where no record begins. The record is not used up.
+// It stands in the loops that read, where the window mostly has more than the longest record.
+#[inline(always)]
+pub(crate) fn need_record<S: Source>(
+    window: &mut Window,
+    source: &mut S,
+) -> Result<Option<usize>, FileFault>
+    ensures told { (bytes : List ℕ) → Ahead window.old (S.left source.old) bytes → FindsRecord bytes result window.new (S.left source.new) }
+    ensures stands { IfOk result (λ found. IfSome found (λ len. StandsWhole window.new len)) }
+    ensures mark { S.has_failed source.new ≡ (S.has_failed source.old || is_read_failed result) }
+    ensures other { is_write_failed result ≡ false }
+    ensures reads { reads_beyond S.gives_all (S.reads source.old) (S.left source.old) ≤ reads_beyond S.gives_all (S.reads source.new) (S.left source.new) + 1 }
+    ensures taken { IfOk result (λ found. is_some found ≡ true → reads_beyond S.gives_all (S.reads source.old) (S.left source.old) ≤ reads_beyond S.gives_all (S.reads source.new) (S.left source.new)) }
+    ensures effort { effort (S.reads source.new) window.new ≤ effort (S.reads source.old) window.old }
+    ensures lowers { S.reads source.new ≤ S.reads source.old }
+    ensures unread { IfOk result (λ found. is_some found ≡ true → S.reads source.new ≡ S.reads source.old → window.new ≡ window.old) }
+{
+    let ahead = window.unread();
+    if ahead.len() < LONGEST_RECORD {
+        return need_parts(window, source);
+    }
+    let len = usize::from(BigEndian::read_u16(ahead));
+    if len > MAX_BITS {
+        return Err(FileFault::TooLong);
     }
     Ok(Some(len))
 }

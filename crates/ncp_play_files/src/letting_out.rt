@@ -6,14 +6,11 @@ ghost use Rattle.ncp_play_files.specs.Steps.{LetsOut, unpaid_out};
 ghost use Rattle.ncp_play_files.specs.Waiting.{lacks_message, is_waiting};
 
 use crate::file::{FileFault, LENGTH};
-use crate::version::{PASSAGE, Version};
+use crate::version::{LONGEST_RECORD, PASSAGE, Version};
 use byteorder::{BigEndian, ByteOrder};
 use ncp_bits::MAX_BITS;
 use ncp_play_page::{Page, Window};
 use ncp_play_stream::Sink;
-
-// How many bytes a record has at most, of either version.
-const LONGEST_RECORD: usize = PASSAGE + LENGTH + MAX_BITS / 8;
 
 // Whether the length of a message is missing behind so many bytes, or bytes of the message are.
 fn lacks_message(ahead: &[u8], front: usize) -> bool

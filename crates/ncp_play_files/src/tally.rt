@@ -1,8 +1,8 @@
 //! `Tally`: how many messages of which kinds there are.
 ghost use Rattle.std.specs.Prelude.{◌≡◌, ◌+◌, ◌≤◌, ◌++◌, length};
 ghost use Rattle.ncp_leader.specs.Message.{message_in};
-ghost use Rattle.ncp_play_files.specs.Checked.{is_bad_text, verdict_of_message, verdict_of, is_sound, tally_line};
-ghost use Rattle.ncp_play_files.specs.Tallies.{no_messages, tally_with, one_more};
+ghost use Rattle.ncp_play_files.specs.Checked.{is_bad_text, verdict_of_message, verdict_of, capped, is_sound, tally_line};
+ghost use Rattle.ncp_play_files.specs.Tallies.{no_messages, tally_with, put_together};
 
 use crate::control::{is_of_control, is_on_control_link};
 use crate::line::LONGEST_LINE;
@@ -81,47 +81,68 @@ pub(crate) fn judge(message: &Part<'_>) -> Verdict
     }
 }
 
-// One more, where a test passes.
-fn count_if(number: u32, passes: bool) -> u32
-    ensures { result ≡ one_more passes number }
-{
-    if passes {
-        number.saturating_add(1)
-    } else {
-        number
-    }
+/// How many messages there are of each verdict. A count stays at the largest number.
+#[derive(Clone, Copy, Debug, Drop, PartialEq, Eq)]
+pub(crate) struct Counts {
+    short: u32,
+    other: u32,
+    sound: u32,
+    faulty: u32,
+    bad: u32,
 }
 
-impl Tally {
+// The largest number, where a sum is greater.
+fn capped(number: u64) -> u32
+    ensures { result ≡ capped number }
+{
+    number.min(u64::from(u32::MAX)) as u32
+}
+
+impl Counts {
     /// Nothing is counted.
     pub(crate) fn new() -> Self
-        ensures { result ≡ no_messages }
+        ensures { put_together result ≡ no_messages }
     {
-        Tally {
-            messages: 0,
+        Counts {
             short: 0,
-            regular: 0,
-            faults: 0,
+            other: 0,
+            sound: 0,
+            faulty: 0,
             bad: 0,
         }
     }
 
     /// Counts a message.
-    pub(crate) fn count(&self, verdict: Verdict) -> Tally
-        ensures { result ≡ tally_with self.now verdict }
+    #[inline(always)]
+    pub(crate) fn count(&mut self, verdict: Verdict)
+        ensures { put_together self.new ≡ tally_with (put_together self.old) verdict }
     {
-        Tally {
-            messages: self.messages.saturating_add(1),
-            short: count_if(self.short, verdict == Verdict::Short),
-            regular: count_if(
-                self.regular,
-                matches!(verdict, Verdict::Sound | Verdict::Faulty | Verdict::Bad),
-            ),
-            faults: count_if(self.faults, verdict == Verdict::Faulty),
-            bad: count_if(self.bad, verdict == Verdict::Bad),
+        match verdict {
+            Verdict::Short => self.short = self.short.saturating_add(1),
+            Verdict::Other => self.other = self.other.saturating_add(1),
+            Verdict::Sound => self.sound = self.sound.saturating_add(1),
+            Verdict::Faulty => self.faulty = self.faulty.saturating_add(1),
+            Verdict::Bad => self.bad = self.bad.saturating_add(1),
         }
     }
 
+    /// What was counted.
+    pub(crate) fn tally(&self) -> Tally
+        ensures { result ≡ put_together self.now }
+    {
+        let regular = u64::from(self.sound) + u64::from(self.faulty) + u64::from(self.bad);
+        let others = u64::from(self.short) + u64::from(self.other);
+        Tally {
+            messages: capped(regular + others),
+            short: self.short,
+            regular: capped(regular),
+            faults: self.faulty,
+            bad: self.bad,
+        }
+    }
+}
+
+impl Tally {
     /// Whether no message is short or faulty.
     pub(crate) fn is_sound(&self) -> bool
         ensures { result ≡ is_sound self.now }

@@ -9,8 +9,8 @@ ghost use Rattle.ncp_play_page.specs.Windows.{effort};
 ghost use Rattle.ncp_play_stream.specs.Pieces.{reads_beyond};
 ghost use Rattle.ncp_play_stream.specs.Streams.{Ahead};
 
-use crate::file::{Direction, FileFault, need_record, take_record};
-use ncp_bits::Bits;
+use crate::file::{Direction, FileFault, LENGTH, need_record, take_record};
+use ncp_bits::{Bits, MAX_BITS};
 use ncp_play_page::Window;
 use ncp_play_stream::Source;
 
@@ -46,6 +46,9 @@ pub const HEADER: usize = 4;
 
 /// How many bytes a passage has.
 pub(crate) const PASSAGE: usize = 2;
+
+/// How many bytes a record has at most, of either version.
+pub(crate) const LONGEST_RECORD: usize = PASSAGE + LENGTH + MAX_BITS / 8;
 
 // The version that a header names.
 fn version_in(head: &[u8]) -> Option<Version>

@@ -1,13 +1,13 @@
 use Rattle.std.proofs.Common.{◌∙◌, Ok, Err, is_some, refl, subst, ap, arith}
 use Rattle.std.proofs.Math.Bool.{or-false}
 use Rattle.std.proofs.lemmas.Result.{err_from_is_err_and}
-use Rattle.ncp_play_files.specs.Tallies.{tally_with, TalliesFrom}
+use Rattle.ncp_play_files.specs.Tallies.{tally_with, put_together, TalliesFrom}
 use Rattle.ncp_play_files.proofs.Counting.{tallies_more, tallies_fault, tallies_end}
 use Rattle.ncp_play_files.proofs.checking.tally_records.Goals as goal
 
 pub loop-verdict-init : goal.loop-verdict-init
 loop-verdict-init g c = record {
-  told = λ bytes a. (bytes, a, λ r left h. subst (λ tally. TalliesFrom (g.R.Records.version c.args.records) bytes tally r left) c.new-tally.ensures h);
+  told = λ bytes a. (bytes, a, λ r left h. subst (λ tally. TalliesFrom (g.R.Records.version c.args.records) bytes tally r left) c.new-counts.ensures h);
   reads = omega arith;
   mark = refl;
 }
@@ -18,19 +18,19 @@ returns-in_err-verdict-clause-told g c = λ bytes a.
     let before = c.loop-verdict.invariant.told bytes a in
     rw (p.1, p.2) (
     before.2 (Err c.in_err-verdict.field-0.0) (g.S.Source.left c.judge_on.new.source) (
-    tallies_fault (g.R.Records.version c.args.records) before.0 (g.S.Source.left c.judge_on.new.source) c.loop-verdict.tally c.in_err-verdict.field-0.0 (c.in_err-verdict.ensures.told before.0 before.1)))
+    tallies_fault (g.R.Records.version c.args.records) before.0 (g.S.Source.left c.judge_on.new.source) (put_together c.loop-verdict.counts) c.in_err-verdict.field-0.0 (c.in_err-verdict.ensures.told before.0 before.1)))
 
 pub loop-verdict-preserved : goal.loop-verdict-preserved
 loop-verdict-preserved g c = record {
   told = λ bytes a.
       let before = c.loop-verdict.invariant.told bytes a in
       let judged = rw c.in-Some.is at (c.in_ok-verdict.ensures.told before.0 before.1) in
-      let counted = c.count-tally.ensures ∙ ap (tally_with c.loop-verdict.tally) judged.3 in (
+      let counted = c.count.ensures ∙ ap (tally_with (put_together c.loop-verdict.counts)) judged.3 in (
         judged.1,
         judged.4,
         λ r left h.
             before.2 r left (
-            tallies_more (g.R.Records.version c.args.records) before.0 judged.1 judged.0 c.loop-verdict.tally r left judged.2
+            tallies_more (g.R.Records.version c.args.records) before.0 judged.1 judged.0 (put_together c.loop-verdict.counts) r left judged.2
             (subst (λ tally. TalliesFrom (g.R.Records.version c.args.records) judged.1 tally r left) counted h)),
       );
   reads = let taken = c.in_ok-verdict.ensures.taken (ap is_some c.in-Some.is) in omega (arith, taken, c.loop-verdict.invariant.reads);
@@ -42,4 +42,4 @@ returns-clause-told g c = λ bytes a.
     let before = c.loop-verdict.invariant.told bytes a in
     let none = rw c.in_default.is at (c.in_ok-verdict.ensures.told before.0 before.1) in
     let left = g.S.Source.left c.judge_on.new.source in
-    before.2 (Ok c.loop-verdict.tally) left (tallies_end (g.R.Records.version c.args.records) before.0 c.loop-verdict.tally left none)
+    rw c.tally.ensures (before.2 (Ok (put_together c.loop-verdict.counts)) left (tallies_end (g.R.Records.version c.args.records) before.0 (put_together c.loop-verdict.counts) left none))
