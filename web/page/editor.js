@@ -18,6 +18,8 @@ class Editor {
     this.isQuiet = false;
     box.addEventListener("input", () => { if (!this.isQuiet) on.change(); });
     box.addEventListener("scroll", () => this.#scrolled());
+    // Where a fault goes, or a bar to scroll by, there is room for more lines.
+    new ResizeObserver(() => this.draw()).observe(box);
     box.addEventListener("dblclick", () => on.choose(this.first - 1 + box.value.slice(0, box.selectionStart).split("\n").length));
   }
 
