@@ -1,8 +1,7 @@
 -- The messages that are kept of one link, where one is put in, is marked, or is forgotten; those of other links stay.
-use Rattle.std.proofs.Common.{◌≡◌, ◌⊎◌, inl, inr, ℕ, suc, ◌+◌, ◌<◌, ◌==◌, ltb, Bool, true, false, cond, not, ◌&&◌, if◌then◌else◌, List, [], ◌∷◌, ◌++◌, length, Option, None, Some, option_map, position, remove, filter, slice_set, get_or, refl, sym, ap, ◌∙◌, subst, ltb-true, ltb-false, lt-ltb, le-ltb, append-nil, arith}
+use Rattle.std.proofs.Common.{◌≡◌, ◌⊎◌, inl, inr, ℕ, suc, ◌+◌, ◌<◌, ltb, Bool, true, false, cond, not, if◌then◌else◌, List, [], ◌∷◌, ◌++◌, length, Option, None, Some, option_map, position, remove, filter, slice_set, refl, sym, ap, ◌∙◌, ltb-true, ltb-false, lt-ltb, le-ltb, append-nil, arith}
 use Rattle.std.specs.List.{position_or_len}
 use Rattle.ncp_umpire.specs.declared.kept.Kept.{Kept}
-use Rattle.ncp_umpire.specs.declared.kept.Slot.{Slot}
 use Rattle.ncp_umpire.specs.declared.outbox.TheConstants.{MAX_KEPT}
 use Rattle.ncp_umpire.specs.Slots.{kept_at, has_room, with_out}
 

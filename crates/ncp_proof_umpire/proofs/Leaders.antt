@@ -1,28 +1,23 @@
 -- A walk over a run: no rule of leaders is broken by what goes out.
-use Rattle.std.proofs.Common.{◌≡◌, ℕ, ◌<◌, ◌==◌, nat_le, Bool, true, false, not, ◌&&◌, List, [], ◌∷◌, ◌++◌, length, Option, None, Some, Ok, refl, sym, ap, ◌∙◌, subst}
+use Rattle.std.proofs.Common.{◌≡◌, ℕ, ◌==◌, nat_le, Bool, true, false, not, ◌&&◌, List, [], ◌∷◌, ◌++◌, length, Option, None, Some, refl, sym, ap, ◌∙◌, subst}
 use Rattle.std.proofs.lemmas.Bool.{eqb-true}
-use Rattle.ncp_leader.specs.Leader.{leader_in}
 use Rattle.ncp_host.specs.declared.limits.TheConstants.{MAX_PEERS}
-use Rattle.ncp_host.specs.Output.{leader_to}
-use Rattle.ncp_host.specs.Host.{Host, numbers_of, is_one_of, are_distinct, are_peers, new_host}
+use Rattle.ncp_host.specs.Host.{Host, is_one_of, are_distinct, are_peers, new_host}
 use Rattle.ncp_host.specs.Turns.{next_output}
 use Rattle.ncp_transcript.specs.declared.input.Input.{Input}
 use Rattle.ncp_transcript.specs.declared.input.Input.TheVariants as inputs
 use Rattle.ncp_transcript.specs.declared.note.HostNote.{HostNote}
-use Rattle.ncp_transcript.specs.declared.note.HostNote.TheVariants as notes
 use Rattle.ncp_transcript.specs.After.{after_note}
-use Rattle.ncp_transcript.specs.Noting.{Noted, note_of_message}
+use Rattle.ncp_transcript.specs.Noting.{note_of_message}
 use Rattle.ncp_transcript.specs.Runs.{AreNotes}
 use Rattle.ncp_transcript.proofs.Saying.{noted_said}
 use Rattle.ncp_proof_runs.proofs.States.{Turn, is_there}
-use Rattle.ncp_proof_runs.proofs.Ready.{first_is}
 use Rattle.ncp_proof_runs.proofs.HostRuns.{Holds, out-turn, out-is}
 use Rattle.ncp_proof_runs.proofs.Said.{IsOut}
 use Rattle.ncp_proof_runs.proofs.EachPeer.{holds-after, new-holds}
 use Rattle.ncp_umpire.specs.declared.finding.Rule.{Rule}
 use Rattle.ncp_umpire.specs.declared.finding.Rule.TheVariants as rule
 use Rattle.ncp_umpire.specs.declared.umpire.Umpire.{Umpire}
-use Rattle.ncp_umpire.specs.declared.way.Way.{Way}
 use Rattle.ncp_umpire.specs.declared.way.Way.TheVariants.{ToImp, FromImp}
 use Rattle.ncp_umpire.specs.Judged.{new_umpire, by_host, sees, record_findings, after_record}
 use Rattle.ncp_umpire.proofs.Passing.{Pass, both, is_said, goes}

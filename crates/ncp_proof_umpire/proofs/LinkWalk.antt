@@ -1,5 +1,5 @@
 -- A walk over a run: no message goes out on a link whose last one is out, and none goes out again that was changed.
-use Rattle.std.proofs.Common.{◌≡◌, ℕ, ◌==◌, Bool, true, false, if◌then◌else◌, List, [], ◌∷◌, ◌++◌, length, Option, None, Some, option_map, option_to_list, filter, refl, sym, ap, ◌∙◌, subst}
+use Rattle.std.proofs.Common.{◌≡◌, ℕ, ◌==◌, Bool, true, false, if◌then◌else◌, List, [], ◌∷◌, ◌++◌, Option, None, Some, option_map, option_to_list, refl, sym, subst}
 use Rattle.ncp_slot.specs.Slots.{slot_at}
 use Rattle.ncp_slot.proofs.Places.{slot_at-no_slots}
 use Rattle.ncp_host.specs.PeerState.{PeerState, new_state}
@@ -31,7 +31,7 @@ use Rattle.ncp_proof_umpire.proofs.Goes.{used, rules_of_used}
 use Rattle.ncp_proof_umpire.proofs.Leaders.{peers_parts, peer_of_turn}
 use Rattle.ncp_proof_umpire.proofs.Shown.{Shows, allowed}
 use Rattle.ncp_proof_umpire.proofs.HostSlots.{call_noted}
-use Rattle.ncp_proof_umpire.proofs.Linked.{Known, Follows, after_call, after_out_of, after_in_of}
+use Rattle.ncp_proof_umpire.proofs.Linked.{Follows, after_call, after_out_of, after_in_of}
 
 unsaid : (r : Rule) → is_said r ≡ true → is_of_link r ≡ false
 unsaid (rule.Short bits) e = refl

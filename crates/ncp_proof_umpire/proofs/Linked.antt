@@ -1,13 +1,12 @@
 -- What is kept of the links of a host shows its slots, through each input.
-use Rattle.std.proofs.Common.{◌≡◌, ◌≢◌, ◌⊎◌, inl, inr, ℕ, ◌==◌, Bool, true, false, not, ◌&&◌, if◌then◌else◌, List, [], ◌∷◌, Option, None, Some, Result, Ok, Err, position, filter, refl, sym, ap, ◌∙◌, subst}
+use Rattle.std.proofs.Common.{◌≡◌, ◌≢◌, ◌⊎◌, inl, inr, ℕ, ◌==◌, Bool, true, false, not, ◌&&◌, if◌then◌else◌, List, [], ◌∷◌, Option, None, Some, Result, Ok, Err, filter, refl, sym, ap, ◌∙◌, subst}
 use Rattle.std.proofs.lemmas.Bool.{and_parts, eqb-true}
 use Rattle.std.proofs.lemmas.Bool.Decides.{eqb_tells}
 use Rattle.ncp_leader.specs.declared.leader.Leader.{Leader}
 use Rattle.ncp_leader.specs.declared.leader.Short.{Short}
 use Rattle.ncp_leader.specs.Leader.{leader_in}
 use Rattle.ncp_slot.specs.declared.slot.Slot.TheVariants as host
-use Rattle.ncp_slot.specs.Slot.{woken}
-use Rattle.ncp_slot.specs.Slots.{LinkSlot, slot_at, with_slot}
+use Rattle.ncp_slot.specs.Slots.{LinkSlot, slot_at}
 use Rattle.ncp_slot.proofs.Places.{slot_at-with_slot_same, slot_at-with_slot_other}
 use Rattle.ncp_host.specs.PeerState.{PeerState, answer_comes}
 use Rattle.ncp_host.specs.Hearing.{answer_of}
@@ -19,7 +18,7 @@ use Rattle.ncp_transcript.specs.declared.note.HostNote.TheVariants as notes
 use Rattle.ncp_transcript.specs.After.{after_note}
 use Rattle.ncp_transcript.specs.Noting.{if_peer, answer_with, note_as, note_of_bits}
 use Rattle.ncp_transcript.specs.Runs.{IsSaid}
-use Rattle.ncp_proof_runs.specs.Peers.{is_number, peer_of_leader, names, bits_for, out_for, note_for}
+use Rattle.ncp_proof_runs.specs.Peers.{is_number, peer_of_leader, names, out_for, note_for}
 use Rattle.ncp_proof_runs.proofs.States.{is_there}
 use Rattle.ncp_proof_runs.proofs.HostRuns.{Holds}
 use Rattle.ncp_umpire.specs.declared.kept.Kept.{Kept}
@@ -268,13 +267,12 @@ answer_of_peer ns me h umpire bits leader k note p is f =
 
             by : (((n == m) ≡ true) × (n ≡ m)) ⊎ (((n == m) ≡ false) × (n ≢ m)) → Slots m t
             by (inl same) =
-                let here : t ≡ answer_comes on (how_of leader.kind) s = become ∙ ap (λ (b : Bool). if b then answer_comes on (how_of leader.kind) s else s) same.0 in
-                (
-                    s,
-                    w.1,
-                    λ at nay. ap (λ (x : PeerState). slot_at x.slots at) here ∙ answer_there on at (how_of leader.kind) s (λ link. nay (sym same.1, link)),
-                    λ i shown. subst (λ (x : LinkSlot). Shows (filter (is_of me n on) now) x) (sym (ap (λ (x : PeerState). slot_at x.slots on) here ∙ answer_here on (how_of leader.kind) s))
-                        ((after_answering me n on (view_in umpire.views me n).known leader.kind umpire.kept).1 (slot_at s.slots on) shown),
+                let here : t ≡ answer_comes on (how_of leader.kind) s = become ∙ ap (λ (b : Bool). if b then answer_comes on (how_of leader.kind) s else s) same.0 in (
+                  s,
+                  w.1,
+                  λ at nay. ap (λ (x : PeerState). slot_at x.slots at) here ∙ answer_there on at (how_of leader.kind) s (λ link. nay (sym same.1, link)),
+                  λ i shown. subst (λ (x : LinkSlot). Shows (filter (is_of me n on) now) x) (sym (ap (λ (x : PeerState). slot_at x.slots on) here ∙ answer_here on (how_of leader.kind) s))
+                      ((after_answering me n on (view_in umpire.views me n).known leader.kind umpire.kept).1 (slot_at s.slots on) shown),
                 )
             by (inr other) =
                 let here : t ≡ s = become ∙ ap (λ (b : Bool). if b then answer_comes on (how_of leader.kind) s else s) other.0 in

@@ -1,7 +1,5 @@
 -- What is kept of a link shows its slot: empty, a message that is out, or one that is to go out again.
-use Rattle.std.proofs.Common.{◌≡◌, ◌⊎◌, inl, inr, ℕ, ◌==◌, Bool, true, false, cond, not, ◌&&◌, if◌then◌else◌, List, [], ◌∷◌, ◌++◌, length, Option, None, Some, option_map, option_to_list, position, remove, filter, slice_set, refl, sym, ap, ◌∙◌, subst}
-use Rattle.std.specs.Cmp.Lexicographic.{pointwise}
-use Rattle.std.proofs.Math.Bool.{beq}
+use Rattle.std.proofs.Common.{◌≡◌, ◌⊎◌, inl, inr, ℕ, ◌==◌, Bool, true, false, not, ◌&&◌, if◌then◌else◌, List, [], ◌∷◌, ◌++◌, length, Option, None, Some, position, remove, filter, slice_set, refl, sym, ap, ◌∙◌, subst}
 use Rattle.std.proofs.lemmas.Bool.Decides.{eqb_tells}
 use Rattle.ncp_terms.specs.declared.answer.Answer.{Answer}
 use Rattle.ncp_terms.specs.declared.answer.Answer.TheVariants.{Rfnm, Incomplete, Dead}
@@ -10,13 +8,12 @@ use Rattle.ncp_slot.specs.Slot.{answered, woken}
 use Rattle.ncp_slot.specs.Slots.{LinkSlot}
 use Rattle.ncp_model.specs.Peers.{Peer}
 use Rattle.ncp_host.specs.Output.{output_by}
-use Rattle.ncp_umpire.specs.declared.finding.Rule.{Rule}
 use Rattle.ncp_umpire.specs.declared.kept.Kept.{Kept}
 use Rattle.ncp_umpire.specs.declared.kept.Slot.{Slot}
 use Rattle.ncp_umpire.specs.declared.kept.Slot.TheVariants as slot
 use Rattle.ncp_umpire.specs.Slots.{is_of, same_bits, place_of, kept_at, slot_at, same_at, gone_out, has_room, with_out, with_slot, with_answered}
 use Rattle.ncp_umpire.specs.Judged.{out_rule, is_out, with_answer}
-use Rattle.ncp_proof_umpire.proofs.KeptOne.{middle_set, middle_get, middle_remove, Placed, placed, taken, Apart, Became, stays, replaced, forgotten, as_list, behind, put_out}
+use Rattle.ncp_proof_umpire.proofs.KeptOne.{middle_set, middle_get, middle_remove, Placed, placed, taken, Apart, Became, replaced, forgotten, as_list, behind, put_out}
 
 abbrev pub ShowsOne : Slot → List Bool → LinkSlot → Type 0
 ShowsOne slot.Unknown message s = ⊥

@@ -10,9 +10,8 @@ pub noted : (given : List Input) (before now : Alone) → AreSteps given before 
 noted [] before now e = ([], ap (λ (a : Alone). a.notes) e ∙ sym (append-nil before.notes), tt)
 noted (input ∷ given) before now s =
     let rest = noted given s.0 now s.2 in
-    let note = s.1.0 in
-    (
-        note ∷ rest.0,
-        rest.1 ∙ ap (λ (xs : List HostNote). xs ++ rest.0) s.1.2 ∙ append_assoc before.notes (note ∷ []) rest.0,
-        (s.1.1, subst (AreNotes given rest.0) s.1.3 rest.2),
+    let note = s.1.0 in (
+      note ∷ rest.0,
+      rest.1 ∙ ap (λ (xs : List HostNote). xs ++ rest.0) s.1.2 ∙ append_assoc before.notes (note ∷ []) rest.0,
+      (s.1.1, subst (AreNotes given rest.0) s.1.3 rest.2),
     )
