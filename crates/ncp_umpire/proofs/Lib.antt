@@ -1,2 +1,4 @@
 pub mod Events
 pub mod Items
+pub mod Passing
+pub mod Following

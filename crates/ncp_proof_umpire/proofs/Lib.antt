@@ -1,0 +1,9 @@
+pub mod Spared
+pub mod Steps
+pub mod Goes
+pub mod Leaders
+pub mod KeptOne
+pub mod Shown
+pub mod HostSlots
+pub mod Linked
+pub mod LinkWalk

@@ -1,0 +1,15 @@
+use Rattle.std.proofs.Common.{refl}
+use Rattle.ncp_numbers.specs.Numbers.{number_of}
+use Rattle.ncp_proof_umpire.proofs.alarms.wrong_hosts_are_blamed.Goals as goal
+
+pub returns-clause-short : goal.returns-clause-short
+unfolding number_of
+returns-clause-short c = refl
+
+pub returns-clause-twice : goal.returns-clause-twice
+unfolding number_of
+returns-clause-twice c = refl
+
+pub returns-clause-again : goal.returns-clause-again
+unfolding number_of
+returns-clause-again c = refl

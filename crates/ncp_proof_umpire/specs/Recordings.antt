@@ -1,0 +1,80 @@
+-- What passes the interface of one host while it runs, and that an audit of it blames the host for nothing.
+use Rattle.std.specs.Prelude.{◌≡◌, ◌<◌, ℕ, ◌==◌, not, ◌&&◌, Bool, true, false, List, [], ◌∷◌, ◌++◌}
+use Rattle.std.specs.List.{list_all}
+use Rattle.ncp_host.specs.Host.{is_one_of, are_peers, new_host}
+use Rattle.ncp_transcript.specs.declared.input.Input.{Input}
+use Rattle.ncp_transcript.specs.declared.input.Input.TheVariants as inputs
+use Rattle.ncp_transcript.specs.declared.note.HostNote.{HostNote}
+use Rattle.ncp_transcript.specs.declared.note.HostNote.TheVariants as notes
+use Rattle.ncp_transcript.specs.Alone.{Alone, AreSteps}
+use Rattle.ncp_umpire.specs.declared.finding.Finding.{Finding}
+use Rattle.ncp_umpire.specs.declared.finding.Rule.{Rule}
+use Rattle.ncp_umpire.specs.declared.finding.Rule.TheVariants as rule
+use Rattle.ncp_umpire.specs.declared.finding.Who.{Who}
+use Rattle.ncp_umpire.specs.declared.finding.Who.TheVariants.{Host, Imp}
+use Rattle.ncp_umpire.specs.declared.umpire.Umpire.{Umpire}
+use Rattle.ncp_umpire.specs.declared.way.Way.{Way}
+use Rattle.ncp_umpire.specs.declared.way.Way.TheVariants.{ToImp, FromImp}
+use Rattle.ncp_umpire.specs.Judged.{new_umpire, record_findings, after_record}
+
+-- ---- the recording
+
+-- a message that goes out is in its note
+abbrev pub gone_by : HostNote → List (Way × List Bool)
+gone_by (notes.Out message) = (ToImp, message) ∷ []
+gone_by note = []
+
+-- what passes with an input: the bits that come from the IMP, or the message that goes out to it
+abbrev pub passes : Input → HostNote → List (Way × List Bool)
+passes (inputs.Call call) note = []
+passes (inputs.In bits) note = (FromImp, bits) ∷ []
+passes inputs.Out note = gone_by note
+
+-- with all inputs and their notes, the first one first
+abbrev pub recording : List Input → List HostNote → List (Way × List Bool)
+recording [] noted = []
+recording (input ∷ more) [] = []
+recording (input ∷ more) (note ∷ noted) = passes input note ++ recording more noted
+
+-- ---- what is found in it
+
+-- the findings of records at one interface, one after the other
+abbrev pub findings_from : Umpire → ℕ → List (Way × List Bool) → List Finding
+findings_from umpire at [] = []
+findings_from umpire at (one ∷ more) = record_findings umpire one.0 at one.1 ++ findings_from (after_record umpire one.0 at one.1) at more
+
+abbrev pub is_host : ℕ → Who → Bool
+is_host me (Host host) = host == me
+is_host me Imp = false
+
+-- a finding is not one that the host broke one of these rules
+abbrev pub spares : (Rule → Bool) → ℕ → Finding → Bool
+spares judged me finding = not (is_host me finding.who && judged finding.rule)
+
+-- a host of this number, with these peers, to which nothing was given
+abbrev pub begun : ℕ → List ℕ → Alone
+begun me ns = record { host = new_host me ns; notes = [] }
+
+-- In the whole recording of a host, whatever it is asked for and whatever bits come, it is found to break none of these
+-- rules.
+abbrev pub NoFalseAlarm : (Rule → Bool) → Type 0
+NoFalseAlarm judged =
+    (me : ℕ) (ns : List ℕ) (given : List Input) (now : Alone)
+    → are_peers me ns ≡ true → ((n : ℕ) → is_one_of n ns ≡ true → n < 256) → AreSteps given (begun me ns) now
+    → list_all (spares judged me) (findings_from (new_umpire false) me (recording given now.notes)) ≡ true
+
+-- ---- the rules
+
+-- of a leader: it is whole, of a regular message, for another host, and names a link that is used
+abbrev pub is_of_leader : Rule → Bool
+is_of_leader (rule.Short bits) = true
+is_of_leader (rule.OwnHost kind link) = true
+is_of_leader (rule.Kind kind) = true
+is_of_leader (rule.WrongLink link) = true
+is_of_leader other = false
+
+-- of a link: one message is out at a time, and what was not delivered goes out again as it was
+abbrev pub is_of_link : Rule → Bool
+is_of_link (rule.Occupied link) = true
+is_of_link (rule.Changed link) = true
+is_of_link other = false

@@ -1,0 +1,9 @@
+//! No false alarm: whatever is asked of a host, and whatever bits come, an audit of all that passes its interface does not
+//! blame it. Each law is the contract of a function that does nothing.
+//!
+//! - *Use:* what `ncp audit` says against a host rests on it.
+//! - *Proved:* the laws of `alarms`, each for the rules that it names.
+//! - *Tests:* what is found of wrong hosts is in `ncp_test_audit`.
+#![tactic(auto)]
+
+pub mod alarms;
