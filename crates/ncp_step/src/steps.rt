@@ -74,7 +74,7 @@ pub fn sends<S: BitStore>(
 }
 
 /// The subnet gives out a message at its destination, which is this host (BBN Report 1822, section 3). None, and
-/// nothing has happened, where no message is there that may come; that takes no memory. And nothing has after an
+/// nothing has happened, where no message is there that may come: that is never refused. And nothing has after an
 /// `AllocError`.
 pub fn comes<S: BitStore>(
     alloc: Global,
@@ -102,7 +102,7 @@ pub fn comes<S: BitStore>(
 }
 
 /// The subnet answers the sender of a message, which is this host (BBN Report 1822, section 3). None, and nothing
-/// has happened, where there is no answer to give; that takes no memory. And nothing has after an `AllocError`.
+/// has happened, where there is no answer to give: that is never refused. And nothing has after an `AllocError`.
 pub fn answers<S: BitStore>(
     alloc: Global,
     subnet: &mut Subnet,

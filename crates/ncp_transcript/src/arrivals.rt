@@ -46,8 +46,8 @@ fn answer_in<S: BitStore>(host: &Host<S>, bits: &Bits) -> Option<Leader>
     }
 }
 
-/// Hands bits to a host, and gives their note. It takes no memory: the note has that of the room, and
-/// what it does not need is given back.
+/// Hands bits to a host, and gives their note. The note has the memory of the room, and what it does
+/// not need is given back.
 pub fn hear_in_room<S: BitStore>(room: Room, host: &mut Host<S>, bits: &Bits) -> HostNote
     ensures note { result ≡ note_of_bits bits.now host.old }
     ensures host { host.new ≡ after_note result host.old }

@@ -2,23 +2,24 @@
 ghost use Rattle.std.specs.Prelude.{◌≡◌, IfOk};
 
 use ncp_host::{Error, Errors};
-use ncp_model::MAX_ERRORS;
 use std::alloc::{AllocError, Global};
 use std::marker::Model;
 
-/// The ERRs that were kept of a peer when they were read, oldest first.
+/// The ERRs that were kept of a peer when they were read, oldest first, in as much memory as they need.
 #[derive(Debug, Drop)]
 pub struct ErrorList {
     errors: Vec<Error>,
 }
 
 impl Model for ErrorList {
-    ghost use Rattle.std.specs.Prelude.{List};
+    ghost use Rattle.std.specs.Prelude.{◌≡◌, List, vec_len, vec_capacity};
     ghost use Rattle.ncp_model.specs.declared.outcomes.Error.{Error};
 
     ghost Value = { List Error };
 
     ghost view = { λ list. list.errors.items };
+
+    ghost invariant = { λ list. vec_capacity list.errors ≡ vec_len list.errors };
 }
 
 impl ErrorList {
@@ -26,11 +27,10 @@ impl ErrorList {
     pub(crate) fn of(alloc: Global, errors: Errors<'_>) -> Result<ErrorList, AllocError>
         ensures { IfOk result (λ list. list ≡ errors.entry) }
     {
-        let mut list = Vec::with_capacity(alloc, MAX_ERRORS)?;
+        let mut list = Vec::with_capacity(alloc, errors.len())?;
         for error in errors {
-            list.push(*error)?;
+            list.push_reserved(*error);
         }
-        list.shrink_to_fit();
         Ok(ErrorList { errors: list })
     }
 
