@@ -5,6 +5,7 @@ mod calls;
 mod clearings;
 mod endings;
 mod faults;
+mod listing;
 mod peers;
 mod queue;
 mod refusals;

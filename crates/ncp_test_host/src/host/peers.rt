@@ -3,7 +3,7 @@ use super::steps::{Call, Step};
 use super::{INCOMPLETE, INWARD, NOBODY, OTHER, Tried, goes};
 use crate::known::{DOWN, ME, NO_COUNTS, OUTWARD, PEER, UP};
 use ncp_bits::{BitStore, PackedStore, PlainStore};
-use ncp_host::{CallFault, Counts, HostFault, Ignored, MAX_PEERS, Received};
+use ncp_host::{CallFault, Counts, End, HostFault, Ignored, MAX_PEERS, Received};
 use std::alloc::Global;
 use std::test::Fail;
 
@@ -123,6 +123,11 @@ fn other_calls_are_for_peers(rt: HostRuntime) -> Result<(), Fail> {
         Step::Refuses(Call::Echoed, UNKNOWN),
         Step::Refuses(Call::Errors, UNKNOWN),
         Step::Refuses(Call::Counts, UNKNOWN),
+        Step::Refuses(Call::ConnectionAt(0), UNKNOWN),
+        Step::Refuses(Call::Room(INWARD), UNKNOWN),
+        Step::Refuses(Call::PairOn(End::Send, 2), UNKNOWN),
+        Step::Refuses(Call::IsHeld(2), UNKNOWN),
+        Step::Refuses(Call::Restart, UNKNOWN),
         Step::Wait(0),
         Step::KeepsNone(0),
         Step::Of(PEER),

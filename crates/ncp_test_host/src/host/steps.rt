@@ -1,5 +1,5 @@
 //! What an example does to a host, and what it wants of it, as values.
-use ncp_host::{CallFault, Counts, Flags, Ignored, Pair, Received, Record};
+use ncp_host::{CallFault, Counts, End, Flags, Ignored, Pair, Received, Record};
 use ncp_terms::Command;
 
 /// A call of a user that is answered by nothing more.
@@ -22,12 +22,17 @@ pub(super) enum Call<'a> {
     Echo(u8),
     Close(Pair),
     Wake,
+    Restart,
     /// The readers: they answer more, but may be refused in the same way.
     State(Pair),
     Phase,
     Echoed,
     Errors,
     Counts,
+    ConnectionAt(u32),
+    Room(Pair),
+    PairOn(End, u8),
+    IsHeld(u8),
 }
 
 /// A step of an example. It is about the first peer, up to the step that names another.
@@ -83,6 +88,15 @@ pub(super) enum Step<'a> {
     IsSilent,
     /// What the readers answer.
     Knows(Pair, Record),
+    /// The connection at a place, or none.
+    ConnectionAt(u32, Pair, Record),
+    NoneAt(u32),
+    HasRoom(Pair, u32),
+    /// A link leads to a pair, or to none.
+    LeadsTo(End, u8, Pair),
+    LeadsNowhere(End, u8),
+    /// Whether the message on a link is held.
+    IsHeld(u8, bool),
     HasFlags(Flags),
     HasEchoed(Option<u8>),
     HasCounts(Counts),

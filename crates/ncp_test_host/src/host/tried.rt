@@ -131,6 +131,24 @@ impl<S: BitStore> Tried<S> {
             Step::Wait(count) => self.wait(*count),
             Step::Keeps(link, text) => self.keeps(rt, *link, text),
             Step::KeepsNone(link) => self.host.kept(self.peer, *link).is_none(),
+            _ => self.lists(step),
+        }
+    }
+
+    fn lists(&self, step: &Step<'_>) -> bool {
+        match step {
+            Step::ConnectionAt(place, pair, want) => {
+                self.host.connection_at(self.peer, *place) == Ok(Some((*pair, *want)))
+            }
+            Step::NoneAt(place) => self.host.connection_at(self.peer, *place) == Ok(None),
+            Step::HasRoom(pair, want) => self.host.room(self.peer, *pair) == Ok(*want),
+            Step::LeadsTo(end, link, want) => {
+                self.host.pair_on(self.peer, *end, *link) == Ok(Some(*want))
+            }
+            Step::LeadsNowhere(end, link) => {
+                self.host.pair_on(self.peer, *end, *link) == Ok(None)
+            }
+            Step::IsHeld(link, want) => self.host.is_held(self.peer, *link) == Ok(*want),
             _ => false,
         }
     }
@@ -150,6 +168,7 @@ impl<S: BitStore> Tried<S> {
             Call::Echo(byte) => self.host.echo(self.peer, byte),
             Call::Close(pair) => self.host.close(self.peer, pair),
             Call::Wake => self.host.wake(self.peer),
+            Call::Restart => self.host.restart(self.peer),
             _ => self.call_of_text(rt, call),
         }
     }
@@ -194,6 +213,18 @@ impl<S: BitStore> Tried<S> {
             }
             Call::Counts => {
                 self.host.counts(self.peer)?;
+            }
+            Call::ConnectionAt(place) => {
+                self.host.connection_at(self.peer, *place)?;
+            }
+            Call::Room(pair) => {
+                self.host.room(self.peer, *pair)?;
+            }
+            Call::PairOn(end, link) => {
+                self.host.pair_on(self.peer, *end, *link)?;
+            }
+            Call::IsHeld(link) => {
+                self.host.is_held(self.peer, *link)?;
             }
             _ => {}
         }
