@@ -60,6 +60,11 @@ FindsRecord bytes (Err fault) window left = MatchFault (λ f. next_record bytes 
 abbrev pub HasFaultInFront : List ℕ → FileFault → Type 0
 HasFaultInFront bytes fault = MatchFault (λ f. next_record bytes ≡ Err f) ⊥ ⊥ fault
 
+-- the message of the record in front was found, which has so many bits, or the fault stands there
+abbrev pub FindsMessage : List ℕ → ℕ → Result (List Bool) FileFault → Type 0
+FindsMessage bytes len (Ok message) = next_record bytes ≡ Ok (Some (message, drop (bytes_for len) (drop 2 bytes)))
+FindsMessage bytes len (Err fault) = HasFaultInFront bytes fault
+
 -- this message was taken, or the fault stands there
 abbrev pub TakesRecord : List ℕ → Result Unit FileFault → List Bool → List ℕ → Option (List ℕ) → Type 0
 TakesRecord bytes (Ok done) message window left =

@@ -8,10 +8,9 @@ ghost use Rattle.ncp_play_files.specs.Steps.{StandsWhole};
 ghost use Rattle.ncp_play_files.specs.Tallies.{no_messages, JudgesRecord, JudgesNext, TalliesFrom, TalliesFile};
 ghost use Rattle.ncp_play_files.specs.Checked.{Checked};
 
-use crate::file::{FileFault, fault_of, message_bytes, skip_record};
+use crate::file::{FileFault, message_of, skip_record};
 use crate::tally::{Counts, Tally, Verdict, judge, push_tally};
 use crate::version::{PlacedRecords, PlainRecords, Records, Version, read_version};
-use ncp_bits::Part;
 use ncp_play_page::{Page, Window};
 use ncp_play_stream::{Sink, Source, stop_at_fault};
 
@@ -24,9 +23,9 @@ fn judge_record(window: &mut Window, len: usize) -> Result<Verdict, FileFault>
     ensures read { is_read_failed result ≡ false }
     ensures write { is_write_failed result ≡ false }
 {
-    let verdict = match Part::from_bytes(message_bytes(window.unread(), len), len) {
+    let verdict = match message_of(window, len) {
         Ok(message) => judge(&message),
-        Err(fault) => return Err(fault_of(fault)),
+        Err(fault) => return Err(fault),
     };
     skip_record(window, len);
     Ok(verdict)

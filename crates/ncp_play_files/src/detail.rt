@@ -11,7 +11,7 @@ use crate::control::is_of_control;
 use crate::line::LONGEST_LINE;
 use ncp_bits::{Bits, MAX_BITS, Part};
 use ncp_control::Commands;
-use ncp_leader::{MessageFault, Regular, read_regular};
+use ncp_leader::{MessageFault, Regular, read_regular_in};
 use ncp_play_page::{PAGE_SIZE, Page, push_field};
 use ncp_play_stream::{Failed, Sink};
 use ncp_terms::{Command, CommandFault, ERROR_DATA};
@@ -179,6 +179,7 @@ fn say_commands<W: Sink>(page: &mut Page, sink: &mut W, text: Part<'_>) -> Resul
 
 // Appends the bytes of a text that have to be copied first. It is a function of its own, so that a
 // text whose bytes need no copy does not pay for the room of one.
+#[inline(never)]
 fn push_copied(page: &mut Page, text: &Part<'_>)
     requires { length page.old + MAX_BITS / 4 ≤ PAGE_SIZE }
     ensures bytes { page.new ≡ page.old ++ hex_of (bytes_of text.now) }
@@ -291,7 +292,21 @@ pub fn say_details<W: Sink>(page: &mut Page, sink: &mut W, bits: &Bits) -> Resul
     ensures writes { bytes_and_writes W.takes_all (W.writes sink.old) (W.written sink.old) ≤ bytes_and_writes W.takes_all (W.writes sink.new) (W.written sink.new) + lost_pieces (is_err result) }
     ensures mark { W.has_failed sink.new ≡ (W.has_failed sink.old || is_err result) }
 {
-    match read_regular(bits) {
+    say_details_in(page, sink, &bits.whole())
+}
+
+/// As [`say_details`], of a message that stands in other bits or in bytes.
+#[inline(always)]
+pub(crate) fn say_details_in<W: Sink>(
+    page: &mut Page,
+    sink: &mut W,
+    part: &Part<'_>,
+) -> Result<(), Failed>
+    ensures told { SaysTextOrBeginning page.old (W.written sink.old) (message_lines (message_in part.now)) result page.new (W.written sink.new) }
+    ensures writes { bytes_and_writes W.takes_all (W.writes sink.old) (W.written sink.old) ≤ bytes_and_writes W.takes_all (W.writes sink.new) (W.written sink.new) + lost_pieces (is_err result) }
+    ensures mark { W.has_failed sink.new ≡ (W.has_failed sink.old || is_err result) }
+{
+    match read_regular_in(part) {
         Ok(message) => say_message(page, sink, &message),
         Err(fault) => say_fault(page, sink, fault),
     }

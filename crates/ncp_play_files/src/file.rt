@@ -1,11 +1,12 @@
 //! A message file: its faults, and the header and the records of version 1.
-ghost use Rattle.std.specs.Prelude.{◌≡◌, ℕ, Option, ◌+◌, ◌<◌, ◌≤◌, ◌||◌, List, true, false, length, drop, slice_range, is_some, IfSome, IfOk, OnOk};
+ghost use Rattle.std.specs.Prelude.{◌≡◌, ℕ, Option, ◌+◌, ◌<◌, ◌≤◌, ◌||◌, List, true, false, length, drop, slice_range, is_some, IfSome, IfOk, IfErr, OnOk};
+ghost use Rattle.byteorder.specs.Endian.{big_number};
 ghost use Rattle.ncp_numbers.specs.Bytes.{bytes_for};
 ghost use Rattle.ncp_bits.specs.declared.bits.TheConstants.{MAX_BITS};
 ghost use Rattle.ncp_play_files.specs.File.{name_of_fault, fault_of_bits};
 ghost use Rattle.ncp_play_stream.specs.Pieces.{reads_beyond};
 ghost use Rattle.ncp_play_files.specs.Results.{is_read_failed, is_write_failed};
-ghost use Rattle.ncp_play_files.specs.Steps.{ReadsHeader, StandsWhole, FindsRecord, TakesRecord, ReadsRecord};
+ghost use Rattle.ncp_play_files.specs.Steps.{ReadsHeader, StandsWhole, FindsRecord, FindsMessage, TakesRecord, ReadsRecord};
 ghost use Rattle.ncp_play_files.specs.Waiting.{lacks_message};
 ghost use Rattle.ncp_play_page.specs.Windows.{effort};
 ghost use Rattle.ncp_play_stream.specs.Streams.{Ahead};
@@ -13,7 +14,7 @@ ghost use Rattle.ncp_play_files.specs.declared.file.TheConstants.{LENGTH};
 
 use crate::version::{LONGEST_RECORD, Version, read_version};
 use byteorder::{BigEndian, ByteOrder};
-use ncp_bits::{Bits, BitsFault, MAX_BITS};
+use ncp_bits::{Bits, BitsFault, MAX_BITS, Part};
 use ncp_play_page::Window;
 use ncp_play_stream::{Failed, Source};
 use thiserror::Error;
@@ -106,6 +107,22 @@ pub(crate) fn fault_of(fault: BitsFault) -> FileFault
     }
 }
 
+// How many bits the message of the record has that begins there.
+#[inline(always)]
+fn message_len(ahead: &[u8]) -> Result<usize, FileFault>
+    requires { LENGTH ≤ length ahead.now }
+    ensures ok { IfOk result (λ len. (len ≡ big_number 2 ahead.now) × (len ≤ MAX_BITS)) }
+    ensures err { IfErr result (λ fault. (fault ≡ FileFault.TooLong) × (MAX_BITS < big_number 2 ahead.now)) }
+    ensures read { is_read_failed result ≡ false }
+    ensures write { is_write_failed result ≡ false }
+{
+    let len = usize::from(BigEndian::read_u16(ahead));
+    if len > MAX_BITS {
+        return Err(FileFault::TooLong);
+    }
+    Ok(len)
+}
+
 // Reads until the window has the next record of a file of version 1: first its length, and then what
 // the length says.
 #[inline(never)]
@@ -127,10 +144,7 @@ fn need_parts<S: Source>(window: &mut Window, source: &mut S) -> Result<Option<u
             Err(FileFault::Truncated)
         };
     }
-    let len = usize::from(BigEndian::read_u16(window.unread()));
-    if len > MAX_BITS {
-        return Err(FileFault::TooLong);
-    }
+    let len = message_len(window.unread())?;
     if !window.need(source, LENGTH + len.div_ceil(8))? {
         return Err(FileFault::Truncated);
     }
@@ -155,14 +169,10 @@ pub(crate) fn need_record<S: Source>(
     ensures lowers { S.reads source.new ≤ S.reads source.old }
     ensures unread { IfOk result (λ found. is_some found ≡ true → S.reads source.new ≡ S.reads source.old → window.new ≡ window.old) }
 {
-    let ahead = window.unread();
-    if ahead.len() < LONGEST_RECORD {
+    if window.unread().len() < LONGEST_RECORD {
         return need_parts(window, source);
     }
-    let len = usize::from(BigEndian::read_u16(ahead));
-    if len > MAX_BITS {
-        return Err(FileFault::TooLong);
-    }
+    let len = message_len(window.unread())?;
     Ok(Some(len))
 }
 
@@ -173,6 +183,20 @@ pub(crate) fn message_bytes(window: &[u8], len: usize) -> &[u8]
     ensures { result.now ≡ slice_range window.now LENGTH (LENGTH + bytes_for len) }
 {
     &window[LENGTH..LENGTH + len.div_ceil(8)]
+}
+
+/// The message of a record that stands in a window, where it stands, which has so many bits.
+#[inline(always)]
+pub(crate) fn message_of(window: &Window, len: usize) -> Result<Part<'_>, FileFault>
+    requires { StandsWhole window.now len }
+    ensures told { (bytes : List ℕ) (left : Option (List ℕ)) → Ahead window.now left bytes → FindsMessage bytes len result }
+    ensures read { is_read_failed result ≡ false }
+    ensures write { is_write_failed result ≡ false }
+{
+    match Part::from_bytes(message_bytes(window.unread(), len), len) {
+        Ok(message) => Ok(message),
+        Err(fault) => Err(fault_of(fault)),
+    }
 }
 
 /// Uses up a record that stands in a window, whose message has so many bits.

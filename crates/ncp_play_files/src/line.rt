@@ -5,7 +5,7 @@ ghost use Rattle.ncp_play_files.specs.Lines.{kind_name, extras, summary, way_wor
 use crate::file::Direction;
 use crate::version::Passage;
 use ncp_leader::{DESTINATION_DEAD, INCOMPLETE, Leader, REGULAR, RFNM, Short};
-use ncp_play_page::{LONGEST_NUMBER, PAGE_SIZE, Page, push_field};
+use ncp_play_page::{Counter, LONGEST_NUMBER, PAGE_SIZE, Page, push_field};
 
 /// How many bytes a line has at most, but for a text in hexadecimal.
 pub const LONGEST_LINE: usize = 128;
@@ -98,13 +98,13 @@ fn push_passage(page: &mut Page, passage: Passage)
 pub(crate) fn push_first_line(
     page: &mut Page,
     passage: Passage,
-    number: u32,
+    number: &Counter,
     leader: &Result<Leader, Short>,
 )
     requires { length page.old + LONGEST_LINE ≤ PAGE_SIZE }
-    ensures { page.new ≡ page.old ++ (decimal number ++ passage_words passage ++ summary passage.direction leader.now) }
+    ensures { page.new ≡ page.old ++ (decimal number.now ++ passage_words passage ++ summary passage.direction leader.now) }
 {
-    page.push_decimal(number);
+    page.push_counter(number);
     push_passage(page, passage);
     match leader {
         Ok(leader) => push_leader(page, passage.direction, leader),

@@ -10,27 +10,25 @@ ghost use Rattle.ncp_play_files.specs.Waiting.{is_waiting};
 ghost use Rattle.ncp_play_files.specs.Steps.{SaysNext, SaysOn, SaysFrom, Says, says_nothing, unpaid_after};
 ghost use Rattle.ncp_play_files.specs.Shown.{ShownAs, ShownCut, Shown};
 
-use crate::file::FileFault;
+use crate::file::{FileFault, message_of, skip_record};
 use crate::letting_out::let_out;
 use crate::record::say_record;
-use crate::version::{PlacedRecords, PlainRecords, Records, Version, read_next_of, read_version};
-use ncp_bits::Bits;
-use ncp_play_page::{Page, Window};
+use crate::version::{PlacedRecords, PlainRecords, Records, Version, read_version};
+use ncp_play_page::{Counter, Page, Window};
 use ncp_play_stream::{LEAST_PIECE, Sink, Source, stop_at_fault};
 
-// Reads the next record into `message` and shows it, and answers whether there was one.
+// Shows the next record where it stands in the window, and answers whether there was one.
 fn show_next<S: Source, W: Sink, R: Records>(
     window: &mut Window,
     source: &mut S,
-    message: &mut Bits,
     page: &mut Page,
     sink: &mut W,
     records: R,
-    number: u32,
+    number: &Counter,
 ) -> Result<bool, FileFault>
     ensures told { (bytes : List ℕ) (was : List ℕ) (said : List ℕ)
         → Ahead window.old (S.left source.old) bytes → SaidSoFar was page.old (W.written sink.old) said
-        → SaysNext (next_in (R.version records)) record_lines number bytes was said result window.new (S.left source.new) page.new (W.written sink.new) }
+        → SaysNext (next_in (R.version records)) record_lines number.now bytes was said result window.new (S.left source.new) page.new (W.written sink.new) }
     ensures source_mark { S.has_failed source.new ≡ (S.has_failed source.old || is_read_failed result) }
     ensures writes { bytes_and_writes W.takes_all (W.writes sink.old) (W.written sink.old) ≤ bytes_and_writes W.takes_all (W.writes sink.new) (W.written sink.new) + lost_pieces (is_write_failed result) }
     ensures sink_mark { W.has_failed sink.new ≡ (W.has_failed sink.old || is_write_failed result) }
@@ -41,10 +39,15 @@ fn show_next<S: Source, W: Sink, R: Records>(
     ensures waited { says_nothing result ≡ false → is_waiting (R.version records) window.old ≡ true → S.reads source.new < S.reads source.old }
     ensures kept { says_nothing result ≡ true → page.new ≡ page.old }
 {
-    let Some(passage) = read_next_of(window, source, records, message)? else {
+    let Some(found) = records.find_next(window, source)? else {
         return Ok(false);
     };
-    match say_record(page, sink, passage, number, message) {
+    let shown = match message_of(window, found.len) {
+        Ok(message) => say_record(page, sink, found.passage, number, &message),
+        Err(fault) => return Err(fault),
+    };
+    skip_record(window, found.len);
+    match shown {
         Ok(()) => Ok(true),
         Err(_) => Err(FileFault::WriteFailed),
     }
@@ -54,15 +57,14 @@ fn show_next<S: Source, W: Sink, R: Records>(
 fn show_on<S: Source, W: Sink, R: Records>(
     window: &mut Window,
     source: &mut S,
-    message: &mut Bits,
     page: &mut Page,
     sink: &mut W,
     records: R,
-    number: u32,
+    number: &Counter,
 ) -> Result<bool, FileFault>
     ensures told { (bytes : List ℕ) (was : List ℕ) (said : List ℕ)
         → Ahead window.old (S.left source.old) bytes → SaidSoFar was page.old (W.written sink.old) said
-        → SaysOn (next_in (R.version records)) record_lines number bytes was said result window.new (S.left source.new) page.new (W.written sink.new) }
+        → SaysOn (next_in (R.version records)) record_lines number.now bytes was said result window.new (S.left source.new) page.new (W.written sink.new) }
     ensures source_mark { S.has_failed source.new ≡ (S.has_failed source.old || is_read_failed result) }
     ensures writes { Paid W.takes_all (W.writes sink.old) (W.written sink.old) (S.reads source.old) (W.writes sink.new) (W.written sink.new) (S.reads source.new) (unpaid_after result page.new) }
     ensures sink_mark { W.has_failed sink.new ≡ (W.has_failed sink.old || is_write_failed result) }
@@ -71,11 +73,11 @@ fn show_on<S: Source, W: Sink, R: Records>(
     ensures effort { IfOk result (λ more. more ≡ true → effort (S.reads source.new) window.new < effort (S.reads source.old) window.old) }
 {
     let_out(window, records.file(), page, sink)?;
-    let shown = show_next(window, source, message, page, sink, records, number);
+    let shown = show_next(window, source, page, sink, records, number);
     stop_at_fault(
         source,
         &shown,
-        number.saturating_sub(1),
+        number.number().saturating_sub(1),
         window.unread().len(),
     );
     shown
@@ -97,10 +99,9 @@ fn show_records<S: Source, W: Sink, R: Records>(
     ensures sink_mark { W.has_failed sink.new ≡ (W.has_failed sink.old || is_write_failed result) }
     ensures reads { reads_beyond S.gives_all (S.reads source.old) (S.left source.old) ≤ reads_beyond S.gives_all (S.reads source.new) (S.left source.new) + 1 }
 {
-    let mut message = Bits::new();
-    let mut number = 1u32;
-    while show_on(window, source, &mut message, page, sink, records, number)? {
-        number = number.saturating_add(1);
+    let mut number = Counter::first();
+    while show_on(window, source, page, sink, records, &number)? {
+        number.advance();
     }
     Ok(())
 }

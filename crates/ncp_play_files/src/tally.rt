@@ -82,7 +82,7 @@ pub(crate) fn judge(message: &Part<'_>) -> Verdict
 }
 
 /// How many messages there are of each verdict. A count stays at the largest number.
-#[derive(Clone, Copy, Debug, Drop, PartialEq, Eq)]
+#[derive(Drop)]
 pub(crate) struct Counts {
     short: u32,
     other: u32,

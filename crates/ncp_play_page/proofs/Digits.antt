@@ -1,10 +1,11 @@
 -- Bytes in hexadecimal, a block of sixteen at a time.
-use Rattle.std.proofs.Common.{◌≡◌, ℕ, zero, suc, ◌+◌, ◌*◌, ◌/◌, ◌%◌, ◌<◌, ◌≤◌, Bool, true, ◌&&◌, eqb, bit_and, w8, Fits, List, [], ◌∷◌, ◌++◌, map, length, get_or, take, refl, sym, ap, ◌∙◌, subst, inl, inr, arith, take-add}
+use Rattle.std.proofs.Common.{◌≡◌, ℕ, zero, suc, ◌+◌, ◌*◌, ◌/◌, ◌%◌, ◌<◌, ◌≤◌, Bool, true, ◌&&◌, eqb, bit_and, w8, Fits, List, [], ◌∷◌, ◌++◌, map, length, get_or, take, drop, take-take, refl, sym, ap, ◌∙◌, subst, inl, inr, arith, take-add}
 use Rattle.std.proofs.lemmas.Bool.{and_parts, cases_lt, eqb-true}
 use Rattle.std.proofs.lemmas.Nat.{and_mask}
-use Rattle.std.proofs.lemmas.List.{get_or-map, length-map, ext_get_or}
+use Rattle.std.proofs.lemmas.List.{get_or-map, length-map, ext_get_or, length-take-le, take-append-drop, take_all}
 use Rattle.std.proofs.lemmas.List.Concat.{flat_map-append}
 use Rattle.std.proofs.lemmas.Simd.{Each1-get_or, SwzOk, SwzOk-from_below, below_from_Fits, swz_l, length-swz_l, get_or-swz_l_below, pick_l_whole, length-chunk, take_more_put_chunk}
+use Rattle.std.proofs.Math.Seq.{take-append_seam}
 use lib.Lanes.{Each1, pick_l, put_chunk, chunk}
 use Rattle.ncp_play_page.specs.Lines.{hex_digit, hex_byte, hex_of}
 use Rattle.ncp_play_page.specs.declared.hex.TheConstants.{DIGITS}
@@ -78,13 +79,25 @@ length-hex : (bytes : List ℕ) → length (hex_of bytes) ≡ 2 * length bytes
 length-hex [] = refl
 length-hex (byte ∷ bytes) = omega (arith, length-hex bytes)
 
-pub block_written : (out bytes digits : List ℕ) (n : ℕ) → 16 * n + 16 ≤ length bytes → length out ≡ 2 * length bytes → take (32 * n) out ≡ hex_of (take (16 * n) bytes) → digits ≡ hex_of (chunk (16 * n) 16 bytes)
-    → take (32 * (n + 1)) (put_chunk (32 * n) out digits) ≡ hex_of (take (16 * (n + 1)) bytes)
-block_written out bytes digits n within room front is =
-    let long : length digits ≡ 32 = ap length is ∙ length-hex (chunk (16 * n) 16 bytes) ∙ ap (λ m. 2 * m) (length-chunk (16 * n) 16 bytes within) in
-    let next : 16 * n + 16 ≡ 16 * (n + 1) = omega arith in
-    take_more_put_chunk (32 * n) out digits (32 * (n + 1)) (omega (arith, long)) (omega arith)
+pub block_written : (out bytes digits : List ℕ) (at : ℕ) → at + 16 ≤ length bytes → length out ≡ 2 * length bytes → take (2 * at) out ≡ hex_of (take at bytes) → digits ≡ hex_of (chunk at 16 bytes)
+    → take (2 * (at + 16)) (put_chunk (2 * at) out digits) ≡ hex_of (take (at + 16) bytes)
+block_written out bytes digits at within room front is =
+    let long : length digits ≡ 32 = ap length is ∙ length-hex (chunk at 16 bytes) ∙ ap (λ m. 2 * m) (length-chunk at 16 bytes within) in
+    take_more_put_chunk (2 * at) out digits (2 * (at + 16)) (omega (arith, long)) (omega arith)
     ∙ (λ i. front i ++ is i)
-    ∙ sym (flat_map-append hex_byte (take (16 * n) bytes) (chunk (16 * n) 16 bytes))
-    ∙ ap hex_of (sym (take-add (16 * n) 16 bytes))
-    ∙ ap (λ m. hex_of (take m bytes)) next
+    ∙ sym (flat_map-append hex_byte (take at bytes) (chunk at 16 bytes))
+    ∙ ap hex_of (sym (take-add at 16 bytes))
+
+-- of what is written the front is that of the bytes' front
+pub front_written : (out bytes : List ℕ) (at more : ℕ) → at ≤ more → more ≤ length bytes → take (2 * more) out ≡ hex_of (take more bytes) → take (2 * at) out ≡ hex_of (take at bytes)
+front_written out bytes at more less within front =
+    let split : take at bytes ++ drop at (take more bytes) ≡ take more bytes = ap (λ xs. xs ++ drop at (take more bytes)) (sym (take-take at more bytes less)) ∙ take-append-drop at (take more bytes) in
+    let long : length (hex_of (take at bytes)) ≡ 2 * at = length-hex (take at bytes) ∙ ap (λ m. 2 * m) (length-take-le at bytes (omega arith)) in
+    sym (take-take (2 * at) (2 * more) out (omega arith))
+    ∙ ap (take (2 * at)) (front ∙ ap hex_of (sym split) ∙ flat_map-append hex_byte (take at bytes) (drop at (take more bytes)))
+    ∙ ap (λ m. take m (hex_of (take at bytes) ++ hex_of (drop at (take more bytes)))) (sym long)
+    ∙ take-append_seam (hex_of (take at bytes)) (hex_of (drop at (take more bytes)))
+
+-- and where that is all, it is all
+pub all_written : (out bytes : List ℕ) (count : ℕ) → count ≡ length bytes → length out ≡ 2 * length bytes → take (2 * count) out ≡ hex_of (take count bytes) → out ≡ hex_of bytes
+all_written out bytes count is room front = sym (take_all (2 * count) out (omega arith)) ∙ front ∙ ap hex_of (take_all count bytes (omega arith))

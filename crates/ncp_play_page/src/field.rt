@@ -5,6 +5,8 @@ ghost use Rattle.ncp_play_page.specs.Lines.{field};
 use crate::page::{LONGEST_NUMBER, PAGE_SIZE, Page};
 
 /// Appends a number behind its name. There has to be room for the name and the longest number.
+// It stands in the lines, where a name is of a known length and copied in one or two moves.
+#[inline(always)]
 pub fn push_field(page: &mut Page, name: &[u8], number: u32)
     requires { length page.old + length name.now + LONGEST_NUMBER ≤ PAGE_SIZE }
     ensures bytes { page.new ≡ page.old ++ field name.now number }

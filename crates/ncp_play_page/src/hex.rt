@@ -1,5 +1,5 @@
 //! Bytes in hexadecimal.
-ghost use Rattle.std.specs.Prelude.{◌≡◌, ◌*◌, ◌/◌, ◌%◌, ◌<◌, length, map};
+ghost use Rattle.std.specs.Prelude.{◌≡◌, ◌*◌, ◌/◌, ◌%◌, ◌+◌, ◌<◌, ◌≤◌, length, take, map};
 ghost use Rattle.ncp_play_page.specs.Lines.{hex_digit, hex_of};
 
 use std::simd::prelude::*;
@@ -48,18 +48,42 @@ fn digit_of(number: u8) -> u8
     DIGITS[usize::from(number)]
 }
 
-/// Writes bytes in hexadecimal: block by block, and those behind the last block one by one.
+// Writes the digits of the block of bytes that begins at a place. Those in front of it have to be written.
+#[inline(always)]
+fn write_block(out: &mut [u8], bytes: &[u8], at: usize)
+    requires room { length out.old ≡ 2 * length bytes.now }
+    requires inside { at + BLOCK ≤ length bytes.now }
+    requires front { take (2 * at) out.old ≡ hex_of (take at bytes.now) }
+    ensures room { length out.new ≡ length out.old }
+    ensures digits { take (2 * (at + BLOCK)) out.new ≡ hex_of (take (at + BLOCK) bytes.now) }
+{
+    let digits = block_digits(u8x16::from_slice(&bytes[at..]));
+    digits.copy_to_slice(&mut out[2 * at..]);
+}
+
+// Writes bytes in hexadecimal, one by one.
+fn write_each(out: &mut [u8], bytes: &[u8])
+    requires { length out.old ≡ 2 * length bytes.now }
+    ensures { out.new ≡ hex_of bytes.now }
+{
+    for place in 0..bytes.len() {
+        out[2 * place] = digit_of(bytes[place] / 16);
+        out[2 * place + 1] = digit_of(bytes[place] % 16);
+    }
+}
+
+/// Writes bytes in hexadecimal, block by block. The last block ends with the bytes, and so it can begin in the one before
+/// it. Where there is no block, the bytes are written one by one.
 pub(crate) fn write_hex(out: &mut [u8], bytes: &[u8])
     requires { length out.old ≡ 2 * length bytes.now }
     ensures { out.new ≡ hex_of bytes.now }
 {
-    let blocks = bytes.len() / BLOCK;
-    for block in 0..blocks {
-        let digits = block_digits(u8x16::from_slice(&bytes[BLOCK * block..]));
-        digits.copy_to_slice(&mut out[2 * BLOCK * block..]);
+    if bytes.len() < BLOCK {
+        return write_each(out, bytes);
     }
-    for place in BLOCK * blocks..bytes.len() {
-        out[2 * place] = digit_of(bytes[place] / 16);
-        out[2 * place + 1] = digit_of(bytes[place] % 16);
+    let last = bytes.len() - BLOCK;
+    for block in 0..last.div_ceil(BLOCK) {
+        write_block(out, bytes, BLOCK * block);
     }
+    write_block(out, bytes, last);
 }

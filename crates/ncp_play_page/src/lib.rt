@@ -1,4 +1,5 @@
-//! `Window`, which reads ahead of a source, and `Page`, on which lines are written for a sink.
+//! `Window`, which reads ahead of a source, `Page`, on which lines are written for a sink, and `Counter`, which numbers
+//! lines.
 //!
 //! - *Use:* `ncp_play_files/src/detail.rt`: `make_room` for a line, then `push_..` its words.
 //! - *Proved:* a page has the bytes that were pushed, and what does not fit is written first (`Page::make_room`,
@@ -7,11 +8,13 @@
 //! - *Tests:* `said` of `ncp_test_play_host`, and the files of `ncp_test_files`.
 #![tactic(auto)]
 
+mod counter;
 mod field;
 mod hex;
 mod page;
 mod window;
 
+pub use counter::Counter;
 pub use field::push_field;
 pub use page::{LONGEST_LONG, LONGEST_NUMBER, PAGE_SIZE, Page};
 pub use window::{WINDOW_SIZE, Window};

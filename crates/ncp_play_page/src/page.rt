@@ -5,6 +5,7 @@ ghost use Rattle.ncp_play_page.specs.Lines.{hex_of};
 ghost use Rattle.ncp_play_stream.specs.Pieces.{bytes_and_writes, lost_pieces, unpaid};
 ghost use Rattle.ncp_play_stream.specs.Streams.{SaysText, SaysBeginning};
 
+use crate::counter::Counter;
 use crate::hex::write_hex;
 use itoa::write_digits;
 use ncp_play_stream::{Failed, LEAST_PIECE, Sink};
@@ -54,8 +55,22 @@ fn put_all<W: Sink>(sink: &mut W, piece: &[u8]) -> Result<(), Failed>
     Ok(())
 }
 
-// How many digits a number has in decimal.
-fn count_digits(number: u64) -> usize
+// The numbers below 100, two bytes for each; behind one digit stands a space.
+const SHORT_NUMBERS: [u8; 200] =
+    *b"0 1 2 3 4 5 6 7 8 9 101112131415161718192021222324252627282930313233343536373839404142434445464748495051525354555657585960616263646566676869707172737475767778798081828384858687888990919293949596979899";
+
+// The two bytes of a number below 100.
+#[inline(always)]
+fn short_digits(number: u64) -> (u8, u8)
+    requires { number < 100 }
+    ensures { take (length (decimal number)) (result.0 ∷ result.1 ∷ []) ≡ decimal number }
+{
+    let place = number as usize * 2;
+    (SHORT_NUMBERS[place], SHORT_NUMBERS[place + 1])
+}
+
+/// How many digits a number has in decimal.
+pub(crate) fn count_digits(number: u64) -> usize
     ensures { result ≡ length (decimal number) }
 {
     if number < 10 {
@@ -135,16 +150,29 @@ impl Page {
         self.len = end;
     }
 
-    // Appends the digits of a number in decimal. Most numbers are short: where the count is known, the
-    // digits are written with no further question.
-    fn push_digits(&mut self, number: u64)
-        requires { length self.old + length (decimal number) ≤ PAGE_SIZE }
+    // Appends the digits of a number below 100. Two bytes are written, and the second one stays where it is a digit.
+    #[inline(always)]
+    fn push_short(&mut self, number: u64)
+        requires short { number < 100 }
+        requires room { length self.old + 2 ≤ PAGE_SIZE }
         ensures { self.new ≡ self.old ++ decimal number }
     {
-        if number < 10 {
-            self.push_counted(number, 1);
-        } else if number < 100 {
-            self.push_counted(number, 2);
+        let (first, second) = short_digits(number);
+        self.bytes[self.len] = first;
+        self.bytes[self.len + 1] = second;
+        self.len += 1 + usize::from(number > 9);
+    }
+
+    // Appends the digits of a number in decimal. Most numbers are short: where the count is known, the
+    // digits are written with no further question. It stays out of the lines, which have many numbers.
+    #[inline(never)]
+    fn push_digits(&mut self, number: u64)
+        requires pair { length self.old + 2 ≤ PAGE_SIZE }
+        requires room { length self.old + length (decimal number) ≤ PAGE_SIZE }
+        ensures { self.new ≡ self.old ++ decimal number }
+    {
+        if number < 100 {
+            self.push_short(number);
         } else if number < 1000 {
             self.push_counted(number, 3);
         } else if number < 10_000 {
@@ -155,12 +183,23 @@ impl Page {
     }
 
     /// Appends the digits of a number of 32 bits in decimal. There has to be room for the longest one.
+    #[inline(always)]
     pub fn push_decimal(&mut self, number: u32)
         requires { length self.old + LONGEST_NUMBER ≤ PAGE_SIZE }
         ensures bytes { self.new ≡ self.old ++ decimal number }
         ensures len { length self.new ≤ length self.old + LONGEST_NUMBER }
     {
         self.push_digits(u64::from(number));
+    }
+
+    /// Appends the digits of a counter. There has to be room for the longest one.
+    pub fn push_counter(&mut self, number: &Counter)
+        requires { length self.old + LONGEST_NUMBER ≤ PAGE_SIZE }
+        ensures bytes { self.new ≡ self.old ++ decimal number.now }
+        ensures len { length self.new ≤ length self.old + LONGEST_NUMBER }
+    {
+        self.bytes[self.len..self.len + LONGEST_NUMBER].copy_from_slice(number.digits());
+        self.len += number.count();
     }
 
     /// Appends the digits of a number of 64 bits in decimal. There has to be room for the longest one.

@@ -1,22 +1,19 @@
-use Rattle.std.proofs.Common.{◌+◌, Ok, Err, drop, slice_range, sym, ap, ◌∙◌}
+use Rattle.std.proofs.Common.{drop}
 use Rattle.ncp_numbers.specs.Bytes.{bytes_for}
-use Rattle.ncp_play_files.proofs.Files.{record_told, record_behind, told_fault}
+use Rattle.ncp_play_files.proofs.Files.{record_behind}
 use Rattle.ncp_play_files.proofs.checking.judge_record.Goals as goal
 
 pub skip_record-requires : goal.skip_record-requires
 skip_record-requires c = c.requires
 
 pub returns-in-Err-clause-told : goal.returns-in-Err-clause-told
-returns-in-Err-clause-told c = λ bytes left a.
-    let piece = c.message_bytes.ensures ∙ ap (λ w. slice_range w 2 (2 + bytes_for c.args.len)) c.unread.ensures.bytes in
-    rw c.fault_of.ensures (told_fault bytes c.in-Err.fault (record_told c.args.window.now c.message_bytes.result.now bytes left c.args.len (Err c.in-Err.fault) c.requires a piece (sym c.in-Err.is ∙ c.from_bytes.ensures.read)))
+returns-in-Err-clause-told c = λ bytes left a. c.in-Err.ensures.told bytes left a
 
 pub returns-clause-told : goal.returns-clause-told
-returns-clause-told c = λ bytes left a.
-    let piece = c.message_bytes.ensures ∙ ap (λ w. slice_range w 2 (2 + bytes_for c.args.len)) c.unread.ensures.bytes in (
-      c.in-Ok.message,
-      drop (bytes_for c.args.len) (drop 2 bytes),
-      record_told c.args.window.now c.message_bytes.result.now bytes left c.args.len (Ok c.in-Ok.message) c.requires a piece (sym c.in-Ok.is ∙ c.from_bytes.ensures.read),
-      c.judge-verdict.ensures,
-      record_behind c.args.window.now c.skip_record.new.window bytes left c.args.len c.requires c.skip_record.ensures.rest a,
-    )
+returns-clause-told c = λ bytes left a. (
+  c.in-Ok.message,
+  drop (bytes_for c.args.len) (drop 2 bytes),
+  c.in-Ok.ensures.told bytes left a,
+  c.judge-verdict.ensures,
+  record_behind c.args.window.now c.skip_record.new.window bytes left c.args.len c.requires c.skip_record.ensures.rest a,
+)

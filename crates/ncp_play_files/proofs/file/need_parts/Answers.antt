@@ -30,23 +30,36 @@ returns-else-is_empty-clause-told g c = λ bytes a.
     let less : length bytes < 2 = omega (arith, short.0, ap length whole) in
     next_cut bytes (λ e. some (sym same ∙ e)) less
 
-pub returns-then-len-gt-MAX_BITS-clause-told : goal.returns-then-len-gt-MAX_BITS-clause-told
-returns-then-len-gt-MAX_BITS-clause-told g c = λ bytes a.
+pub returns-in_err-len-clause-told : goal.returns-in_err-len-clause-told
+returns-in_err-len-clause-told g c = λ bytes a.
+    let p = err_from_is_err_and c.from_residual-in_err-len.result c.from_residual-in_err-len.ensures.1 in
     let ahead = c.in_ok-need.ensures.moved bytes a in
     let there = c.in_ok-need.ensures.there c.if-not-branch.false in
-    let len : c.from-len.result ≡ big_number 2 c.need.new.self = c.from-len.ensures ∙ c.read_u16.ensures ∙ ap (big_number 2) c.unread-2.ensures.bytes in
-    ap next_record (sym ahead.2) ∙ next_too_long (c.need.new.self ++ ahead.0) c.from-len.result (simp length-append (omega arith)) (len ∙ sym (big_from-append 2 c.need.new.self ahead.0 there)) c.if-len-gt-MAX_BITS.true
+    let len : big_number 2 c.unread-2.result.now ≡ big_number 2 c.need.new.self = ap (big_number 2) c.unread-2.ensures.bytes in
+    rw (p.1, p.2, c.in_err-len.ensures.err.0) (
+    ap next_record (sym ahead.2)
+    ∙ next_too_long (c.need.new.self ++ ahead.0) (big_number 2 c.unread-2.result.now) (simp length-append (omega arith)) (len ∙ sym (big_from-append 2 c.need.new.self ahead.0 there)) c.in_err-len.ensures.err.1)
+
+pub returns-in_err-len-clause-mark : goal.returns-in_err-len-clause-mark
+returns-in_err-len-clause-mark g c =
+    let p = err_from_is_err_and c.from_residual-in_err-len.result c.from_residual-in_err-len.ensures.1 in
+    rw (p.1, p.2) (c.in_ok-need.ensures.mark ∙ ap (λ b. g.S.Source.has_failed c.args.source.now || b) (sym c.in_err-len.ensures.read))
+
+pub returns-in_err-len-clause-other : goal.returns-in_err-len-clause-other
+returns-in_err-len-clause-other g c =
+    let p = err_from_is_err_and c.from_residual-in_err-len.result c.from_residual-in_err-len.ensures.1 in
+    rw (p.1, p.2) c.in_err-len.ensures.write
 
 pub returns-in_err-need-2-clause-told : goal.returns-in_err-need-2-clause-told
 returns-in_err-need-2-clause-told g c = λ bytes a.
     let p = err_from_is_err_and c.from_residual-in_err-need-2.result c.from_residual-in_err-need-2.ensures.1 in
     let there = c.in_ok-need.ensures.there c.if-not-branch.false in
     let grows = c.in_err-need-2.ensures.grows in
-    let len : c.from-len.result ≡ big_number 2 c.need.new.self = c.from-len.ensures ∙ c.read_u16.ensures ∙ ap (big_number 2) c.unread-2.ensures.bytes in
+    let len : c.in_ok-len.len ≡ big_number 2 c.need.new.self = c.in_ok-len.ensures.ok.0 ∙ ap (big_number 2) c.unread-2.ensures.bytes in
     rw (p.1, p.2) (
-    cut_in_bytes c.need-2.new.self bytes (g.S.Source.left c.need-2.new.source) c.from-len.result
+    cut_in_bytes c.need-2.new.self bytes (g.S.Source.left c.need-2.new.source) c.in_ok-len.len
     (omega (arith, simp length-append at (ap length grows.1)))
-    (len ∙ sym (number_grows c.need.new.self grows.0 c.need-2.new.self grows.1 there)) c.if-len-gt-MAX_BITS.false
+    (len ∙ sym (number_grows c.need.new.self grows.0 c.need-2.new.self grows.1 there)) c.in_ok-len.ensures.ok.1
     (omega (arith, c.in_err-need-2.ensures.err, c.div_ceil.ensures))
     (c.in_err-need-2.ensures.moved bytes (c.in_ok-need.ensures.moved bytes a)))
 
@@ -55,10 +68,10 @@ returns-then-not-branch-2-clause-told g c = λ bytes a.
     let there = c.in_ok-need.ensures.there c.if-not-branch.false in
     let grows = c.in_ok-need-2.ensures.grows in
     let short = c.in_ok-need-2.ensures.short c.if-not-branch-2.true in
-    let len : c.from-len.result ≡ big_number 2 c.need.new.self = c.from-len.ensures ∙ c.read_u16.ensures ∙ ap (big_number 2) c.unread-2.ensures.bytes in
+    let len : c.in_ok-len.len ≡ big_number 2 c.need.new.self = c.in_ok-len.ensures.ok.0 ∙ ap (big_number 2) c.unread-2.ensures.bytes in
     ap next_record (ahead_at_end c.need-2.new.self bytes (g.S.Source.left c.need-2.new.source) (c.in_ok-need-2.ensures.moved bytes (c.in_ok-need.ensures.moved bytes a)) short.1)
-    ∙ next_short c.need-2.new.self c.from-len.result (omega (arith, simp length-append at (ap length grows.1)))
-    (len ∙ sym (number_grows c.need.new.self grows.0 c.need-2.new.self grows.1 there)) c.if-len-gt-MAX_BITS.false (omega (arith, short.0, c.div_ceil.ensures))
+    ∙ next_short c.need-2.new.self c.in_ok-len.len (omega (arith, simp length-append at (ap length grows.1)))
+    (len ∙ sym (number_grows c.need.new.self grows.0 c.need-2.new.self grows.1 there)) c.in_ok-len.ensures.ok.1 (omega (arith, short.0, c.div_ceil.ensures))
 
 pub returns-in_err-need-2-clause-mark : goal.returns-in_err-need-2-clause-mark
 returns-in_err-need-2-clause-mark g c =

@@ -19,8 +19,8 @@ returns-in_err-let_out-clause-told g c = λ bytes was said a k.
     let version = g.R.Records.version c.args.records in
     let left = g.S.Source.left c.args.source.now in let written = g.W.Sink.written c.let_out.new.sink in
     rw (p.1, p.2) (
-    subst (λ (fault : FileFault). SaysFrom (next_in version) record_lines c.args.number bytes was said (Err fault) left c.let_out.new.page written) (sym out.0)
-    (from_lost (next_in version) (in_front version) record_lines c.args.number bytes was said out.1 c.let_out.new.page left written (out.2 was said k)))
+    subst (λ (fault : FileFault). SaysFrom (next_in version) record_lines c.args.number.now bytes was said (Err fault) left c.let_out.new.page written) (sym out.0)
+    (from_lost (next_in version) (in_front version) record_lines c.args.number.now bytes was said out.1 c.let_out.new.page left written (out.2 was said k)))
 
 pub returns-in_err-let_out-clause-sink_mark : goal.returns-in_err-let_out-clause-sink_mark
 returns-in_err-let_out-clause-sink_mark g c =
@@ -42,8 +42,8 @@ returns-clause-told g c = λ bytes was said a k.
     let version = g.R.Records.version c.args.records in
     let r = c.show_next-shown.result in
     let page = c.show_next-shown.new.page in let window = c.show_next-shown.new.window in let written = g.W.Sink.written c.show_next-shown.new.sink in
-    subst (λ (left : Option (List ℕ)). SaysOn (next_in version) record_lines c.args.number bytes was said r window left page written) (sym c.stop_at_fault.ensures.left)
-    (says_on (next_in version) (in_front version) record_lines c.args.number bytes was said window page (g.S.Source.left c.show_next-shown.new.source) written r
+    subst (λ (left : Option (List ℕ)). SaysOn (next_in version) record_lines c.args.number.now bytes was said r window left page written) (sym c.stop_at_fault.ensures.left)
+    (says_on (next_in version) (in_front version) record_lines c.args.number.now bytes was said window page (g.S.Source.left c.show_next-shown.new.source) written r
     (c.show_next-shown.ensures.told bytes was said a (c.in_ok-let_out.ensures.told was said k)))
 
 pub returns-clause-source_mark : goal.returns-clause-source_mark

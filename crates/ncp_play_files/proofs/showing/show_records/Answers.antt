@@ -1,4 +1,4 @@
-use Rattle.std.proofs.Common.{◌∙◌, ◌++◌, ℕ, Ok, Err, subst, arith}
+use Rattle.std.proofs.Common.{◌∙◌, ◌++◌, ℕ, Ok, Err, refl, subst, arith}
 use Rattle.std.proofs.Math.Bool.{or-false}
 use Rattle.std.proofs.lemmas.Result.{err_from_is_err_and}
 use Rattle.ncp_play_files.specs.Versions.{next_in}
@@ -7,6 +7,22 @@ use Rattle.ncp_play_files.specs.Steps.{SaysFrom}
 use Rattle.ncp_play_files.proofs.Placing.{in_front}
 use Rattle.ncp_play_files.proofs.Progress.{from_end, from_more}
 use Rattle.ncp_play_files.proofs.showing.show_records.Goals as goal
+
+pub loop-number-init : goal.loop-number-init
+loop-number-init g c =
+    record {
+      told = λ bytes was said a k. (
+        bytes,
+        said,
+        a,
+        k,
+        λ r left page written h. subst (λ (n : ℕ). SaysFrom (next_in (g.R.Records.version c.args.records)) record_lines n bytes was said r left page written) c.first-number.ensures h,
+      );
+      reads = omega arith;
+      source_mark = refl;
+      writes = omega arith;
+      sink_mark = refl;
+    }
 
 pub returns-in_err-show_on-clause-told : goal.returns-in_err-show_on-clause-told
 returns-in_err-show_on-clause-told g c = λ bytes was said a k.
@@ -31,7 +47,7 @@ loop-number-preserved g c =
             λ r left page written h.
                 before.4 r left page written (
                 from_more (next_in (g.R.Records.version c.args.records)) (in_front (g.R.Records.version c.args.records)) record_lines c.loop-number.number before.0 one.1 was before.1 page left written one.0 r one.2
-                (subst (λ (n : ℕ). SaysFrom (next_in (g.R.Records.version c.args.records)) record_lines n one.1 was more r left page written) c.saturating_add-number.ensures h)),
+                (subst (λ (n : ℕ). SaysFrom (next_in (g.R.Records.version c.args.records)) record_lines n one.1 was more r left page written) c.advance.ensures h)),
           );
       reads = let taken = c.in_ok-show_on.ensures.taken c.if-branch.true in omega (arith, taken, c.loop-number.invariant.reads);
       source_mark = c.in_ok-show_on.ensures.source_mark ∙ or-false _ ∙ c.loop-number.invariant.source_mark;
