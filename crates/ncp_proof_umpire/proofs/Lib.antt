@@ -7,3 +7,7 @@ pub mod Shown
 pub mod HostSlots
 pub mod Linked
 pub mod LinkWalk
+pub mod EndsStay
+pub mod Fine
+pub mod Laid
+pub mod MessageWalk

@@ -1,5 +1,11 @@
 -- Recordings at the interface of host 1 by which the laws show that they speak of something.
 use Rattle.std.specs.Prelude.{Bool, true, false, List, [], ◌∷◌, ◌++◌, replicate}
+use Rattle.ncp_terms.specs.declared.answer.Answer.TheVariants.{Incomplete}
+use Rattle.ncp_host.specs.declared.received.Received.TheVariants as received
+use Rattle.ncp_transcript.specs.declared.input.Input.{Input}
+use Rattle.ncp_transcript.specs.declared.input.Input.TheVariants as inputs
+use Rattle.ncp_transcript.specs.declared.note.HostNote.{HostNote}
+use Rattle.ncp_transcript.specs.declared.note.HostNote.TheVariants as notes
 use Rattle.ncp_proof_runs.specs.Examples.{byte_of_two, message_on_0}
 use Rattle.ncp_umpire.specs.declared.way.Way.{Way}
 use Rattle.ncp_umpire.specs.declared.way.Way.TheVariants.{ToImp, FromImp}
@@ -13,9 +19,19 @@ abbrev pub two_at_once : List (Way × List Bool)
 two_at_once = (ToImp, message_on_0) ∷ (ToImp, message_on_0) ∷ []
 
 -- Incomplete Transmission of host 2 on link 0
-abbrev pub lost : List Bool
-lost = replicate 4 false ++ (true ∷ false ∷ false ∷ true ∷ []) ++ byte_of_two ++ replicate 16 false
+abbrev pub incomplete : List Bool
+incomplete = replicate 4 false ++ (true ∷ false ∷ false ∷ true ∷ []) ++ byte_of_two ++ replicate 16 false
 
--- once more where it was lost
+-- a message goes out and is lost: what the host is given, how it is noted, and what passes its interface
+abbrev pub lost_given : List Input
+lost_given = inputs.Out ∷ inputs.In incomplete ∷ []
+
+abbrev pub lost_noted : List HostNote
+lost_noted = notes.Out message_on_0 ∷ notes.Answered 2 0 Incomplete received.Answered ∷ []
+
+abbrev pub lost_seen : List (Way × List Bool)
+lost_seen = (ToImp, message_on_0) ∷ (FromImp, incomplete) ∷ []
+
+-- and it goes out once more
 abbrev pub once_more : List (Way × List Bool)
-once_more = (ToImp, message_on_0) ∷ (FromImp, lost) ∷ (ToImp, message_on_0) ∷ []
+once_more = lost_seen ++ (ToImp, message_on_0) ∷ []

@@ -7,6 +7,7 @@ use Rattle.ncp_transcript.specs.declared.input.Input.TheVariants as inputs
 use Rattle.ncp_transcript.specs.declared.note.HostNote.{HostNote}
 use Rattle.ncp_transcript.specs.declared.note.HostNote.TheVariants as notes
 use Rattle.ncp_transcript.specs.Alone.{Alone, AreSteps}
+use Rattle.ncp_transcript_two.specs.Seen.{CallFits}
 use Rattle.ncp_umpire.specs.declared.finding.Finding.{Finding}
 use Rattle.ncp_umpire.specs.declared.finding.Rule.{Rule}
 use Rattle.ncp_umpire.specs.declared.finding.Rule.TheVariants as rule
@@ -51,6 +52,10 @@ is_host me Imp = false
 abbrev pub spares : (Rule → Bool) → ℕ → Finding → Bool
 spares judged me finding = not (is_host me finding.who && judged finding.rule)
 
+-- What comes from the IMP is never found against the host that it comes to: by no rule, whatever was seen before.
+abbrev pub NothingComingBlames : Type 0
+NothingComingBlames = (judged : Rule → Bool) (me : ℕ) (umpire : Umpire) (bits : List Bool) → list_all (spares judged me) (record_findings umpire FromImp me bits) ≡ true
+
 -- a host of this number, with these peers, to which nothing was given
 abbrev pub begun : ℕ → List ℕ → Alone
 begun me ns = record { host = new_host me ns; notes = [] }
@@ -63,6 +68,21 @@ NoFalseAlarm judged =
     → are_peers me ns ≡ true → ((n : ℕ) → is_one_of n ns ≡ true → n < 256) → AreSteps given (begun me ns) now
     → list_all (spares judged me) (findings_from (new_umpire false) me (recording given now.notes)) ≡ true
 
+-- the numbers of all calls have their places in commands: those of sockets are below 2 ^ 32, a byte size below 2 ^ 8, and
+-- so on
+abbrev pub AreFit : List Input → Type 0
+AreFit [] = Unit {0}
+AreFit (inputs.Call call ∷ given) = CallFits call × AreFit given
+AreFit (inputs.In bits ∷ given) = AreFit given
+AreFit (inputs.Out ∷ given) = AreFit given
+
+-- The same where the numbers of all calls have their places.
+abbrev pub NoFalseAlarmWhereFit : (Rule → Bool) → Type 0
+NoFalseAlarmWhereFit judged =
+    (me : ℕ) (ns : List ℕ) (given : List Input) (now : Alone)
+    → are_peers me ns ≡ true → ((n : ℕ) → is_one_of n ns ≡ true → n < 256) → AreFit given → AreSteps given (begun me ns) now
+    → list_all (spares judged me) (findings_from (new_umpire false) me (recording given now.notes)) ≡ true
+
 -- ---- the rules
 
 -- of a leader: it is whole, of a regular message, for another host, and names a link that is used
@@ -72,6 +92,17 @@ is_of_leader (rule.OwnHost kind link) = true
 is_of_leader (rule.Kind kind) = true
 is_of_leader (rule.WrongLink link) = true
 is_of_leader other = false
+
+-- of a message by itself: of its leader, its layout and its sizes
+abbrev pub is_of_message : Rule → Bool
+is_of_message (rule.Short bits) = true
+is_of_message (rule.OwnHost kind link) = true
+is_of_message (rule.Kind kind) = true
+is_of_message (rule.Fault fault link) = true
+is_of_message (rule.WrongLink link) = true
+is_of_message (rule.WrongSize size) = true
+is_of_message (rule.Extras flags low text rest) = true
+is_of_message other = false
 
 -- of a link: one message is out at a time, and what was not delivered goes out again as it was
 abbrev pub is_of_link : Rule → Bool

@@ -11,7 +11,7 @@ use Rattle.ncp_umpire.specs.declared.way.Way.TheVariants.{ToImp, FromImp}
 use Rattle.ncp_umpire.specs.declared.phase.Turn.{Turn}
 use Rattle.ncp_umpire.specs.declared.umpire.Umpire.{Umpire}
 use Rattle.ncp_umpire.specs.Events.{is_answer, event_behind}
-use Rattle.ncp_umpire.specs.Judged.{sees, fresh_out, after_out, after_answer, after_in, turn_at, after_said, after_message, after_event, after_record}
+use Rattle.ncp_umpire.specs.Judged.{sees, fresh_out, after_out, after_answer, after_in, turn_at, after_said, after_event, after_record}
 use Rattle.ncp_umpire.proofs.Passing.{to_host, goes_to}
 
 -- the same is kept, and room is there as before

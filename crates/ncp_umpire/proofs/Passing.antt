@@ -15,7 +15,6 @@ use Rattle.ncp_umpire.specs.declared.finding.Rule.TheVariants as rule
 use Rattle.ncp_umpire.specs.declared.finding.Thing.{Thing}
 use Rattle.ncp_umpire.specs.declared.finding.Thing.TheVariants as thing
 use Rattle.ncp_umpire.specs.declared.finding.Unsent.{Unsent}
-use Rattle.ncp_umpire.specs.declared.finding.Who.TheVariants.{Host, Imp}
 use Rattle.ncp_umpire.specs.declared.event.Event.{Event}
 use Rattle.ncp_umpire.specs.declared.event.Event.TheVariants as event
 use Rattle.ncp_umpire.specs.declared.way.Way.TheVariants.{ToImp, FromImp}
@@ -103,7 +102,7 @@ resets P turn s view =
     let first = where_so P (turn.sent && view.owes && view.first && not view.rests) (by turn rule.RrpFirst) (s rule.RrpFirst refl) in
     all_where P (hears_reset turn view) (option_to_list (again_finding turn view) ++ option_to_list (unquiet_finding false turn view) ++ option_to_list (first_finding turn view))
     (both P (option_to_list (again_finding turn view) ++ option_to_list (unquiet_finding false turn view)) (option_to_list (first_finding turn view))
-        (both P (option_to_list (again_finding turn view)) (option_to_list (unquiet_finding false turn view)) again (unquiet P turn s false view)) first)
+    (both P (option_to_list (again_finding turn view)) (option_to_list (unquiet_finding false turn view)) again (unquiet P turn s false view)) first)
 
 replies : (P : Finding → Bool) (turn : Turn) → Says P turn → (view : View) → Pass P (reply_findings turn view)
 replies P turn s view =
@@ -161,8 +160,8 @@ answer : (P : Finding → Bool) (me : ℕ) → SparesOthers P me → (umpire : U
 answer P me s umpire kind peer link =
     all_unless P umpire.full (option_to_list (false_finding umpire kind me peer link) ++ option_to_list (stray_finding umpire kind me peer link))
     (both P (option_to_list (false_finding umpire kind me peer link)) (option_to_list (stray_finding umpire kind me peer link))
-        (mapped_where P (sees_both umpire peer && not (is_crowded umpire me peer)) by_imp (false_rule (slot_of umpire me peer link) kind peer link) (λ r e. s.0 r))
-        (mapped P by_imp (stray_rule (slot_of umpire me peer link) kind link) (λ r e. s.0 r)))
+    (mapped_where P (sees_both umpire peer && not (is_crowded umpire me peer)) by_imp (false_rule (slot_of umpire me peer link) kind peer link) (λ r e. s.0 r))
+    (mapped P by_imp (stray_rule (slot_of umpire me peer link) kind link) (λ r e. s.0 r)))
 
 coming : (P : Finding → Bool) (me : ℕ) → SparesOthers P me → (umpire : Umpire) (bits : List Bool) (peer link : ℕ) → (peer == me) ≡ false → Pass P (event_findings umpire FromImp me bits (event.In peer link))
 coming P me s umpire bits peer link e =

@@ -2,6 +2,9 @@ use Rattle.std.proofs.Common.{refl}
 use Rattle.ncp_numbers.specs.Numbers.{number_of}
 use Rattle.ncp_proof_umpire.proofs.alarms.wrong_hosts_are_blamed.Goals as goal
 
+pub returns-clause-recorded : goal.returns-clause-recorded
+returns-clause-recorded c = refl
+
 pub returns-clause-short : goal.returns-clause-short
 unfolding number_of
 returns-clause-short c = refl

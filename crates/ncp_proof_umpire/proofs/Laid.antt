@@ -1,0 +1,236 @@
+-- What goes out of a host breaks no rule of messages by itself.
+use Rattle.std.proofs.Common.{◌≡◌, inl, inr, ◌<◌, ◌≤◌, ℕ, ◌+◌, ◌-◌, ◌*◌, ◌/◌, ◌==◌, Bool, true, false, not, ◌&&◌, ◌||◌, nat_le, nat_lt, min, if◌then◌else◌, List, [], ◌∷◌, length, take, Option, None, Some, Result, refl, sym, ap, ◌∙◌, subst, length-take-le, le-ltb, mul-pos, arith}
+use Rattle.std.proofs.lemmas.Bool.{eqb-true}
+use Rattle.std.proofs.lemmas.Bool.Decides.{eqb_tells}
+use Rattle.std.proofs.lemmas.List.{length-append}
+use Rattle.std.proofs.Math.Nat.{div-mul-le_self, mul-le-mul_right, min-le_left}
+use Rattle.ncp_numbers.specs.Numbers.{bits_of}
+use Rattle.ncp_numbers.specs.Bytes.{bits_of_bytes}
+use Rattle.ncp_numbers.proofs.Bytes.{length-bits_of_bytes}
+use Rattle.ncp_leader.specs.declared.leader.Leader.{Leader}
+use Rattle.ncp_leader.specs.declared.leader.Short.{Short}
+use Rattle.ncp_leader.specs.declared.regular.TheConstants.{FRONT_BITS}
+use Rattle.ncp_leader.specs.Leader.{leader_in}
+use Rattle.ncp_leader.specs.declared.fault.MessageFault.{MessageFault}
+use Rattle.ncp_leader.specs.Message.{Message, message_in, message_with}
+use Rattle.ncp_terms.specs.declared.command.Command.{Command}
+use Rattle.ncp_terms.specs.declared.answer.Answer.{Answer}
+use Rattle.ncp_terms.specs.declared.answer.Answer.TheVariants.{Rfnm, Incomplete, Dead}
+use Rattle.ncp_terms.specs.Spelling.{spelling, spellings}
+use Rattle.ncp_control.proofs.Reading.{spelling_takes}
+use Rattle.ncp_slot.specs.declared.slot.Slot.TheVariants.{Empty, Ready, Travelling, Held}
+use Rattle.ncp_slot.specs.Slot.{kept_message, answered, woken}
+use Rattle.ncp_slot.specs.Slots.{LinkSlot, slot_at, with_slot}
+use Rattle.ncp_slot.proofs.Places.{slot_at-with_slot_same, slot_at-with_slot_other}
+use Rattle.ncp_model.specs.declared.pair.Pair.{Pair}
+use Rattle.ncp_model.specs.declared.limits.TheConstants.{MAX_CONTROL, MAX_TEXT}
+use Rattle.ncp_model.specs.End.{End}
+use Rattle.ncp_model.specs.Act.{Stays, answer}
+use Rattle.ncp_model.specs.Ends.{Ends, sender_on, cut_at, cut_in}
+use Rattle.ncp_model.specs.Sending.{fitting, next_commands}
+use Rattle.ncp_model.specs.Texts.{bytes_to_send, may_send, cut_bits, cut}
+use Rattle.ncp_model.specs.Peers.{Peer}
+use Rattle.ncp_transcript_two.specs.Tie.{IsText}
+use Rattle.ncp_transcript_two.proofs.Well.{cut-written}
+use Rattle.ncp_transcript_two.proofs.Written.{read}
+use Rattle.ncp_host.specs.PeerState.{PeerState, control_link, answer_comes}
+use Rattle.ncp_host.specs.Output.{leader_to, message_to, links, control_message, text_message, made_on, output_by, after_output}
+use Rattle.ncp_host.specs.Host.{is_one_of}
+use Rattle.ncp_transcript.specs.declared.note.HostNote.{HostNote}
+use Rattle.ncp_transcript.specs.declared.note.HostNote.TheVariants as notes
+use Rattle.ncp_proof_runs.specs.Peers.{out_for, note_for}
+use Rattle.ncp_proof_runs.proofs.Ready.{link_small}
+use Rattle.ncp_proof_runs.proofs.Said.{IsOut, IsSaidOf}
+use Rattle.ncp_umpire.specs.declared.finding.Rule.{Rule}
+use Rattle.ncp_umpire.specs.declared.finding.Rule.TheVariants as rule
+use Rattle.ncp_umpire.specs.Messages.{is_unused, most_bits, extras_of, rule_of_message}
+use Rattle.ncp_proof_umpire.proofs.Goes.{used}
+use Rattle.ncp_proof_umpire.proofs.HostSlots.{is_of_call, call_leaves, bits_leave, answer_here, answer_there}
+use Rattle.ncp_proof_umpire.proofs.Fine.{Fine}
+
+abbrev pub Laid : ℕ → List Bool → Type 0
+Laid on bits = rule_of_message (message_in bits) on (length bits) ≡ None
+
+-- ---- a message that is made
+
+message_length : (n on size : ℕ) (text : List Bool) → length (message_to n on size text) ≡ 72 + length text
+unfolding bits_of
+message_length n on size text = omega arith
+
+pub laid : (n on size : ℕ) (text : List Bool) → n < 256 → is_one_of on links ≡ true → IsText size text → 0 < length text → length text ≤ most_bits on → (on == 0 && not (size == 8)) ≡ false → Laid on (message_to n on size text)
+laid n on size text l u t some few eight =
+    ap (λ (r : Result Message MessageFault). rule_of_message r on len) (read n on size text l (link_small on u) t)
+    ∙ tested (rule.WrongLink on) (rule.WrongSize size) (extras_of m len) (is_unused on) (on == 0 && not (size == 8)) ((len - FRONT_BITS - length text) == 0) (length text == 0) (nat_lt (most_bits on) (length text))
+    (used on u) eight none_behind has_text fits
+  where
+    len : ℕ
+    len = length (message_to n on size text)
+
+    m : Message
+    m = message_with (leader_to n on) size text
+
+    none_behind : ((len - FRONT_BITS - length text) == 0) ≡ true
+    none_behind = let e : len - FRONT_BITS - length text ≡ 0 = (let k = message_length n on size text in omega (arith, k)) in ap (λ (x : ℕ). x == 0) e
+
+    has_text : (length text == 0) ≡ false
+    has_text = elim (eqb_tells (length text) 0) [
+      | inl one ↦ absurd (let e = one.1 in omega (arith, e, some))
+      | inr other ↦ other.0
+    ]
+
+    fits : nat_lt (most_bits on) (length text) ≡ false
+    fits = le-ltb (most_bits on) (length text) few
+
+    -- by the tests, in their order
+    tested : (rule_a rule_b rule_c : Rule) (a b c d e : Bool) → a ≡ false → b ≡ false → c ≡ true → d ≡ false → e ≡ false
+        → (if a then Some rule_a else if b then Some rule_b else if false || false || not c || d || e then Some rule_c else None) ≡ None
+    tested x y z false false true false false a b c d e = refl
+    tested x y z true b c d e p q r s t = absurd (cc)
+    tested x y z false true c d e p q r s t = absurd (cc)
+    tested x y z false false false d e p q r s t = absurd (cc)
+    tested x y z false false true true e p q r s t = absurd (cc)
+    tested x y z false false true false true p q r s t = absurd (cc)
+
+-- ---- of commands
+
+weighs : (room : ℕ) (cs : List Command) → length (spellings (fitting room cs)) ≤ room
+weighs room [] = omega arith
+weighs room (c ∷ cs) = go (nat_le (length (spelling c)) room) refl (weighs (room - length (spelling c)) cs)
+  where
+    go : (b : Bool) → nat_le (length (spelling c)) room ≡ b → length (spellings (fitting (room - length (spelling c)) cs)) ≤ room - length (spelling c) → length (spellings (fitting room (c ∷ cs))) ≤ room
+    go true e h = let l = length-append (spelling c) (spellings (fitting (room - length (spelling c)) cs)) in grind arith
+    go false e h = grind arith
+
+commands_laid : (n : ℕ) (message : List Bool) (cs : List Command) → n < 256 → length (spellings cs) ≤ 120 → control_message n cs ≡ Some message → Laid 0 message
+commands_laid n message [] l w e = absurd (cc)
+commands_laid n message (c ∷ cs) l w e =
+    let text : List Bool = bits_of_bytes (spellings (c ∷ cs)) in
+    let bits : length text ≡ 8 * length (spellings (c ∷ cs)) = length-bits_of_bytes (spellings (c ∷ cs)) in
+    let more : length (spellings (c ∷ cs)) ≡ length (spelling c) + length (spellings cs) = length-append (spelling c) (spellings cs) in
+    let takes : 0 < length (spelling c) = spelling_takes c in
+    let few : length text ≤ 960 = omega (arith, bits, w) in
+    let is : message_to n 0 8 text ≡ message = cc in
+    subst (Laid 0) is (laid n 0 8 text l refl (omega arith, omega arith, omega (arith, bits, w), omega (arith, bits)) (omega (arith, bits, more, takes)) few refl)
+
+-- ---- of a text
+
+some_cut : (pair : Pair) (e : End) (text : ℕ × List Bool) → 0 < text.0 → answer (cut pair (Some e)) ≡ Some text → 0 < length text.1
+some_cut pair e text size = go (may_send pair e) refl
+  where
+    times : (k m a : ℕ) → m ≤ a / k → m * k ≤ a
+    times k m a l = omega (arith, mul-le-mul_right k l, div-mul-le_self a k)
+
+    go : (b : Bool) → may_send pair e ≡ b → answer (if b then cut_bits (bytes_to_send e * e.size) e else Stays None) ≡ Some text → 0 < length text.1
+    go false b x = absurd (cc x)
+    go true b x =
+        let same : (e.size, take (bytes_to_send e * e.size) e.stored) ≡ text = cc x in
+        let sized : 0 < e.size = subst (λ (t : ℕ × List Bool). 0 < t.0) (sym same) size in
+        let bytes : 0 < bytes_to_send e = grind arith in
+        let n : ℕ = bytes_to_send e * e.size in
+        let held : n ≤ length e.stored = times e.size (bytes_to_send e) (length e.stored) (min-le_left (length e.stored / e.size) (min (e.bits / e.size) (MAX_TEXT / e.size))) in
+        let long : length (take n e.stored) ≡ n = length-take-le n e.stored held in
+        let some : 0 < n = mul-pos bytes sized in
+        subst (λ (t : ℕ × List Bool). 0 < length t.1) same (omega (arith, long, some))
+
+some_text : (on : ℕ) (m : Ends) (text : ℕ × List Bool) → 0 < text.0 → answer (cut_in on m) ≡ Some text → 0 < length text.1
+some_text on m text size x = go (sender_on on m) x
+  where
+    go : (o : Option (Pair × End)) → answer (cut_at o) ≡ Some text → 0 < length text.1
+    go None x = absurd (cc x)
+    go (Some q) x = some_cut q.0 q.1 text size x
+
+text_laid : (n on : ℕ) (m : List Bool) (p : Peer) (o : Option (ℕ × List Bool)) → n < 256 → is_one_of on links ≡ true → (on == 0) ≡ false → Fine p → answer (cut_in on p.ends) ≡ o → text_message n on o ≡ Some m → Laid on m
+text_laid n on m p None l u z k g e = absurd (cc)
+text_laid n on m p (Some t) l u z k g e =
+    let is : message_to n on t.0 t.1 ≡ m = cc in
+    let text : IsText t.0 t.1 = cut-written on p.ends t k.good k.well.ends g in
+    let most : most_bits on ≡ 7928 = ap (λ (b : Bool). if b then 960 else 7928) z in
+    let few : length t.1 ≤ 7928 = text.2 in
+    subst (Laid on) is (laid n on t.0 t.1 l u text (some_text on p.ends t text.0 g) (omega (arith, most, few)) (ap (λ (b : Bool). b && not (t.0 == 8)) z))
+
+made_laid : (n on : ℕ) (m : List Bool) (p : Peer) → n < 256 → is_one_of on links ≡ true → Fine p → made_on n on p ≡ Some m → Laid on m
+made_laid n on m p l u k e = go (on == control_link) refl e
+  where
+    go : (b : Bool) → (on == control_link) ≡ b → (if b then control_message n (next_commands p.phase.waiting) else text_message n on (answer (cut_in on p.ends))) ≡ Some m → Laid on m
+    go true g e = subst (λ (j : ℕ). Laid j m) (sym (eqb-true on 0 g)) (commands_laid n m (next_commands p.phase.waiting) l (weighs MAX_CONTROL p.phase.waiting) e)
+    go false g e = text_laid n on m p (answer (cut_in on p.ends)) l u g k refl e
+
+-- ---- what is kept
+
+-- each message that is kept for a peer is laid out so
+abbrev pub AllLaid : PeerState → Type 0
+AllLaid s = (on : ℕ) (m : List Bool) → kept_message (slot_at s.slots on) ≡ Some m → Laid on m
+
+pub out_laid : (n : ℕ) (m : List Bool) (s : PeerState) (is : IsOut n m s) → n < 256 → Fine s.peer → AllLaid s → Laid is.on m
+out_laid n m s is l k a = go (slot_at s.slots is.on) refl is.ready
+  where
+    go : (slot : LinkSlot) → slot_at s.slots is.on ≡ slot → output_by slot n is.on s.peer ≡ Some m → Laid is.on m
+    go Empty q e = made_laid n is.on m s.peer l is.a_link k e
+    go (Ready x) q e = a is.on m (ap kept_message q ∙ e)
+    go (Travelling x) q e = absurd (cc)
+    go (Held x) q e = absurd (cc)
+
+same_kept : (on : ℕ) (s t : PeerState) → ((m : List Bool) → kept_message (slot_at t.slots on) ≡ Some m → kept_message (slot_at s.slots on) ≡ Some m) → AllLaid s → (m : List Bool) → kept_message (slot_at t.slots on) ≡ Some m → Laid on m
+same_kept on s t f a m e = a on m (f m e)
+
+woken_kept : (slot : LinkSlot) → kept_message (woken slot) ≡ kept_message slot
+woken_kept Empty = refl
+woken_kept (Ready m) = refl
+woken_kept (Travelling m) = refl
+woken_kept (Held m) = refl
+
+answered_kept : (how : Answer) (slot : LinkSlot) (m : List Bool) → kept_message (answered how slot) ≡ Some m → kept_message slot ≡ Some m
+answered_kept Rfnm Empty m e = e
+answered_kept Rfnm (Ready x) m e = e
+answered_kept Rfnm (Travelling x) m e = absurd (cc)
+answered_kept Rfnm (Held x) m e = e
+answered_kept Incomplete Empty m e = e
+answered_kept Incomplete (Ready x) m e = e
+answered_kept Incomplete (Travelling x) m e = e
+answered_kept Incomplete (Held x) m e = e
+answered_kept Dead Empty m e = e
+answered_kept Dead (Ready x) m e = e
+answered_kept Dead (Travelling x) m e = e
+answered_kept Dead (Held x) m e = e
+
+call_laid : (note : HostNote) (s : PeerState) → is_of_call note ≡ true → AllLaid s → AllLaid (note_for note s)
+call_laid note s c a on m e = elim (call_leaves note c s on) [
+  | inl same ↦ a on m (ap kept_message (sym same) ∙ e)
+  | inr woke ↦ a on m (sym (ap kept_message woke ∙ woken_kept (slot_at s.slots on)) ∙ e)
+]
+
+goes_laid : (n : ℕ) (m : List Bool) (s : PeerState) → IsOut n m s → n < 256 → Fine s.peer → AllLaid s → AllLaid (note_for (notes.Out m) s)
+goes_laid n m s is l k a = subst (λ (r : Result Leader Short). AllLaid (out_for r m s)) (sym is.leader) after
+  where
+    after : AllLaid (after_output is.on m s)
+    after on x e = elim (eqb_tells on is.on) [
+      | inl same ↦ here same.1
+      | inr other ↦ a on x (ap kept_message (sym (slot_at-with_slot_other s.slots is.on (Travelling m) on other.1)) ∙ e)
+    ]
+      where
+        here : on ≡ is.on → Laid on x
+        here same =
+            let one : Some m ≡ Some x = sym (ap (λ (j : ℕ). kept_message (slot_at (with_slot s.slots is.on (Travelling m)) j)) same ∙ ap kept_message (slot_at-with_slot_same s.slots is.on (Travelling m))) ∙ e in
+            let is_x : m ≡ x = cc in
+            subst (λ (j : ℕ). Laid j x) (sym same) (subst (λ (y : List Bool). Laid is.on y) is_x (out_laid n m s is l k a))
+
+pub note_laid : (n : ℕ) (note : HostNote) (s : PeerState) → IsSaidOf n note s → n < 256 → Fine s.peer → AllLaid s → AllLaid (note_for note s)
+note_laid n (notes.Out m) s p l k a = goes_laid n m s p l k a
+note_laid n notes.Nothing s p l k a = a
+note_laid n (notes.In m received) s p l k a = λ on x e. a on x (ap kept_message (sym (bits_leave (leader_in m) m s on)) ∙ e)
+note_laid n (notes.Answered peer link how received) s p l k a = λ on x e. elim (eqb_tells on link) [
+  | inl same ↦ a on x (subst (λ (j : ℕ). kept_message (slot_at s.slots j) ≡ Some x) (sym same.1)
+      (answered_kept how (slot_at s.slots link) x (ap kept_message (sym (answer_here link how s)) ∙ subst (λ (j : ℕ). kept_message (slot_at (answer_comes link how s).slots j) ≡ Some x) same.1 e)))
+  | inr other ↦ a on x (ap kept_message (sym (answer_there link on how s other.1)) ∙ e)
+]
+note_laid n (notes.Refused call fault) s p l k a = call_laid (notes.Refused call fault) s refl a
+note_laid n (notes.Done call) s p l k a = call_laid (notes.Done call) s refl a
+note_laid n (notes.Took peer pair bytes text) s p l k a = call_laid (notes.Took peer pair bytes text) s refl a
+note_laid n (notes.State peer pair r) s p l k a = a
+note_laid n (notes.Phase peer flags) s p l k a = a
+note_laid n (notes.Echoed peer byte) s p l k a = a
+note_laid n (notes.Errors peer errors) s p l k a = a
+note_laid n (notes.Counts peer counts) s p l k a = a
+note_laid n (notes.Waiting peer place command) s p l k a = a
+note_laid n (notes.Kept peer link message) s p l k a = a
+note_laid n (notes.Ignored ignored) s p l k a = a
