@@ -14,9 +14,8 @@ use Rattle.std.proofs.lemmas.Bool.Decides.{nat_tests}
 use Rattle.slab.specs.Slab.{Slab, get, entries, entries_from, values, ContainsKey}
 use Rattle.ncp_model.specs.declared.pair.Pair.{Pair}
 use Rattle.ncp_model.specs.Pairs.{pair_cmp}
-use Rattle.ncp_model.specs.End as model
 use Rattle.ncp_model.specs.End.{End}
-use Rattle.ncp_model.specs.Ends.{Ends, count}
+use Rattle.ncp_model.specs.Ends.{Ends}
 use Rattle.ncp_model.proofs.PairOrder.{pairs_total}
 use Rattle.ncp_conn.specs.declared.entries.Entries.{Entries}
 use Rattle.ncp_conn.specs.declared.record.Record.{Record}

@@ -1,5 +1,5 @@
 -- What a restart does to a host, from what it does on each link to a peer.
-use Rattle.std.proofs.Common.{◌≡◌, ◌≢◌, ◌<◌, ◌≤◌, ◌⊎◌, inl, inr, ℕ, zero, suc, ◌+◌, ◌-◌, ◌^◌, ◌==◌, Bool, true, false, ◌&&◌, ◌||◌, nat_lt, if◌then◌else◌, List, [], ◌∷◌, ◌++◌, Option, None, Some, Result, Ok, Err, refl, sym, ap, subst, ◌∙◌, arith}
+use Rattle.std.proofs.Common.{◌≡◌, ◌<◌, ◌≤◌, inl, inr, ℕ, zero, suc, ◌+◌, ◌-◌, ◌==◌, Bool, true, false, ◌&&◌, ◌||◌, nat_lt, if◌then◌else◌, List, [], ◌∷◌, Option, None, Some, Result, Ok, refl, sym, ap, subst, ◌∙◌, arith}
 use Rattle.std.specs.Prelude.{◌↔◌}
 use Rattle.std.specs.Bool.{IsTrue}
 use Rattle.std.specs.Result.{IsOk, OnOk, OnErr, is_err}
@@ -8,7 +8,7 @@ use Rattle.std.proofs.lemmas.List.{append-nil}
 use Rattle.std.proofs.lemmas.Bool.Decides.{eqb_tells}
 use Rattle.ncp_leader.specs.declared.leader.Leader.{Leader}
 use Rattle.ncp_leader.specs.declared.leader.Short.{Short}
-use Rattle.ncp_leader.specs.Leader.{IsLeader, leader_bits, leader_in}
+use Rattle.ncp_leader.specs.Leader.{IsLeader, leader_in}
 use Rattle.ncp_leader.proofs.Leaders.{leader_in-bits}
 use Rattle.ncp_terms.specs.declared.answer.Answer.TheVariants.{Incomplete}
 use Rattle.ncp_slot.specs.declared.slot.Stray.{Stray}

@@ -9,7 +9,6 @@ use Rattle.ncp_model.specs.declared.call_fault.CallFault.TheVariants.{NoEntry}
 use Rattle.ncp_conn.specs.declared.record.End.{End}
 use Rattle.ncp_conn.specs.declared.record.Record.{Record}
 use Rattle.ncp_conn.specs.Listing.{connection_in, room_of, pair_led_to}
-use Rattle.ncp_host.specs.PeerState.{PeerState}
 use Rattle.ncp_host.specs.Host.{Host, state_of, if_known}
 
 abbrev pub connection_told : ℕ → ℕ → Host → Result (Option (Pair × Record)) CallFault

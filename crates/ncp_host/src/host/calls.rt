@@ -180,10 +180,11 @@ impl<S: BitStore> Host<S> {
         Ok(())
     }
 
-    /// Takes each message that is out on a link to a peer as not delivered, as where its IMP was started anew and
-    /// answers none of them: what an Incomplete Transmission does that [`Host::receive`] takes on each link on
-    /// which a message is out, in the order of the links. Each is to go out again, and nothing else
-    /// changes (`laws::a_restart_changes_slots_alone`). What had come there comes twice then.
+    /// Takes each message that is out on a link to a peer as not delivered, as where the IMP was started anew
+    /// and answers none of them: what [`Host::receive`] does with an Incomplete Transmission (BBN 1822,
+    /// section 3) on each link on which a message is out, in the order of the links. Each is to go out
+    /// again, and nothing else changes (`laws::a_restart_changes_slots_alone`). One that had been delivered
+    /// comes twice then.
     ///
     /// Refused: `UnknownPeer`.
     pub fn restart(&mut self, peer: u8) -> Result<(), CallFault>

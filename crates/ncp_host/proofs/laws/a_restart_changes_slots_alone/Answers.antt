@@ -1,6 +1,6 @@
-use Rattle.std.proofs.Common.{◌≡◌, ℕ, ◌<◌, Option, None, Some, refl, sym, ap, subst, ◌∙◌, arith}
+use Rattle.std.proofs.Common.{◌≡◌, Option, None, Some, refl, sym, ap, subst, ◌∙◌}
 use Rattle.ncp_host.specs.PeerState.{PeerState}
-use Rattle.ncp_host.specs.Host.{Host, state_of, changed}
+use Rattle.ncp_host.specs.Host.{Host, state_of}
 use Rattle.ncp_host.specs.Arrivals.{OthersStay}
 use Rattle.ncp_host.specs.Output.{links}
 use Rattle.ncp_host.specs.Restarting.{after_restart, restarts}

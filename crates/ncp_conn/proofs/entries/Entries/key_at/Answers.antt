@@ -1,4 +1,4 @@
-use Rattle.std.proofs.Common.{◌≡◌, ℕ, Bool, List, Option, Some, if◌then◌else◌, sym, ap, ◌∙◌}
+use Rattle.std.proofs.Common.{◌≡◌, ℕ, Bool, List, Some, if◌then◌else◌, sym, ap, ◌∙◌}
 use Rattle.std.specs.List.{count_by}
 use Rattle.slab.specs.Slab.{values}
 use Rattle.ncp_model.specs.declared.pair.Pair.{Pair}

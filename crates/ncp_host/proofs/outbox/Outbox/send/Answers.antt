@@ -1,4 +1,4 @@
-use Rattle.std.proofs.Common.{sym, ap, ◌∙◌}
+use Rattle.std.proofs.Common.{ap, ◌∙◌}
 use Rattle.ncp_slot.specs.Slots.{LinkSlots, slot_at}
 use Rattle.ncp_host.proofs.Holding.{held_sent}
 use Rattle.ncp_host.proofs.outbox.Outbox.send.Goals as goal
