@@ -13,6 +13,7 @@ use ncp_play_page::{Counter, Page};
 use ncp_play_stream::{Failed, Sink};
 
 // Says the first line of a record.
+#[inline(always)]
 fn say_first_line<W: Sink>(
     page: &mut Page,
     sink: &mut W,

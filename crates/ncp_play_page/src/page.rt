@@ -158,8 +158,9 @@ impl Page {
         ensures { self.new ≡ self.old ++ decimal number }
     {
         let (first, second) = short_digits(number);
-        self.bytes[self.len] = first;
-        self.bytes[self.len + 1] = second;
+        let at = self.len;
+        self.bytes[at] = first;
+        self.bytes[at + 1] = second;
         self.len += 1 + usize::from(number > 9);
     }
 
