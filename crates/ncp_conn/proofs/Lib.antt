@@ -9,3 +9,4 @@ pub mod Sending
 pub mod Tables
 pub mod Requests
 pub mod Same
+pub mod Listing

@@ -9,3 +9,4 @@ pub mod Cutting
 pub mod Links
 pub mod Sending
 pub mod Walking
+pub mod Listing

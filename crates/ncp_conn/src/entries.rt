@@ -1,5 +1,5 @@
 //! The entries of a table, and where links lead.
-ghost use Rattle.std.specs.Prelude.{◌≡◌, ◌<◌, ◌≤◌, ◌+◌, ◌-◌, ℕ, true, false, IfOk, IfSome, Some, None, [], if◌then◌else◌, is_none};
+ghost use Rattle.std.specs.Prelude.{◌≡◌, ◌<◌, ◌≤◌, ◌+◌, ◌-◌, ℕ, true, false, IfOk, IfSome, Some, None, [], length, if◌then◌else◌, is_none};
 ghost use Rattle.std.specs.List.{count_by};
 ghost use Rattle.slab.specs.Slab.{get, values, entries, ContainsKey, HasRoomFor, Updates};
 ghost use Rattle.ncp_model.specs.Pairs.{same};
@@ -8,6 +8,7 @@ ghost use Rattle.ncp_model.specs.Ends.{has_asked, hears_link, uses_link, lowest}
 ghost use Rattle.ncp_conn.specs.Entries.{Found, Led, Puts, Settled, key_of};
 ghost use Rattle.ncp_conn.specs.Indexes.{key_at, LeadsTo};
 ghost use Rattle.ncp_conn.specs.Links.{is_in};
+ghost use Rattle.ncp_conn.specs.Listing.{is_before, stands_at};
 ghost use Rattle.ncp_conn.specs.Sending.{Notes};
 
 use crate::entry::Entry;
@@ -91,6 +92,34 @@ impl<S: BitStore> Entries<S> {
             }
         }
         count
+    }
+
+    // How many entries stand before a pair.
+    fn count_before(&self, pair: Pair) -> usize
+        requires { length (values self.now.slab) ≤ MAX_OWN + MAX_BY_PEER }
+        ensures { result ≡ count_by (is_before pair) (values self.now.slab) }
+    {
+        let mut count = 0;
+        for (_, entry) in self.slab.iter() {
+            if entry.is_before(pair) {
+                count += 1;
+            }
+        }
+        count
+    }
+
+    /// Under which key the entry is before which so many stand, if there is one.
+    pub(crate) fn key_at(&self, place: usize) -> Option<usize>
+        requires { length (values self.now.slab) ≤ MAX_OWN + MAX_BY_PEER }
+        ensures placed { result ≡ key_of (stands_at place (values self.now.slab)) (entries self.now.slab) }
+        ensures inside { IfSome result (λ key. ContainsKey self.now.slab key) }
+    {
+        for (key, entry) in self.slab.iter() {
+            if self.count_before(entry.pair()) == place {
+                return Some(key);
+            }
+        }
+        None
     }
 
     /// The links of the entry under a key lead to it, and whether a text may go out on them is

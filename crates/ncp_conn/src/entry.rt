@@ -6,6 +6,7 @@ ghost use Rattle.ncp_model.specs.Act.{met};
 ghost use Rattle.ncp_model.specs.Ends.{hears_link, uses_link};
 ghost use Rattle.ncp_conn.specs.Changes.{with_end};
 ghost use Rattle.ncp_conn.specs.Records.{record_of, end_here};
+ghost use Rattle.ncp_conn.specs.Listing.{is_before};
 
 mod allocation;
 mod closing;
@@ -111,6 +112,14 @@ impl<S: BitStore> Entry<S> {
         self.pair.local == pair.local && self.pair.remote == pair.remote
     }
 
+    /// Whether it stands before a pair: by the socket here, and then by the socket there.
+    pub(crate) fn is_before(&self, pair: Pair) -> bool
+        ensures { result ≡ is_before pair self.now }
+    {
+        let here = self.pair.local.cmp(&pair.local);
+        here.then(self.pair.remote.cmp(&pair.remote)).is_lt()
+    }
+
     /// Whether the own request was made.
     pub(crate) fn is_asked(&self) -> bool
         ensures { result ≡ self.now.1.asked }
@@ -183,8 +192,8 @@ impl<S: BitStore> Entry<S> {
         }
     }
 
-    // For how many bits there is room in all.
-    fn room(&self) -> usize
+    /// For how many bits there is room in all.
+    pub(crate) fn room(&self) -> usize
         ensures room { result ≡ self.now.1.room }
         ensures small { result ≤ MAX_ROOM }
     {

@@ -31,7 +31,7 @@
 //! A text is admitted in `entry/texts.rt` (`hear_text`), by the rule `hear_text` of `specs/Texts.antt` in `ncp_model`.
 //! A new act is one of an entry (files under `entry`) and a method of the table (under `table`): find, act, settle; of
 //! a request find, act, lead. `settle` and `lead` note whether a text may go out on the link of the entry. Only
-//! `table/asking.rt` can have a store made.
+//! `table/asking.rt` can have a store made. Who is there, and where a link leads, is read in `table/readers.rt`.
 //!
 //! - *Proved:* each call's answer, and the table after it, are those of the act at the entry that it names (clauses
 //!   `answer`, `table`, and `done` of the asks); a refusal changes nothing (`err`). Only `Table::new`, `ask_send` and

@@ -10,6 +10,7 @@ ghost use Rattle.ncp_conn.specs.Walking.{AreItsPairs};
 
 mod asking;
 mod hearing;
+mod readers;
 mod texts;
 
 use crate::entries::Entries;

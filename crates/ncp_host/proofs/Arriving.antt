@@ -35,12 +35,12 @@ module _ (leader : Leader) (bits : List Bool) (h : Host) where
 
 -- the answer to a message, which is stray or is not
 module _ (r : Result (Unit {0}) Stray) (on : ℕ) (how : Answer) (s : PeerState) (told : IsOk r ↔ IsTrue (is_answered on s)) where
-  is_stray : (x : Result (Unit {0}) Stray) (b : Bool) → (IsOk x ↔ IsTrue b) → is_err x ≡ true → b ≡ false
+  pub is_stray : (x : Result (Unit {0}) Stray) (b : Bool) → (IsOk x ↔ IsTrue b) → is_err x ≡ true → b ≡ false
   is_stray (Ok u) b t e = absurd (cc)
   is_stray (Err f) true t e = let ok = t.1 refl in absurd (cc)
   is_stray (Err f) false t e = refl
 
-  is_no_stray : (x : Result (Unit {0}) Stray) (b : Bool) → (IsOk x ↔ IsTrue b) → is_err x ≡ false → b ≡ true
+  pub is_no_stray : (x : Result (Unit {0}) Stray) (b : Bool) → (IsOk x ↔ IsTrue b) → is_err x ≡ false → b ≡ true
   is_no_stray (Ok u) b t e = t.0 refl
   is_no_stray (Err f) b t e = absurd (cc)
 
@@ -48,7 +48,7 @@ module _ (r : Result (Unit {0}) Stray) (on : ℕ) (how : Answer) (s : PeerState)
   done (Ok u) e p = p
   done (Err f) e p = absurd (cc)
 
-  not_done : {P : Type 0} (x : Result (Unit {0}) Stray) → is_err x ≡ true → OnErr x P → P
+  pub not_done : {P : Type 0} (x : Result (Unit {0}) Stray) → is_err x ≡ true → OnErr x P → P
   not_done (Ok u) e p = absurd (cc)
   not_done (Err f) e p = p
 

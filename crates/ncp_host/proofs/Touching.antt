@@ -11,7 +11,7 @@ use Rattle.ncp_host.specs.Arrivals.{OnlyNamedPeerChanges, OthersStay, OneIgnored
 differs : (a n other : ℕ) → (a == n) ≡ true → other ≢ n → (a == other) ≡ false
 differs a n other e d = grind arith
 
-others_stay : (ps : List (ℕ × PeerState)) (n other : ℕ) (f : PeerState → PeerState) → other ≢ n → state_in (at_peer n f ps) other ≡ state_in ps other
+pub others_stay : (ps : List (ℕ × PeerState)) (n other : ℕ) (f : PeerState → PeerState) → other ≢ n → state_in (at_peer n f ps) other ≡ state_in ps other
 others_stay [] n other f d = refl
 others_stay (p ∷ ps) n other f d = go (p.0 == n) refl (others_stay ps n other f d)
   where
@@ -22,7 +22,7 @@ others_stay (p ∷ ps) n other f d = go (p.0 == n) refl (others_stay ps n other 
         ap (λ b. if b then Some (f p.1) else state_in ps other) no ∙ sym (ap (λ b. if b then Some p.1 else state_in ps other) no)
     go false e rest = ap (λ (o : Option PeerState). if p.0 == other then Some p.1 else o) rest
 
-numbers_stay : (ps : List (ℕ × PeerState)) (n : ℕ) (f : PeerState → PeerState) → numbers_of (at_peer n f ps) ≡ numbers_of ps
+pub numbers_stay : (ps : List (ℕ × PeerState)) (n : ℕ) (f : PeerState → PeerState) → numbers_of (at_peer n f ps) ≡ numbers_of ps
 numbers_stay [] n f = refl
 numbers_stay (p ∷ ps) n f = go (p.0 == n) (numbers_stay ps n f)
   where

@@ -1,15 +1,25 @@
 //! Laws about what is ready, what goes out next and what bits change, each the contract of a function
 //! that does nothing.
-ghost use Rattle.std.specs.Prelude.{◌≡◌, ◌≢◌, ◌⊎◌, ◌<◌, ℕ, Bool, true, false, List, [], ◌∷◌, None, Some, Ok, Err};
+ghost use Rattle.std.specs.Prelude.{◌≡◌, ◌≢◌, ◌⊎◌, ◌<◌, ◌≤◌, ◌+◌, ◌^◌, ℕ, Bool, true, false, List, [], ◌∷◌, length, None, Some, Ok, Err};
+ghost use Rattle.ncp_model.specs.declared.call_fault.CallFault.{CallFault};
 ghost use Rattle.ncp_leader.specs.declared.leader.Leader.{Leader};
 ghost use Rattle.ncp_leader.specs.declared.leader.Short.{Short};
 ghost use Rattle.ncp_terms.specs.declared.command.Command.{Command};
+ghost use Rattle.ncp_model.specs.declared.pair.Pair.{Pair};
+ghost use Rattle.ncp_model.specs.declared.limits.TheConstants.{MAX_MESSAGES};
+ghost use Rattle.ncp_model.specs.End.{End};
+ghost use Rattle.ncp_model.specs.Act.{answer};
+ghost use Rattle.ncp_model.specs.Calls.{give_end, allocate_end};
+ghost use Rattle.ncp_conn.specs.declared.record.Record.{Record};
 ghost use Rattle.ncp_slot.specs.declared.slot.Slot.{Slot};
 ghost use Rattle.ncp_slot.specs.Slots.{HasSlot, slot_at};
 ghost use Rattle.ncp_model.specs.Peers.{Peer};
 ghost use Rattle.ncp_host.specs.PeerState.{PeerState};
 ghost use Rattle.ncp_host.specs.Host.{Host, state_of};
-ghost use Rattle.ncp_host.specs.Arrivals.{OnlyNamedPeerChanges};
+ghost use Rattle.ncp_host.specs.Calls.{record_told};
+ghost use Rattle.ncp_host.specs.Listing.{connection_told};
+ghost use Rattle.ncp_host.specs.Arrivals.{OnlyNamedPeerChanges, OthersStay};
+ghost use Rattle.ncp_host.specs.Restarting.{after_restart, IsGivenUp};
 ghost use Rattle.ncp_host.specs.Readiness.{is_ready_by, is_ready, NoLinkReady, IsFirstLink, IsNext};
 
 /// What is to go out again is ready. What is out or is held is not, whatever is new; with nothing out,
@@ -44,4 +54,29 @@ pub fn bits_change_no_other_peer()
     ensures other { (leader : Leader) (before now : Host) (other : ℕ) → other ≢ leader.host → OnlyNamedPeerChanges (Ok leader) before now → state_of now other ≡ state_of before other }
     ensures either { (leader : Leader) (before now : Host) → OnlyNamedPeerChanges (Ok leader) before now → (now.ignored ≡ before.ignored) ⊎ (now.peers ≡ before.peers) }
     ensures short { (short : Short) (before now : Host) → OnlyNamedPeerChanges (Err short) before now → now.peers ≡ before.peers }
+{}
+
+/// A restart makes each message to the peer that is out ready to go out again, and changes nothing else:
+/// neither connections, commands that wait and counts, nor what the host has for another peer.
+pub fn a_restart_changes_slots_alone()
+    ensures peer { (number : ℕ) (h : Host) (s : PeerState) → number < 2 ^ 8 → state_of h number ≡ Some s → (now : PeerState) × (state_of (after_restart number h) number ≡ Some now) × IsGivenUp s now }
+    ensures others { (number : ℕ) (h : Host) → number < 2 ^ 8 → OthersStay number h (after_restart number h) }
+{}
+
+/// Over all places each connection with a peer comes once, with what is known of it, and none comes behind
+/// the last.
+pub fn each_connection_has_one_place()
+    ensures there { (number place : ℕ) (pair : Pair) (r : Record) (h : Host) → connection_told number place h ≡ Ok (Some (pair, r)) → record_told number pair h ≡ Ok r }
+    ensures each { (number : ℕ) (pair : Pair) (r : Record) (h : Host) → record_told number pair h ≡ Ok r → (place : ℕ) × (connection_told number place h ≡ Ok (Some (pair, r))) }
+    ensures once { (number here there : ℕ) (pair : Pair) (r s : Record) (h : Host) → connection_told number here h ≡ Ok (Some (pair, r)) → connection_told number there h ≡ Ok (Some (pair, s)) → here ≡ there }
+    ensures behind { (number place more : ℕ) (h : Host) → connection_told number place h ≡ Ok None → place ≤ more → connection_told number more h ≡ Ok None }
+{}
+
+/// Text is given exactly as far as it fits the room behind what waits, and bits are allowed exactly as far as
+/// they fit behind what is held and what is outstanding: of an end that refuses neither before.
+pub fn what_has_room()
+    ensures given { (pair : Pair) (text : List Bool) (e : End) → answer (give_end pair text e) ≡ Ok tt → length e.stored + length text ≤ e.room }
+    ensures not_given { (pair : Pair) (text : List Bool) (e : End) → answer (give_end pair text e) ≡ Err CallFault.NoRoom → e.room < length e.stored + length text }
+    ensures allowed { (pair : Pair) (messages bits : ℕ) (full : Bool) (e : End) (c : Command) → answer (allocate_end pair messages bits full e) ≡ Ok c → (e.bits + length e.stored + bits ≤ e.room) × (e.messages + messages ≤ MAX_MESSAGES) }
+    ensures not_allowed { (pair : Pair) (messages bits : ℕ) (full : Bool) (e : End) → answer (allocate_end pair messages bits full e) ≡ Err CallFault.TooMuch → (e.room < e.bits + length e.stored + bits) ⊎ (MAX_MESSAGES < e.messages + messages) }
 {}

@@ -1,13 +1,15 @@
 //! What a user may read of a peer.
 ghost use Rattle.std.specs.Prelude.{◌≡◌, slice_get};
 ghost use Rattle.ncp_conn.specs.Records.{record_in};
+ghost use Rattle.ncp_conn.specs.Listing.{connection_in, room_of, pair_led_to};
 ghost use Rattle.ncp_host.specs.Calls.{flags_of, record_answer};
+ghost use Rattle.ncp_host.specs.Listing.{room_answer};
 
 use crate::association::Association;
 use crate::echoes::Errors;
 use crate::flags::Flags;
 use ncp_bits::BitStore;
-use ncp_conn::Record;
+use ncp_conn::{End, Record};
 use ncp_model::{CallFault, Pair};
 use ncp_terms::Command;
 
@@ -20,6 +22,30 @@ impl<S: BitStore> Association<S> {
             Some(record) => Ok(record),
             None => Err(CallFault::NoEntry),
         }
+    }
+
+    /// The connection at a place behind the first, with a copy of what is known of it.
+    pub(crate) fn connection_at(&self, place: usize) -> Option<(Pair, Record)>
+        ensures { result ≡ connection_in place self.now.ends }
+    {
+        self.table.connection_at(place)
+    }
+
+    /// For how many bits a connection has room in all. Refused: `NoEntry`.
+    pub(crate) fn room(&self, pair: Pair) -> Result<u32, CallFault>
+        ensures { result ≡ room_answer (room_of pair self.now.ends) }
+    {
+        match self.table.room(pair) {
+            Some(room) => Ok(room),
+            None => Err(CallFault::NoEntry),
+        }
+    }
+
+    /// The pair to which a link leads.
+    pub(crate) fn pair_on(&self, end: End, link: u8) -> Option<Pair>
+        ensures { result ≡ pair_led_to end link self.now.ends }
+    {
+        self.table.pair_on(end, link)
     }
 
     /// The four flags.

@@ -2,6 +2,7 @@
 //! call states, is answered. All but `ask_send` and `ask_receive` take no memory.
 ghost use Rattle.std.specs.Prelude.{◌≡◌, OnErr};
 ghost use Rattle.ncp_model.specs.Peers.{Close, Give, Take, Allocate, Call_back, Interrupt, Ask_to_send, Ask_to_receive};
+ghost use Rattle.ncp_host.specs.Restarting.{restart_reply, after_restart};
 ghost use Rattle.ncp_host.specs.Calls.{DoneOrNoMemory, sockets, call_reply, after_call, take_reply, reset_reply, after_reset, echo_reply, after_echo, wake_reply, after_wake};
 
 use crate::host::{Host, find};
@@ -176,6 +177,22 @@ impl<S: BitStore> Host<S> {
     {
         let place = find(self.numbers.as_slice(), &self.peers, peer)?;
         self.peers[place].wake();
+        Ok(())
+    }
+
+    /// Takes each message that is out on a link to a peer as not delivered, as where its IMP was started anew and
+    /// answers none of them: what an Incomplete Transmission does that [`Host::receive`] takes on each link on
+    /// which a message is out, in the order of the links. Each is to go out again, and nothing else
+    /// changes (`laws::a_restart_changes_slots_alone`). What had come there comes twice then.
+    ///
+    /// Refused: `UnknownPeer`.
+    pub fn restart(&mut self, peer: u8) -> Result<(), CallFault>
+        ensures reply { result ≡ restart_reply peer self.old }
+        ensures host { self.new ≡ after_restart peer self.old }
+        ensures err { OnErr result (self.new ≡ self.old) }
+    {
+        let place = find(self.numbers.as_slice(), &self.peers, peer)?;
+        self.peers[place].restart();
         Ok(())
     }
 }

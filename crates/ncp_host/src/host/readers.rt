@@ -3,6 +3,7 @@
 ghost use Rattle.std.specs.Prelude.{◌≡◌};
 ghost use Rattle.std.specs.Option.{option_copied};
 ghost use Rattle.ncp_host.specs.Host.{state_of};
+ghost use Rattle.ncp_host.specs.Listing.{connection_told, room_told, pair_told, held_told};
 ghost use Rattle.ncp_host.specs.Calls.{record_told, flags_told, echoed_told, errors_told, counts_told, waiting_at, kept_for};
 
 use crate::counts::{Counts, Ignored};
@@ -10,7 +11,7 @@ use crate::echoes::Errors;
 use crate::flags::Flags;
 use crate::host::{Host, find};
 use ncp_bits::{BitStore, Bits};
-use ncp_conn::Record;
+use ncp_conn::{End, Record};
 use ncp_model::{CallFault, Pair};
 use ncp_terms::Command;
 
@@ -22,6 +23,39 @@ impl<S: BitStore> Host<S> {
     {
         let place = find(self.numbers.as_slice(), &self.peers, peer)?;
         self.peers[place].state(pair)
+    }
+
+    /// The connection with a peer at a place behind the first, which is at 0, with a copy of what is known of
+    /// it: in the order of the sockets here, and of those there where these are the same. `None` behind the
+    /// last. So over all places each connection comes once (`laws::each_connection_has_one_place`). It takes
+    /// no memory, and its time grows by the square of the connections, 128 at most. Refused: `UnknownPeer`.
+    pub fn connection_at(&self, peer: u8, place: u32) -> Result<Option<(Pair, Record)>, CallFault>
+        ensures { result ≡ connection_told peer place self.now }
+    {
+        let at = find(self.numbers.as_slice(), &self.peers, peer)?;
+        Ok(self.peers[at].connection_at(place as usize))
+    }
+
+    /// For how many bits a connection has room in all: what the own request asked for, and 0 before it.
+    /// What may be given is that without the stored bits, and what may be allowed that without the stored and
+    /// the outstanding ones (`laws::what_has_room`). It takes no memory. Refused, in this order:
+    /// `UnknownPeer`, `NoEntry`.
+    pub fn room(&self, peer: u8, pair: Pair) -> Result<u32, CallFault>
+        ensures { result ≡ room_told peer pair self.now }
+    {
+        let place = find(self.numbers.as_slice(), &self.peers, peer)?;
+        self.peers[place].room(pair)
+    }
+
+    /// The sockets of the connection to which a link leads: at the end that sends here the one whose RTS named
+    /// it, to which ALL, GVB and INR on it lead, and at the end that receives here the one that was asked for
+    /// with it, to which RET, INS and texts on it lead (NIC 8246, links). `None` where it leads to none. It
+    /// takes no memory. Refused: `UnknownPeer`.
+    pub fn pair_on(&self, peer: u8, end: End, link: u8) -> Result<Option<Pair>, CallFault>
+        ensures { result ≡ pair_told peer end link self.now }
+    {
+        let place = find(self.numbers.as_slice(), &self.peers, peer)?;
+        Ok(self.peers[place].pair_on(end, link))
     }
 
     /// The four flags for a peer.
@@ -46,6 +80,15 @@ impl<S: BitStore> Host<S> {
     {
         let place = find(self.numbers.as_slice(), &self.peers, peer)?;
         Ok(self.peers[place].errors())
+    }
+
+    /// Whether the message on a link to a peer is held since its destination was dead, so that
+    /// [`Host::wake`] is wanted. It takes no memory. Refused: `UnknownPeer`.
+    pub fn is_held(&self, peer: u8, link: u8) -> Result<bool, CallFault>
+        ensures { result ≡ held_told peer link self.now }
+    {
+        let place = find(self.numbers.as_slice(), &self.peers, peer)?;
+        Ok(self.peers[place].is_held(link))
     }
 
     /// What was counted of what came from a peer.

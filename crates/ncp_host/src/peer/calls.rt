@@ -1,20 +1,22 @@
 //! The calls of a user, and what a user may read.
 ghost use Rattle.std.specs.Prelude.{◌≡◌, slice_get, OnErr};
 ghost use Rattle.std.specs.Option.{option_copied};
-ghost use Rattle.ncp_slot.specs.Slot.{kept_message};
+ghost use Rattle.ncp_slot.specs.Slot.{kept_message, is_held};
 ghost use Rattle.ncp_slot.specs.Slots.{slot_at};
 ghost use Rattle.ncp_conn.specs.Records.{record_in};
 ghost use Rattle.ncp_model.specs.Phase.{reset_answer};
 ghost use Rattle.ncp_model.specs.Peers.{comes_of, reply, reply_of_take, reply_of_echo, Close, Give, Take, Allocate, Call_back, Interrupt, Ask_to_send, Ask_to_receive};
 ghost use Rattle.ncp_host.specs.PeerState.{calls, calls_echo, calls_reset, calls_wake};
+ghost use Rattle.ncp_conn.specs.Listing.{connection_in, room_of, pair_led_to};
 ghost use Rattle.ncp_host.specs.Calls.{DoneOrNoMemory, flags_of, record_answer};
+ghost use Rattle.ncp_host.specs.Listing.{room_answer};
 
 use crate::counts::Counts;
 use crate::echoes::Errors;
 use crate::flags::Flags;
 use crate::peer::Peer;
 use ncp_bits::{BitStore, Bits};
-use ncp_conn::{LinkSet, Record};
+use ncp_conn::{End, LinkSet, Record};
 use ncp_model::{CallFault, Pair};
 use ncp_terms::Command;
 
@@ -123,6 +125,27 @@ impl<S: BitStore> Peer<S> {
         self.association.state(pair)
     }
 
+    /// The connection at a place behind the first, with a copy of what is known of it.
+    pub(crate) fn connection_at(&self, place: usize) -> Option<(Pair, Record)>
+        ensures { result ≡ connection_in place self.now.peer.ends }
+    {
+        self.association.connection_at(place)
+    }
+
+    /// For how many bits a connection has room in all.
+    pub(crate) fn room(&self, pair: Pair) -> Result<u32, CallFault>
+        ensures { result ≡ room_answer (room_of pair self.now.peer.ends) }
+    {
+        self.association.room(pair)
+    }
+
+    /// The pair to which a link leads.
+    pub(crate) fn pair_on(&self, end: End, link: u8) -> Option<Pair>
+        ensures { result ≡ pair_led_to end link self.now.peer.ends }
+    {
+        self.association.pair_on(end, link)
+    }
+
     /// The four flags.
     pub(crate) fn flags(&self) -> Flags
         ensures { result ≡ flags_of self.now.peer.phase }
@@ -149,6 +172,13 @@ impl<S: BitStore> Peer<S> {
         ensures { option_copied result ≡ kept_message (slot_at self.now.slots link) }
     {
         self.slots.kept(link)
+    }
+
+    /// Whether the message on a link is held.
+    pub(crate) fn is_held(&self, link: u8) -> bool
+        ensures { result ≡ is_held (slot_at self.now.slots link) }
+    {
+        self.slots.is_held(link)
     }
 
     /// What was counted.

@@ -27,7 +27,7 @@ impl<S: BitStore> Peer<S> {
             return None;
         }
         let bits = bits_of_text(text.as_slice());
-        Some(message_to(number, CONTROL_LINK, CONTROL_SIZE, bits.whole()))
+        Some(message_to(number, CONTROL_LINK, CONTROL_SIZE, bits))
     }
 
     // What goes out next on a data link, where its slot is empty.

@@ -6,6 +6,7 @@ ghost use Rattle.ncp_terms.specs.declared.answer.Answer.TheVariants.{Rfnm};
 ghost use Rattle.ncp_slot.specs.declared.slot.Slot.{Slot};
 ghost use Rattle.ncp_slot.specs.Slots.{slot_at};
 ghost use Rattle.ncp_host.specs.PeerState.{answer_comes, after_answer};
+ghost use Rattle.ncp_host.specs.Restarting.{gives_up, restarts};
 ghost use Rattle.ncp_host.specs.Hearing.{control_after, control_received, text_after, text_received, message_after, message_received, answer_of, answer_received, after_bits, received_of};
 
 use crate::counts::one_more;
@@ -14,7 +15,7 @@ use crate::received::Received;
 use ncp_bits::{BitStore, Bits, Part};
 use ncp_leader::{DESTINATION_DEAD, FRONT_BITS, Leader, REGULAR, RFNM, Regular, read_regular};
 use ncp_model::Took;
-use ncp_slot::{LAST_LINK, UNUSED_LINK};
+use ncp_slot::{FIRST_DATA_LINK, LAST_LINK, UNUSED_LINK};
 use ncp_terms::Answer;
 
 impl<S: BitStore> Peer<S> {
@@ -47,6 +48,26 @@ impl<S: BitStore> Peer<S> {
             Answer::Dead => (),
         }
         Received::Answered
+    }
+
+    // The message that is out on a link, if one is, is taken as not delivered.
+    fn give_up(&mut self, link: u8)
+        requires { link ≤ LAST_LINK }
+        ensures { self.new ≡ gives_up link self.old }
+    {
+        if self.slots.answer(link, Answer::Incomplete).is_ok() {
+            self.again.insert(link);
+        }
+    }
+
+    /// Each message that is out is taken as not delivered, in the order of the links.
+    pub(crate) fn restart(&mut self)
+        ensures { self.new ≡ restarts self.old }
+    {
+        self.give_up(CONTROL_LINK);
+        for link in FIRST_DATA_LINK..LAST_LINK + 1 {
+            self.give_up(link);
+        }
     }
 
     // A message on the control link.

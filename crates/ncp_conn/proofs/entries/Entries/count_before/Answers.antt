@@ -1,0 +1,46 @@
+use Rattle.std.proofs.Common.{◌≡◌, ◌≤◌, sym, ap, ◌∙◌, arith, zero-add, ◌+◌, [], List, ℕ, length}
+use Rattle.std.specs.List.{count_by}
+use Rattle.std.proofs.lemmas.List.Sums.{count_by-le-length}
+use Rattle.slab.specs.Slab.{entries, values}
+use Rattle.ncp_model.specs.declared.pair.Pair.{Pair}
+use Rattle.ncp_model.specs.End.{End}
+use Rattle.ncp_conn.specs.Listing.{is_before}
+use Rattle.ncp_conn.proofs.Counts.{one, count_entries, count_cons}
+use Rattle.ncp_conn.proofs.entries.Entries.count_before.Goals as goal
+
+abbrev counted : Pair → List (ℕ × (Pair × End)) → ℕ
+counted pair es = count_by (λ e. is_before pair e.1) es
+
+pub loop-entry-init : goal.loop-entry-init
+loop-entry-init g c = (tt, tt, zero-add (counted c.args.pair c.into_iter-entry-iterator.result) ∙ ap (counted c.args.pair) (c.into_iter-entry-iterator.ensures.into_iter_gives ∙ c.iter-entry-items.ensures.rest))
+
+pub overflow_add-count : goal.overflow_add-count
+overflow_add-count g c =
+    let i = c.loop-entry.invariant.2 in
+    let all : counted c.args.pair (entries c.args.self.now.slab) ≡ count_by (is_before c.args.pair) (values c.args.self.now.slab) = count_entries (is_before c.args.pair) 0 c.args.self.now.slab.slots in
+    let few : count_by (is_before c.args.pair) (values c.args.self.now.slab) ≤ length (values c.args.self.now.slab) = count_by-le-length (is_before c.args.pair) (values c.args.self.now.slab) in
+    let room = c.requires in
+    let here : counted c.args.pair c.loop-entry.entry-iterator ≡ one (is_before c.args.pair c.in-Some.entry.now) + counted c.args.pair c.next.new.self = ap (counted c.args.pair) c.in-Some.ensures.steps ∙ count_cons (λ (e : ℕ × (Pair × End)). is_before c.args.pair e.1) (c.in-Some.field-0-0, c.in-Some.entry.now) c.next.new.self in
+    let stands : one (is_before c.args.pair c.in-Some.entry.now) ≡ 1 = ap one (sym c.is_before.ensures ∙ c.if-is_before.true) in
+    omega (arith, i, all, few, room, here, stands)
+
+pub loop-entry-preserved-then-is_before : goal.loop-entry-preserved-then-is_before
+loop-entry-preserved-then-is_before g c =
+    let i = c.loop-entry.invariant.2 in
+    let here : counted c.args.pair c.loop-entry.entry-iterator ≡ one (is_before c.args.pair c.in-Some.entry.now) + counted c.args.pair c.next.new.self = ap (counted c.args.pair) c.in-Some.ensures.steps ∙ count_cons (λ (e : ℕ × (Pair × End)). is_before c.args.pair e.1) (c.in-Some.field-0-0, c.in-Some.entry.now) c.next.new.self in
+    let stands : one (is_before c.args.pair c.in-Some.entry.now) ≡ 1 = ap one (sym c.is_before.ensures ∙ c.if-is_before.true) in
+    (tt, tt, omega (arith, i, here, stands))
+
+pub loop-entry-preserved : goal.loop-entry-preserved
+loop-entry-preserved g c =
+    let i = c.loop-entry.invariant.2 in
+    let here : counted c.args.pair c.loop-entry.entry-iterator ≡ one (is_before c.args.pair c.in-Some.entry.now) + counted c.args.pair c.next.new.self = ap (counted c.args.pair) c.in-Some.ensures.steps ∙ count_cons (λ (e : ℕ × (Pair × End)). is_before c.args.pair e.1) (c.in-Some.field-0-0, c.in-Some.entry.now) c.next.new.self in
+    let stands : one (is_before c.args.pair c.in-Some.entry.now) ≡ 0 = ap one (sym c.is_before.ensures ∙ c.if-is_before.false) in
+    (tt, tt, omega (arith, i, here, stands))
+
+pub returns : goal.returns
+returns g c =
+    let i = c.loop-entry.invariant.2 in
+    let none : counted c.args.pair c.loop-entry.entry-iterator ≡ counted c.args.pair [] = ap (counted c.args.pair) c.in-None.ensures.steps.0 in
+    let all : counted c.args.pair (entries c.args.self.now.slab) ≡ count_by (is_before c.args.pair) (values c.args.self.now.slab) = count_entries (is_before c.args.pair) 0 c.args.self.now.slab.slots in
+    omega (arith, i, none, all)

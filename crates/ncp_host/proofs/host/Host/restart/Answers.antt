@@ -1,0 +1,46 @@
+use Rattle.std.proofs.Common.{Ok, Err, refl, sym, ap, subst, ◌∙◌, arith}
+use Rattle.std.specs.Box.{boxed_slice_items}
+use Rattle.std.proofs.lemmas.Result.{err_from_is_err_and}
+use Rattle.ncp_host.specs.Output.{links}
+use Rattle.ncp_host.specs.Running.{HasLived}
+use Rattle.ncp_host.specs.Restarting.{restarts}
+use Rattle.ncp_host.proofs.Calling.{answered, became, known, lives_as, unknown, not_known}
+use Rattle.ncp_host.proofs.Restarting.{all_come, none_come, lives_restarted}
+use Rattle.ncp_host.proofs.host.Host.restart.Goals as goal
+
+pub returns-clause-host : goal.returns-clause-host
+returns-clause-host g c =
+    let there = known c.self.inside.me c.self.inside.numbers.items (boxed_slice_items c.self.inside.peers) c.self.inside.ignored c.args.peer c.in_ok-place.place c.index_mut.result.now c.index_mut.result.now
+    c.args.self.now c.as_slice.result.now c.deref.result.now c.self.view_is c.as_slice.ensures.value c.deref.ensures.value c.in_ok-place.ensures.found c.in_ok-place.ensures.inside c.index_mut.ensures.value in
+    became c.self.inside.me c.self.inside.numbers.items (boxed_slice_items c.self.inside.peers) c.self.inside.ignored c.args.peer c.in_ok-place.place c.index_mut.result.now c.index_mut.result.now
+    c.args.self.now c.as_slice.result.now c.deref.result.now c.self.view_is c.as_slice.ensures.value c.deref.ensures.value c.in_ok-place.ensures.found c.in_ok-place.ensures.inside c.index_mut.ensures.value
+    restarts c.restart.new.self c.restart.ensures
+    ∙ sym (all_come c.args.peer links c.args.self.now c.index_mut.result.now (omega arith) refl there)
+
+pub returns-clause-reply : goal.returns-clause-reply
+returns-clause-reply g c =
+    answered c.self.inside.me c.self.inside.numbers.items (boxed_slice_items c.self.inside.peers) c.self.inside.ignored c.args.peer c.in_ok-place.place c.index_mut.result.now c.index_mut.result.now
+    c.args.self.now c.as_slice.result.now c.deref.result.now c.self.view_is c.as_slice.ensures.value c.deref.ensures.value c.in_ok-place.ensures.found c.in_ok-place.ensures.inside c.index_mut.ensures.value
+    (λ s. Ok tt) (Ok tt) refl
+
+pub returns-in_err-place-clause-reply : goal.returns-in_err-place-clause-reply
+returns-in_err-place-clause-reply g c =
+    let e = err_from_is_err_and c.from_residual.result c.from_residual.ensures.1 in
+    unknown c.self.inside.me c.self.inside.numbers.items (boxed_slice_items c.self.inside.peers) c.self.inside.ignored c.args.peer
+    c.args.self.now c.as_slice.result.now c.deref.result.now c.in_err-place.field-0.0 c.self.view_is c.as_slice.ensures.value c.deref.ensures.value c.in_err-place.ensures.found
+    (λ s. Ok tt) c.from_residual.result (e.1 ∙ ap Err e.2)
+
+pub returns-in_err-place-clause-host : goal.returns-in_err-place-clause-host
+returns-in_err-place-clause-host g c =
+    sym (none_come c.args.peer links c.args.self.now (not_known c.self.inside.me c.self.inside.numbers.items (boxed_slice_items c.self.inside.peers) c.self.inside.ignored c.args.peer
+    c.args.self.now c.as_slice.result.now c.deref.result.now c.in_err-place.field-0.0 c.self.view_is c.as_slice.ensures.value c.deref.ensures.value c.in_err-place.ensures.found))
+
+pub invariant_of-self : goal.invariant_of-self
+invariant_of-self g c =
+    let there = known c.self.inside.me c.self.inside.numbers.items (boxed_slice_items c.self.inside.peers) c.self.inside.ignored c.args.peer c.in_ok-place.place c.index_mut.result.now c.index_mut.result.now
+    c.args.self.now c.as_slice.result.now c.deref.result.now c.self.view_is c.as_slice.ensures.value c.deref.ensures.value c.in_ok-place.ensures.found c.in_ok-place.ensures.inside c.index_mut.ensures.value in
+    lives_as c.self.inside.me c.self.inside.numbers.items (boxed_slice_items c.self.inside.peers) c.self.inside.ignored c.args.peer c.in_ok-place.place c.index_mut.result.now c.index_mut.result.now
+    c.args.self.now c.as_slice.result.now c.deref.result.now c.self.view_is c.as_slice.ensures.value c.deref.ensures.value c.in_ok-place.ensures.found c.in_ok-place.ensures.inside c.index_mut.ensures.value
+    restarts c.restart.new.self c.restart.ensures
+    (subst HasLived (all_come c.args.peer links c.args.self.now c.index_mut.result.now (omega arith) refl there) (lives_restarted c.args.peer links c.args.self.now (subst HasLived c.self.view_is c.self.invariant.lived)))
+    c.self.invariant
