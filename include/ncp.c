@@ -20,7 +20,12 @@ uint32_t ncp_embed_interrupt(struct ncp_host *handle, uint8_t peer, uint32_t loc
 uint32_t ncp_embed_close(struct ncp_host *handle, uint8_t peer, uint32_t local, uint32_t remote);
 uint32_t ncp_embed_echo(struct ncp_host *handle, uint8_t peer, uint8_t byte);
 uint32_t ncp_embed_wake(struct ncp_host *handle, uint8_t peer);
+uint32_t ncp_embed_restart(struct ncp_host *handle, uint8_t peer);
 uint32_t ncp_embed_state(struct ncp_host *handle, uint8_t peer, uint32_t local, uint32_t remote, struct ncp_connection *out);
+uint32_t ncp_embed_connection_at(struct ncp_host *handle, uint8_t peer, uint32_t place, uint32_t *local, uint32_t *remote, struct ncp_connection *out);
+uint32_t ncp_embed_room(struct ncp_host *handle, uint8_t peer, uint32_t local, uint32_t remote, uint32_t *bits);
+uint32_t ncp_embed_pair_on(struct ncp_host *handle, uint8_t peer, bool sends, uint8_t link, uint32_t *local, uint32_t *remote);
+bool ncp_embed_is_held(struct ncp_host *handle, uint8_t peer, uint8_t link);
 bool ncp_embed_is_open(struct ncp_host *handle, uint8_t peer, uint32_t local, uint32_t remote);
 bool ncp_embed_is_up(struct ncp_host *handle, uint8_t peer);
 uint32_t ncp_embed_phase(struct ncp_host *handle, uint8_t peer, struct ncp_flags *out);
@@ -139,11 +144,43 @@ uint32_t ncp_wake(struct ncp_host *host, uint8_t peer)
     return ncp_embed_wake(host, peer);
 }
 
+uint32_t ncp_restart(struct ncp_host *host, uint8_t peer)
+{
+    if (!ncp_is_made(host)) return NCP_NO_HOST;
+    return ncp_embed_restart(host, peer);
+}
+
 uint32_t ncp_state(struct ncp_host *host, uint8_t peer, uint32_t local, uint32_t remote, struct ncp_connection *out)
 {
     if (!ncp_is_made(host)) return NCP_NO_HOST;
     if (out == NULL) return NCP_NO_POINTER;
     return ncp_embed_state(host, peer, local, remote, out);
+}
+
+uint32_t ncp_connection_at(struct ncp_host *host, uint8_t peer, uint32_t place, uint32_t *local, uint32_t *remote, struct ncp_connection *out)
+{
+    if (!ncp_is_made(host)) return NCP_NO_HOST;
+    if (local == NULL || remote == NULL || out == NULL) return NCP_NO_POINTER;
+    return ncp_embed_connection_at(host, peer, place, local, remote, out);
+}
+
+uint32_t ncp_room(struct ncp_host *host, uint8_t peer, uint32_t local, uint32_t remote, uint32_t *bits)
+{
+    if (!ncp_is_made(host)) return NCP_NO_HOST;
+    if (bits == NULL) return NCP_NO_POINTER;
+    return ncp_embed_room(host, peer, local, remote, bits);
+}
+
+uint32_t ncp_pair_on(struct ncp_host *host, uint8_t peer, bool sends, uint8_t link, uint32_t *local, uint32_t *remote)
+{
+    if (!ncp_is_made(host)) return NCP_NO_HOST;
+    if (local == NULL || remote == NULL) return NCP_NO_POINTER;
+    return ncp_embed_pair_on(host, peer, sends, link, local, remote);
+}
+
+bool ncp_is_held(struct ncp_host *host, uint8_t peer, uint8_t link)
+{
+    return ncp_is_made(host) && ncp_embed_is_held(host, peer, link);
 }
 
 bool ncp_is_open(struct ncp_host *host, uint8_t peer, uint32_t local, uint32_t remote)

@@ -124,8 +124,10 @@ struct ncp_subnet {
 struct ncp_arrived {
     uint32_t what;
     uint32_t detail;
-    uint8_t peer; /* the host that the leader names; 0 where there is none */
-    uint8_t link; /* and its link */
+    uint32_t local;  /* of a text the socket here of the connection to which its link leads; 0 where it leads to none */
+    uint32_t remote; /* and the socket there */
+    uint8_t peer;    /* the host that the leader names; 0 where there is none */
+    uint8_t link;    /* and its link */
 };
 
 /* The flags for a peer: the host is up with it where none is set. Each peer starts with `down` alone. */
@@ -269,8 +271,31 @@ uint32_t ncp_echo(struct ncp_host *host, uint8_t peer, uint8_t byte);
  * again. Refused: NCP_UNKNOWN_PEER. */
 uint32_t ncp_wake(struct ncp_host *host, uint8_t peer);
 
+/* Takes each message that is out to a peer as not delivered: each is to go out again. For where the IMP was started anew, and answers
+ * nothing that it had. What had come of them comes twice then (docs/EMBEDDING.md). Refused: NCP_UNKNOWN_PEER. */
+uint32_t ncp_restart(struct ncp_host *host, uint8_t peer);
+
 /* What is known of a connection. Refused, in this order: NCP_UNKNOWN_PEER, NCP_NO_ENTRY. */
 uint32_t ncp_state(struct ncp_host *host, uint8_t peer, uint32_t local, uint32_t remote, struct ncp_connection *out);
+
+/* The connection with a peer at a place behind the first, which is at 0: its sockets, here and there, and what is known of it. They
+ * stand in the order of the sockets here, and of those there where these are the same; over all places each connection comes once. One
+ * that was heard and not asked is a peer that asks. Refused, in this order: NCP_UNKNOWN_PEER, NCP_NOTHING (behind the last). */
+uint32_t ncp_connection_at(struct ncp_host *host, uint8_t peer, uint32_t place, uint32_t *local, uint32_t *remote, struct ncp_connection *out);
+
+/* For how many bits a connection has room in all: what the own request asked for, and 0 before it. What may be given is that without
+ * the stored bits, and what may be allowed that without the stored and the outstanding ones.
+ * Refused, in this order: NCP_UNKNOWN_PEER, NCP_NO_ENTRY. */
+uint32_t ncp_room(struct ncp_host *host, uint8_t peer, uint32_t local, uint32_t remote, uint32_t *bits);
+
+/* The sockets of the connection to which a link leads: with `sends` that of the end that sends here (to it ALL, GVB and INR lead), and
+ * else that of the end that receives here (RET, INS and texts).
+ * Refused, in this order: NCP_UNKNOWN_PEER, NCP_NOTHING (the link leads to none). */
+uint32_t ncp_pair_on(struct ncp_host *host, uint8_t peer, bool sends, uint8_t link, uint32_t *local, uint32_t *remote);
+
+/* Whether the message to a peer on a link is held since its destination was dead, so that ncp_wake is wanted. Not where there is no
+ * host, or no such peer. */
+bool ncp_is_held(struct ncp_host *host, uint8_t peer, uint8_t link);
 
 /* Whether a connection is open: both requests were made, and this side is not closing. Not where there is no host, or no such
  * connection. */

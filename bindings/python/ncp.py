@@ -42,16 +42,20 @@ class Bits(NamedTuple):
 
 
 class Arrived(NamedTuple):
-    """What became of bits that came: NCP_ARRIVED_.. of ncp.h, with the peer and the link that the leader names."""
+    """What became of bits that came: NCP_ARRIVED_.. of ncp.h, with the peer and the link that the leader names, and of a text the sockets,
+    here and there, of the connection to which its link leads, or 0 and 0."""
     what: str
     detail: int
     peer: int
     link: int
+    local: int = 0
+    remote: int = 0
 
 
 class Event(NamedTuple):
-    """Something that changed: `up` and `down` of a peer; `opened`, `text` (bits that are held now), `allowed` (messages and bits),
-    `interrupted` and `ended` of a connection, `echoed` (the byte)."""
+    """Something that changed: `up` and `down` of a peer; `asks` (the peer asks, and nothing was asked here: the link to send on, or
+    the byte size to receive), `opened`, `text` (bits that are held now), `allowed` (messages and bits), `interrupted` and `ended` of a
+    connection, `echoed` (the byte)."""
     what: str
     peer: int
     local: int = None
@@ -75,7 +79,7 @@ class _Handle(_Struct):
 
 
 class _Arrived(_Struct):
-    _fields_ = [("what", c_uint32), ("detail", c_uint32), ("peer", c_uint8), ("link", c_uint8)]
+    _fields_ = [("what", c_uint32), ("detail", c_uint32), ("local", c_uint32), ("remote", c_uint32), ("peer", c_uint8), ("link", c_uint8)]
 
 
 class Flags(_Struct):
@@ -117,8 +121,9 @@ _CALLS = {
     "new": (c_uint8, _BYTES, _SIZE), "receive": (_BYTES, _SIZE, _SIZE, POINTER(_Arrived)), "next_output": (_BUFFER, _SIZE, POINTER(_SIZE)),
     "reset": _PEER, "ask_send": (*_AT, c_uint8, c_uint32), "ask_receive": (*_AT, c_uint32), "give": (*_AT, _BYTES, _SIZE, _SIZE),
     "take": (*_AT, c_uint32, _BUFFER, _SIZE, POINTER(_SIZE)), "allocate": (*_AT, c_uint16, c_uint32), "call_back": (*_AT, c_uint8, c_uint8),
-    "interrupt": _AT, "close": _AT, "echo": (*_PEER, c_uint8), "wake": _PEER, "state": (*_AT, POINTER(Connection)),
-    "phase": (*_PEER, POINTER(Flags)), "echoed": (*_PEER, POINTER(c_uint8)), "error": (*_PEER, c_uint32, POINTER(Noted)),
+    "interrupt": _AT, "close": _AT, "echo": (*_PEER, c_uint8), "wake": _PEER, "restart": _PEER, "state": (*_AT, POINTER(Connection)),
+    "connection_at": (*_PEER, c_uint32, POINTER(c_uint32), POINTER(c_uint32), POINTER(Connection)), "room": (*_AT, POINTER(c_uint32)),
+    "pair_on": (*_PEER, c_bool, c_uint8, POINTER(c_uint32), POINTER(c_uint32)), "is_held": (*_PEER, c_uint8), "phase": (*_PEER, POINTER(Flags)), "echoed": (*_PEER, POINTER(c_uint8)), "error": (*_PEER, c_uint32, POINTER(Noted)),
     "counts": (*_PEER, POINTER(Counted)), "ignored": (POINTER(Discarded),), "waiting": (*_PEER, c_uint32, _BUFFER, _SIZE, POINTER(_SIZE)),
     "kept": (*_PEER, c_uint8, _BUFFER, _SIZE, POINTER(_SIZE)),
     "subnet_new": (_BYTES, _SIZE), "subnet_accept": (c_uint8, _BYTES, _SIZE, _SIZE), "subnet_deliver": (*_WAY, _BUFFER, _SIZE, POINTER(_SIZE)),
@@ -130,6 +135,7 @@ for _name, _words in _CALLS.items():
     getattr(_ncp, f"ncp_{_name}").restype = c_uint32
 _ncp.ncp_free.argtypes, _ncp.ncp_free.restype = [_HANDLE], None
 _ncp.ncp_subnet_free.argtypes, _ncp.ncp_subnet_free.restype = [_HANDLE], None
+_ncp.ncp_is_held.restype = c_bool
 _ncp.ncp_command.argtypes, _ncp.ncp_command.restype = [_BYTES, _SIZE, _SIZE, c_uint32, _BUFFER, _SIZE, POINTER(_SIZE)], c_uint32
 _ncp.ncp_word.argtypes, _ncp.ncp_word.restype = [c_uint32], c_char_p
 _ncp.ncp_version.argtypes, _ncp.ncp_version.restype = [], c_char_p
@@ -252,7 +258,7 @@ class Host(_Handled):
         """Gives the host a message that came: bytes, so many bits of bytes, or a Bits."""
         bits, arrived = _bits(data, count), _Arrived()
         self._do("receive", bits.data, len(bits.data), bits.count, byref(arrived))
-        return Arrived(ARRIVED[arrived.what], arrived.detail, arrived.peer, arrived.link)
+        return Arrived(ARRIVED[arrived.what], arrived.detail, arrived.peer, arrived.link, arrived.local, arrived.remote)
 
     def next_output(self):
         """The message that goes out next, or None."""
@@ -304,6 +310,10 @@ class Host(_Handled):
     def wake(self, peer):
         self._do("wake", peer)
 
+    def restart(self, peer):
+        """Takes each message that is out to a peer as not delivered: each is to go out again. For where the IMP was started anew."""
+        self._do("restart", peer)
+
     # What is known.
 
     def state(self, peer, local, remote):
@@ -321,6 +331,35 @@ class Host(_Handled):
         except _CLASSES["NoEntry"]:
             return False
         return it.asked and it.heard and not it.leaving and not it.left
+
+    def connections(self, peer):
+        """The connections with a peer: the sockets here and there, and what is known of each, in the order of the sockets here. One that
+        was heard and not asked is a peer that asks."""
+        found = []
+        while True:
+            local, remote, known = c_uint32(), c_uint32(), Connection()
+            number = self._answer("connection_at", peer, len(found), byref(local), byref(remote), byref(known))
+            if number == NOTHING:
+                return found
+            _judge(number)
+            found.append((local.value, remote.value, known))
+
+    def room(self, peer, local, remote):
+        """For how many bits a connection has room in all."""
+        return self._told("room", c_uint32, peer, local, remote).value
+
+    def pair_on(self, peer, sends, link):
+        """The sockets, here and there, of the connection to which a link leads, or None: of the end that sends here, or that receives."""
+        local, remote = c_uint32(), c_uint32()
+        number = self._answer("pair_on", peer, sends, link, byref(local), byref(remote))
+        if number == NOTHING:
+            return None
+        _judge(number)
+        return local.value, remote.value
+
+    def is_held(self, peer, link):
+        """Whether the message to a peer on a link is held since its destination was dead, so that a wake is wanted."""
+        return self._answer("is_held", peer, link)
 
     def echoed(self, peer):
         """The byte of the last ERP that answered an echo, or None."""
@@ -355,8 +394,8 @@ class Host(_Handled):
         self._known.setdefault((peer, local, remote), None)
 
     def events(self):
-        """What changed since the last look, by readings: of each peer, and of each connection that was asked for here. Of what
-        changed twice in between, only the end is seen: so look after each message that comes."""
+        """What changed since the last look, by readings of each peer and of each connection. Of what changed twice in between, only
+        the end is seen: so look after each message that comes."""
         for peer in self.peers:
             now = self.is_up(peer), self.echoed(peer)
             before = self._seen.get(peer, (False, None))
@@ -365,6 +404,8 @@ class Host(_Handled):
                 yield Event("up" if now[0] else "down", peer)
             if now[1] != before[1]:
                 yield Event("echoed", peer, told=now[1])
+            for local, remote, _ in self.connections(peer):
+                self._watch(peer, local, remote)
         for (peer, local, remote), before in [*self._known.items()]:
             yield from self._changes(Event("", peer, local, remote), before)
 
@@ -378,6 +419,8 @@ class Host(_Handled):
             return
         self._known[key] = now
         was = before or Connection()
+        if now.heard and not was.heard and not now.asked:
+            yield at._replace(what="asks", told=now.link if now.sends else now.size)
         if now.opened and not was.opened:
             yield at._replace(what="opened")
         if not now.sends and now.stored > was.stored:

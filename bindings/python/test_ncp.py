@@ -60,9 +60,9 @@ class Binding(unittest.TestCase):
         host.reset(2)
         self.assertEqual(host.next_output(), ncp.Bits(bytes.fromhex(RST), 80))
         self.assertIsNone(host.next_output())
-        self.assertEqual(host.receive(bytes.fromhex("07020000")), ("answered", 7, 2, 0))
-        self.assertEqual(host.receive(b"\4\7\0\0"), ("other", 4, 7, 0))
-        self.assertEqual(host.receive(b"\0", 8), ("short", 0, 0, 0))
+        self.assertEqual(host.receive(bytes.fromhex("07020000")), ("answered", 7, 2, 0, 0, 0))
+        self.assertEqual(host.receive(b"\4\7\0\0"), ("other", 4, 7, 0, 0, 0))
+        self.assertEqual(host.receive(b"\0", 8), ("short", 0, 0, 0, 0, 0))
         self.assertEqual(host.ignored(), ncp.Discarded(short_bits=1, other=1))
         self.assertEqual(host.kept(2, 0).data, bytes.fromhex(RST))
         self.assertEqual(host.phase(2), ncp.Flags(wait=True))
@@ -110,9 +110,39 @@ class Binding(unittest.TestCase):
         host.receive(bytes.fromhex("000200000008000a00" "02" "00000003" "00000002" "08"))
         host.allocate(2, 2, 3, 1, 64)
         self.assertEqual([it.what for it in host.events()], ["opened"])
-        host.receive(bytes.fromhex("000202000008000200" "6869"))
+        self.assertEqual(host.receive(bytes.fromhex("000202000008000200" "6869")), ("text", 1, 2, 2, 2, 3))
         self.assertEqual(list(host.events()), [("text", 2, 2, 3, 16)])
         self.assertEqual(host.take(2, 2, 3), (b"hi", 16))
+
+    def test_who_asks_is_listed(self):
+        host = up_with(2)
+        self.assertEqual(host.connections(2), [])
+        # It asks to send from 3 here to 2 there, and host 2 to receive at 4 from 1 here, on link 7.
+        host.ask_send(2, 3, 2, room=64)
+        host.receive(bytes.fromhex("000200000008000a00" "01" "00000004" "00000001" "07"))
+        self.assertIn(("asks", 2, 1, 4, 7), list(host.events()))
+        who, own = host.connections(2)
+        self.assertEqual((who[:2], who[2].heard, who[2].asked, who[2].link), ((1, 4), True, False, 7))
+        self.assertEqual((own[:2], own[2].heard, own[2].asked), ((3, 2), False, True))
+        self.assertEqual((host.room(2, 3, 2), host.room(2, 1, 4)), (64, 0))
+        self.assertEqual((host.pair_on(2, True, 7), host.pair_on(2, False, 7)), ((1, 4), None))
+        for call in (lambda: host.connections(3), lambda: host.room(3, 3, 2), lambda: host.pair_on(3, True, 7)):
+            with self.assertRaises(ncp.UnknownPeer):
+                call()
+        with self.assertRaises(ncp.NoEntry):
+            host.room(2, 5, 2)
+
+    def test_what_is_out_goes_out_again(self):
+        host = ncp.Host(1, [2])
+        host.reset(2)
+        self.assertEqual([it.data.hex() for it in host.outputs()], [RST])
+        host.restart(2)
+        self.assertEqual([it.data.hex() for it in host.outputs()], [RST])
+        self.assertFalse(host.is_held(2, 0))
+        host.receive(bytes.fromhex("07020000"))
+        self.assertTrue(host.is_held(2, 0))
+        host.wake(2)
+        self.assertFalse(host.is_held(2, 0))
 
     def test_a_subnet(self):
         subnet, way = ncp.Subnet([1, 2]), (1, 2, 0)

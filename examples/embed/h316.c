@@ -21,12 +21,12 @@ static void send_all(struct end *end)
     while (ncp_next_output(&end->host, message, sizeof message, &bits) == NCP_DONE) send_message(&end->line, message, bits);
 }
 
-/* What the IMP had of this host is gone. Each message that it had not answered is taken as incomplete, and goes out again. */
+/* What the IMP had of this host is gone. Each message that it had not answered goes out again. */
 static void start_again(struct end *end)
 {
     puts("the IMP was started anew");
     send_nops(&end->line);
-    answer_all_incomplete(&end->host, end->peer);
+    want(NCP_DONE, ncp_restart(&end->host, end->peer), "restart");
 }
 
 /* Waits for what comes from the IMP, and gives it to the host. */

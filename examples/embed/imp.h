@@ -8,7 +8,7 @@
 #include <string.h>
 
 /* Types of messages, and the bytes of a leader (BBN 1822, section 3). */
-enum { REGULAR = 0, RFNM = 5, DEAD = 7, INCOMPLETE = 9, LEADER = 4, LAST_LINK = 71 };
+enum { REGULAR = 0, RFNM = 5, DEAD = 7, INCOMPLETE = 9, LEADER = 4 };
 
 /* Ends the program where a function answered another number than it should. */
 static inline void want(uint32_t wanted, uint32_t answered, const char *what)
@@ -39,21 +39,9 @@ static inline void answer_of(uint8_t type, const uint8_t *message, uint8_t answe
 /* Gives a host what came for it. */
 static inline struct ncp_arrived hand(struct ncp_host *host, const uint8_t *message, size_t len, size_t bits)
 {
-    struct ncp_arrived arrived = {0, 0, 0, 0};
+    struct ncp_arrived arrived = {0, 0, 0, 0, 0, 0};
     want(NCP_DONE, ncp_receive(host, message, len, bits, &arrived), "receive");
     return arrived;
-}
-
-/* Answers each message to a peer that is kept by Incomplete, so that it goes out again: what an IMP that was started anew
- * has of them is lost. An answer for one that was not out is counted as stray, and does nothing else. */
-static inline void answer_all_incomplete(struct ncp_host *host, uint8_t peer)
-{
-    uint8_t message[NCP_LONGEST_MESSAGE];
-    size_t bits = 0;
-    for (uint8_t link = 0; link <= LAST_LINK; link++) {
-        const uint8_t answer[LEADER] = {INCOMPLETE, peer, link, 0};
-        if (ncp_kept(host, peer, link, message, sizeof message, &bits) == NCP_DONE) hand(host, answer, sizeof answer, 32);
-    }
 }
 
 #endif

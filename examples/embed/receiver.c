@@ -3,7 +3,7 @@
 #define _POSIX_C_SOURCE 200809L
 #include "link.h"
 
-enum { ME = 2, PEER = 1, EVEN = 2, ODD = 3 };
+enum { ME = 2, PEER = 1, EVEN = 2, ODD = 3, FIRST_LINK = 2 };
 
 static bool is_open(struct end *end)
 {
@@ -29,6 +29,7 @@ int main(int argc, char **argv)
 {
     uint8_t text[NCP_LONGEST_MESSAGE];
     size_t bits = 0;
+    uint32_t local, remote;
     struct end end;
     if (argc != 3) {
         fputs("usage: receiver HERE THERE\n", stderr);
@@ -43,6 +44,8 @@ int main(int argc, char **argv)
     puts("open");
     want(NCP_DONE, ncp_allocate(&end.host, PEER, EVEN, ODD, 2, 64), "allocate");
     until(&end, has_text);
+    want(NCP_DONE, ncp_pair_on(&end.host, PEER, false, FIRST_LINK, &local, &remote), "pair_on");
+    printf("link %d leads to socket %d, from %d\n", FIRST_LINK, (int)local, (int)remote);
     want(NCP_DONE, ncp_take(&end.host, PEER, EVEN, ODD, 100, text, sizeof text, &bits), "take");
     printf("took %d bits: %.*s\n", (int)bits, (int)(bits / 8), (const char *)text);
     until(&end, is_closed);

@@ -52,6 +52,7 @@ static void no_host(struct ncp_host *host)
     struct ncp_counted counted;
     struct ncp_discarded discarded;
     struct ncp_noted noted;
+    uint32_t local, remote;
     ncp_free(host);
     IS(NCP_NO_HOST, ncp_receive(host, out, sizeof out, 32, &arrived));
     IS(NCP_NO_HOST, ncp_next_output(host, out, sizeof out, &size));
@@ -66,7 +67,11 @@ static void no_host(struct ncp_host *host)
     IS(NCP_NO_HOST, ncp_close(host, PEER, EVEN, ODD));
     IS(NCP_NO_HOST, ncp_echo(host, PEER, 65));
     IS(NCP_NO_HOST, ncp_wake(host, PEER));
+    IS(NCP_NO_HOST, ncp_restart(host, PEER));
     IS(NCP_NO_HOST, ncp_state(host, PEER, EVEN, ODD, &state));
+    IS(NCP_NO_HOST, ncp_connection_at(host, PEER, 0, &local, &remote, &state));
+    IS(NCP_NO_HOST, ncp_room(host, PEER, EVEN, ODD, &local));
+    IS(NCP_NO_HOST, ncp_pair_on(host, PEER, true, 2, &local, &remote));
     IS(NCP_NO_HOST, ncp_phase(host, PEER, &flags));
     IS(NCP_NO_HOST, ncp_echoed(host, PEER, out));
     IS(NCP_NO_HOST, ncp_error(host, PEER, 0, &noted));
@@ -76,6 +81,7 @@ static void no_host(struct ncp_host *host)
     IS(NCP_NO_HOST, ncp_kept(host, PEER, 0, out, sizeof out, &size));
     IS(false, ncp_is_made(host));
     IS(false, ncp_is_up(host, PEER));
+    IS(false, ncp_is_held(host, PEER, 0));
     IS(false, ncp_is_open(host, PEER, EVEN, ODD));
     is_untouched(__LINE__);
 }
@@ -156,6 +162,8 @@ static void subnets(void)
 static void no_pointer(struct ncp_host *host)
 {
     struct ncp_arrived arrived;
+    struct ncp_connection state;
+    uint32_t local, remote;
     char *text = (char *)out;
     IS(NCP_NO_POINTER, ncp_new(host, ME, NULL, 1));
     IS(NCP_NO_POINTER, ncp_receive(host, NULL, 4, 32, &arrived));
@@ -166,6 +174,12 @@ static void no_pointer(struct ncp_host *host)
     IS(NCP_NO_POINTER, ncp_take(host, PEER, EVEN, ODD, 1, NULL, sizeof out, &size));
     IS(NCP_NO_POINTER, ncp_take(host, PEER, EVEN, ODD, 1, out, sizeof out, NULL));
     IS(NCP_NO_POINTER, ncp_state(host, PEER, EVEN, ODD, NULL));
+    IS(NCP_NO_POINTER, ncp_connection_at(host, PEER, 0, NULL, &remote, &state));
+    IS(NCP_NO_POINTER, ncp_connection_at(host, PEER, 0, &local, NULL, &state));
+    IS(NCP_NO_POINTER, ncp_connection_at(host, PEER, 0, &local, &remote, NULL));
+    IS(NCP_NO_POINTER, ncp_room(host, PEER, EVEN, ODD, NULL));
+    IS(NCP_NO_POINTER, ncp_pair_on(host, PEER, true, 2, NULL, &remote));
+    IS(NCP_NO_POINTER, ncp_pair_on(host, PEER, true, 2, &local, NULL));
     IS(NCP_NO_POINTER, ncp_phase(host, PEER, NULL));
     IS(NCP_NO_POINTER, ncp_echoed(host, PEER, NULL));
     IS(NCP_NO_POINTER, ncp_error(host, PEER, 0, NULL));
@@ -186,7 +200,7 @@ static void no_pointer(struct ncp_host *host)
 static void short_buffers(struct ncp_host *host)
 {
     const uint8_t message[] = {0, PEER, 0, 0, 0, 8, 0, 3, 0, 12, 9, 65}; /* RST and ECO */
-    struct ncp_arrived arrived = {MARK, MARK, MARK, MARK};
+    struct ncp_arrived arrived = {MARK, MARK, MARK, MARK, MARK, MARK};
     IS(NCP_SHORT_BUFFER, ncp_next_output(host, out, NCP_LONGEST_MESSAGE - 1, &size));
     IS(NCP_SHORT_BUFFER, ncp_take(host, PEER, EVEN, ODD, 1, out, 0, &size));
     IS(NCP_SHORT_BUFFER, ncp_kept(host, PEER, 0, out, NCP_LONGEST_MESSAGE - 1, &size));
@@ -252,7 +266,11 @@ static void arrivals(struct ncp_host *host)
     IS(7, arrived.detail);
     IS(PEER, arrived.peer);
     IS(0, arrived.link);
+    IS(true, ncp_is_held(host, PEER, 0));
+    IS(false, ncp_is_held(host, PEER, 2));
+    IS(false, ncp_is_held(host, 9, 0));
     IS(NCP_DONE, ncp_wake(host, PEER));
+    IS(false, ncp_is_held(host, PEER, 0));
     IS(NCP_DONE, ncp_receive(host, nop, sizeof nop, 32, &arrived));
     IS(NCP_ARRIVED_OTHER, arrived.what);
     IS(4, arrived.detail);
@@ -301,6 +319,42 @@ static void no_room_for_text(struct ncp_host *host)
     IS(NCP_DONE, ncp_ask_receive(host, PEER, EVEN, ODD, 64));
 }
 
+/* The two connections of that host, in the order of the sockets here, with their rooms and links; and what went out goes out again. */
+static void connections(struct ncp_host *host)
+{
+    struct ncp_connection state;
+    uint32_t local = MARK, remote = MARK, room = MARK;
+    IS(NCP_UNKNOWN_PEER, ncp_connection_at(host, 9, 0, &local, &remote, &state));
+    IS(NCP_NOTHING, ncp_connection_at(host, PEER, 2, &local, &remote, &state));
+    IS(NCP_UNKNOWN_PEER, ncp_room(host, 9, EVEN, ODD, &room));
+    IS(NCP_NO_ENTRY, ncp_room(host, PEER, ODD, ODD, &room));
+    IS(NCP_UNKNOWN_PEER, ncp_pair_on(host, 9, false, 2, &local, &remote));
+    IS(NCP_NOTHING, ncp_pair_on(host, PEER, true, 2, &local, &remote));
+    IS(NCP_NOTHING, ncp_pair_on(host, PEER, false, 3, &local, &remote));
+    IS(MARK, local);
+    IS(MARK, remote);
+    IS(MARK, room);
+    IS(NCP_DONE, ncp_connection_at(host, PEER, 0, &local, &remote, &state));
+    IS(EVEN, local);
+    IS(ODD, remote);
+    IS(2, state.link);
+    IS(NCP_DONE, ncp_connection_at(host, PEER, 1, &local, &remote, &state));
+    IS(ODD, local);
+    IS(EVEN, remote);
+    IS(true, state.sends);
+    IS(NCP_DONE, ncp_room(host, PEER, ODD, EVEN, &room));
+    IS(64, room);
+    IS(NCP_DONE, ncp_pair_on(host, PEER, false, 2, &local, &remote));
+    IS(EVEN, local);
+    IS(ODD, remote);
+    IS(NCP_DONE, ncp_next_output(host, out, sizeof out, &size));
+    IS(NCP_NOTHING, ncp_next_output(host, out, sizeof out, &size));
+    IS(NCP_UNKNOWN_PEER, ncp_restart(host, 9));
+    IS(NCP_DONE, ncp_restart(host, PEER));
+    IS(NCP_DONE, ncp_next_output(host, out, sizeof out, &size));
+    IS(2, out[9]); /* the STR and the RTS once more */
+}
+
 /* As many peers as there can be, and one too many. The last has the greatest number, and comes up. */
 static void eight_peers(void)
 {
@@ -340,6 +394,7 @@ int main(void)
     arrivals(&host);
     IS(NCP_DONE, ncp_next_output(&host, out, sizeof out, &size));
     no_room_for_text(&host);
+    connections(&host);
     ncp_free(&host);
     ncp_free(&host);
     no_memory();

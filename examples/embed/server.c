@@ -1,8 +1,8 @@
 /* A server: it waits on its contact socket, and sends whoever asks there a number of 32 bits, as the initial connection
- * protocol begins. Who asked, it reads from the commands of what came. What it prints stands in server.txt. */
+ * protocol begins. Who asks stands among its connections. What it prints stands in server.txt. */
 #include "imp.h"
 
-enum { SERVER = 9, FIRST = 1, OTHER = 3, CONTACT = 1 /* an odd socket, since it sends */, RTS = 1, SIZE = 32 };
+enum { SERVER = 9, FIRST = 1, OTHER = 3, CONTACT = 1 /* an odd socket, since it sends */, SIZE = 32 };
 
 static struct ncp_host server, first, other;
 
@@ -11,16 +11,15 @@ static uint32_t socket_in(const uint8_t *bytes)
     return (uint32_t)bytes[0] << 24 | (uint32_t)bytes[1] << 16 | (uint32_t)bytes[2] << 8 | bytes[3];
 }
 
-/* Answers each request for the contact socket in a message that came. */
-static void serve(uint8_t peer, const uint8_t *message, size_t bits)
+/* Answers each request of a peer for the contact socket. */
+static void serve(uint8_t peer)
 {
-    uint8_t command[NCP_LONGEST_COMMAND];
-    size_t size = 0;
-    for (uint32_t place = 0; ncp_command(message, NCP_LONGEST_MESSAGE, bits, place, command, sizeof command, &size) == NCP_DONE; place++) {
-        const uint8_t number[4] = {0, 0, peer, 0};
-        uint32_t asking = socket_in(command + 1);
-        if (command[0] != RTS || socket_in(command + 5) != CONTACT) continue;
-        printf("host %d asks from socket %lu, on link %d\n", peer, (unsigned long)asking, command[9]);
+    const uint8_t number[4] = {0, 0, peer, 0};
+    uint32_t socket, asking;
+    struct ncp_connection it;
+    for (uint32_t place = 0; ncp_connection_at(&server, peer, place, &socket, &asking, &it) == NCP_DONE; place++) {
+        if (socket != CONTACT || it.asked || !it.heard) continue;
+        printf("host %d asks from socket %lu, on link %d\n", peer, (unsigned long)asking, it.link);
         want(NCP_DONE, ncp_ask_send(&server, peer, CONTACT, asking, SIZE, SIZE), "ask_send");
         want(NCP_DONE, ncp_give(&server, peer, CONTACT, asking, number, sizeof number, SIZE), "give");
     }
@@ -43,7 +42,7 @@ static bool carry(uint8_t from)
     message[1] = from;
     arrived = hand(host_of(to), message, sizeof message, bits);
     hand(host_of(from), answer, sizeof answer, 8 * sizeof answer);
-    if (to == SERVER && arrived.what == NCP_ARRIVED_CONTROL) serve(arrived.peer, message, bits);
+    if (to == SERVER && arrived.what == NCP_ARRIVED_CONTROL) serve(arrived.peer);
     return true;
 }
 

@@ -54,19 +54,27 @@ static void settle(struct pair *it)
     }
 }
 
-/* Gives words until there is no room for more. */
+/* How many words there is room for. */
+static unsigned room_for(struct pair *it)
+{
+    uint32_t room;
+    struct ncp_connection known;
+    want(NCP_DONE, ncp_room(&it->a, B, ODD, EVEN, &room), "room");
+    want(NCP_DONE, ncp_state(&it->a, B, ODD, EVEN, &known), "state");
+    return (room - known.stored) / WORD;
+}
+
+/* Gives as many words as there is room for, a message's worth at a time. */
 static void give(struct pair *it, unsigned end)
 {
     uint8_t text[BUFFER] = {0};
-    while (it->given < end) {
-        unsigned left = end - it->given, count = left < AT_ONCE ? left : (unsigned)AT_ONCE;
-        uint32_t code;
+    for (unsigned left = room_for(it); left > 0 && it->given < end;) {
+        unsigned count = left < AT_ONCE ? left : (unsigned)AT_ONCE;
+        if (count > end - it->given) count = end - it->given;
         memset(text, 0, sizeof text);
         for (unsigned place = 0; place < count; place++) put_word(text, place, word_of(it->given + place));
-        code = ncp_give(&it->a, B, ODD, EVEN, text, sizeof text, (size_t)count * WORD);
-        if (code == NCP_NO_ROOM) return;
-        want(NCP_DONE, code, "give");
-        it->given += count;
+        want(NCP_DONE, ncp_give(&it->a, B, ODD, EVEN, text, sizeof text, (size_t)count * WORD), "give");
+        it->given += count, left -= count;
     }
 }
 

@@ -3,6 +3,8 @@
 use Rattle.std.specs.Prelude.{ℕ, ◌≡◌, ◌⊎◌, ◌++◌, Bool, false, nat_lt, if◌then◌else◌, List, length, drop, slice_get, Option, None, Some, Result, Ok, Err}
 use Rattle.ncp_bits.specs.declared.bits.BitsFault.{BitsFault}
 use Rattle.ncp_numbers.specs.Bytes.{bytes_for, bytes_of}
+use Rattle.ncp_leader.specs.declared.leader.Leader.{Leader}
+use Rattle.ncp_leader.specs.declared.leader.Short.{Short}
 use Rattle.ncp_leader.specs.Leader.{leader_in}
 use Rattle.ncp_terms.specs.declared.command.Command.{Command}
 use Rattle.ncp_terms.specs.Spelling.{spelling}
@@ -12,7 +14,9 @@ use Rattle.ncp_model.specs.declared.outcomes.Error.{Error}
 use Rattle.ncp_host.specs.Host.{Host}
 use Rattle.ncp_host.specs.declared.counts.Ignored.{Ignored}
 use Rattle.ncp_host.specs.Calls.{errors_told}
-use Rattle.ncp_host.specs.Arrivals.{received_in, OnlyNamedPeerChanges}
+use Rattle.ncp_host.specs.Arrivals.{received_in, after_received, OnlyNamedPeerChanges}
+use Rattle.ncp_host.specs.Listing.{pair_told}
+use Rattle.ncp_conn.specs.declared.record.End.TheVariants.{Receive}
 use Rattle.ncp_embed.specs.declared.handle.held.Held.{Held}
 use Rattle.ncp_embed.specs.declared.told.Arrived.{Arrived}
 use Rattle.ncp_embed.specs.declared.codes.TheConstants.{DONE, NO_HOST, NOTHING}
@@ -115,9 +119,18 @@ abbrev pub receive_code : List Bool → Option Held → ℕ
 receive_code bits None = NO_HOST
 receive_code bits (Some at) = DONE
 
+-- the connection that receives what comes on the link that a leader names, if one does
+abbrev pub pair_if_any : Result (Option Pair) CallFault → Option Pair
+pair_if_any (Ok pair) = pair
+pair_if_any (Err fault) = None
+
+abbrev pub pair_named : Result Leader Short → Host → Option Pair
+pair_named (Ok leader) h = pair_if_any (pair_told leader.host Receive leader.link h)
+pair_named (Err short) h = None
+
 abbrev pub arrived_in : List Bool → Option Held → Arrived → Arrived
 arrived_in bits None out = out
-arrived_in bits (Some at) out = arrived_of (leader_in bits) (received_in bits at.host)
+arrived_in bits (Some at) out = arrived_of (pair_named (leader_in bits) (after_received bits at.host)) (leader_in bits) (received_in bits at.host)
 
 -- a text that is taken, over the front of a buffer
 abbrev pub told_over_of : {A B : Type 0} → (A → B → B) → Result A CallFault → B → B

@@ -1,5 +1,5 @@
 -- What C is told, as records of numbers.
-use Rattle.std.specs.Prelude.{ℕ, Bool, true, false, not, ◌&&◌, ◌||◌, Result, Ok, Err}
+use Rattle.std.specs.Prelude.{ℕ, Bool, true, false, not, ◌&&◌, ◌||◌, if◌then◌else◌, Option, None, Some, Result, Ok, Err}
 use Rattle.ncp_conn.specs.declared.record.End.{End}
 use Rattle.ncp_conn.specs.declared.record.End.TheVariants.{Send, Receive}
 use Rattle.ncp_conn.specs.declared.record.Record.{Record}
@@ -7,6 +7,7 @@ use Rattle.ncp_leader.specs.declared.leader.Leader.{Leader}
 use Rattle.ncp_leader.specs.declared.leader.Short.{Short}
 use Rattle.ncp_leader.specs.declared.fault.MessageFault.{MessageFault}
 use Rattle.ncp_leader.specs.declared.fault.MessageFault.TheVariants.{ShortPrefix, M1NotZero, SizeZero, M2NotZero, TextMissing, TextTooLong, NotWhole}
+use Rattle.ncp_model.specs.declared.pair.Pair.{Pair}
 use Rattle.ncp_model.specs.declared.outcomes.Error.{Error}
 use Rattle.ncp_model.specs.declared.outcomes.Took.{Took}
 use Rattle.ncp_model.specs.declared.outcomes.Took.TheVariants as took
@@ -41,27 +42,32 @@ number_of_took took.NotOpen = 5
 
 -- what became of bits and what is told of it, with the host and the link that their leader names, if there is one
 abbrev pub arrival : Result Leader Short → ℕ → ℕ → Arrived
-arrival (Ok leader) what detail = record { what = what; detail = detail; peer = leader.host; link = leader.link }
-arrival (Err short) what detail = record { what = what; detail = detail; peer = 0; link = 0 }
+arrival (Ok leader) what detail = record { what = what; detail = detail; local = 0; remote = 0; peer = leader.host; link = leader.link }
+arrival (Err short) what detail = record { what = what; detail = detail; local = 0; remote = 0; peer = 0; link = 0 }
+
+-- with the sockets of a connection, if there is one
+abbrev pub led_to : Option Pair → Arrived → Arrived
+led_to None arrived = arrived
+led_to (Some pair) arrived = record arrived { local = pair.local; remote = pair.remote }
 
 -- the type that a leader names (BBN 1822, section 3), which of an answer says what became of the message
 abbrev pub kind_of : Result Leader Short → ℕ
 kind_of (Ok leader) = leader.kind
 kind_of (Err short) = 0
 
--- in the order in which it is judged
-abbrev pub arrived_of : Result Leader Short → Received → Arrived
-arrived_of leader received.Short = arrival leader 1 0
-arrived_of leader (received.Other kind) = arrival leader 2 kind
-arrived_of leader received.Unknown = arrival leader 3 0
-arrived_of leader received.Stray = arrival leader 4 0
-arrived_of leader received.Answered = arrival leader 5 (kind_of leader)
-arrived_of leader (received.Fault fault) = arrival leader 6 (number_of_message_fault fault)
-arrived_of leader received.WrongLink = arrival leader 7 0
-arrived_of leader received.WrongSize = arrival leader 8 0
-arrived_of leader (received.Control commands) = arrival leader 9 commands
-arrived_of leader (received.Text took) = arrival leader 10 (number_of_took took)
-arrived_of leader received.NotUp = arrival leader 11 0
+-- in the order in which it is judged; a text with the connection to which its link leads
+abbrev pub arrived_of : Option Pair → Result Leader Short → Received → Arrived
+arrived_of pair leader received.Short = arrival leader 1 0
+arrived_of pair leader (received.Other kind) = arrival leader 2 kind
+arrived_of pair leader received.Unknown = arrival leader 3 0
+arrived_of pair leader received.Stray = arrival leader 4 0
+arrived_of pair leader received.Answered = arrival leader 5 (kind_of leader)
+arrived_of pair leader (received.Fault fault) = arrival leader 6 (number_of_message_fault fault)
+arrived_of pair leader received.WrongLink = arrival leader 7 0
+arrived_of pair leader received.WrongSize = arrival leader 8 0
+arrived_of pair leader (received.Control commands) = arrival leader 9 commands
+arrived_of pair leader (received.Text took) = led_to pair (arrival leader 10 (number_of_took took))
+arrived_of pair leader received.NotUp = arrival leader 11 0
 
 abbrev pub phase_of : Flags → Phase
 phase_of f = record { down = f.down; want = f.want; owe = f.owe; wait = f.wait }
@@ -82,6 +88,9 @@ noted_of e = record { code = e.code; bytes = e.bytes }
 abbrev pub is_sender : End → Bool
 is_sender Send = true
 is_sender Receive = false
+
+abbrev pub end_of : Bool → End
+end_of sends = if sends then Send else Receive
 
 -- both requests are there, and it is not on its way out (NIC 8246, establishment)
 abbrev pub is_open : Record → Bool

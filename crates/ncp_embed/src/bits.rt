@@ -14,6 +14,7 @@ use crate::codes::{
     DONE, LONGEST_MESSAGE, NO_HOST, NOTHING, SHORT_BUFFER, bits_code, code_of, fault_code,
 };
 use crate::handle::{Handle, put, take};
+use crate::placing::pair_named;
 use crate::told::{Arrived, arrived_of};
 use crate::writing::write_message;
 use ncp_bits::Bits;
@@ -46,8 +47,10 @@ pub extern "C" fn ncp_embed_receive(
         return NO_HOST;
     };
     let received = held.host.receive(&came);
+    let leader = read_leader(&came);
+    let pair = pair_named(&held.host, leader);
     put(handle, held);
-    *arrived = arrived_of(read_leader(&came), received);
+    *arrived = arrived_of(pair, leader, received);
     DONE
 }
 

@@ -2,6 +2,7 @@
 //! `DONE` or the number of the refusal.
 ghost use Rattle.std.specs.Prelude.{◌≡◌, ◌≢◌};
 ghost use Rattle.ncp_model.specs.Peers.{Close, Allocate, Call_back, Interrupt};
+ghost use Rattle.ncp_host.specs.Restarting.{restart_reply, after_restart};
 ghost use Rattle.ncp_host.specs.Calls.{call_reply, after_call, reset_reply, after_reset, echo_reply, after_echo, wake_reply, after_wake};
 ghost use Rattle.ncp_embed.specs.Exports.{pair_of, code_in, host_in};
 
@@ -141,6 +142,21 @@ pub extern "C" fn ncp_embed_wake(alloc: Global, handle: &mut Handle, peer: u8) -
         return NO_HOST;
     };
     let answer = held.host.wake(peer);
+    put(handle, held);
+    code_of(answer)
+}
+
+/// `Host::restart`.
+#[unsafe(no_mangle)]
+pub extern "C" fn ncp_embed_restart(alloc: Global, handle: &mut Handle, peer: u8) -> u32
+    ensures code { result ≡ code_in (restart_reply peer) handle.old.host }
+    ensures host { handle.new.host ≡ host_in (after_restart peer) handle.old.host }
+    ensures err { result ≢ DONE → handle.new.host ≡ handle.old.host }
+{
+    let Some(mut held) = take(alloc, handle) else {
+        return NO_HOST;
+    };
+    let answer = held.host.restart(peer);
     put(handle, held);
     code_of(answer)
 }

@@ -1,6 +1,6 @@
 //! Laws about what C is told, each the contract of a function that does nothing: the numbers are those of
 //! `include/ncp.h`, and no field is told as another.
-ghost use Rattle.std.specs.Prelude.{◌≡◌, ℕ, true, false, Result, Ok, Err, Some, List, replicate, map};
+ghost use Rattle.std.specs.Prelude.{◌≡◌, ℕ, true, false, Result, Ok, Err, Option, None, Some, List, replicate, map};
 ghost use Rattle.ncp_bits.specs.declared.bits.BitsFault.{BitsFault};
 ghost use Rattle.ncp_conn.specs.declared.record.End.{End};
 ghost use Rattle.ncp_conn.specs.declared.record.Record.{Record};
@@ -9,13 +9,15 @@ ghost use Rattle.ncp_leader.specs.declared.leader.Leader.{Leader};
 ghost use Rattle.ncp_leader.specs.declared.leader.Short.{Short};
 ghost use Rattle.ncp_model.specs.declared.call_fault.CallFault.{CallFault};
 ghost use Rattle.ncp_model.specs.declared.outcomes.Took.{Took};
+ghost use Rattle.ncp_model.specs.declared.pair.Pair.{Pair};
 ghost use Rattle.ncp_host.specs.declared.fault.HostFault.{HostFault};
 ghost use Rattle.ncp_host.specs.declared.flags.Flags.{Flags};
 ghost use Rattle.ncp_host.specs.declared.received.Received.{Received};
 ghost use Rattle.ncp_subnet.specs.declared.fault.SubnetFault.{SubnetFault};
+ghost use Rattle.ncp_embed.specs.declared.told.Arrived.{Arrived};
 ghost use Rattle.ncp_embed.specs.Codes.{code_of, host_code, subnet_code, bits_code};
 ghost use Rattle.ncp_embed.specs.Names.{number_of, answers, answer_among};
-ghost use Rattle.ncp_embed.specs.Told.{is_up, is_open, arrived_of, arrival, phase_of, counted_of, discarded_of, noted_of, connection_of};
+ghost use Rattle.ncp_embed.specs.Told.{is_up, is_open, arrived_of, arrival, led_to, phase_of, counted_of, discarded_of, noted_of, connection_of};
 
 use crate::codes::{
     BITS, DONE, LONGEST_MESSAGE, NO_HOST, NO_POINTER, NO_SUBNET, NOTHING, SHORT_BUFFER,
@@ -45,24 +47,25 @@ pub fn each_answer_has_a_number_of_its_own()
 
 /// What became of bits, and what is told of it with what their leader names.
 pub fn arrivals_are_told_so()
-    ensures short { (l : Result Leader Short) → arrived_of l Received.Short ≡ arrival l 1 0 }
-    ensures other { (l : Result Leader Short) → arrived_of l (Received.Other 4) ≡ arrival l 2 4 }
-    ensures unknown { (l : Result Leader Short) → arrived_of l Received.Unknown ≡ arrival l 3 0 }
-    ensures stray { (l : Result Leader Short) → arrived_of l Received.Stray ≡ arrival l 4 0 }
-    ensures answered { (l : Leader) → arrived_of (Ok l) Received.Answered ≡ arrival (Ok l) 5 l.kind }
-    ensures named { (l : Leader) → arrival (Ok l) 9 3 ≡ record { what = 9; detail = 3; peer = l.host; link = l.link } }
-    ensures none_named { arrival (Err (record {})) 1 0 ≡ record { what = 1; detail = 0; peer = 0; link = 0 } }
-    ensures faults { (l : Result Leader Short) → (arrived_of l (Received.Fault MessageFault.ShortPrefix) ≡ arrival l 6 1) × (arrived_of l (Received.Fault MessageFault.M1NotZero) ≡ arrival l 6 2) × (arrived_of l (Received.Fault MessageFault.SizeZero) ≡ arrival l 6 3) }
-    ensures more_faults { (l : Result Leader Short) → (arrived_of l (Received.Fault MessageFault.M2NotZero) ≡ arrival l 6 4) × (arrived_of l (Received.Fault MessageFault.TextMissing) ≡ arrival l 6 5) }
-    ensures wrong_link { (l : Result Leader Short) → arrived_of l Received.WrongLink ≡ arrival l 7 0 }
-    ensures wrong_size { (l : Result Leader Short) → arrived_of l Received.WrongSize ≡ arrival l 8 0 }
-    ensures control { (l : Result Leader Short) → arrived_of l (Received.Control 3) ≡ arrival l 9 3 }
-    ensures admitted { (l : Result Leader Short) → arrived_of l (Received.Text Took.Admitted) ≡ arrival l 10 1 }
-    ensures late { (l : Result Leader Short) → arrived_of l (Received.Text Took.Late) ≡ arrival l 10 2 }
-    ensures size { (l : Result Leader Short) → arrived_of l (Received.Text Took.WrongSize) ≡ arrival l 10 3 }
-    ensures over { (l : Result Leader Short) → arrived_of l (Received.Text Took.Over) ≡ arrival l 10 4 }
-    ensures not_open { (l : Result Leader Short) → arrived_of l (Received.Text Took.NotOpen) ≡ arrival l 10 5 }
-    ensures not_up { (l : Result Leader Short) → arrived_of l Received.NotUp ≡ arrival l 11 0 }
+    ensures short { (p : Option Pair) (l : Result Leader Short) → arrived_of p l Received.Short ≡ arrival l 1 0 }
+    ensures other { (p : Option Pair) (l : Result Leader Short) → arrived_of p l (Received.Other 4) ≡ arrival l 2 4 }
+    ensures unknown { (p : Option Pair) (l : Result Leader Short) → arrived_of p l Received.Unknown ≡ arrival l 3 0 }
+    ensures stray { (p : Option Pair) (l : Result Leader Short) → arrived_of p l Received.Stray ≡ arrival l 4 0 }
+    ensures answered { (p : Option Pair) (l : Leader) → arrived_of p (Ok l) Received.Answered ≡ arrival (Ok l) 5 l.kind }
+    ensures named { (l : Leader) → arrival (Ok l) 9 3 ≡ record { what = 9; detail = 3; local = 0; remote = 0; peer = l.host; link = l.link } }
+    ensures none_named { arrival (Err (record {})) 1 0 ≡ record { what = 1; detail = 0; local = 0; remote = 0; peer = 0; link = 0 } }
+    ensures faults { (p : Option Pair) (l : Result Leader Short) → (arrived_of p l (Received.Fault MessageFault.ShortPrefix) ≡ arrival l 6 1) × (arrived_of p l (Received.Fault MessageFault.M1NotZero) ≡ arrival l 6 2) × (arrived_of p l (Received.Fault MessageFault.SizeZero) ≡ arrival l 6 3) }
+    ensures more_faults { (p : Option Pair) (l : Result Leader Short) → (arrived_of p l (Received.Fault MessageFault.M2NotZero) ≡ arrival l 6 4) × (arrived_of p l (Received.Fault MessageFault.TextMissing) ≡ arrival l 6 5) }
+    ensures wrong_link { (p : Option Pair) (l : Result Leader Short) → arrived_of p l Received.WrongLink ≡ arrival l 7 0 }
+    ensures wrong_size { (p : Option Pair) (l : Result Leader Short) → arrived_of p l Received.WrongSize ≡ arrival l 8 0 }
+    ensures control { (p : Option Pair) (l : Result Leader Short) → arrived_of p l (Received.Control 3) ≡ arrival l 9 3 }
+    ensures admitted { (p : Option Pair) (l : Result Leader Short) → arrived_of p l (Received.Text Took.Admitted) ≡ led_to p (arrival l 10 1) }
+    ensures led { (a : Arrived) → (led_to None a ≡ a) × (led_to (Some (record { local = 2; remote = 3 })) a ≡ record a { local = 2; remote = 3 }) }
+    ensures late { (p : Option Pair) (l : Result Leader Short) → arrived_of p l (Received.Text Took.Late) ≡ led_to p (arrival l 10 2) }
+    ensures size { (p : Option Pair) (l : Result Leader Short) → arrived_of p l (Received.Text Took.WrongSize) ≡ led_to p (arrival l 10 3) }
+    ensures over { (p : Option Pair) (l : Result Leader Short) → arrived_of p l (Received.Text Took.Over) ≡ led_to p (arrival l 10 4) }
+    ensures not_open { (p : Option Pair) (l : Result Leader Short) → arrived_of p l (Received.Text Took.NotOpen) ≡ led_to p (arrival l 10 5) }
+    ensures not_up { (p : Option Pair) (l : Result Leader Short) → arrived_of p l Received.NotUp ≡ arrival l 11 0 }
 {}
 
 /// What is counted, with all counts different, and an ERR.

@@ -21,6 +21,7 @@ mod connection;
 mod handle;
 pub mod laws;
 mod life;
+mod listing;
 mod names;
 mod net;
 mod parts;

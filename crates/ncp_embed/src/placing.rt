@@ -1,10 +1,11 @@
-//! What stands at a place among what a host has.
+//! What stands at a place among what a host has, and what a link leads to.
 ghost use Rattle.std.specs.Prelude.{◌≡◌, slice_get};
-ghost use Rattle.ncp_embed.specs.Exports.{error_told};
+ghost use Rattle.ncp_embed.specs.Exports.{error_told, pair_named};
 
 use ncp_bits::PackedStore;
-use ncp_host::{Error, Errors, Host};
-use ncp_model::CallFault;
+use ncp_host::{End, Error, Errors, Host};
+use ncp_leader::{Leader, Short};
+use ncp_model::{CallFault, Pair};
 
 // The error at a place behind the first.
 fn error_at(errors: Errors<'_>, place: u32) -> Option<Error>
@@ -29,4 +30,17 @@ pub(crate) fn error_in(
     ensures { result ≡ error_told peer place host.now }
 {
     Ok(error_at(host.errors(peer)?, place))
+}
+
+// The connection that receives what comes on the link that a leader names, if one does.
+pub(crate) fn pair_named(host: &Host<PackedStore>, leader: Result<Leader, Short>) -> Option<Pair>
+    ensures { result ≡ pair_named leader host.now }
+{
+    let Ok(leader) = leader else {
+        return None;
+    };
+    match host.pair_on(leader.host, End::Receive, leader.link) {
+        Ok(pair) => pair,
+        Err(_) => None,
+    }
 }

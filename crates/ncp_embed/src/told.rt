@@ -1,10 +1,10 @@
 //! What C is told, as structs of numbers.
 ghost use Rattle.std.specs.Prelude.{◌≡◌};
-ghost use Rattle.ncp_embed.specs.Told.{arrived_of, arrival, kind_of, number_of_took, number_of_message_fault, phase_of, counted_of, discarded_of, noted_of};
+ghost use Rattle.ncp_embed.specs.Told.{arrived_of, arrival, led_to, kind_of, number_of_took, number_of_message_fault, phase_of, counted_of, discarded_of, noted_of};
 
 use ncp_host::{Counts, Error, Flags, Ignored, Received};
 use ncp_leader::{Leader, MessageFault, Short};
-use ncp_model::Took;
+use ncp_model::{Pair, Took};
 use ncp_terms::ERROR_DATA;
 
 /// What became of bits that came.
@@ -16,6 +16,9 @@ pub struct Arrived {
     /// Of `Other` and `Answered` the type, of `Fault` the number of the fault, of `Control` how many
     /// commands were read, of `Text` 1 to 5 in the order of `Took`; else 0.
     pub detail: u32,
+    /// Of `Text` the sockets of the connection to which its link leads, here and there; 0 where it leads to none.
+    pub local: u32,
+    pub remote: u32,
     /// The host that the leader names; 0 where there is no leader.
     pub peer: u8,
     /// The link of the leader; 0 where there is none.
@@ -96,15 +99,33 @@ fn arrival(leader: Result<Leader, Short>, what: u32, detail: u32) -> Arrived
         Ok(leader) => Arrived {
             what,
             detail,
+            local: 0,
+            remote: 0,
             peer: leader.host,
             link: leader.link,
         },
         Err(Short) => Arrived {
             what,
             detail,
+            local: 0,
+            remote: 0,
             peer: 0,
             link: 0,
         },
+    }
+}
+
+// The same with the sockets of a connection, if there is one.
+fn led_to(pair: Option<Pair>, arrived: Arrived) -> Arrived
+    ensures { result ≡ led_to pair arrived }
+{
+    match pair {
+        Some(Pair { local, remote }) => Arrived {
+            local,
+            remote,
+            ..arrived
+        },
+        None => arrived,
     }
 }
 
@@ -118,8 +139,12 @@ fn kind_of(leader: Result<Leader, Short>) -> u32
     }
 }
 
-pub(crate) fn arrived_of(leader: Result<Leader, Short>, received: Received) -> Arrived
-    ensures { result ≡ arrived_of leader received }
+pub(crate) fn arrived_of(
+    pair: Option<Pair>,
+    leader: Result<Leader, Short>,
+    received: Received,
+) -> Arrived
+    ensures { result ≡ arrived_of pair leader received }
 {
     match received {
         Received::Short => arrival(leader, 1, 0),
@@ -131,7 +156,7 @@ pub(crate) fn arrived_of(leader: Result<Leader, Short>, received: Received) -> A
         Received::WrongLink => arrival(leader, 7, 0),
         Received::WrongSize => arrival(leader, 8, 0),
         Received::Control(commands) => arrival(leader, 9, commands),
-        Received::Text(took) => arrival(leader, 10, number_of_took(took)),
+        Received::Text(took) => led_to(pair, arrival(leader, 10, number_of_took(took))),
         Received::NotUp => arrival(leader, 11, 0),
     }
 }

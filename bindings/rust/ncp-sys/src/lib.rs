@@ -26,6 +26,8 @@ pub struct ncp_subnet {
 pub struct ncp_arrived {
     pub what: u32,
     pub detail: u32,
+    pub local: u32,
+    pub remote: u32,
     pub peer: u8,
     pub link: u8,
 }
@@ -103,7 +105,12 @@ extern "C" {
     pub fn ncp_close(host: *mut ncp_host, peer: u8, local: u32, remote: u32) -> u32;
     pub fn ncp_echo(host: *mut ncp_host, peer: u8, byte: u8) -> u32;
     pub fn ncp_wake(host: *mut ncp_host, peer: u8) -> u32;
+    pub fn ncp_restart(host: *mut ncp_host, peer: u8) -> u32;
     pub fn ncp_state(host: *mut ncp_host, peer: u8, local: u32, remote: u32, out: *mut ncp_connection) -> u32;
+    pub fn ncp_connection_at(host: *mut ncp_host, peer: u8, place: u32, local: *mut u32, remote: *mut u32, out: *mut ncp_connection) -> u32;
+    pub fn ncp_room(host: *mut ncp_host, peer: u8, local: u32, remote: u32, bits: *mut u32) -> u32;
+    pub fn ncp_pair_on(host: *mut ncp_host, peer: u8, sends: bool, link: u8, local: *mut u32, remote: *mut u32) -> u32;
+    pub fn ncp_is_held(host: *mut ncp_host, peer: u8, link: u8) -> bool;
     pub fn ncp_is_open(host: *mut ncp_host, peer: u8, local: u32, remote: u32) -> bool;
     pub fn ncp_phase(host: *mut ncp_host, peer: u8, out: *mut ncp_flags) -> u32;
     pub fn ncp_is_up(host: *mut ncp_host, peer: u8) -> bool;

@@ -109,10 +109,13 @@ pub enum What {
     NotUp,
 }
 
-/// What became of a message that came, with the host and the link that its leader names.
+/// What became of a message that came, with the host and the link that its leader names, and of a text the sockets, here and there, of
+/// the connection to which its link leads, or 0 and 0.
 #[derive(Clone, Copy, Debug, PartialEq, Eq)]
 pub struct Arrived {
     pub what: What,
+    pub local: u32,
+    pub remote: u32,
     pub peer: u8,
     pub link: u8,
 }
@@ -133,7 +136,7 @@ impl Arrived {
             10 => What::Text(detail),
             _ => What::NotUp,
         };
-        Arrived { what, peer: told.peer, link: told.link }
+        Arrived { what, local: told.local, remote: told.remote, peer: told.peer, link: told.link }
     }
 }
 
@@ -232,11 +235,43 @@ impl Host {
         done(unsafe { sys::ncp_wake(self.handle.get(), peer) })
     }
 
+    /// Takes each message that is out to a peer as not delivered: each is to go out again. For where the IMP was started anew.
+    pub fn restart(&mut self, peer: u8) -> Result<(), Refusal> {
+        done(unsafe { sys::ncp_restart(self.handle.get(), peer) })
+    }
+
     /// What is known of a connection. Refused, in this order: `UnknownPeer`, `NoEntry`.
     pub fn state(&self, at: At) -> Result<Connection, Refusal> {
         let mut told = Connection::default();
         done(unsafe { sys::ncp_state(self.handle.get(), at.peer, at.local, at.remote, &mut told) })?;
         Ok(told)
+    }
+
+    /// The connection with a peer at a place behind the first, in the order of the sockets here; none behind the last. One that was
+    /// heard and not asked is a peer that asks.
+    pub fn connection_at(&self, peer: u8, place: u32) -> Result<Option<(At, Connection)>, Refusal> {
+        let (mut local, mut remote, mut told) = (0, 0, Connection::default());
+        let answer = unsafe { sys::ncp_connection_at(self.handle.get(), peer, place, &mut local, &mut remote, &mut told) };
+        Ok(found(answer)?.then_some((At { peer, local, remote }, told)))
+    }
+
+    /// For how many bits a connection has room in all. Refused, in this order: `UnknownPeer`, `NoEntry`.
+    pub fn room(&self, at: At) -> Result<u32, Refusal> {
+        let mut bits = 0;
+        done(unsafe { sys::ncp_room(self.handle.get(), at.peer, at.local, at.remote, &mut bits) })?;
+        Ok(bits)
+    }
+
+    /// The connection to which a link leads, if it leads to one: of the end that sends here, or of the one that receives.
+    pub fn pair_on(&self, peer: u8, sends: bool, link: u8) -> Result<Option<At>, Refusal> {
+        let (mut local, mut remote) = (0, 0);
+        let answer = unsafe { sys::ncp_pair_on(self.handle.get(), peer, sends, link, &mut local, &mut remote) };
+        Ok(found(answer)?.then_some(At { peer, local, remote }))
+    }
+
+    /// Whether the message to a peer on a link is held since its destination was dead, so that a wake is wanted.
+    pub fn is_held(&self, peer: u8, link: u8) -> bool {
+        unsafe { sys::ncp_is_held(self.handle.get(), peer, link) }
     }
 
     /// Whether both requests were made, and this side is not closing.

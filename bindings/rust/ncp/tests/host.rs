@@ -39,9 +39,9 @@ fn what_arrived_and_what_is_told() {
     assert_eq!(host.next_output(&mut buffer), Some(Bits::from(&RST)));
     assert_eq!(host.next_output(&mut BUFFER.clone()), None);
     assert_eq!(host.kept(2, 0, &mut buffer), Some(Bits::from(&RST)));
-    assert_eq!(host.receive(&[7, 2, 0, 0]), Ok(Arrived { what: What::Answered(7), peer: 2, link: 0 }));
-    assert_eq!(host.receive(&[4, 9, 3, 0]), Ok(Arrived { what: What::Other(4), peer: 9, link: 3 }));
-    assert_eq!(host.receive(&[0]), Ok(Arrived { what: What::Short, peer: 0, link: 0 }));
+    assert_eq!(host.receive(&[7, 2, 0, 0]), Ok(Arrived { what: What::Answered(7), local: 0, remote: 0, peer: 2, link: 0 }));
+    assert_eq!(host.receive(&[4, 9, 3, 0]), Ok(Arrived { what: What::Other(4), local: 0, remote: 0, peer: 9, link: 3 }));
+    assert_eq!(host.receive(&[0]), Ok(Arrived { what: What::Short, local: 0, remote: 0, peer: 0, link: 0 }));
     assert_eq!((host.ignored().short_bits, host.ignored().other), (1, 1));
     assert!(host.phase(2).unwrap().wait);
     assert_eq!(host.counts(2), Ok(ncp::Counted::default()));
@@ -66,6 +66,42 @@ fn commands_are_read() {
     assert_eq!(ncp::command(&message, 0, &mut buffer), Some(&[12][..]));
     assert_eq!(ncp::command(&message, 1, &mut buffer), Some(&[9, 65][..]));
     assert_eq!(ncp::command(&message, 2, &mut buffer), None);
+}
+
+#[test]
+fn who_asks_is_listed() {
+    let mut host = up();
+    assert_eq!(host.connection_at(2, 0), Ok(None));
+    assert_eq!(host.connection_at(3, 0), Err(Refusal::UnknownPeer));
+    // It asks to send from 3 here to 2 there, and host 2 to receive at 4 from 1 here, on link 7.
+    host.ask_send(AT, 8, 64).unwrap();
+    host.receive(&[0, 2, 0, 0, 0, 8, 0, 10, 0, 1, 0, 0, 0, 4, 0, 0, 0, 1, 7]).unwrap();
+    let who = At { peer: 2, local: 1, remote: 4 };
+    let (at, known) = host.connection_at(2, 0).unwrap().unwrap();
+    assert_eq!((at, known.heard, known.asked, known.link), (who, true, false, 7));
+    assert_eq!(host.connection_at(2, 1).unwrap().unwrap().0, AT);
+    assert_eq!(host.connection_at(2, 2), Ok(None));
+    assert_eq!((host.room(AT), host.room(who)), (Ok(64), Ok(0)));
+    assert_eq!(host.room(At { local: 5, ..AT }), Err(Refusal::NoEntry));
+    assert_eq!(host.pair_on(2, true, 7), Ok(Some(who)));
+    assert_eq!(host.pair_on(2, false, 7), Ok(None));
+}
+
+#[test]
+fn what_is_out_goes_out_again() {
+    let mut host = Host::new(1, &[2]).unwrap();
+    let mut buffer = BUFFER;
+    host.reset(2).unwrap();
+    assert!(host.next_output(&mut buffer).is_some());
+    assert_eq!(host.next_output(&mut buffer), None);
+    host.restart(2).unwrap();
+    assert_eq!(host.next_output(&mut buffer), Some(Bits::from(&RST)));
+    assert!(!host.is_held(2, 0));
+    host.receive(&[7, 2, 0, 0]).unwrap();
+    assert!(host.is_held(2, 0));
+    host.wake(2).unwrap();
+    assert!(!host.is_held(2, 0));
+    assert_eq!(host.restart(3), Err(Refusal::UnknownPeer));
 }
 
 #[test]
