@@ -1,4 +1,6 @@
 """tools/audit in a repository of one crate: an edit that is proved is found, and what was passed is tried again once it changed."""
+import importlib.machinery
+import importlib.util
 import os
 import shutil
 import subprocess
@@ -30,6 +32,51 @@ PROVED = """file: src/lib.rt
 old:     x / 2
 new:     x / 4
 """
+
+
+# Data of another crate, and a definition that cites it.
+DATA = """/// A number that a host has.
+pub struct Number {
+    pub value: u8,
+}
+
+pub const MOST: u8 = 8;
+
+pub fn half(number: u8) -> u8 {
+    number / 2
+}
+"""
+CITING = "use Rattle.data.specs.declared.number.Number.{Number}\n"
+
+
+class TestSums(unittest.TestCase):
+    def setUp(self):
+        self.top = tempfile.mkdtemp(prefix="ncp-audit-test-")
+        self.addCleanup(shutil.rmtree, self.top)
+        for folder in ("tools", "crates/data/src", "crates/sample/src", "crates/sample/specs"):
+            os.makedirs(f"{self.top}/{folder}")
+        shutil.copy(f"{TOOLS}/audit", f"{self.top}/tools")
+        self.write("crates/sample/src/lib.rt", SOURCE)
+        self.write("crates/sample/specs/Numbers.antt", CITING)
+
+    def write(self, name, text):
+        with open(f"{self.top}/{name}", "w", encoding="utf-8") as file:
+            file.write(text)
+
+    def sum_with(self, data):
+        """The sum of the crate that cites, where the other declares this."""
+        self.write("crates/data/src/number.rt", data)
+        loader = importlib.machinery.SourceFileLoader("audit", f"{self.top}/tools/audit")
+        audit = importlib.util.module_from_spec(importlib.util.spec_from_loader(loader.name, loader))
+        loader.exec_module(audit)
+        return audit.sum_of("sample")
+
+    def test_of_cited_code_what_it_declares_counts(self):
+        was = self.sum_with(DATA)
+
+        self.assertEqual(self.sum_with(DATA.replace("number / 2", "number >> 1")), was)
+        self.assertNotEqual(self.sum_with(DATA.replace("value: u8", "value: u16")), was)
+        self.assertNotEqual(self.sum_with(DATA.replace("= 8", "= 9")), was)
 
 
 @unittest.skipUnless(shutil.which("rt"), "the toolchain is not on the path")
