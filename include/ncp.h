@@ -200,8 +200,11 @@ struct ncp_connection {
     bool recall;         /* a receiver's GVB is unanswered */
 };
 
-/* What changed of a connection between two looks. */
+/* What changed of a connection between two looks. Where it ended, what stands behind that is of one that began since, if there is one. */
 struct ncp_changes {
+    bool closed;      /* it ended, and this side had closed it first */
+    bool refused;     /* it ended: the peer refused what was asked here, or a reset came */
+    bool ended;       /* it ended: the peer had asked, and closed it first, or a reset came */
     bool asks;        /* the peer asks, and nothing was asked here */
     bool opened;      /* both requests met */
     bool text;        /* more text is held */
@@ -209,9 +212,6 @@ struct ncp_changes {
     bool delivered;   /* the text that was out was delivered */
     bool interrupted; /* interrupts came */
     bool closes;      /* the peer closes it: its CLS came */
-    bool closed;      /* it is there no more, and this side had closed it first */
-    bool refused;     /* it is there no more: the peer refused what was asked here, or a reset ended it */
-    bool ended;       /* it is there no more: the peer closed it first, or a reset ended it */
 };
 
 /* Whether there is a host. */

@@ -14,22 +14,22 @@
 #include "ncp.h"
 #include <string.h>
 
-/* What happened. From NCP_EVENT_ASKS on it is about a connection, as in `struct ncp_changes` and in its order. */
+/* What happened. From NCP_EVENT_CLOSED on it is about a connection, as in `struct ncp_changes` and in its order. */
 enum {
     NCP_EVENT_UP = 1,
     NCP_EVENT_DOWN,
     NCP_EVENT_ECHOED, /* an echo was answered: ncp_echoed has another byte, or its first */
     NCP_EVENT_HELD,   /* a message is held since its destination was dead: ncp_wake is wanted */
+    NCP_EVENT_CLOSED,
+    NCP_EVENT_REFUSED,
+    NCP_EVENT_ENDED,
     NCP_EVENT_ASKS,
     NCP_EVENT_OPENED,
     NCP_EVENT_TEXT,
     NCP_EVENT_ALLOWED,
     NCP_EVENT_DELIVERED,
     NCP_EVENT_INTERRUPTED,
-    NCP_EVENT_CLOSES,
-    NCP_EVENT_CLOSED,
-    NCP_EVENT_REFUSED,
-    NCP_EVENT_ENDED
+    NCP_EVENT_CLOSES
 };
 
 struct ncp_event {
@@ -46,8 +46,9 @@ struct ncp_seen {
     struct ncp_changes due;
 };
 
-/* As many connections as a host has with a peer at most, and its last link. */
-enum { NCP_WATCHED = 128, NCP_LAST_LINK = 71 };
+/* How many connections are watched at most: twice as many as a host has with a peer, so that those that ended since the last look and
+ * those that began have room; and the last link. */
+enum { NCP_WATCHED = 256, NCP_LAST_LINK = 71 };
 
 /* What was seen of a peer: all zeros at first, but the peer. */
 struct ncp_watch {
@@ -56,9 +57,9 @@ struct ncp_watch {
     bool is_up;
     bool is_echoed;
     bool is_held;
-    bool due[NCP_EVENT_ASKS]; /* of the peer alone: what was not told yet, by its number */
-    uint32_t changes;         /* how many events there were */
-    uint32_t missed;          /* how often a connection was not watched, since NCP_WATCHED were */
+    bool due[NCP_EVENT_CLOSED]; /* of the peer alone: what was not told yet, by its number */
+    uint32_t changes;           /* how many events there were */
+    uint32_t missed;            /* how often a connection had no room; as it is, never */
     uint32_t count;
     struct ncp_seen seen[NCP_WATCHED];
 };
@@ -66,12 +67,12 @@ struct ncp_watch {
 /* The next thing that happened to a connection and was not told yet, which then is told; 0 where there is none. */
 static inline uint32_t ncp_next_change(struct ncp_changes *due)
 {
-    bool *each[] = {&due->asks,     &due->opened, &due->text,   &due->allowed, &due->delivered, &due->interrupted,
-                    &due->closes, &due->closed, &due->refused, &due->ended};
+    bool *each[] = {&due->closed,  &due->refused,   &due->ended,       &due->asks,  &due->opened, &due->text,
+                    &due->allowed, &due->delivered, &due->interrupted, &due->closes};
     for (uint32_t place = 0; place < sizeof each / sizeof *each; place++) {
         if (!*each[place]) continue;
         *each[place] = false;
-        return NCP_EVENT_ASKS + place;
+        return NCP_EVENT_CLOSED + place;
     }
     return 0;
 }
@@ -80,7 +81,7 @@ static inline uint32_t ncp_next_change(struct ncp_changes *due)
 static inline bool ncp_next_told(struct ncp_watch *watch, struct ncp_event *event)
 {
     event->local = 0, event->remote = 0;
-    for (event->what = NCP_EVENT_UP; event->what < NCP_EVENT_ASKS; event->what++) {
+    for (event->what = NCP_EVENT_UP; event->what < NCP_EVENT_CLOSED; event->what++) {
         if (!watch->due[event->what]) continue;
         watch->due[event->what] = false;
         return true;

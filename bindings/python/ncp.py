@@ -61,8 +61,8 @@ class Arrived(NamedTuple):
 class Event(NamedTuple):
     """Something that changed: `up` and `down` of a peer; `asks` (the peer asks, and nothing was asked here: the link to send on, or
     the byte size to receive), `opened`, `text` (bits that are held now), `allowed` (messages and bits), `delivered`, `interrupted` (how
-    often in all), `closes`, and then `closed` (by this side first), `refused` or `ended` of a connection, as `struct ncp_changes` of ncp.h
-    tells them; `echoed` (the byte)."""
+    often in all), `closes`, and `closed` (by this side first), `refused` or `ended` of a connection, as `struct ncp_changes` of ncp.h tells
+    them; `echoed` (the byte)."""
     what: str
     peer: int
     local: int = None
@@ -118,7 +118,7 @@ class Connection(_Struct):
 
 class Changes(_Struct):
     """What changed of a connection between two looks: the fields of `struct ncp_changes`."""
-    _fields_ = [(name, c_bool) for name in ("asks", "opened", "text", "allowed", "delivered", "interrupted", "closes", "closed", "refused", "ended")]
+    _fields_ = [(name, c_bool) for name in ("closed", "refused", "ended", "asks", "opened", "text", "allowed", "delivered", "interrupted", "closes")]
 
 
 def _library():

@@ -15,12 +15,12 @@ static bool is_dead;         /* each destination */
 
 static void say_events(uint8_t at)
 {
-    static const char *const words[] = {"",        "up",        "down",        "echoed", "held",   "asks",    "opened", "text",
-                                        "allowed", "delivered", "interrupted", "closes", "closed", "refused", "ended"};
+    static const char *const words[] = {"",       "up",   "down",    "echoed",    "held",        "closed", "refused", "ended",
+                                        "asks", "opened", "text", "allowed", "delivered", "interrupted", "closes"};
     struct ncp_event event;
     while (ncp_next_event(&sides[at].host, &sides[at].watch, &event)) {
         printf("%d: %s", at, words[event.what]);
-        if (event.what >= NCP_EVENT_ASKS) printf(" %lu %lu", (unsigned long)event.local, (unsigned long)event.remote);
+        if (event.what >= NCP_EVENT_CLOSED) printf(" %lu %lu", (unsigned long)event.local, (unsigned long)event.remote);
         puts("");
     }
 }

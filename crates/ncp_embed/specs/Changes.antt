@@ -1,6 +1,6 @@
 -- What changed of a connection since it was looked at, by two readings: what was seen then, and what is there now. Where there was
 -- none, all of what was seen is 0 and false. (NIC 8246, establishment, allocation, interrupts, closing.)
-use Rattle.std.specs.Prelude.{ℕ, Bool, true, false, not, ◌&&◌, ◌||◌, nat_lt, Option, None, Some, Result, Ok, Err}
+use Rattle.std.specs.Prelude.{ℕ, Bool, false, not, ◌&&◌, ◌||◌, nat_lt, if◌then◌else◌, Option, None, Some, Result, Ok, Err}
 use Rattle.ncp_conn.specs.declared.record.Record.{Record}
 use Rattle.ncp_model.specs.declared.pair.Pair.{Pair}
 use Rattle.ncp_model.specs.declared.call_fault.CallFault.{CallFault}
@@ -36,6 +36,9 @@ is_closed_here c = (c.leaving || c.left) && not c.cls
 
 abbrev pub no_changes : Changes
 no_changes = record {
+  closed = false;
+  refused = false;
+  ended = false;
   asks = false;
   opened = false;
   text = false;
@@ -43,9 +46,6 @@ no_changes = record {
   delivered = false;
   interrupted = false;
   closes = false;
-  closed = false;
-  refused = false;
-  ended = false;
 }
 
 -- the peer asks, and nothing was asked here
@@ -84,9 +84,21 @@ ending_of seen = record no_changes {
   ended = seen.heard && not (is_closed_here seen);
 }
 
+-- what was seen ended, and one between the same sockets began since: while one lasts, none of these flags falls
+abbrev pub is_another : Connection → Connection → Bool
+is_another seen now =
+    became now.asked seen.asked || became now.heard seen.heard || became now.opened seen.opened || became now.left seen.left || became now.cls seen.cls
+
+-- how it ended, and what changed of the one that began
+abbrev pub changes_anew : Connection → Connection → Changes
+changes_anew seen now = record (changes_of no_connection now) { closed = (ending_of seen).closed; refused = (ending_of seen).refused; ended = (ending_of seen).ended }
+
+abbrev pub changes_since : Connection → Connection → Changes
+changes_since seen now = if is_another seen now then changes_anew seen now else changes_of seen now
+
 abbrev pub changes_between : Connection → Option Connection → Changes
 changes_between seen None = ending_of seen
-changes_between seen (Some now) = changes_of seen now
+changes_between seen (Some now) = changes_since seen now
 
 -- what is seen from then on
 abbrev pub seen_of : Option Connection → Connection

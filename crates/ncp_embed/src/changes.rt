@@ -1,7 +1,7 @@
 //! What changed of a connection since it was looked at.
 ghost use Rattle.std.specs.Prelude.{◌≡◌};
 ghost use Rattle.ncp_embed.specs.Exports.{pair_of, code_in, told_in};
-ghost use Rattle.ncp_embed.specs.Changes.{no_connection, no_changes, is_closed_here, asks, is_more_held, is_more_allowed, became, changes_of, ending_of, changes_between, seen_of, reading_of, reading_told};
+ghost use Rattle.ncp_embed.specs.Changes.{no_connection, no_changes, is_closed_here, asks, is_more_held, is_more_allowed, became, changes_of, ending_of, is_another, changes_anew, changes_since, changes_between, seen_of, reading_of, reading_told};
 
 use crate::codes::{DONE, NO_HOST, fault_code};
 use crate::connection::{Connection, connection_of};
@@ -14,6 +14,12 @@ use std::alloc::Global;
 #[repr(C)]
 #[derive(Clone, Copy, Drop)]
 pub struct Changes {
+    /// It is there no more, and this side had closed it first.
+    pub closed: bool,
+    /// It is there no more, this side had not closed it first, and the peer had not asked.
+    pub refused: bool,
+    /// It is there no more, this side had not closed it first, and the peer had asked.
+    pub ended: bool,
     /// The peer asks, and nothing was asked here.
     pub asks: bool,
     /// Both requests met.
@@ -28,12 +34,6 @@ pub struct Changes {
     pub interrupted: bool,
     /// The peer closes it.
     pub closes: bool,
-    /// It is there no more, and this side had closed it first.
-    pub closed: bool,
-    /// It is there no more, this side had not closed it first, and the peer had not asked.
-    pub refused: bool,
-    /// It is there no more, this side had not closed it first, and the peer had asked.
-    pub ended: bool,
 }
 
 fn no_connection() -> Connection
@@ -62,6 +62,9 @@ fn no_changes() -> Changes
     ensures { result ≡ no_changes }
 {
     Changes {
+        closed: false,
+        refused: false,
+        ended: false,
         asks: false,
         opened: false,
         text: false,
@@ -69,9 +72,6 @@ fn no_changes() -> Changes
         delivered: false,
         interrupted: false,
         closes: false,
-        closed: false,
-        refused: false,
-        ended: false,
     }
 }
 
@@ -137,11 +137,50 @@ fn ending_of(seen: Connection) -> Changes
     }
 }
 
+// Whether what was seen ended, and one between the same sockets began since.
+fn is_another(seen: Connection, now: Connection) -> bool
+    ensures { result ≡ is_another seen now }
+{
+    became(now.asked, seen.asked)
+        || became(now.heard, seen.heard)
+        || became(now.opened, seen.opened)
+        || became(now.left, seen.left)
+        || became(now.cls, seen.cls)
+}
+
+// How the one that was seen ended, and what changed of the one that began.
+fn changes_anew(seen: Connection, now: Connection) -> Changes
+    ensures { result ≡ changes_anew seen now }
+{
+    let Changes {
+        closed,
+        refused,
+        ended,
+        ..
+    } = ending_of(seen);
+    Changes {
+        closed,
+        refused,
+        ended,
+        ..changes_of(no_connection(), now)
+    }
+}
+
+fn changes_since(seen: Connection, now: Connection) -> Changes
+    ensures { result ≡ changes_since seen now }
+{
+    if is_another(seen, now) {
+        changes_anew(seen, now)
+    } else {
+        changes_of(seen, now)
+    }
+}
+
 fn changes_between(seen: Connection, now: Option<Connection>) -> Changes
     ensures { result ≡ changes_between seen now }
 {
     match now {
-        Some(now) => changes_of(seen, now),
+        Some(now) => changes_since(seen, now),
         None => ending_of(seen),
     }
 }

@@ -130,6 +130,7 @@ pub fn connections_are_told_so()
 /// What changed of a connection: what stays as it is changes in nothing, and where there was none and is none nothing is told.
 pub fn changes_are_told_so()
     ensures none { (c : Connection) → changes_between c (Some c) ≡ no_changes }
+    ensures anew { changes_between (record no_connection { asked = true; heard = true; opened = true }) (Some (record no_connection { heard = true; link = 7 })) ≡ record no_changes { ended = true; asks = true } }
     ensures never { changes_between no_connection None ≡ no_changes }
     ensures asks { changes_between no_connection (Some (record no_connection { heard = true; link = 7 })) ≡ record no_changes { asks = true } }
     ensures opened { changes_between (record no_connection { asked = true }) (Some (record no_connection { asked = true; heard = true; opened = true })) ≡ record no_changes { opened = true } }

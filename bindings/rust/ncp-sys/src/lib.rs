@@ -94,6 +94,9 @@ pub struct ncp_connection {
 #[repr(C)]
 #[derive(Clone, Copy, Debug, Default, PartialEq, Eq)]
 pub struct ncp_changes {
+    pub closed: bool,
+    pub refused: bool,
+    pub ended: bool,
     pub asks: bool,
     pub opened: bool,
     pub text: bool,
@@ -101,9 +104,6 @@ pub struct ncp_changes {
     pub delivered: bool,
     pub interrupted: bool,
     pub closes: bool,
-    pub closed: bool,
-    pub refused: bool,
-    pub ended: bool,
 }
 
 extern "C" {
