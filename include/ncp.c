@@ -22,6 +22,7 @@ uint32_t ncp_embed_echo(struct ncp_host *handle, uint8_t peer, uint8_t byte);
 uint32_t ncp_embed_wake(struct ncp_host *handle, uint8_t peer);
 uint32_t ncp_embed_restart(struct ncp_host *handle, uint8_t peer);
 uint32_t ncp_embed_state(struct ncp_host *handle, uint8_t peer, uint32_t local, uint32_t remote, struct ncp_connection *out);
+uint32_t ncp_embed_changes(struct ncp_host *handle, uint8_t peer, uint32_t local, uint32_t remote, struct ncp_connection *seen, struct ncp_changes *out);
 uint32_t ncp_embed_connection_at(struct ncp_host *handle, uint8_t peer, uint32_t place, uint32_t *local, uint32_t *remote, struct ncp_connection *out);
 uint32_t ncp_embed_room(struct ncp_host *handle, uint8_t peer, uint32_t local, uint32_t remote, uint32_t *bits);
 uint32_t ncp_embed_pair_on(struct ncp_host *handle, uint8_t peer, bool sends, uint8_t link, uint32_t *local, uint32_t *remote);
@@ -155,6 +156,13 @@ uint32_t ncp_state(struct ncp_host *host, uint8_t peer, uint32_t local, uint32_t
     if (!ncp_is_made(host)) return NCP_NO_HOST;
     if (out == NULL) return NCP_NO_POINTER;
     return ncp_embed_state(host, peer, local, remote, out);
+}
+
+uint32_t ncp_changes(struct ncp_host *host, uint8_t peer, uint32_t local, uint32_t remote, struct ncp_connection *seen, struct ncp_changes *out)
+{
+    if (!ncp_is_made(host)) return NCP_NO_HOST;
+    if (seen == NULL || out == NULL) return NCP_NO_POINTER;
+    return ncp_embed_changes(host, peer, local, remote, seen, out);
 }
 
 uint32_t ncp_connection_at(struct ncp_host *host, uint8_t peer, uint32_t place, uint32_t *local, uint32_t *remote, struct ncp_connection *out)

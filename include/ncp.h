@@ -109,6 +109,19 @@ enum {
     NCP_ARRIVED_NOT_UP = 11     /* a text while the host is not up with the peer */
 };
 
+/* The types of messages that come from an IMP (BBN 1822, section 3): `kind` of `struct ncp_arrived`. */
+enum {
+    NCP_TYPE_REGULAR = 0,
+    NCP_TYPE_ERROR_IN_LEADER = 1,  /* the IMP dropped a message whose leader it could not read; it does not say which */
+    NCP_TYPE_GOING_DOWN = 2,
+    NCP_TYPE_NOP = 4,
+    NCP_TYPE_RFNM = 5,
+    NCP_TYPE_DESTINATION_DEAD = 7,
+    NCP_TYPE_ERROR_IN_MESSAGE = 8, /* the IMP dropped the message to `peer` on `link`; no answer to it comes */
+    NCP_TYPE_INCOMPLETE = 9,
+    NCP_TYPE_INTERFACE_RESET = 10  /* the interface was reset: what was under way is gone, as where the IMP was started anew */
+};
+
 /* A host, or none. NCP_EMPTY only initializes one, as in `struct ncp_host host = NCP_EMPTY;`; a static one, and one
  * that is all zeros, is empty too. */
 struct ncp_host {
@@ -126,8 +139,11 @@ struct ncp_arrived {
     uint32_t detail;
     uint32_t local;  /* of a text the socket here of the connection to which its link leads; 0 where it leads to none */
     uint32_t remote; /* and the socket there */
+    uint32_t errors; /* of a control message how many of the commands that were read were ERRs, those that were dropped too */
+    uint32_t resets; /* and how many RSTs: each ended all connections with the peer */
     uint8_t peer;    /* the host that the leader names; 0 where there is none */
     uint8_t link;    /* and its link */
+    uint8_t kind;    /* and its type, whatever became of the message: NCP_TYPE_.. */
 };
 
 /* The flags for a peer: the host is up with it where none is set. Each peer starts with `down` alone. */
@@ -182,6 +198,20 @@ struct ncp_connection {
     bool cls;            /* the peer's CLS came */
     bool busy;           /* a sender's text went out and has had no RFNM */
     bool recall;         /* a receiver's GVB is unanswered */
+};
+
+/* What changed of a connection between two looks. Where it ended, what stands behind that is of one that began since, if there is one. */
+struct ncp_changes {
+    bool closed;      /* it ended, and this side had closed it first */
+    bool refused;     /* it ended: the peer refused what was asked here, or a reset came */
+    bool ended;       /* it ended: the peer had asked, and closed it first, or a reset came */
+    bool asks;        /* the peer asks, and nothing was asked here */
+    bool opened;      /* both requests met */
+    bool text;        /* more text is held */
+    bool allowed;     /* more messages may be sent, or more bits */
+    bool delivered;   /* the text that was out was delivered */
+    bool interrupted; /* interrupts came */
+    bool closes;      /* the peer closes it: its CLS came */
 };
 
 /* Whether there is a host. */
@@ -277,6 +307,12 @@ uint32_t ncp_restart(struct ncp_host *host, uint8_t peer);
 
 /* What is known of a connection. Refused, in this order: NCP_UNKNOWN_PEER, NCP_NO_ENTRY. */
 uint32_t ncp_state(struct ncp_host *host, uint8_t peer, uint32_t local, uint32_t remote, struct ncp_connection *out);
+
+/* What changed of a connection since `seen`, which then is how it stands: all 0 and false where there is none, as it has to be
+ * before the first look. Each is told exactly where the two differ in that way, so nothing that lasts is missed by looking seldom: of
+ * what changed twice in between the end is told. It may be looked at after each call and each message. A reset ends all connections
+ * with a peer; that one came `resets` of what arrived tells. Refused: NCP_UNKNOWN_PEER. */
+uint32_t ncp_changes(struct ncp_host *host, uint8_t peer, uint32_t local, uint32_t remote, struct ncp_connection *seen, struct ncp_changes *out);
 
 /* The connection with a peer at a place behind the first, which is at 0: its sockets, here and there, and what is known of it. They
  * stand in the order of the sockets here, and of those there where these are the same; over all places each connection comes once. One

@@ -22,6 +22,8 @@ from typing import NamedTuple
 
 LONGEST_MESSAGE, LONGEST_COMMAND, LINKS = 1024, 12, 72
 DONE, NOTHING, NO_ENTRY = 0, 35, 6
+# Types of messages from an IMP that say what no host is told otherwise (BBN 1822, section 3).
+ERROR_IN_LEADER, ERROR_IN_MESSAGE, INTERFACE_RESET = 1, 8, 10
 # Directions of a capture.
 TO_IMP, FROM_IMP = 0x48, 0x49
 
@@ -42,20 +44,25 @@ class Bits(NamedTuple):
 
 
 class Arrived(NamedTuple):
-    """What became of bits that came: NCP_ARRIVED_.. of ncp.h, with the peer and the link that the leader names, and of a text the sockets,
-    here and there, of the connection to which its link leads, or 0 and 0."""
+    """What became of bits that came: NCP_ARRIVED_.. of ncp.h, with the peer, the link and the type that the leader names; of a text the
+    sockets, here and there, of the connection to which its link leads, or 0 and 0; and of a control message how many ERRs and RSTs were
+    read. Of the types ERROR_IN_LEADER, ERROR_IN_MESSAGE and INTERFACE_RESET tell that no answer comes."""
     what: str
     detail: int
     peer: int
     link: int
     local: int = 0
     remote: int = 0
+    kind: int = 0
+    errors: int = 0
+    resets: int = 0
 
 
 class Event(NamedTuple):
     """Something that changed: `up` and `down` of a peer; `asks` (the peer asks, and nothing was asked here: the link to send on, or
-    the byte size to receive), `opened`, `text` (bits that are held now), `allowed` (messages and bits), `interrupted` and `ended` of a
-    connection, `echoed` (the byte)."""
+    the byte size to receive), `opened`, `text` (bits that are held now), `allowed` (messages and bits), `delivered`, `interrupted` (how
+    often in all), `closes`, and `closed` (by this side first), `refused` or `ended` of a connection, as `struct ncp_changes` of ncp.h tells
+    them; `echoed` (the byte)."""
     what: str
     peer: int
     local: int = None
@@ -79,7 +86,8 @@ class _Handle(_Struct):
 
 
 class _Arrived(_Struct):
-    _fields_ = [("what", c_uint32), ("detail", c_uint32), ("local", c_uint32), ("remote", c_uint32), ("peer", c_uint8), ("link", c_uint8)]
+    _fields_ = [("what", c_uint32), ("detail", c_uint32), ("local", c_uint32), ("remote", c_uint32), ("errors", c_uint32), ("resets", c_uint32),
+                ("peer", c_uint8), ("link", c_uint8), ("kind", c_uint8)]
 
 
 class Flags(_Struct):
@@ -108,6 +116,11 @@ class Connection(_Struct):
                 *((name, c_bool) for name in ("sends", "asked", "heard", "opened", "leaving", "left", "cls", "busy", "recall"))]
 
 
+class Changes(_Struct):
+    """What changed of a connection between two looks: the fields of `struct ncp_changes`."""
+    _fields_ = [(name, c_bool) for name in ("closed", "refused", "ended", "asks", "opened", "text", "allowed", "delivered", "interrupted", "closes")]
+
+
 def _library():
     here = Path(__file__).resolve().parent.parent.parent / "prebuilt"
     built = here / ("libncp.so.1" if platform.machine() == "x86_64" else f"{platform.machine()}/libncp.so.1")
@@ -122,6 +135,7 @@ _CALLS = {
     "reset": _PEER, "ask_send": (*_AT, c_uint8, c_uint32), "ask_receive": (*_AT, c_uint32), "give": (*_AT, _BYTES, _SIZE, _SIZE),
     "take": (*_AT, c_uint32, _BUFFER, _SIZE, POINTER(_SIZE)), "allocate": (*_AT, c_uint16, c_uint32), "call_back": (*_AT, c_uint8, c_uint8),
     "interrupt": _AT, "close": _AT, "echo": (*_PEER, c_uint8), "wake": _PEER, "restart": _PEER, "state": (*_AT, POINTER(Connection)),
+    "changes": (*_AT, POINTER(Connection), POINTER(Changes)),
     "connection_at": (*_PEER, c_uint32, POINTER(c_uint32), POINTER(c_uint32), POINTER(Connection)), "room": (*_AT, POINTER(c_uint32)),
     "pair_on": (*_PEER, c_bool, c_uint8, POINTER(c_uint32), POINTER(c_uint32)), "is_held": (*_PEER, c_uint8), "phase": (*_PEER, POINTER(Flags)), "echoed": (*_PEER, POINTER(c_uint8)), "error": (*_PEER, c_uint32, POINTER(Noted)),
     "counts": (*_PEER, POINTER(Counted)), "ignored": (POINTER(Discarded),), "waiting": (*_PEER, c_uint32, _BUFFER, _SIZE, POINTER(_SIZE)),
@@ -258,7 +272,7 @@ class Host(_Handled):
         """Gives the host a message that came: bytes, so many bits of bytes, or a Bits."""
         bits, arrived = _bits(data, count), _Arrived()
         self._do("receive", bits.data, len(bits.data), bits.count, byref(arrived))
-        return Arrived(ARRIVED[arrived.what], arrived.detail, arrived.peer, arrived.link, arrived.local, arrived.remote)
+        return Arrived(ARRIVED[arrived.what], *(getattr(arrived, name) for name in Arrived._fields[1:]))
 
     def next_output(self):
         """The message that goes out next, or None."""
@@ -276,11 +290,11 @@ class Host(_Handled):
 
     def ask_send(self, peer, local, remote, size=8, room=65536):
         self._do("ask_send", peer, local, remote, size, room)
-        self._watch(peer, local, remote)
+        self._watch(peer, local, remote, True)
 
     def ask_receive(self, peer, local, remote, room=65536):
         self._do("ask_receive", peer, local, remote, room)
-        self._watch(peer, local, remote)
+        self._watch(peer, local, remote, True)
 
     def give(self, peer, local, remote, data, count=None):
         bits = _bits(data, count)
@@ -303,6 +317,7 @@ class Host(_Handled):
 
     def close(self, peer, local, remote):
         self._do("close", peer, local, remote)
+        self._known.setdefault((peer, local, remote), Connection(asked=True)).leaving = True  # also where nobody looks before it is gone
 
     def echo(self, peer, byte):
         self._do("echo", peer, byte)
@@ -390,8 +405,14 @@ class Host(_Handled):
 
     # What happened.
 
-    def _watch(self, peer, local, remote):
-        self._known.setdefault((peer, local, remote), None)
+    def changes(self, peer, local, remote, seen):
+        """What changed of a connection since `seen`, a Connection, which then is how it stands: `Connection()` before the first look."""
+        changes = Changes()
+        self._do("changes", peer, local, remote, byref(seen), byref(changes))
+        return changes
+
+    def _watch(self, peer, local, remote, asked):
+        self._known.setdefault((peer, local, remote), Connection(asked=asked))
 
     def events(self):
         """What changed since the last look, by readings of each peer and of each connection. Of what changed twice in between, only
@@ -405,30 +426,20 @@ class Host(_Handled):
             if now[1] != before[1]:
                 yield Event("echoed", peer, told=now[1])
             for local, remote, _ in self.connections(peer):
-                self._watch(peer, local, remote)
-        for (peer, local, remote), before in [*self._known.items()]:
-            yield from self._changes(Event("", peer, local, remote), before)
+                self._watch(peer, local, remote, False)
+        for (peer, local, remote), seen in [*self._known.items()]:
+            yield from self._changes(Event("", peer, local, remote), seen)
 
-    def _changes(self, at, before):
+    def _changes(self, at, seen):
         key = at.peer, at.local, at.remote
-        try:
-            now = self.state(*key)
-        except _CLASSES["NoEntry"]:
+        changes = self.changes(*key, seen)
+        if not (seen.asked or seen.heard):
             del self._known[key]
-            yield at._replace(what="ended")
-            return
-        self._known[key] = now
-        was = before or Connection()
-        if now.heard and not was.heard and not now.asked:
-            yield at._replace(what="asks", told=now.link if now.sends else now.size)
-        if now.opened and not was.opened:
-            yield at._replace(what="opened")
-        if not now.sends and now.stored > was.stored:
-            yield at._replace(what="text", told=now.stored)
-        if now.sends and (now.messages > was.messages or now.bits > was.bits):
-            yield at._replace(what="allowed", told=(now.messages, now.bits))
-        if now.interrupts > was.interrupts:
-            yield at._replace(what="interrupted", told=now.interrupts)
+        told = {"asks": seen.link if seen.sends else seen.size, "text": seen.stored, "allowed": (seen.messages, seen.bits),
+                "interrupted": seen.interrupts}
+        for name, _ in Changes._fields_:
+            if getattr(changes, name):
+                yield at._replace(what=name, told=told.get(name))
 
 
 class Subnet(_Handled):

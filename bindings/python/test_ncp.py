@@ -60,10 +60,15 @@ class Binding(unittest.TestCase):
         host.reset(2)
         self.assertEqual(host.next_output(), ncp.Bits(bytes.fromhex(RST), 80))
         self.assertIsNone(host.next_output())
-        self.assertEqual(host.receive(bytes.fromhex("07020000")), ("answered", 7, 2, 0, 0, 0))
-        self.assertEqual(host.receive(b"\4\7\0\0"), ("other", 4, 7, 0, 0, 0))
-        self.assertEqual(host.receive(b"\0", 8), ("short", 0, 0, 0, 0, 0))
-        self.assertEqual(host.ignored(), ncp.Discarded(short_bits=1, other=1))
+        self.assertEqual(host.receive(bytes.fromhex("07020000")), ("answered", 7, 2, 0, 0, 0, 7, 0, 0))
+        self.assertEqual(host.receive(b"\4\7\0\0"), ("other", 4, 7, 0, 0, 0, 4, 0, 0))
+        self.assertEqual(host.receive(b"\0", 8), ("short", 0, 0, 0, 0, 0, 0, 0, 0))
+        said = ncp.ERROR_IN_LEADER, ncp.ERROR_IN_MESSAGE, ncp.INTERFACE_RESET
+        self.assertEqual([host.receive(bytes([kind, 2, 5, 0])).kind for kind in said], [1, 8, 10])
+        self.assertEqual(host.ignored(), ncp.Discarded(short_bits=1, other=4))
+        # An ERR, an NOP and an RST.
+        arrived = host.receive(bytes.fromhex("000200000008000e00" "0b03" "00000000000000000000" "00" "0c"))
+        self.assertEqual((arrived.what, arrived.detail, arrived.errors, arrived.resets), ("control", 3, 1, 1))
         self.assertEqual(host.kept(2, 0).data, bytes.fromhex(RST))
         self.assertEqual(host.phase(2), ncp.Flags(wait=True))
 
@@ -103,6 +108,41 @@ class Binding(unittest.TestCase):
         host.receive(bytes.fromhex("0002000000080001000c"))
         self.assertEqual(list(host.events()), [("ended", 2, 3, 2, None)])
 
+    def test_how_a_connection_ends_is_an_event(self):
+        host = up_with(2)
+        list(host.events())
+        cls = "000200000008000900" "03" "00000002" "00000003"
+        rts = "000200000008000a00" "01" "00000002" "00000003" "02"
+        # What was asked is refused by a CLS.
+        host.ask_send(2, 3, 2)
+        host.receive(bytes.fromhex(cls))
+        self.assertEqual(list(host.events()), [("refused", 2, 3, 2, None)])
+        # It opens, and the peer closes it.
+        host.ask_send(2, 3, 2)
+        host.receive(bytes.fromhex(rts))
+        self.assertEqual([it.what for it in host.events()], ["opened"])
+        host.receive(bytes.fromhex(cls))
+        self.assertEqual(list(host.events()), [("ended", 2, 3, 2, None)])
+        # It opens, is interrupted by the receiver, and this side closes it.
+        host.ask_send(2, 3, 2)
+        host.receive(bytes.fromhex(rts))
+        host.receive(bytes.fromhex("000200000008000200" "07" "02"))
+        self.assertEqual(list(host.events()), [("opened", 2, 3, 2, None), ("interrupted", 2, 3, 2, 1)])
+        host.close(2, 3, 2)
+        self.assertEqual(list(host.events()), [])
+        host.receive(bytes.fromhex(cls))
+        self.assertEqual(list(host.events()), [("closed", 2, 3, 2, None)])
+
+    def test_changes(self):
+        host, seen = up_with(2), ncp.Connection()
+        self.assertEqual(host.changes(2, 1, 4, seen), ncp.Changes())
+        host.receive(bytes.fromhex("000200000008000a00" "01" "00000004" "00000001" "07"))
+        self.assertEqual(host.changes(2, 1, 4, seen), ncp.Changes(asks=True))
+        self.assertEqual((seen.link, seen.sends, seen), (7, True, host.state(2, 1, 4)))
+        self.assertEqual(host.changes(2, 1, 4, seen), ncp.Changes())
+        with self.assertRaises(ncp.UnknownPeer):
+            host.changes(3, 1, 4, seen)
+
     def test_a_text_is_an_event(self):
         host = up_with(2)
         list(host.events())
@@ -110,7 +150,7 @@ class Binding(unittest.TestCase):
         host.receive(bytes.fromhex("000200000008000a00" "02" "00000003" "00000002" "08"))
         host.allocate(2, 2, 3, 1, 64)
         self.assertEqual([it.what for it in host.events()], ["opened"])
-        self.assertEqual(host.receive(bytes.fromhex("000202000008000200" "6869")), ("text", 1, 2, 2, 2, 3))
+        self.assertEqual(host.receive(bytes.fromhex("000202000008000200" "6869")), ("text", 1, 2, 2, 2, 3, 0, 0, 0))
         self.assertEqual(list(host.events()), [("text", 2, 2, 3, 16)])
         self.assertEqual(host.take(2, 2, 3), (b"hi", 16))
 

@@ -51,7 +51,7 @@ static void mix_bits(const uint8_t *bytes, size_t bits)
 
 static void receive(unsigned on, const uint8_t *bytes, size_t len, size_t bits)
 {
-    struct ncp_arrived arrived = {0, 0, 0, 0, 0, 0};
+    struct ncp_arrived arrived;
     uint32_t code = ncp_receive(&hosts[on], bytes, len, bits, &arrived);
     mix(code);
     if (code == NCP_DONE) {

@@ -36,9 +36,8 @@ static void take_one(struct end *end)
     size_t bits = take_part(&end->line);
     if (bits == 0) return;
     arrived = hand(&end->host, end->line.message, sizeof end->line.message, bits);
-    if (arrived.what != NCP_ARRIVED_OTHER) return;
-    if (arrived.detail == INTERFACE_RESET) start_again(end);
-    if (arrived.detail == GOING_DOWN) puts("the IMP is going down");
+    if (arrived.kind == INTERFACE_RESET) start_again(end);
+    if (arrived.kind == GOING_DOWN) puts("the IMP is going down");
 }
 
 /* Sends NOPs until the IMP is ready. */

@@ -23,7 +23,7 @@ enum {
 };
 
 /* Types of messages that a host and its IMP exchange themselves (BBN 1822, section 3). */
-enum { GOING_DOWN = 2, NOP = 4, INTERFACE_RESET = 10, NOPS = 3 /* so many, on coming up */ };
+enum { GOING_DOWN = NCP_TYPE_GOING_DOWN, NOP = NCP_TYPE_NOP, INTERFACE_RESET = NCP_TYPE_INTERFACE_RESET, NOPS = 3 /* so many, on coming up */ };
 
 struct line {
     int socket;

@@ -8,7 +8,7 @@
 #include <string.h>
 
 /* Types of messages, and the bytes of a leader (BBN 1822, section 3). */
-enum { REGULAR = 0, RFNM = 5, DEAD = 7, INCOMPLETE = 9, LEADER = 4 };
+enum { REGULAR = NCP_TYPE_REGULAR, RFNM = NCP_TYPE_RFNM, DEAD = NCP_TYPE_DESTINATION_DEAD, INCOMPLETE = NCP_TYPE_INCOMPLETE, LEADER = 4 };
 
 /* Ends the program where a function answered another number than it should. */
 static inline void want(uint32_t wanted, uint32_t answered, const char *what)
@@ -39,7 +39,7 @@ static inline void answer_of(uint8_t type, const uint8_t *message, uint8_t answe
 /* Gives a host what came for it. */
 static inline struct ncp_arrived hand(struct ncp_host *host, const uint8_t *message, size_t len, size_t bits)
 {
-    struct ncp_arrived arrived = {0, 0, 0, 0, 0, 0};
+    struct ncp_arrived arrived;
     want(NCP_DONE, ncp_receive(host, message, len, bits, &arrived), "receive");
     return arrived;
 }

@@ -48,6 +48,7 @@ static void no_host(struct ncp_host *host)
 {
     struct ncp_arrived arrived;
     struct ncp_connection state;
+    struct ncp_changes changes;
     struct ncp_flags flags;
     struct ncp_counted counted;
     struct ncp_discarded discarded;
@@ -69,6 +70,7 @@ static void no_host(struct ncp_host *host)
     IS(NCP_NO_HOST, ncp_wake(host, PEER));
     IS(NCP_NO_HOST, ncp_restart(host, PEER));
     IS(NCP_NO_HOST, ncp_state(host, PEER, EVEN, ODD, &state));
+    IS(NCP_NO_HOST, ncp_changes(host, PEER, EVEN, ODD, &state, &changes));
     IS(NCP_NO_HOST, ncp_connection_at(host, PEER, 0, &local, &remote, &state));
     IS(NCP_NO_HOST, ncp_room(host, PEER, EVEN, ODD, &local));
     IS(NCP_NO_HOST, ncp_pair_on(host, PEER, true, 2, &local, &remote));
@@ -163,6 +165,7 @@ static void no_pointer(struct ncp_host *host)
 {
     struct ncp_arrived arrived;
     struct ncp_connection state;
+    struct ncp_changes changes;
     uint32_t local, remote;
     char *text = (char *)out;
     IS(NCP_NO_POINTER, ncp_new(host, ME, NULL, 1));
@@ -174,6 +177,8 @@ static void no_pointer(struct ncp_host *host)
     IS(NCP_NO_POINTER, ncp_take(host, PEER, EVEN, ODD, 1, NULL, sizeof out, &size));
     IS(NCP_NO_POINTER, ncp_take(host, PEER, EVEN, ODD, 1, out, sizeof out, NULL));
     IS(NCP_NO_POINTER, ncp_state(host, PEER, EVEN, ODD, NULL));
+    IS(NCP_NO_POINTER, ncp_changes(host, PEER, EVEN, ODD, NULL, &changes));
+    IS(NCP_NO_POINTER, ncp_changes(host, PEER, EVEN, ODD, &state, NULL));
     IS(NCP_NO_POINTER, ncp_connection_at(host, PEER, 0, NULL, &remote, &state));
     IS(NCP_NO_POINTER, ncp_connection_at(host, PEER, 0, &local, NULL, &state));
     IS(NCP_NO_POINTER, ncp_connection_at(host, PEER, 0, &local, &remote, NULL));
@@ -200,7 +205,7 @@ static void no_pointer(struct ncp_host *host)
 static void short_buffers(struct ncp_host *host)
 {
     const uint8_t message[] = {0, PEER, 0, 0, 0, 8, 0, 3, 0, 12, 9, 65}; /* RST and ECO */
-    struct ncp_arrived arrived = {MARK, MARK, MARK, MARK, MARK, MARK};
+    struct ncp_arrived arrived = {MARK, MARK, MARK, MARK, MARK, MARK, MARK, MARK, MARK};
     IS(NCP_SHORT_BUFFER, ncp_next_output(host, out, NCP_LONGEST_MESSAGE - 1, &size));
     IS(NCP_SHORT_BUFFER, ncp_take(host, PEER, EVEN, ODD, 1, out, 0, &size));
     IS(NCP_SHORT_BUFFER, ncp_kept(host, PEER, 0, out, NCP_LONGEST_MESSAGE - 1, &size));
@@ -259,7 +264,9 @@ static void commands(void)
 /* What arrived names its peer and its link, and of an answer its type. */
 static void arrivals(struct ncp_host *host)
 {
-    const uint8_t dead[] = {7, PEER, 0, 0}, nop[] = {4, 9, 3, 0};
+    const uint8_t dead[] = {7, PEER, 0, 0}, nop[] = {4, 9, 3, 0}, said[] = {1, 8, 10};
+    /* An ERR and an NOP. */
+    const uint8_t errors[] = {0, PEER, 0, 0, 0, 8, 0, 13, 0, 11, 3, 0, 0, 0, 0, 0, 0, 0, 0, 0, 0, 0};
     struct ncp_arrived arrived;
     IS(NCP_DONE, ncp_receive(host, dead, sizeof dead, 32, &arrived));
     IS(NCP_ARRIVED_ANSWERED, arrived.what);
@@ -276,10 +283,26 @@ static void arrivals(struct ncp_host *host)
     IS(4, arrived.detail);
     IS(9, arrived.peer);
     IS(3, arrived.link);
+    IS(NCP_TYPE_NOP, arrived.kind);
+    for (size_t place = 0; place < sizeof said; place++) {
+        const uint8_t message[] = {said[place], PEER, 2, 0};
+        IS(NCP_DONE, ncp_receive(host, message, sizeof message, 32, &arrived));
+        IS(NCP_ARRIVED_OTHER, arrived.what);
+        IS(said[place], arrived.kind);
+        IS(said[place] == NCP_TYPE_INTERFACE_RESET, place == 2);
+    }
+    IS(NCP_DONE, ncp_receive(host, errors, sizeof errors, 8 * sizeof errors, &arrived));
+    IS(NCP_ARRIVED_CONTROL, arrived.what);
+    IS(2, arrived.detail);
+    IS(1, arrived.errors);
+    IS(0, arrived.resets);
+    IS(NCP_TYPE_REGULAR, arrived.kind);
     IS(NCP_DONE, ncp_receive(host, nop, sizeof nop, 24, &arrived));
     IS(NCP_ARRIVED_SHORT, arrived.what);
     IS(0, arrived.peer);
     IS(0, arrived.link);
+    IS(0, arrived.errors);
+    IS(0, arrived.resets);
 }
 
 /* The first blocks of memory are had, and the next is not: there is no host then, or no connection. */
@@ -355,6 +378,49 @@ static void connections(struct ncp_host *host)
     IS(2, out[9]); /* the STR and the RTS once more */
 }
 
+/* How many of the changes are told. */
+static uint32_t told(const struct ncp_changes *it)
+{
+    return (uint32_t)(it->asks + it->opened + it->text + it->allowed + it->delivered + it->interrupted + it->closes + it->closed + it->refused +
+                      it->ended);
+}
+
+/* What changes of a connection that was asked for is told once: it opens, more is allowed and an interrupt comes, and it ends. */
+static void changes(struct ncp_host *host)
+{
+    const uint8_t rts[] = {0, PEER, 0, 0, 0, 8, 0, 10, 0, 1, 0, 0, 0, EVEN, 0, 0, 0, ODD, 5};
+    const uint8_t more[] = {0, PEER, 0, 0, 0, 8, 0, 10, 0, 4, 5, 0, 1, 0, 0, 0, 8, 7, 5};
+    const uint8_t cls[] = {0, PEER, 0, 0, 0, 8, 0, 9, 0, 3, 0, 0, 0, EVEN, 0, 0, 0, ODD};
+    struct ncp_connection seen, state;
+    struct ncp_changes it;
+    struct ncp_arrived arrived;
+    memset(&seen, 0, sizeof seen);
+    IS(NCP_UNKNOWN_PEER, ncp_changes(host, 9, ODD, EVEN, &seen, &it));
+    IS(NCP_DONE, ncp_changes(host, PEER, ODD, EVEN, &seen, &it));
+    IS(0, told(&it));
+    IS(true, seen.asked);
+    IS(NCP_DONE, ncp_receive(host, rts, sizeof rts, 8 * sizeof rts, &arrived));
+    IS(NCP_DONE, ncp_changes(host, PEER, ODD, EVEN, &seen, &it));
+    IS(1, told(&it));
+    IS(true, it.opened);
+    IS(NCP_DONE, ncp_receive(host, more, sizeof more, 8 * sizeof more, &arrived));
+    IS(NCP_DONE, ncp_changes(host, PEER, ODD, EVEN, &seen, &it));
+    IS(2, told(&it));
+    IS(true, it.allowed && it.interrupted);
+    IS(8, seen.bits);
+    IS(NCP_DONE, ncp_state(host, PEER, ODD, EVEN, &state));
+    IS(state.link, seen.link);
+    IS(NCP_DONE, ncp_changes(host, PEER, ODD, EVEN, &seen, &it));
+    IS(0, told(&it));
+    IS(NCP_DONE, ncp_receive(host, cls, sizeof cls, 8 * sizeof cls, &arrived));
+    IS(NCP_DONE, ncp_changes(host, PEER, ODD, EVEN, &seen, &it));
+    IS(1, told(&it));
+    IS(true, it.ended);
+    IS(NCP_DONE, ncp_changes(host, PEER, ODD, EVEN, &seen, &it));
+    IS(0, told(&it));
+    IS(false, seen.asked);
+}
+
 /* As many peers as there can be, and one too many. The last has the greatest number, and comes up. */
 static void eight_peers(void)
 {
@@ -367,6 +433,8 @@ static void eight_peers(void)
     IS(NCP_DONE, ncp_new(&host, ME, nine, 8));
     IS(NCP_DONE, ncp_receive(&host, rst, sizeof rst, 8 * sizeof rst, &arrived));
     IS(NCP_ARRIVED_CONTROL, arrived.what);
+    IS(0, arrived.errors);
+    IS(1, arrived.resets);
     IS(NCP_DONE, ncp_next_output(&host, out, sizeof out, &size));
     IS(80, (uint32_t)size);
     IS(0, (uint32_t)memcmp(rrp, out, sizeof rrp));
@@ -395,6 +463,7 @@ int main(void)
     IS(NCP_DONE, ncp_next_output(&host, out, sizeof out, &size));
     no_room_for_text(&host);
     connections(&host);
+    changes(&host);
     ncp_free(&host);
     ncp_free(&host);
     no_memory();

@@ -130,7 +130,7 @@ pair_named (Err short) h = None
 
 abbrev pub arrived_in : List Bool → Option Held → Arrived → Arrived
 arrived_in bits None out = out
-arrived_in bits (Some at) out = arrived_of (pair_named (leader_in bits) (after_received bits at.host)) (leader_in bits) (received_in bits at.host)
+arrived_in bits (Some at) out = arrived_of (pair_named (leader_in bits) (after_received bits at.host)) (leader_in bits) bits (received_in bits at.host)
 
 -- a text that is taken, over the front of a buffer
 abbrev pub told_over_of : {A B : Type 0} → (A → B → B) → Result A CallFault → B → B

@@ -1,5 +1,5 @@
 -- What C is told, as records of numbers.
-use Rattle.std.specs.Prelude.{ℕ, Bool, true, false, not, ◌&&◌, ◌||◌, if◌then◌else◌, Option, None, Some, Result, Ok, Err}
+use Rattle.std.specs.Prelude.{ℕ, List, Bool, true, false, not, ◌&&◌, ◌||◌, if◌then◌else◌, Option, None, Some, Result, Ok, Err}
 use Rattle.ncp_conn.specs.declared.record.End.{End}
 use Rattle.ncp_conn.specs.declared.record.End.TheVariants.{Send, Receive}
 use Rattle.ncp_conn.specs.declared.record.Record.{Record}
@@ -16,12 +16,14 @@ use Rattle.ncp_host.specs.declared.counts.Ignored.{Ignored}
 use Rattle.ncp_host.specs.declared.flags.Flags.{Flags}
 use Rattle.ncp_host.specs.declared.received.Received.{Received}
 use Rattle.ncp_host.specs.declared.received.Received.TheVariants as received
+use Rattle.ncp_embed.specs.declared.commands.Tally.{Tally}
 use Rattle.ncp_embed.specs.declared.connection.Connection.{Connection}
 use Rattle.ncp_embed.specs.declared.told.Arrived.{Arrived}
 use Rattle.ncp_embed.specs.declared.told.Counted.{Counted}
 use Rattle.ncp_embed.specs.declared.told.Discarded.{Discarded}
 use Rattle.ncp_embed.specs.declared.told.Noted.{Noted}
 use Rattle.ncp_embed.specs.declared.told.Phase.{Phase}
+use Rattle.ncp_embed.specs.Commands.{tally_of}
 
 -- in the order in which they are judged
 abbrev pub number_of_message_fault : MessageFault → ℕ
@@ -40,34 +42,39 @@ number_of_took took.WrongSize = 3
 number_of_took took.Over = 4
 number_of_took took.NotOpen = 5
 
--- what became of bits and what is told of it, with the host and the link that their leader names, if there is one
+-- what became of bits and what is told of it, with the host, the link and the type that their leader names, if there is one (BBN
+-- 1822, section 3)
 abbrev pub arrival : Result Leader Short → ℕ → ℕ → Arrived
-arrival (Ok leader) what detail = record { what = what; detail = detail; local = 0; remote = 0; peer = leader.host; link = leader.link }
-arrival (Err short) what detail = record { what = what; detail = detail; local = 0; remote = 0; peer = 0; link = 0 }
+arrival (Ok leader) what detail = record { what = what; detail = detail; local = 0; remote = 0; errors = 0; resets = 0; peer = leader.host; link = leader.link; kind = leader.kind }
+arrival (Err short) what detail = record { what = what; detail = detail; local = 0; remote = 0; errors = 0; resets = 0; peer = 0; link = 0; kind = 0 }
 
 -- with the sockets of a connection, if there is one
 abbrev pub led_to : Option Pair → Arrived → Arrived
 led_to None arrived = arrived
 led_to (Some pair) arrived = record arrived { local = pair.local; remote = pair.remote }
 
+-- with how many ERRs and RSTs were among the commands that were read
+abbrev pub with_tally : Tally → Arrived → Arrived
+with_tally t arrived = record arrived { errors = t.errors; resets = t.resets }
+
 -- the type that a leader names (BBN 1822, section 3), which of an answer says what became of the message
 abbrev pub kind_of : Result Leader Short → ℕ
 kind_of (Ok leader) = leader.kind
 kind_of (Err short) = 0
 
--- in the order in which it is judged; a text with the connection to which its link leads
-abbrev pub arrived_of : Option Pair → Result Leader Short → Received → Arrived
-arrived_of pair leader received.Short = arrival leader 1 0
-arrived_of pair leader (received.Other kind) = arrival leader 2 kind
-arrived_of pair leader received.Unknown = arrival leader 3 0
-arrived_of pair leader received.Stray = arrival leader 4 0
-arrived_of pair leader received.Answered = arrival leader 5 (kind_of leader)
-arrived_of pair leader (received.Fault fault) = arrival leader 6 (number_of_message_fault fault)
-arrived_of pair leader received.WrongLink = arrival leader 7 0
-arrived_of pair leader received.WrongSize = arrival leader 8 0
-arrived_of pair leader (received.Control commands) = arrival leader 9 commands
-arrived_of pair leader (received.Text took) = led_to pair (arrival leader 10 (number_of_took took))
-arrived_of pair leader received.NotUp = arrival leader 11 0
+-- in the order in which it is judged; a text with the connection to which its link leads, a control message with its tally
+abbrev pub arrived_of : Option Pair → Result Leader Short → List Bool → Received → Arrived
+arrived_of pair leader bits received.Short = arrival leader 1 0
+arrived_of pair leader bits (received.Other kind) = arrival leader 2 kind
+arrived_of pair leader bits received.Unknown = arrival leader 3 0
+arrived_of pair leader bits received.Stray = arrival leader 4 0
+arrived_of pair leader bits received.Answered = arrival leader 5 (kind_of leader)
+arrived_of pair leader bits (received.Fault fault) = arrival leader 6 (number_of_message_fault fault)
+arrived_of pair leader bits received.WrongLink = arrival leader 7 0
+arrived_of pair leader bits received.WrongSize = arrival leader 8 0
+arrived_of pair leader bits (received.Control commands) = with_tally (tally_of bits) (arrival leader 9 commands)
+arrived_of pair leader bits (received.Text took) = led_to pair (arrival leader 10 (number_of_took took))
+arrived_of pair leader bits received.NotUp = arrival leader 11 0
 
 abbrev pub phase_of : Flags → Phase
 phase_of f = record { down = f.down; want = f.want; owe = f.owe; wait = f.wait }

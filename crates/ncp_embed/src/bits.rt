@@ -50,7 +50,7 @@ pub extern "C" fn ncp_embed_receive(
     let leader = read_leader(&came);
     let pair = pair_named(&held.host, leader);
     put(handle, held);
-    *arrived = arrived_of(pair, leader, received);
+    *arrived = arrived_of(pair, leader, &came, received);
     DONE
 }
 

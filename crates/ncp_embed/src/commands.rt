@@ -1,11 +1,11 @@
 //! The commands of a control message, one by one: what a peer asks for, as who receives its message may read it.
-ghost use Rattle.std.specs.Prelude.{◌≡◌, ◌%◌, length, slice_get, Some};
+ghost use Rattle.std.specs.Prelude.{◌≡◌, ◌%◌, ◌∷◌, [], length, slice_get, Some};
 ghost use Rattle.ncp_numbers.specs.Bytes.{bytes_of};
 ghost use Rattle.ncp_bits.specs.Bits.{read_bytes};
-ghost use Rattle.ncp_control.specs.Texts.{items_of};
+ghost use Rattle.ncp_control.specs.Texts.{items_of, commands_of};
 ghost use Rattle.ncp_control.specs.Reading.{commands_in, fault_in};
 ghost use Rattle.ncp_terms.specs.declared.command.TheConstants.{LONGEST_COMMAND};
-ghost use Rattle.ncp_embed.specs.Commands.{is_control, command_of, command_of_message};
+ghost use Rattle.ncp_embed.specs.Commands.{is_control, command_of, command_of_message, no_tally, tally_from, tally_of};
 ghost use Rattle.ncp_embed.specs.Exports.{after_bits, any_of, code_if_any, code_of_bits, command_over, size_of_command, with_room};
 
 use crate::codes::{DONE, NOTHING, SHORT_BUFFER, bits_code};
@@ -62,6 +62,63 @@ fn command_in(came: &Bits, place: u32) -> Option<Command>
         return None;
     }
     command_at(message.text(), place)
+}
+
+/// How many ERRs and RSTs are among commands.
+#[derive(Clone, Copy, Drop)]
+pub(crate) struct Tally {
+    pub errors: u32,
+    pub resets: u32,
+}
+
+fn no_tally() -> Tally
+    ensures { result ≡ no_tally }
+{
+    Tally {
+        errors: 0,
+        resets: 0,
+    }
+}
+
+fn tallied(item: Result<Command, CommandFault>, tally: Tally) -> Tally
+    ensures { result ≡ tally_from tally (commands_of (item ∷ [])) }
+{
+    match item {
+        Ok(Command::Err { .. }) => Tally {
+            errors: tally.errors.saturating_add(1),
+            ..tally
+        },
+        Ok(Command::Rst) => Tally {
+            resets: tally.resets.saturating_add(1),
+            ..tally
+        },
+        _ => tally,
+    }
+}
+
+// Of a control text.
+fn tally_at(text: Part<'_>) -> Tally
+    requires { length text % 8 ≡ 0 }
+    ensures { result ≡ tally_from no_tally (commands_in (bytes_of text.entry)) }
+{
+    let mut tally = no_tally();
+    for item in Commands::new(text) {
+        tally = tallied(item, tally);
+    }
+    tally
+}
+
+// Of a control message; none of any other.
+pub(crate) fn tally_in(came: &Bits) -> Tally
+    ensures { result ≡ tally_of came.now }
+{
+    let Ok(message) = read_regular(came) else {
+        return no_tally();
+    };
+    if !is_control(&message) {
+        return no_tally();
+    }
+    tally_at(message.text())
 }
 
 /// The command at a place behind the first, which is at 0, of a control message of the first `bits` bits of a buffer: its bytes

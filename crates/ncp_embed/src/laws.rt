@@ -1,6 +1,6 @@
 //! Laws about what C is told, each the contract of a function that does nothing: the numbers are those of
 //! `include/ncp.h`, and no field is told as another.
-ghost use Rattle.std.specs.Prelude.{◌≡◌, ℕ, true, false, Result, Ok, Err, Option, None, Some, List, replicate, map};
+ghost use Rattle.std.specs.Prelude.{◌≡◌, ◌∷◌, [], ℕ, Bool, true, false, Result, Ok, Err, Option, None, Some, List, replicate, map};
 ghost use Rattle.ncp_bits.specs.declared.bits.BitsFault.{BitsFault};
 ghost use Rattle.ncp_conn.specs.declared.record.End.{End};
 ghost use Rattle.ncp_conn.specs.declared.record.Record.{Record};
@@ -14,10 +14,14 @@ ghost use Rattle.ncp_host.specs.declared.fault.HostFault.{HostFault};
 ghost use Rattle.ncp_host.specs.declared.flags.Flags.{Flags};
 ghost use Rattle.ncp_host.specs.declared.received.Received.{Received};
 ghost use Rattle.ncp_subnet.specs.declared.fault.SubnetFault.{SubnetFault};
+ghost use Rattle.ncp_embed.specs.declared.connection.Connection.{Connection};
 ghost use Rattle.ncp_embed.specs.declared.told.Arrived.{Arrived};
+ghost use Rattle.ncp_embed.specs.Changes.{no_connection, no_changes, changes_between};
+ghost use Rattle.ncp_terms.specs.declared.command.Command.TheVariants.{Nop, Err as Error, Rst};
+ghost use Rattle.ncp_embed.specs.Commands.{tally_of, tally_from, no_tally};
 ghost use Rattle.ncp_embed.specs.Codes.{code_of, host_code, subnet_code, bits_code};
 ghost use Rattle.ncp_embed.specs.Names.{number_of, answers, answer_among};
-ghost use Rattle.ncp_embed.specs.Told.{is_up, is_open, arrived_of, arrival, led_to, phase_of, counted_of, discarded_of, noted_of, connection_of};
+ghost use Rattle.ncp_embed.specs.Told.{is_up, is_open, arrived_of, arrival, led_to, with_tally, phase_of, counted_of, discarded_of, noted_of, connection_of};
 
 use crate::codes::{
     BITS, DONE, LONGEST_MESSAGE, NO_HOST, NO_POINTER, NO_SUBNET, NOTHING, SHORT_BUFFER,
@@ -47,25 +51,37 @@ pub fn each_answer_has_a_number_of_its_own()
 
 /// What became of bits, and what is told of it with what their leader names.
 pub fn arrivals_are_told_so()
-    ensures short { (p : Option Pair) (l : Result Leader Short) → arrived_of p l Received.Short ≡ arrival l 1 0 }
-    ensures other { (p : Option Pair) (l : Result Leader Short) → arrived_of p l (Received.Other 4) ≡ arrival l 2 4 }
-    ensures unknown { (p : Option Pair) (l : Result Leader Short) → arrived_of p l Received.Unknown ≡ arrival l 3 0 }
-    ensures stray { (p : Option Pair) (l : Result Leader Short) → arrived_of p l Received.Stray ≡ arrival l 4 0 }
-    ensures answered { (p : Option Pair) (l : Leader) → arrived_of p (Ok l) Received.Answered ≡ arrival (Ok l) 5 l.kind }
-    ensures named { (l : Leader) → arrival (Ok l) 9 3 ≡ record { what = 9; detail = 3; local = 0; remote = 0; peer = l.host; link = l.link } }
-    ensures none_named { arrival (Err (record {})) 1 0 ≡ record { what = 1; detail = 0; local = 0; remote = 0; peer = 0; link = 0 } }
-    ensures faults { (p : Option Pair) (l : Result Leader Short) → (arrived_of p l (Received.Fault MessageFault.ShortPrefix) ≡ arrival l 6 1) × (arrived_of p l (Received.Fault MessageFault.M1NotZero) ≡ arrival l 6 2) × (arrived_of p l (Received.Fault MessageFault.SizeZero) ≡ arrival l 6 3) }
-    ensures more_faults { (p : Option Pair) (l : Result Leader Short) → (arrived_of p l (Received.Fault MessageFault.M2NotZero) ≡ arrival l 6 4) × (arrived_of p l (Received.Fault MessageFault.TextMissing) ≡ arrival l 6 5) }
-    ensures wrong_link { (p : Option Pair) (l : Result Leader Short) → arrived_of p l Received.WrongLink ≡ arrival l 7 0 }
-    ensures wrong_size { (p : Option Pair) (l : Result Leader Short) → arrived_of p l Received.WrongSize ≡ arrival l 8 0 }
-    ensures control { (p : Option Pair) (l : Result Leader Short) → arrived_of p l (Received.Control 3) ≡ arrival l 9 3 }
-    ensures admitted { (p : Option Pair) (l : Result Leader Short) → arrived_of p l (Received.Text Took.Admitted) ≡ led_to p (arrival l 10 1) }
+    ensures short { (p : Option Pair) (l : Result Leader Short) (b : List Bool) → arrived_of p l b Received.Short ≡ arrival l 1 0 }
+    ensures other { (p : Option Pair) (l : Result Leader Short) (b : List Bool) → arrived_of p l b (Received.Other 4) ≡ arrival l 2 4 }
+    ensures unknown { (p : Option Pair) (l : Result Leader Short) (b : List Bool) → arrived_of p l b Received.Unknown ≡ arrival l 3 0 }
+    ensures stray { (p : Option Pair) (l : Result Leader Short) (b : List Bool) → arrived_of p l b Received.Stray ≡ arrival l 4 0 }
+    ensures answered { (p : Option Pair) (l : Leader) (b : List Bool) → arrived_of p (Ok l) b Received.Answered ≡ arrival (Ok l) 5 l.kind }
+    ensures named { (l : Leader) → arrival (Ok l) 9 3 ≡ record { what = 9; detail = 3; local = 0; remote = 0; errors = 0; resets = 0; peer = l.host; link = l.link; kind = l.kind } }
+    ensures none_named { arrival (Err (record {})) 1 0 ≡ record { what = 1; detail = 0; local = 0; remote = 0; errors = 0; resets = 0; peer = 0; link = 0; kind = 0 } }
+    ensures faults { (p : Option Pair) (l : Result Leader Short) (b : List Bool) → (arrived_of p l b (Received.Fault MessageFault.ShortPrefix) ≡ arrival l 6 1) × (arrived_of p l b (Received.Fault MessageFault.M1NotZero) ≡ arrival l 6 2) × (arrived_of p l b (Received.Fault MessageFault.SizeZero) ≡ arrival l 6 3) }
+    ensures more_faults { (p : Option Pair) (l : Result Leader Short) (b : List Bool) → (arrived_of p l b (Received.Fault MessageFault.M2NotZero) ≡ arrival l 6 4) × (arrived_of p l b (Received.Fault MessageFault.TextMissing) ≡ arrival l 6 5) }
+    ensures wrong_link { (p : Option Pair) (l : Result Leader Short) (b : List Bool) → arrived_of p l b Received.WrongLink ≡ arrival l 7 0 }
+    ensures wrong_size { (p : Option Pair) (l : Result Leader Short) (b : List Bool) → arrived_of p l b Received.WrongSize ≡ arrival l 8 0 }
+    ensures control { (p : Option Pair) (l : Result Leader Short) (b : List Bool) → arrived_of p l b (Received.Control 3) ≡ with_tally (tally_of b) (arrival l 9 3) }
+    ensures admitted { (p : Option Pair) (l : Result Leader Short) (b : List Bool) → arrived_of p l b (Received.Text Took.Admitted) ≡ led_to p (arrival l 10 1) }
     ensures led { (a : Arrived) → (led_to None a ≡ a) × (led_to (Some (record { local = 2; remote = 3 })) a ≡ record a { local = 2; remote = 3 }) }
-    ensures late { (p : Option Pair) (l : Result Leader Short) → arrived_of p l (Received.Text Took.Late) ≡ led_to p (arrival l 10 2) }
-    ensures size { (p : Option Pair) (l : Result Leader Short) → arrived_of p l (Received.Text Took.WrongSize) ≡ led_to p (arrival l 10 3) }
-    ensures over { (p : Option Pair) (l : Result Leader Short) → arrived_of p l (Received.Text Took.Over) ≡ led_to p (arrival l 10 4) }
-    ensures not_open { (p : Option Pair) (l : Result Leader Short) → arrived_of p l (Received.Text Took.NotOpen) ≡ led_to p (arrival l 10 5) }
-    ensures not_up { (p : Option Pair) (l : Result Leader Short) → arrived_of p l Received.NotUp ≡ arrival l 11 0 }
+    ensures late { (p : Option Pair) (l : Result Leader Short) (b : List Bool) → arrived_of p l b (Received.Text Took.Late) ≡ led_to p (arrival l 10 2) }
+    ensures size { (p : Option Pair) (l : Result Leader Short) (b : List Bool) → arrived_of p l b (Received.Text Took.WrongSize) ≡ led_to p (arrival l 10 3) }
+    ensures over { (p : Option Pair) (l : Result Leader Short) (b : List Bool) → arrived_of p l b (Received.Text Took.Over) ≡ led_to p (arrival l 10 4) }
+    ensures not_open { (p : Option Pair) (l : Result Leader Short) (b : List Bool) → arrived_of p l b (Received.Text Took.NotOpen) ≡ led_to p (arrival l 10 5) }
+    ensures not_up { (p : Option Pair) (l : Result Leader Short) (b : List Bool) → arrived_of p l b Received.NotUp ≡ arrival l 11 0 }
+{}
+
+/// Whatever became of a message that has a leader, its type is told: so the types that say nothing to a host are told apart.
+pub fn types_are_told_so()
+    ensures each { (p : Option Pair) (l : Leader) (b : List Bool) (r : Received) → (arrived_of p (Ok l) b r).kind ≡ l.kind }
+    ensures none { (p : Option Pair) (b : List Bool) (r : Received) → (arrived_of p (Err (record {})) b r).kind ≡ 0 }
+{}
+
+/// How many ERRs and RSTs are among three commands.
+pub fn tallies_are_these()
+    ensures counted { (bytes : List ℕ) → tally_from no_tally (Rst ∷ Error 1 bytes ∷ Nop ∷ Error 2 bytes ∷ []) ≡ record { errors = 2; resets = 1 } }
+    ensures none { tally_from no_tally [] ≡ record { errors = 0; resets = 0 } }
 {}
 
 /// What is counted, with all counts different, and an ERR.
@@ -109,4 +125,21 @@ pub fn connections_are_told_so()
     ensures cls { (r : Record) → (connection_of r).cls ≡ r.cls }
     ensures busy { (r : Record) → (connection_of r).busy ≡ r.busy }
     ensures recall { (r : Record) → (connection_of r).recall ≡ r.recall }
+{}
+
+/// What changed of a connection: what stays as it is changes in nothing, and where there was none and is none nothing is told.
+pub fn changes_are_told_so()
+    ensures none { (c : Connection) → changes_between c (Some c) ≡ no_changes }
+    ensures anew { changes_between (record no_connection { asked = true; heard = true; opened = true }) (Some (record no_connection { heard = true; link = 7 })) ≡ record no_changes { ended = true; asks = true } }
+    ensures never { changes_between no_connection None ≡ no_changes }
+    ensures asks { changes_between no_connection (Some (record no_connection { heard = true; link = 7 })) ≡ record no_changes { asks = true } }
+    ensures opened { changes_between (record no_connection { asked = true }) (Some (record no_connection { asked = true; heard = true; opened = true })) ≡ record no_changes { opened = true } }
+    ensures text { changes_between no_connection (Some (record no_connection { stored = 8 })) ≡ record no_changes { text = true } }
+    ensures allowed { changes_between no_connection (Some (record no_connection { sends = true; bits = 8 })) ≡ record no_changes { allowed = true } }
+    ensures delivered { changes_between (record no_connection { busy = true }) (Some no_connection) ≡ record no_changes { delivered = true } }
+    ensures interrupted { changes_between no_connection (Some (record no_connection { interrupts = 1 })) ≡ record no_changes { interrupted = true } }
+    ensures closes { changes_between no_connection (Some (record no_connection { cls = true; leaving = true })) ≡ record no_changes { closes = true } }
+    ensures closed { changes_between (record no_connection { asked = true; heard = true; left = true }) None ≡ record no_changes { closed = true } }
+    ensures refused { changes_between (record no_connection { asked = true }) None ≡ record no_changes { refused = true } }
+    ensures ended { changes_between (record no_connection { asked = true; heard = true; cls = true; leaving = true }) None ≡ record no_changes { ended = true } }
 {}

@@ -15,10 +15,12 @@
 mod asking;
 mod bits;
 mod calls;
+mod changes;
 mod codes;
 mod commands;
 mod connection;
 mod handle;
+pub mod kinds;
 pub mod laws;
 mod life;
 mod listing;
@@ -31,6 +33,7 @@ mod subnet;
 mod told;
 mod writing;
 
+pub use changes::Changes;
 pub use codes::{
     BITS, DONE, LONGEST_MESSAGE, NEW, NO_HOST, NO_POINTER, NO_SUBNET, NOTHING, SHORT_BUFFER, SUBNET,
 };

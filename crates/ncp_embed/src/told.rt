@@ -1,7 +1,9 @@
 //! What C is told, as structs of numbers.
 ghost use Rattle.std.specs.Prelude.{◌≡◌};
-ghost use Rattle.ncp_embed.specs.Told.{arrived_of, arrival, led_to, kind_of, number_of_took, number_of_message_fault, phase_of, counted_of, discarded_of, noted_of};
+ghost use Rattle.ncp_embed.specs.Told.{arrived_of, arrival, led_to, with_tally, kind_of, number_of_took, number_of_message_fault, phase_of, counted_of, discarded_of, noted_of};
 
+use crate::commands::{Tally, tally_in};
+use ncp_bits::Bits;
 use ncp_host::{Counts, Error, Flags, Ignored, Received};
 use ncp_leader::{Leader, MessageFault, Short};
 use ncp_model::{Pair, Took};
@@ -19,10 +21,15 @@ pub struct Arrived {
     /// Of `Text` the sockets of the connection to which its link leads, here and there; 0 where it leads to none.
     pub local: u32,
     pub remote: u32,
+    /// Of `Control` how many of the commands that were read were ERRs, and how many RSTs; else 0. Each stays at its highest value.
+    pub errors: u32,
+    pub resets: u32,
     /// The host that the leader names; 0 where there is no leader.
     pub peer: u8,
     /// The link of the leader; 0 where there is none.
     pub link: u8,
+    /// The type of the leader; 0 where there is none.
+    pub kind: u8,
 }
 
 /// The flags for a peer.
@@ -101,16 +108,22 @@ fn arrival(leader: Result<Leader, Short>, what: u32, detail: u32) -> Arrived
             detail,
             local: 0,
             remote: 0,
+            errors: 0,
+            resets: 0,
             peer: leader.host,
             link: leader.link,
+            kind: leader.kind,
         },
         Err(Short) => Arrived {
             what,
             detail,
             local: 0,
             remote: 0,
+            errors: 0,
+            resets: 0,
             peer: 0,
             link: 0,
+            kind: 0,
         },
     }
 }
@@ -129,6 +142,18 @@ fn led_to(pair: Option<Pair>, arrived: Arrived) -> Arrived
     }
 }
 
+// The same with how many ERRs and RSTs were read.
+fn with_tally(tally: Tally, arrived: Arrived) -> Arrived
+    ensures { result ≡ with_tally tally arrived }
+{
+    let Tally { errors, resets } = tally;
+    Arrived {
+        errors,
+        resets,
+        ..arrived
+    }
+}
+
 // The type that a leader names.
 fn kind_of(leader: Result<Leader, Short>) -> u32
     ensures { result ≡ kind_of leader }
@@ -142,9 +167,10 @@ fn kind_of(leader: Result<Leader, Short>) -> u32
 pub(crate) fn arrived_of(
     pair: Option<Pair>,
     leader: Result<Leader, Short>,
+    came: &Bits,
     received: Received,
 ) -> Arrived
-    ensures { result ≡ arrived_of pair leader received }
+    ensures { result ≡ arrived_of pair leader came.now received }
 {
     match received {
         Received::Short => arrival(leader, 1, 0),
@@ -155,7 +181,7 @@ pub(crate) fn arrived_of(
         Received::Fault(fault) => arrival(leader, 6, number_of_message_fault(fault)),
         Received::WrongLink => arrival(leader, 7, 0),
         Received::WrongSize => arrival(leader, 8, 0),
-        Received::Control(commands) => arrival(leader, 9, commands),
+        Received::Control(commands) => with_tally(tally_in(came), arrival(leader, 9, commands)),
         Received::Text(took) => led_to(pair, arrival(leader, 10, number_of_took(took))),
         Received::NotUp => arrival(leader, 11, 0),
     }

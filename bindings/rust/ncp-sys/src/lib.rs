@@ -28,8 +28,11 @@ pub struct ncp_arrived {
     pub detail: u32,
     pub local: u32,
     pub remote: u32,
+    pub errors: u32,
+    pub resets: u32,
     pub peer: u8,
     pub link: u8,
+    pub kind: u8,
 }
 
 #[repr(C)]
@@ -88,6 +91,21 @@ pub struct ncp_connection {
     pub recall: bool,
 }
 
+#[repr(C)]
+#[derive(Clone, Copy, Debug, Default, PartialEq, Eq)]
+pub struct ncp_changes {
+    pub closed: bool,
+    pub refused: bool,
+    pub ended: bool,
+    pub asks: bool,
+    pub opened: bool,
+    pub text: bool,
+    pub allowed: bool,
+    pub delivered: bool,
+    pub interrupted: bool,
+    pub closes: bool,
+}
+
 extern "C" {
     pub fn ncp_is_made(host: *const ncp_host) -> bool;
     pub fn ncp_new(host: *mut ncp_host, me: u8, peers: *const u8, count: usize) -> u32;
@@ -107,6 +125,7 @@ extern "C" {
     pub fn ncp_wake(host: *mut ncp_host, peer: u8) -> u32;
     pub fn ncp_restart(host: *mut ncp_host, peer: u8) -> u32;
     pub fn ncp_state(host: *mut ncp_host, peer: u8, local: u32, remote: u32, out: *mut ncp_connection) -> u32;
+    pub fn ncp_changes(host: *mut ncp_host, peer: u8, local: u32, remote: u32, seen: *mut ncp_connection, out: *mut ncp_changes) -> u32;
     pub fn ncp_connection_at(host: *mut ncp_host, peer: u8, place: u32, local: *mut u32, remote: *mut u32, out: *mut ncp_connection) -> u32;
     pub fn ncp_room(host: *mut ncp_host, peer: u8, local: u32, remote: u32, bits: *mut u32) -> u32;
     pub fn ncp_pair_on(host: *mut ncp_host, peer: u8, sends: bool, link: u8, local: *mut u32, remote: *mut u32) -> u32;

@@ -24,7 +24,7 @@ mod subnet;
 use core::cell::UnsafeCell;
 use core::ffi::CStr;
 use ncp_sys as sys;
-pub use ncp_sys::{ncp_connection as Connection, ncp_counted as Counted, ncp_discarded as Discarded, ncp_flags as Flags, ncp_noted as Noted};
+pub use ncp_sys::{ncp_changes as Changes, ncp_connection as Connection, ncp_counted as Counted, ncp_discarded as Discarded, ncp_flags as Flags, ncp_noted as Noted};
 pub use refusal::Refusal;
 use refusal::{done, found};
 pub use subnet::Subnet;
@@ -116,8 +116,15 @@ pub struct Arrived {
     pub what: What,
     pub local: u32,
     pub remote: u32,
+    /// Of a control message how many of the commands that were read were ERRs.
+    pub errors: u32,
+    /// And how many RSTs: each ended all connections with the peer.
+    pub resets: u32,
     pub peer: u8,
     pub link: u8,
+    /// The type that its leader names, whatever became of the message: 1, 8 and 10 are an error in a leader, an error in a message, and a
+    /// reset of the interface (BBN 1822, section 3).
+    pub kind: u8,
 }
 
 impl Arrived {
@@ -136,7 +143,8 @@ impl Arrived {
             10 => What::Text(detail),
             _ => What::NotUp,
         };
-        Arrived { what, local: told.local, remote: told.remote, peer: told.peer, link: told.link }
+        let sys::ncp_arrived { local, remote, errors, resets, peer, link, kind, .. } = told;
+        Arrived { what, local, remote, errors, resets, peer, link, kind }
     }
 }
 
@@ -244,6 +252,13 @@ impl Host {
     pub fn state(&self, at: At) -> Result<Connection, Refusal> {
         let mut told = Connection::default();
         done(unsafe { sys::ncp_state(self.handle.get(), at.peer, at.local, at.remote, &mut told) })?;
+        Ok(told)
+    }
+
+    /// What changed of a connection since `seen`, which then is how it stands: `Connection::default()` before the first look.
+    pub fn changes(&self, at: At, seen: &mut Connection) -> Result<Changes, Refusal> {
+        let mut told = Changes::default();
+        done(unsafe { sys::ncp_changes(self.handle.get(), at.peer, at.local, at.remote, seen, &mut told) })?;
         Ok(told)
     }
 

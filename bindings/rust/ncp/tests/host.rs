@@ -1,5 +1,5 @@
 //! Refusals by their names, what arrived and what is told, and a host that goes to another thread.
-use ncp::{Arrived, At, Bits, Host, Refusal, Subnet, What, BUFFER};
+use ncp::{Arrived, At, Bits, Changes, Connection, Host, Refusal, Subnet, What, BUFFER};
 
 const RST: [u8; 10] = [0, 2, 0, 0, 0, 8, 0, 1, 0, 12];
 const RFNM: [u8; 4] = [5, 2, 0, 0];
@@ -39,10 +39,12 @@ fn what_arrived_and_what_is_told() {
     assert_eq!(host.next_output(&mut buffer), Some(Bits::from(&RST)));
     assert_eq!(host.next_output(&mut BUFFER.clone()), None);
     assert_eq!(host.kept(2, 0, &mut buffer), Some(Bits::from(&RST)));
-    assert_eq!(host.receive(&[7, 2, 0, 0]), Ok(Arrived { what: What::Answered(7), local: 0, remote: 0, peer: 2, link: 0 }));
-    assert_eq!(host.receive(&[4, 9, 3, 0]), Ok(Arrived { what: What::Other(4), local: 0, remote: 0, peer: 9, link: 3 }));
-    assert_eq!(host.receive(&[0]), Ok(Arrived { what: What::Short, local: 0, remote: 0, peer: 0, link: 0 }));
-    assert_eq!((host.ignored().short_bits, host.ignored().other), (1, 1));
+    let none = Arrived { what: What::Short, local: 0, remote: 0, errors: 0, resets: 0, peer: 0, link: 0, kind: 0 };
+    assert_eq!(host.receive(&[7, 2, 0, 0]), Ok(Arrived { what: What::Answered(7), peer: 2, kind: 7, ..none }));
+    assert_eq!(host.receive(&[4, 9, 3, 0]), Ok(Arrived { what: What::Other(4), peer: 9, link: 3, kind: 4, ..none }));
+    assert_eq!(host.receive(&[0]), Ok(none));
+    assert_eq!([1, 8, 10].map(|kind| host.receive(&[kind, 2, 5, 0]).unwrap().kind), [1, 8, 10]);
+    assert_eq!((host.ignored().short_bits, host.ignored().other), (1, 4));
     assert!(host.phase(2).unwrap().wait);
     assert_eq!(host.counts(2), Ok(ncp::Counted::default()));
 }
@@ -141,4 +143,21 @@ fn a_host_goes_to_another_thread() {
 fn the_version_is_that_of_the_header() {
     let header = include_str!("../../../../include/ncp.h");
     assert!(header.contains(&format!("#define NCP_VERSION \"{}\"", ncp::version())));
+}
+
+#[test]
+fn what_changed_is_told_once() {
+    let (mut host, mut seen) = (up(), Connection::default());
+    let at = At { peer: 2, local: 3, remote: 2 };
+    assert_eq!(host.changes(at, &mut seen), Ok(Changes::default()));
+    host.ask_send(at, 8, 64).unwrap();
+    // Its RTS, on link 7; then its CLS.
+    host.receive(&[0, 2, 0, 0, 0, 8, 0, 10, 0, 1, 0, 0, 0, 2, 0, 0, 0, 3, 7]).unwrap();
+    assert_eq!(host.changes(at, &mut seen), Ok(Changes { opened: true, ..Changes::default() }));
+    assert_eq!(Ok(seen), host.state(at));
+    host.receive(&[0, 2, 0, 0, 0, 8, 0, 9, 0, 3, 0, 0, 0, 2, 0, 0, 0, 3]).unwrap();
+    assert_eq!(host.changes(at, &mut seen), Ok(Changes { ended: true, ..Changes::default() }));
+    assert_eq!(host.changes(at, &mut seen), Ok(Changes::default()));
+    assert_eq!(seen, Connection::default());
+    assert_eq!(host.changes(At { peer: 9, ..at }, &mut seen), Err(Refusal::UnknownPeer));
 }

@@ -1,0 +1,115 @@
+-- What changed of a connection since it was looked at, by two readings: what was seen then, and what is there now. Where there was
+-- none, all of what was seen is 0 and false. (NIC 8246, establishment, allocation, interrupts, closing.)
+use Rattle.std.specs.Prelude.{ℕ, Bool, false, not, ◌&&◌, ◌||◌, nat_lt, if◌then◌else◌, Option, None, Some, Result, Ok, Err}
+use Rattle.ncp_conn.specs.declared.record.Record.{Record}
+use Rattle.ncp_model.specs.declared.pair.Pair.{Pair}
+use Rattle.ncp_model.specs.declared.call_fault.CallFault.{CallFault}
+use Rattle.ncp_model.specs.declared.call_fault.CallFault.TheVariants.{NoEntry}
+use Rattle.ncp_host.specs.Host.{Host}
+use Rattle.ncp_host.specs.Calls.{record_told}
+use Rattle.ncp_embed.specs.declared.changes.Changes.{Changes}
+use Rattle.ncp_embed.specs.declared.connection.Connection.{Connection}
+use Rattle.ncp_embed.specs.Told.{connection_of}
+
+abbrev pub no_connection : Connection
+no_connection = record {
+  bits = 0;
+  stored = 0;
+  interrupts = 0;
+  messages = 0;
+  link = 0;
+  size = 0;
+  sends = false;
+  asked = false;
+  heard = false;
+  opened = false;
+  leaving = false;
+  left = false;
+  cls = false;
+  busy = false;
+  recall = false;
+}
+
+-- this side had closed it, and no CLS of the peer had come
+abbrev pub is_closed_here : Connection → Bool
+is_closed_here c = (c.leaving || c.left) && not c.cls
+
+abbrev pub no_changes : Changes
+no_changes = record {
+  closed = false;
+  refused = false;
+  ended = false;
+  asks = false;
+  opened = false;
+  text = false;
+  allowed = false;
+  delivered = false;
+  interrupted = false;
+  closes = false;
+}
+
+-- the peer asks, and nothing was asked here
+abbrev pub asks : Connection → Connection → Bool
+asks seen now = now.heard && not (seen.heard || now.asked)
+
+-- a receiver holds more
+abbrev pub is_more_held : Connection → Connection → Bool
+is_more_held seen now = nat_lt seen.stored now.stored && not now.sends
+
+-- a sender may send more messages, or more bits
+abbrev pub is_more_allowed : Connection → Connection → Bool
+is_more_allowed seen now = now.sends && (nat_lt seen.messages now.messages || nat_lt seen.bits now.bits)
+
+-- a flag was set
+abbrev pub became : Bool → Bool → Bool
+became seen now = now && not seen
+
+-- of one that is there; the text that was out is delivered where the sender is busy no more
+abbrev pub changes_of : Connection → Connection → Changes
+changes_of seen now = record no_changes {
+  asks = asks seen now;
+  opened = became seen.opened now.opened;
+  text = is_more_held seen now;
+  allowed = is_more_allowed seen now;
+  delivered = became now.busy seen.busy;
+  interrupted = nat_lt seen.interrupts now.interrupts;
+  closes = became seen.cls now.cls;
+}
+
+-- of one that is there no more, first by this side; or else by the peer, which refused what was asked, or had asked too
+abbrev pub ending_of : Connection → Changes
+ending_of seen = record no_changes {
+  closed = is_closed_here seen;
+  refused = seen.asked && not seen.heard && not (is_closed_here seen);
+  ended = seen.heard && not (is_closed_here seen);
+}
+
+-- what was seen ended, and one between the same sockets began since: while one lasts, none of these flags falls
+abbrev pub is_another : Connection → Connection → Bool
+is_another seen now =
+    became now.asked seen.asked || became now.heard seen.heard || became now.opened seen.opened || became now.left seen.left || became now.cls seen.cls
+
+-- how it ended, and what changed of the one that began
+abbrev pub changes_anew : Connection → Connection → Changes
+changes_anew seen now = record (changes_of no_connection now) { closed = (ending_of seen).closed; refused = (ending_of seen).refused; ended = (ending_of seen).ended }
+
+abbrev pub changes_since : Connection → Connection → Changes
+changes_since seen now = if is_another seen now then changes_anew seen now else changes_of seen now
+
+abbrev pub changes_between : Connection → Option Connection → Changes
+changes_between seen None = ending_of seen
+changes_between seen (Some now) = changes_since seen now
+
+-- what is seen from then on
+abbrev pub seen_of : Option Connection → Connection
+seen_of None = no_connection
+seen_of (Some now) = now
+
+-- the reading of a connection, or that there is none
+abbrev pub reading_of : Result Record CallFault → Result (Option Connection) CallFault
+reading_of (Ok r) = Ok (Some (connection_of r))
+reading_of (Err NoEntry) = Ok None
+reading_of (Err fault) = Err fault
+
+abbrev pub reading_told : ℕ → Pair → Host → Result (Option Connection) CallFault
+reading_told number pair h = reading_of (record_told number pair h)

@@ -1,0 +1,239 @@
+//! What changed of a connection since it was looked at.
+ghost use Rattle.std.specs.Prelude.{◌≡◌};
+ghost use Rattle.ncp_embed.specs.Exports.{pair_of, code_in, told_in};
+ghost use Rattle.ncp_embed.specs.Changes.{no_connection, no_changes, is_closed_here, asks, is_more_held, is_more_allowed, became, changes_of, ending_of, is_another, changes_anew, changes_since, changes_between, seen_of, reading_of, reading_told};
+
+use crate::codes::{DONE, NO_HOST, fault_code};
+use crate::connection::{Connection, connection_of};
+use crate::handle::{Handle, put, take};
+use ncp_host::Record;
+use ncp_model::{CallFault, Pair};
+use std::alloc::Global;
+
+/// What changed of a connection since it was looked at.
+#[repr(C)]
+#[derive(Clone, Copy, Drop)]
+pub struct Changes {
+    /// It is there no more, and this side had closed it first.
+    pub closed: bool,
+    /// It is there no more, this side had not closed it first, and the peer had not asked.
+    pub refused: bool,
+    /// It is there no more, this side had not closed it first, and the peer had asked.
+    pub ended: bool,
+    /// The peer asks, and nothing was asked here.
+    pub asks: bool,
+    /// Both requests met.
+    pub opened: bool,
+    /// More text is held than was.
+    pub text: bool,
+    /// More messages may be sent than might be, or more bits.
+    pub allowed: bool,
+    /// The text that was out was delivered.
+    pub delivered: bool,
+    /// Interrupts came.
+    pub interrupted: bool,
+    /// The peer closes it.
+    pub closes: bool,
+}
+
+fn no_connection() -> Connection
+    ensures { result ≡ no_connection }
+{
+    Connection {
+        bits: 0,
+        stored: 0,
+        interrupts: 0,
+        messages: 0,
+        link: 0,
+        size: 0,
+        sends: false,
+        asked: false,
+        heard: false,
+        opened: false,
+        leaving: false,
+        left: false,
+        cls: false,
+        busy: false,
+        recall: false,
+    }
+}
+
+fn no_changes() -> Changes
+    ensures { result ≡ no_changes }
+{
+    Changes {
+        closed: false,
+        refused: false,
+        ended: false,
+        asks: false,
+        opened: false,
+        text: false,
+        allowed: false,
+        delivered: false,
+        interrupted: false,
+        closes: false,
+    }
+}
+
+// Whether the peer asks, and nothing was asked here.
+fn asks(seen: Connection, now: Connection) -> bool
+    ensures { result ≡ asks seen now }
+{
+    now.heard && !(seen.heard || now.asked)
+}
+
+fn is_more_held(seen: Connection, now: Connection) -> bool
+    ensures { result ≡ is_more_held seen now }
+{
+    seen.stored < now.stored && !now.sends
+}
+
+fn is_more_allowed(seen: Connection, now: Connection) -> bool
+    ensures { result ≡ is_more_allowed seen now }
+{
+    now.sends && (seen.messages < now.messages || seen.bits < now.bits)
+}
+
+// Whether a flag was set.
+fn became(seen: bool, now: bool) -> bool
+    ensures { result ≡ became seen now }
+{
+    now && !seen
+}
+
+// Of one that is there.
+fn changes_of(seen: Connection, now: Connection) -> Changes
+    ensures { result ≡ changes_of seen now }
+{
+    Changes {
+        asks: asks(seen, now),
+        opened: became(seen.opened, now.opened),
+        text: is_more_held(seen, now),
+        allowed: is_more_allowed(seen, now),
+        delivered: became(now.busy, seen.busy),
+        interrupted: seen.interrupts < now.interrupts,
+        closes: became(seen.cls, now.cls),
+        ..no_changes()
+    }
+}
+
+// Whether this side closed a connection first.
+fn is_closed_here(seen: Connection) -> bool
+    ensures { result ≡ is_closed_here seen }
+{
+    (seen.leaving || seen.left) && !seen.cls
+}
+
+// Of one that is there no more.
+fn ending_of(seen: Connection) -> Changes
+    ensures { result ≡ ending_of seen }
+{
+    let closed = is_closed_here(seen);
+    Changes {
+        closed,
+        refused: seen.asked && !seen.heard && !closed,
+        ended: seen.heard && !closed,
+        ..no_changes()
+    }
+}
+
+// Whether what was seen ended, and one between the same sockets began since.
+fn is_another(seen: Connection, now: Connection) -> bool
+    ensures { result ≡ is_another seen now }
+{
+    became(now.asked, seen.asked)
+        || became(now.heard, seen.heard)
+        || became(now.opened, seen.opened)
+        || became(now.left, seen.left)
+        || became(now.cls, seen.cls)
+}
+
+// How the one that was seen ended, and what changed of the one that began.
+fn changes_anew(seen: Connection, now: Connection) -> Changes
+    ensures { result ≡ changes_anew seen now }
+{
+    let Changes {
+        closed,
+        refused,
+        ended,
+        ..
+    } = ending_of(seen);
+    Changes {
+        closed,
+        refused,
+        ended,
+        ..changes_of(no_connection(), now)
+    }
+}
+
+fn changes_since(seen: Connection, now: Connection) -> Changes
+    ensures { result ≡ changes_since seen now }
+{
+    if is_another(seen, now) {
+        changes_anew(seen, now)
+    } else {
+        changes_of(seen, now)
+    }
+}
+
+fn changes_between(seen: Connection, now: Option<Connection>) -> Changes
+    ensures { result ≡ changes_between seen now }
+{
+    match now {
+        Some(now) => changes_since(seen, now),
+        None => ending_of(seen),
+    }
+}
+
+fn seen_of(now: Option<Connection>) -> Connection
+    ensures { result ≡ seen_of now }
+{
+    match now {
+        Some(now) => now,
+        None => no_connection(),
+    }
+}
+
+fn reading_of(answer: Result<Record, CallFault>) -> Result<Option<Connection>, CallFault>
+    ensures { result ≡ reading_of answer }
+{
+    match answer {
+        Ok(known) => Ok(Some(connection_of(known))),
+        Err(CallFault::NoEntry) => Ok(None),
+        Err(fault) => Err(fault),
+    }
+}
+
+/// What changed of a connection since `seen`, which then is how it stands: all 0 and false where there is none, as before the first
+/// look. Each is told exactly where the two readings differ in that way.
+///
+/// Refused, in this order: `NO_HOST`, `UnknownPeer`.
+#[unsafe(no_mangle)]
+pub extern "C" fn ncp_embed_changes(
+    alloc: Global,
+    handle: &mut Handle,
+    peer: u8,
+    local: u32,
+    remote: u32,
+    seen: &mut Connection,
+    out: &mut Changes,
+) -> u32
+    ensures host { handle.new.host ≡ handle.old.host }
+    ensures code { result ≡ code_in (reading_told peer (pair_of local remote)) handle.old.host }
+    ensures changes { out.new ≡ told_in (changes_between seen.old) (reading_told peer (pair_of local remote)) handle.old.host out.old }
+    ensures seen { seen.new ≡ told_in seen_of (reading_told peer (pair_of local remote)) handle.old.host seen.old }
+{
+    let Some(held) = take(alloc, handle) else {
+        return NO_HOST;
+    };
+    let answer = held.host.state(peer, Pair { local, remote });
+    put(handle, held);
+    match reading_of(answer) {
+        Ok(now) => {
+            *out = changes_between(*seen, now);
+            *seen = seen_of(now);
+            DONE
+        }
+        Err(fault) => fault_code(fault),
+    }
+}
