@@ -82,7 +82,7 @@ static void want(bool is_so, const char *what)
 
 static struct ncp_arrived receive(struct ncp_host *host, const uint8_t *message, size_t len)
 {
-    struct ncp_arrived arrived = {0, 0, 0, 0, 0, 0};
+    struct ncp_arrived arrived;
     want(ncp_receive(host, message, len, 8 * len, &arrived) == NCP_DONE, "receive");
     return arrived;
 }
