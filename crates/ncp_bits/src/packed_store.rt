@@ -7,33 +7,36 @@ use crate::bits::Bits;
 use crate::part::Part;
 use crate::store::{BitStore, NoRoom};
 use std::alloc::{AllocError, Global};
+use std::boxed::BoxedSlice;
 use std::marker::Model;
 
 // The largest capacity: the places of the bytes' bits are counted in a `usize`.
 const MAX_CAPACITY: usize = usize::MAX - 16;
 
-/// A store of eight bits a byte. Its room takes a byte more than the bits asked for do.
+/// A store of eight bits a byte. Its room takes a byte more than the bits asked for do, and cannot grow: a boxed
+/// slice lends no allocator.
 ///
 /// The bits begin at any bit of its bytes. `take` copies what it takes and moves nothing. `put`
 /// writes what it puts; where the bytes end before that, it first moves what is held to the front
 /// of the bytes, a copy of whole bytes.
 #[derive(Drop)]
 pub struct PackedStore {
-    bytes: Vec<u8>,
+    bytes: BoxedSlice<u8, Global>,
     from: usize,
     len: usize,
     capacity: usize,
 }
 
 impl Model for PackedStore {
+    ghost use Rattle.std.specs.Box.{boxed_slice_items};
     ghost use Rattle.ncp_bits.specs.Packed.{run, HoldsRun};
     ghost use Rattle.ncp_bits.specs.Store.{Stored};
 
     ghost Value = { Stored };
 
-    ghost view = { λ store. record { held = run store.bytes.items store.from store.len; capacity = store.capacity } };
+    ghost view = { λ store. record { held = run (boxed_slice_items store.bytes) store.from store.len; capacity = store.capacity } };
 
-    ghost invariant = { λ store. HoldsRun store.bytes.items store.from store.len store.capacity };
+    ghost invariant = { λ store. HoldsRun (boxed_slice_items store.bytes) store.from store.len store.capacity };
 }
 
 // Makes room for `more` bits behind a run, and gives where the run begins then.
@@ -74,7 +77,7 @@ impl BitStore for PackedStore {
             return Err(AllocError);
         }
         Ok(PackedStore {
-            bytes: vec![in alloc; 0; bits.div_ceil(8) + 1]?,
+            bytes: vec![in alloc; 0; bits.div_ceil(8) + 1]?.into_boxed_slice(),
             from: 0,
             len: 0,
             capacity: bits,

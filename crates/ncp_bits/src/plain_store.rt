@@ -1,38 +1,39 @@
 //! `PlainStore`.
-ghost use Rattle.std.specs.Prelude.{◌≡◌, ◌+◌, ◌≤◌, ◌++◌, length, vec_len, vec_capacity};
+ghost use Rattle.std.specs.Prelude.{◌≡◌, ◌+◌, ◌≤◌, ◌++◌, length, take};
 
 use crate::bits::{Bits, MAX_BITS};
 use crate::part::Part;
 use crate::store::{BitStore, NoRoom};
 use std::alloc::{AllocError, Global};
+use std::boxed::BoxedSlice;
 use std::marker::Model;
 
-/// A store of one `bool` a bit.
+/// A store of one `bool` a bit. Its room is a boxed slice.
 #[derive(Drop)]
 pub struct PlainStore {
-    cells: Vec<bool>,
-    capacity: usize,
+    cells: BoxedSlice<bool, Global>,
+    len: usize,
 }
 
 impl Model for PlainStore {
-    ghost use Rattle.std.specs.Prelude.{◌≤◌, vec_len, vec_capacity};
+    ghost use Rattle.std.specs.Prelude.{◌≤◌, take};
+    ghost use Rattle.std.specs.Box.{boxed_slice_items, boxed_slice_len};
     ghost use Rattle.ncp_bits.specs.Store.{Stored};
 
     ghost Value = { Stored };
 
-    ghost view = { λ store. record { held = store.cells.items; capacity = store.capacity } };
+    ghost view = { λ store. record { held = take store.len (boxed_slice_items store.cells); capacity = boxed_slice_len store.cells } };
 
-    ghost invariant = { λ store. (store.capacity ≤ vec_capacity store.cells) × (vec_len store.cells ≤ store.capacity) };
+    ghost invariant = { λ store. store.len ≤ boxed_slice_len store.cells };
 }
 
-// Appends a part's bits to cells, where there is room.
-fn push_part(cells: &mut Vec<bool>, part: &Part<'_>)
-    requires { vec_len cells.old + length part.now ≤ vec_capacity cells.old }
-    ensures items { cells.new.items ≡ cells.old.items ++ part.now }
-    ensures capacity { vec_capacity cells.new ≡ vec_capacity cells.old }
+// Writes a part's bits behind the first `at` cells.
+fn write_part(cells: &mut [bool], at: usize, part: &Part<'_>)
+    requires { at + length part.now ≤ length cells.old }
+    ensures { take (at + length part.now) cells.new ≡ take at cells.old ++ part.now }
 {
     for place in 0..part.len() {
-        cells.push_reserved(part.bit(place));
+        cells[at + place] = part.bit(place);
     }
 }
 
@@ -55,36 +56,36 @@ impl BitStore for PlainStore {
 
     fn with_room(alloc: Global, bits: usize) -> Result<Self, AllocError> {
         Ok(PlainStore {
-            cells: Vec::with_capacity(alloc, bits)?,
-            capacity: bits,
+            cells: vec![in alloc; false; bits]?.into_boxed_slice(),
+            len: 0,
         })
     }
 
     fn len(&self) -> usize {
-        self.cells.len()
+        self.len
     }
 
     fn room(&self) -> usize {
-        self.capacity - self.cells.len()
+        self.cells.len() - self.len
     }
 
     fn put(&mut self, part: Part<'_>) -> Result<(), NoRoom> {
         if part.len() > self.room() {
             return Err(NoRoom);
         }
-        push_part(&mut self.cells, &part);
+        write_part(self.cells.as_mut_slice(), self.len, &part);
+        self.len += part.len();
         Ok(())
     }
 
     fn take(&mut self, count: usize) -> Bits {
         let bits = bits_of_cells(&self.cells[..count]);
-        self.cells.rotate_left(count);
-        let rest = self.cells.len() - count;
-        self.cells.truncate(rest);
+        self.cells.as_mut_slice().rotate_left(count);
+        self.len -= count;
         bits
     }
 
     fn clear(&mut self) {
-        self.cells.clear();
+        self.len = 0;
     }
 }

@@ -11,7 +11,8 @@ use thiserror::Error;
 #[error("no room for these bits")]
 pub struct NoRoom;
 
-/// Bits in order, up to a capacity. The room is made by `with_room`; no other call allocates.
+/// Bits in order, up to a capacity. The room is made by `with_room`. No other call gets an allocator, and no store
+/// of this crate keeps one: its room is a boxed slice, which cannot grow.
 pub trait BitStore: Drop + Sized {
     /// The bits, oldest first.
     ghost held: { Self → List Bool };

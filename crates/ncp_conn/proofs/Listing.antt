@@ -1,5 +1,5 @@
 -- The place of an entry is how many stand before it.
-use Rattle.std.proofs.Common.{◌≡◌, ℕ, zero, suc, ◌+◌, ◌≤◌, Bool, true, false, cond, ◌&&◌, T, List, [], ◌∷◌, Option, Some, None, IfSome, length, refl, sym, ap, ◌∙◌, subst, arith, get_or}
+use Rattle.std.proofs.Common.{◌≡◌, ℕ, zero, suc, ◌+◌, ◌≤◌, Bool, true, false, cond, ◌&&◌, T, List, [], ◌∷◌, Option, Some, None, IfSome, refl, sym, ap, ◌∙◌, subst, arith, get_or}
 use Rattle.std.specs.Prelude.{slice_get, ◌==◌}
 use Rattle.std.specs.declared.cmp.Ordering.{Ordering}
 use Rattle.std.specs.declared.cmp.Ordering.TheVariants.{Less, Equal, Greater}
@@ -24,7 +24,7 @@ use Rattle.ncp_conn.specs.Records.{record_of, record_if_any, record_in}
 use Rattle.ncp_conn.specs.Listing.{with_record, connection_in, is_before, stands_at}
 use Rattle.ncp_conn.proofs.Slabs.{vals, one_value}
 use Rattle.ncp_conn.proofs.Finding.{is_pair, pair_is, pair_itself, get_is}
-use Rattle.ncp_conn.proofs.Counts.{one, count_cons, count_both}
+use Rattle.ncp_conn.proofs.Counts.{one, count_cons}
 use Rattle.ncp_conn.proofs.Tables.{counted, got}
 
 t_first : (a b : Bool) → T (a && b) → T a
@@ -150,10 +150,6 @@ module _ {S : Type 0} (e : Entries S) (m : Ends) (v : from_entries (values e.sla
           let out : stands_at place (values e.slab) p ≡ false = no_key (stands_at place (values e.slab)) e.slab.slots 0 there.0 p h there.1 in
           let both : true ≡ false = sym (yes _ place (stands place p at)) ∙ out in
           absurd (cc)
-
--- how many entries there are at most
-pub few_entries : {S : Type 0} (e : Entries S) → IsKept e → length (values e.slab) ≤ 128
-few_entries e t = omega (arith, count_both (values e.slab), t.table.own, t.table.by_peer)
 
 -- Over all places each connection comes once, with its record.
 

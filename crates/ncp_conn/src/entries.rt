@@ -1,5 +1,5 @@
 //! The entries of a table, and where links lead.
-ghost use Rattle.std.specs.Prelude.{◌≡◌, ◌<◌, ◌≤◌, ◌+◌, ◌-◌, ℕ, true, false, IfOk, IfSome, Some, None, [], length, if◌then◌else◌, is_none};
+ghost use Rattle.std.specs.Prelude.{◌≡◌, ◌<◌, ◌≤◌, ◌+◌, ◌-◌, ℕ, true, false, IfOk, IfSome, Some, None, [], if◌then◌else◌, is_none};
 ghost use Rattle.std.specs.List.{count_by};
 ghost use Rattle.slab.specs.Slab.{get, values, entries, ContainsKey, HasRoomFor, Updates};
 ghost use Rattle.ncp_model.specs.Pairs.{same};
@@ -82,7 +82,6 @@ impl<S: BitStore> Entries<S> {
 
     /// How many entries have an own request.
     pub(crate) fn own_requests(&self) -> usize
-        requires { count_by has_asked (values self.now.slab) ≤ MAX_OWN }
         ensures { result ≡ count_by has_asked (values self.now.slab) }
     {
         let mut count = 0;
@@ -96,7 +95,6 @@ impl<S: BitStore> Entries<S> {
 
     // How many entries stand before a pair.
     fn count_before(&self, pair: Pair) -> usize
-        requires { length (values self.now.slab) ≤ MAX_OWN + MAX_BY_PEER }
         ensures { result ≡ count_by (is_before pair) (values self.now.slab) }
     {
         let mut count = 0;
@@ -110,7 +108,6 @@ impl<S: BitStore> Entries<S> {
 
     /// Under which key the entry is before which so many stand, if there is one.
     pub(crate) fn key_at(&self, place: usize) -> Option<usize>
-        requires { length (values self.now.slab) ≤ MAX_OWN + MAX_BY_PEER }
         ensures placed { result ≡ key_of (stands_at place (values self.now.slab)) (entries self.now.slab) }
         ensures inside { IfSome result (λ key. ContainsKey self.now.slab key) }
     {

@@ -1,5 +1,5 @@
 //! `FixedSlab`.
-ghost use Rattle.std.specs.Prelude.{◌≡◌, ◌+◌, ◌≤◌, [], IfOk, Some, None, length};
+ghost use Rattle.std.specs.Prelude.{◌≡◌, ◌+◌, ◌<◌, ◌≤◌, ◌^◌, [], IfOk, Some, None, length};
 ghost use Rattle.std.specs.Borrow.{sem};
 ghost use Rattle.slab.specs.Slab.{get, entries, slab_len, ContainsKey, HasRoomFor, Updates};
 
@@ -43,11 +43,13 @@ impl<T: Drop> FixedSlab<T> {
         self.slab.len()
     }
 
-    /// The keys with their values.
+    /// The keys with their values. There are no more than a `usize` counts.
     pub(crate) fn iter(&self) -> Iter<'_, T>
         ensures rest { result ≡ entries self.now }
         ensures len { length result ≡ slab_len self.now }
+        ensures counted { slab_len self.now < 2 ^ 64 }
     {
+        let _len = self.slab.len();
         self.slab.iter()
     }
 

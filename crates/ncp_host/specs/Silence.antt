@@ -1,7 +1,7 @@
 -- On which links to a peer no message is ready. Of these private functions speak.
 use Rattle.std.specs.Prelude.{◌≡◌, ◌<◌, ◌≤◌, min, ℕ, true, false, Option, None, Some}
 use Rattle.ncp_slot.specs.declared.slots.TheConstants.{FIRST_DATA_LINK, LAST_LINK}
-use Rattle.ncp_slot.specs.Slot.{is_empty, is_ready, is_held}
+use Rattle.ncp_slot.specs.Slot.{is_empty, is_ready}
 use Rattle.ncp_slot.specs.Slots.{LinkSlots, slot_at}
 use Rattle.ncp_conn.specs.Links.{is_in}
 use Rattle.ncp_host.specs.PeerState.{PeerState}
@@ -14,10 +14,6 @@ HasReady links slots = (on : ℕ) → on ≤ LAST_LINK → is_ready (slot_at slo
 -- each data link with a message is in a set
 abbrev pub HasKept : ℕ → LinkSlots → Type 0
 HasKept links slots = (on : ℕ) → FIRST_DATA_LINK ≤ on → on ≤ LAST_LINK → is_empty (slot_at slots on) ≡ false → is_in links on ≡ true
-
--- a link is in a set exactly where its message is held
-abbrev pub HasHeld : ℕ → LinkSlots → Type 0
-HasHeld links slots = (on : ℕ) → is_in links on ≡ is_held (slot_at slots on)
 
 -- what a peer knows of the slots of the links to it
 pub record AreMarked (kept again : ℕ) (slots : LinkSlots) : Type 0 where

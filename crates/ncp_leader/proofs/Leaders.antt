@@ -78,11 +78,5 @@ one_leader bits one other p q =
 
 -- ---- what is written is a leader
 
--- numbers of four and eight bits, each behind the ones before
-pub leader_pushed : (leader : Leader) (none one two three four all : List Bool) (flags kind host link low : ℕ) → none ≡ []
-    → one ≡ none ++ bits_of 4 flags → two ≡ one ++ bits_of 4 kind → three ≡ two ++ bits_of 8 host → four ≡ three ++ bits_of 8 link → all ≡ four ++ bits_of 8 low
-    → flags ≡ leader.flags → kind ≡ leader.kind → host ≡ leader.host → link ≡ leader.link → low ≡ leader.low → all ≡ leader_bits leader
-leader_pushed leader none one two three four all flags kind host link low n a b c d e f k h l w = rw (e, d, c, b, a, n, f, k, h, l, w) (simp append_assoc)
-
 pub BeginsWith-bits : (leader : Leader) (bits : List Bool) → IsLeader leader → bits ≡ leader_bits leader → BeginsWith bits leader
 BeginsWith-bits leader bits fits same = record { fits = fits; rest = []; form = same ∙ sym (append-nil (leader_bits leader)) }

@@ -6,17 +6,17 @@ use crate::leader::{Leader, Short};
 use crate::regular::Regular;
 
 /// `==` of leaders is equality.
-pub fn equal_leaders(one: &Leader, other: &Leader) -> bool
-    ensures { IsTrue result ↔ (one.now ≡ other.now) }
+pub fn equal_leaders(leader: &Leader, other: &Leader) -> bool
+    ensures { IsTrue result ↔ (leader.now ≡ other.now) }
 {
-    *one == *other
+    *leader == *other
 }
 
 /// `==` of faults is equality.
-pub fn equal_faults(one: MessageFault, other: MessageFault) -> bool
-    ensures { IsTrue result ↔ (one ≡ other) }
+pub fn equal_faults(fault: MessageFault, other: MessageFault) -> bool
+    ensures { IsTrue result ↔ (fault ≡ other) }
 {
-    one == other
+    fault == other
 }
 
 /// `==` of the refusal of a leader is equality.

@@ -1,6 +1,6 @@
 //! `Leader`.
 ghost use Rattle.std.specs.Prelude.{◌≡◌, ◌<◌, ◌≤◌, ◌++◌, ◌↔◌, length, IfOk, IsErr, List, Bool};
-ghost use Rattle.ncp_leader.specs.Leader.{leader_bits, leader_at, leader_in, BeginsWith};
+ghost use Rattle.ncp_leader.specs.Leader.{IsLeader, leader_bits, leader_bytes, leader_at, leader_in, BeginsWith};
 
 use ncp_bits::{Bits, Part};
 use thiserror::Error;
@@ -75,6 +75,22 @@ pub fn read_leader_in(part: &Part<'_>) -> Result<Leader, Short>
     Ok(leader_of(part))
 }
 
+/// The four bytes of a leader.
+#[inline(always)]
+pub(crate) fn leader_bytes(leader: Leader) -> [u8; 4]
+    requires flags { leader.flags ≤ MAX_FLAGS }
+    requires kind { leader.kind ≤ MAX_KIND }
+    ensures bytes { result ≡ leader_bytes leader }
+    ensures fits { IsLeader leader }
+{
+    [
+        leader.flags << 4 | leader.kind,
+        leader.host,
+        leader.link,
+        leader.low,
+    ]
+}
+
 /// The bits of a leader.
 pub fn put_leader(leader: &Leader) -> Bits
     requires flags { leader.now.flags ≤ MAX_FLAGS }
@@ -83,11 +99,5 @@ pub fn put_leader(leader: &Leader) -> Bits
     ensures len { length result ≡ LEADER_BITS }
     ensures begins { BeginsWith result leader.now }
 {
-    let mut bits = Bits::new();
-    bits.push_number(u64::from(leader.flags), 4).unwrap();
-    bits.push_number(u64::from(leader.kind), 4).unwrap();
-    bits.push_number(u64::from(leader.host), 8).unwrap();
-    bits.push_number(u64::from(leader.link), 8).unwrap();
-    bits.push_number(u64::from(leader.low), 8).unwrap();
-    bits
+    Bits::from_bytes(&leader_bytes(*leader), LEADER_BITS).unwrap()
 }

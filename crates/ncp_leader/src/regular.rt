@@ -5,7 +5,7 @@ ghost use Rattle.ncp_leader.specs.declared.leader.TheConstants.{MAX_FLAGS, MAX_K
 ghost use Rattle.ncp_leader.specs.Message.{Message, StandsFor, message_bits, message_in, byte_at, message_with, written};
 
 use crate::fault::MessageFault;
-use crate::leader::{Leader, leader_of, put_leader};
+use crate::leader::{Leader, leader_bytes, leader_of};
 use ncp_bits::{Bits, Part};
 use std::marker::Model;
 
@@ -171,8 +171,10 @@ pub fn read_regular_in<'a>(part: &Part<'a>) -> Result<Regular<'a>, MessageFault>
     message_of(part)
 }
 
-// The bits of the message that a leader, a byte size and a text of whole bytes make.
-#[tactic(auto, using(crate::proofs::Messages::zeros))]
+// The bits of the message that a leader, a byte size and a text of whole bytes make. Leader and prefix
+// are whole bytes, and go in by one copy. It stands where it is called, as `put_regular` does: a message is
+// then made where its maker wants it.
+#[inline(always)]
 fn put_message(leader: &Leader, size: u8, text: Part<'_>) -> Bits
     requires flags { leader.now.flags ≤ MAX_FLAGS }
     requires kind { leader.now.kind ≤ MAX_KIND }
@@ -182,12 +184,11 @@ fn put_message(leader: &Leader, size: u8, text: Part<'_>) -> Bits
     ensures len { length result ≡ FRONT_BITS + length text.entry }
     ensures fits { IsLeader leader.now }
 {
-    let count = text.len() / usize::from(size);
-    let mut bits = put_leader(leader);
-    bits.push_number(0, 8).unwrap();
-    bits.push_number(u64::from(size), 8).unwrap();
-    bits.push_number(count as u64, 16).unwrap();
-    bits.push_number(0, 8).unwrap();
+    let count = (text.len() / usize::from(size)) as u16;
+    let [first, host, link, last] = leader_bytes(*leader);
+    let [high, low] = count.to_be_bytes();
+    let front = [first, host, link, last, 0, size, high, low, 0];
+    let mut bits = Bits::from_bytes(&front, FRONT_BITS).unwrap();
     bits.append(text).unwrap();
     bits
 }
@@ -196,6 +197,7 @@ fn put_message(leader: &Leader, size: u8, text: Part<'_>) -> Bits
 ///
 /// Refused, in this order: `SizeZero`, `TextTooLong` (over [`MAX_TEXT_BITS`]), `NotWhole` (the text
 /// is no multiple of the byte size).
+#[inline(always)]
 pub fn put_regular(leader: &Leader, size: u8, text: Part<'_>) -> Result<Bits, MessageFault>
     requires flags { leader.now.flags ≤ MAX_FLAGS }
     requires kind { leader.now.kind ≤ MAX_KIND }

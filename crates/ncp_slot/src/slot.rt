@@ -1,7 +1,7 @@
 //! `Slot`.
 ghost use Rattle.std.specs.Prelude.{◌≡◌, ◌↔◌, IsTrue, IfSome, OnOk, IsOk};
 ghost use Rattle.std.specs.Option.{option_copied};
-ghost use Rattle.ncp_slot.specs.Slot.{put_in, handed_out, answered, woken, ready_message, kept_message, is_empty, is_ready, is_travelling};
+ghost use Rattle.ncp_slot.specs.Slot.{put_in, handed_out, answered, woken, ready_message, kept_message, is_empty, is_ready, is_travelling, is_held};
 
 use ncp_bits::Bits;
 use ncp_terms::Answer;
@@ -85,6 +85,13 @@ impl<M: Drop> Slot<M> {
         ensures { result ≡ is_ready self.now }
     {
         matches!(self, Slot::Ready(_))
+    }
+
+    /// Whether there is a message that is held.
+    pub(crate) fn is_held(&self) -> bool
+        ensures { result ≡ is_held self.now }
+    {
+        matches!(self, Slot::Held(_))
     }
 }
 

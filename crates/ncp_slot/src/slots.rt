@@ -2,7 +2,7 @@
 ghost use Rattle.std.specs.Prelude.{◌≡◌, ◌≢◌, ℕ, ◌-◌, ◌+◌, ◌<◌, ◌≤◌, ◌↔◌, true, false, map, length, slice_get, IsTrue, Some, IfOk, IfSome, IfNone, OnOk, OnErr, IsNone, IsOk, IsErr};
 ghost use Rattle.std.specs.List.{list_all};
 ghost use Rattle.std.specs.Option.{option_copied};
-ghost use Rattle.ncp_slot.specs.Slot.{put_in, handed_out, answered, woken, ready_message, kept_message, is_empty, is_ready, is_travelling};
+ghost use Rattle.ncp_slot.specs.Slot.{put_in, handed_out, answered, woken, ready_message, kept_message, is_empty, is_ready, is_travelling, is_held};
 ghost use Rattle.ncp_slot.specs.Slots.{HasSlot, no_slots, slot_at, with_slot, all_woken, OthersStay, IsReady, IsHeld, IsFirstReady, IsQuiet, is_quiet, link_at};
 
 use crate::slot::{Busy, Slot, Stray};
@@ -192,6 +192,17 @@ impl Slots {
         ensures { result ≡ is_empty (slot_at self.now link) }
     {
         self.slots[place_of(link)].is_empty()
+    }
+
+    /// Whether the message of a link is held. None is on a link without a slot.
+    pub fn is_held(&self, link: u8) -> bool
+        ensures { result ≡ is_held (slot_at self.now link) }
+    {
+        let slots = &self.slots;
+        if !has_slot(link) {
+            return false;
+        }
+        slots[place_of(link)].is_held()
     }
 
     /// The lowest link with a message that is to go out.

@@ -1,3 +1,4 @@
+use Rattle.std.specs.Box.{boxed_slice_items}
 use Rattle.std.proofs.Common.{◌≡◌, sym, ap, ◌∙◌, length, take, drop, List, ℕ, arith}
 use Rattle.ncp_bits.specs.Store.{Stored}
 use Rattle.ncp_bits.specs.Packed.{run}
@@ -7,7 +8,7 @@ use Rattle.ncp_bits.proofs.packed_store.PackedStoreBitStore.take.Goals as goal
 pub of_bytes-requires-clause-inside : goal.of_bytes-requires-clause-inside
 of_bytes-requires-clause-inside c =
     let l : c.self.inside.len ≡ length c.args.self.now.held = length-held c.self.invariant (ap (λ (store : Stored). store.held) c.self.view_is) in
-    let same : length c.as_slice.result.now ≡ length c.self.inside.bytes.items = ap length c.as_slice.ensures.value in
+    let same : length c.as_slice.result.now ≡ length (boxed_slice_items c.self.inside.bytes) = ap length c.as_slice.ensures.value in
     omega (arith, c.self.invariant.inside)
 
 pub overflow_add-self : goal.overflow_add-self
@@ -31,11 +32,11 @@ returns-clause-bits c =
     let l : c.self.inside.len ≡ length c.args.self.now.held = length-held c.self.invariant (ap (λ (store : Stored). store.held) c.self.view_is) in
     c.to_bits-bits.ensures ∙ c.of_bytes.ensures.bits
     ∙ ap (λ (bytes : List ℕ). run bytes c.self.inside.from c.args.count) c.as_slice.ensures.value
-    ∙ sym (take-run c.self.inside.bytes.items c.self.inside.from c.self.inside.len c.args.count (omega arith))
+    ∙ sym (take-run (boxed_slice_items c.self.inside.bytes) c.self.inside.from c.self.inside.len c.args.count (omega arith))
     ∙ ap (λ (store : Stored). take c.args.count store.held) c.self.view_is
 
 pub returns-clause-held : goal.returns-clause-held
 returns-clause-held c =
     let l : c.self.inside.len ≡ length c.args.self.now.held = length-held c.self.invariant (ap (λ (store : Stored). store.held) c.self.view_is) in
-    sym (drop-run c.self.inside.bytes.items c.self.inside.from c.self.inside.len c.args.count (omega arith))
+    sym (drop-run (boxed_slice_items c.self.inside.bytes) c.self.inside.from c.self.inside.len c.args.count (omega arith))
     ∙ ap (λ (store : Stored). drop c.args.count store.held) c.self.view_is
