@@ -7,7 +7,8 @@ use Rattle.ncp_numbers.specs.Bytes.{bits_of_bytes, byte_bits}
 use Rattle.ncp_numbers.proofs.Shifts.{drop-bits_of, take-bits_of, bits_of-mod}
 use Rattle.ncp_bits.specs.Bits.{read_bytes}
 use Rattle.ncp_leader.specs.declared.leader.Leader.{Leader}
-use Rattle.ncp_leader.specs.Leader.{leader_bits, leader_bytes}
+use Rattle.ncp_leader.specs.Leader.{leader_bits}
+use Rattle.ncp_leader.specs.Bytes.{leader_bytes}
 use Rattle.ncp_leader.specs.Message.{eight_zeros}
 
 -- two numbers of four bits in one byte

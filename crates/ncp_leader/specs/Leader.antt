@@ -1,6 +1,6 @@
 -- A leader and its bits (BBN 1822, section 3: the 32-bit leader). Places are counted from 0, where the
 -- standard counts bits from 1.
-use Rattle.std.specs.Prelude.{◌≡◌, ◌<◌, ◌≤◌, ℕ, ◌+◌, ◌*◌, ◌^◌, Bool, List, [], ◌∷◌, ◌++◌, length, nat_lt, Result, Ok, Err, if◌then◌else◌}
+use Rattle.std.specs.Prelude.{◌≡◌, ◌<◌, ◌≤◌, ℕ, ◌^◌, Bool, List, ◌++◌, length, nat_lt, Result, Ok, Err, if◌then◌else◌}
 use Rattle.ncp_numbers.specs.Numbers.{bits_of}
 pub use Rattle.ncp_numbers.specs.Numbers.{number_at}
 use Rattle.ncp_leader.specs.declared.leader.Leader.{Leader}
@@ -19,10 +19,6 @@ pub record IsLeader (leader : Leader) : Type 0 where
 abbrev pub leader_bits : Leader → List Bool
 leader_bits leader =
     bits_of 4 leader.flags ++ bits_of 4 leader.kind ++ bits_of 8 leader.host ++ bits_of 8 leader.link ++ bits_of 8 leader.low
-
--- the same as bytes: flags and type are the first
-abbrev pub leader_bytes : Leader → List ℕ
-leader_bytes leader = (leader.flags * 2 ^ 4 + leader.kind) ∷ leader.host ∷ leader.link ∷ leader.low ∷ []
 
 -- a list of bits is the bits of a leader, and any rest
 pub record BeginsWith (bits : List Bool) (leader : Leader) : Type 0 where

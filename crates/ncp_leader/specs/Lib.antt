@@ -1,4 +1,5 @@
 pub mod Leader
+pub mod Bytes
 pub mod Fault
 pub mod Message
 pub mod Same

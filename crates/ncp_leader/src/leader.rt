@@ -1,6 +1,7 @@
 //! `Leader`.
 ghost use Rattle.std.specs.Prelude.{◌≡◌, ◌<◌, ◌≤◌, ◌++◌, ◌↔◌, length, IfOk, IsErr, List, Bool};
-ghost use Rattle.ncp_leader.specs.Leader.{IsLeader, leader_bits, leader_bytes, leader_at, leader_in, BeginsWith};
+ghost use Rattle.ncp_leader.specs.Leader.{IsLeader, leader_bits, leader_at, leader_in, BeginsWith};
+ghost use Rattle.ncp_leader.specs.Bytes.{leader_bytes};
 
 use ncp_bits::{Bits, Part};
 use thiserror::Error;

@@ -1,6 +1,6 @@
 use Rattle.std.proofs.Common.{◌≡◌, Ok, refl, sym, ◌∙◌}
 use Rattle.ncp_numbers.specs.Bytes.{bits_of_bytes}
-use Rattle.ncp_leader.specs.Leader.{leader_bytes}
+use Rattle.ncp_leader.specs.Bytes.{leader_bytes}
 use Rattle.ncp_leader.proofs.Fronts.{leader_read, leader_spelled}
 use Rattle.ncp_leader.proofs.Leaders.{BeginsWith-bits}
 use Rattle.ncp_leader.proofs.leader.put_leader.Goals as goal
