@@ -16,7 +16,7 @@ ghost use Rattle.ncp_host.specs.declared.received.Received.{Received};
 ghost use Rattle.ncp_subnet.specs.declared.fault.SubnetFault.{SubnetFault};
 ghost use Rattle.ncp_embed.specs.declared.connection.Connection.{Connection};
 ghost use Rattle.ncp_embed.specs.declared.told.Arrived.{Arrived};
-ghost use Rattle.ncp_embed.specs.Changes.{no_connection, no_changes, changes_between};
+ghost use Rattle.ncp_embed.specs.Changes.{no_connection, no_changes, changes_between, seen_of};
 ghost use Rattle.ncp_terms.specs.declared.command.Command.TheVariants.{Nop, Err as Error, Rst};
 ghost use Rattle.ncp_embed.specs.Commands.{tally_of, tally_from, no_tally};
 ghost use Rattle.ncp_embed.specs.Codes.{code_of, host_code, subnet_code, bits_code};
@@ -127,11 +127,14 @@ pub fn connections_are_told_so()
     ensures recall { (r : Record) → (connection_of r).recall ≡ r.recall }
 {}
 
-/// What changed of a connection: what stays as it is changes in nothing, and where there was none and is none nothing is told.
+/// What changed is told once: where nothing changed since it was told, nothing is told.
+pub fn changes_are_told_once()
+    ensures { (now : Option Connection) → changes_between (seen_of now) now ≡ no_changes }
+{}
+
+/// What changed of a connection, one by one.
 pub fn changes_are_told_so()
-    ensures none { (c : Connection) → changes_between c (Some c) ≡ no_changes }
     ensures anew { changes_between (record no_connection { asked = true; heard = true; opened = true }) (Some (record no_connection { heard = true; link = 7 })) ≡ record no_changes { ended = true; asks = true } }
-    ensures never { changes_between no_connection None ≡ no_changes }
     ensures asks { changes_between no_connection (Some (record no_connection { heard = true; link = 7 })) ≡ record no_changes { asks = true } }
     ensures opened { changes_between (record no_connection { asked = true }) (Some (record no_connection { asked = true; heard = true; opened = true })) ≡ record no_changes { opened = true } }
     ensures text { changes_between no_connection (Some (record no_connection { stored = 8 })) ≡ record no_changes { text = true } }
