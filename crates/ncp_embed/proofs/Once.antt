@@ -4,7 +4,7 @@ use Rattle.std.proofs.lemmas.Bool.{le-ltb}
 use Rattle.std.proofs.Math.Nat.{le_refl}
 use Rattle.ncp_embed.specs.declared.changes.Changes.{Changes}
 use Rattle.ncp_embed.specs.declared.connection.Connection.{Connection}
-use Rattle.ncp_embed.specs.Changes.{no_changes, became, asks, is_more_held, is_more_allowed, is_another, changes_of, changes_anew, changes_since, changes_between, seen_of}
+use Rattle.ncp_embed.specs.Changes.{no_changes, became, is_more_held, is_more_allowed, is_another, changes_of, changes_anew, changes_since, changes_between, seen_of}
 
 none_became : (b : Bool) → became b b ≡ false
 none_became true = refl

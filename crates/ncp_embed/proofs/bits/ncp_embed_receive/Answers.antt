@@ -1,6 +1,6 @@
 use Rattle.std.proofs.Common.{sym, ap, ◌∙◌}
 use Rattle.ncp_leader.specs.Leader.{leader_in}
-use Rattle.ncp_host.specs.Arrivals.{received_in, after_received}
+use Rattle.ncp_host.specs.Arrivals.{received_in}
 use Rattle.ncp_embed.specs.declared.handle.held.Held.{Held}
 use Rattle.ncp_embed.specs.Told.{arrived_of}
 use Rattle.ncp_embed.specs.Exports.{arrived_in, after_bits, pair_named}
