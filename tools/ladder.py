@@ -8,7 +8,8 @@ Reads the lines of `ncp world` on standard input and writes a picture (SVG) on s
 Each host is a vertical line, and time goes downwards: a row for each numbered line. A message is an arrow from
 the row of its `out` to the row in which it was delivered, so one that was held back is long. One that was lost
 is cut off by a cross, one whose destination was dead by a bar, and one that is still underway ends in a dot.
-An answer is a thin line back to the sender. Calls stand beside their host, each with its result.
+An answer is a thin line back to the sender. Calls stand beside their host, each with its result; between the hosts
+stands what happened by itself, behind its events.
 """
 
 import sys
@@ -54,7 +55,7 @@ class Ladder:
     """What stands in the picture, in the order of the lines."""
 
     def __init__(self, lines):
-        self.messages, self.answers, self.notes, self.numbers = [], [], [], []
+        self.messages, self.answers, self.notes, self.numbers, self.settled = [], [], [], [], []
         self.last = {}          # by side and link: the message that went out last
         self.names = {}         # by side: the host's number, where a message named it
         self.height, self.message = TOP, None
@@ -62,6 +63,8 @@ class Ladder:
             words = line.split()
             if line.startswith("  "):
                 self.detail(words)
+            elif len(words) == 3 and words[1] == "settle":
+                self.settle(*words)
             elif words:
                 if len(words) < 3 or words[1] not in COLUMN:
                     sys.exit("not a line that `ncp world` prints of two hosts: " + line.rstrip("\n"))
@@ -73,6 +76,13 @@ class Ladder:
             if words[0] == "text" and len(words) > 2:
                 words = ["text", readable(words[2])]
             self.message.words.append(" ".join(words))
+
+    def settle(self, number, verb, count):
+        """How many of the events before happened by themselves."""
+        self.height += ROW
+        self.numbers.append((self.height, number))
+        self.settled.append((self.height, f"{verb} {count}"))
+        self.message = None
 
     def event(self, number, side, verb, rest):
         moves = verb in ("deliver", "lose", "dead", "answer") and rest[-1] != "nothing"
@@ -170,6 +180,7 @@ def picture(ladder):
         drawn += draw_message(message)
     for note in ladder.notes:
         drawn += draw_beside(*note)
+    drawn += [words("outcome", (LEFT + RIGHT) / 2, height + 4, said, "middle") for height, said in ladder.settled]
     return "\n".join(drawn + ["</svg>"])
 
 
