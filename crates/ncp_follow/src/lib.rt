@@ -1,11 +1,10 @@
 //! What is said on each connection: a fold over the records of a message file of version 2. It reads each record once, in
 //! order, and looks at no file and writes no line.
 //!
-//! - *Use:* `Follower::hear` hears a record; `told` are then the connections that were opened, and `sessions` the texts of
-//!   none.
+//! - *Use:* `ncp_play_follow` follows a message file with it, record by record.
 //! - *Proved:* what is known after a record is what the definitions say (`Follower::hear`): which connections were
 //!   opened, in order, what was said on each, and how each ended.
-//! - *Tests:* worked cases in `laws`.
+//! - *Tests:* worked cases in `laws`; captures in `ncp_test_follow`.
 #![tactic(auto)]
 
 mod amount;
