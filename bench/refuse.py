@@ -33,6 +33,7 @@ CALLS = [
         ],
     ),
     ("Auditor::new", "ncp_test_audit", ["refused::auditor_new"]),
+    ("Follower::new", "ncp_test_follow", ["refused::follower_new"]),
     ("World::new", "ncp_test_world", ["refused::world::world_new"]),
     ("World::step", "ncp_test_world", ["refused::world::world_step"]),
     ("World::settle", "ncp_test_world", ["refused::world::world_settle"]),
@@ -194,7 +195,8 @@ def works():
     """Each subcommand with each example that it reads."""
     for file in sorted(glob.glob(os.path.join(TOP, "examples", "*.ncp"))):
         yield from ((["show"], file), (["check"], file), (["convert", "--at", "1"], file))
-    yield ["audit"], os.path.join(TOP, "examples", "broken.ncp")  # one with findings, so that something is written
+    for word in ("audit", "follow"):
+        yield [word], os.path.join(TOP, "examples", "broken.ncp")  # one with findings, so that something is written
     for script in sorted(glob.glob(os.path.join(TOP, "examples", "*.script"))):
         with open(script) as lines:
             first = next(line for line in lines if line.strip() and not line.startswith("#")).split()[0]

@@ -7,7 +7,7 @@ use Rattle.clap.specs.Walk.{Row, Rule, Text, byte_or_zero, one_of, first_of}
 use Rattle.clap.specs.declared.builder.action.ArgAction.TheVariants.{SetTrue}
 use Rattle.clap.specs.declared.builder.value_parser.ValueParser.TheVariants.{Signed}
 use Rattle.ncp_play_command_line.specs.declared.orders.Order.{Order}
-use Rattle.ncp_play_command_line.specs.declared.orders.Order.TheVariants.{Show, Check, Convert, Audit, Host, World, Record, Explain}
+use Rattle.ncp_play_command_line.specs.declared.orders.Order.TheVariants.{Show, Check, Convert, Audit, Follow, Host, World, Record, Explain}
 
 -- `--at H`, which is required: a number from 0 to 255
 abbrev pub number_wanted : Rule
@@ -42,6 +42,10 @@ flag_asked name = record (new_rule name) { long = Some name; action = Some SetTr
 abbrev pub auditing : Shape
 auditing = (with_rule (with_rule (with_rule (new_app (codes "audit")) (flag_asked (codes "part"))) (flag_asked (codes "standard"))) file_named).top
 
+-- `follow`, with `--part`, and a file
+abbrev pub following : Shape
+following = (with_rule (with_rule (new_app (codes "follow")) (flag_asked (codes "part"))) file_named).top
+
 -- `explain`, with a name
 abbrev pub explaining : Shape
 explaining = (with_rule (new_app (codes "explain")) name_wanted).top
@@ -54,9 +58,9 @@ bare_program = record { top = record (new_shape (codes "ncp")) { has_version = t
 abbrev pub of_files : App
 of_files = with_subcommand (with_subcommand (with_subcommand bare_program (reading (codes "show"))) (reading (codes "check"))) converting
 
--- and with the one that judges them
+-- and with the one that judges them, and the one that follows connections
 abbrev pub of_readers : App
-of_readers = with_subcommand of_files auditing
+of_readers = with_subcommand (with_subcommand of_files auditing) following
 
 -- and with those that play scripts
 abbrev pub of_players : App
@@ -84,6 +88,7 @@ named name given =
     if bytes_eq name (codes "check") then Check
     else if bytes_eq name (codes "convert") then Convert (number_in given)
     else if bytes_eq name (codes "audit") then Audit (flag_in (codes "part") given) (flag_in (codes "standard") given)
+    else if bytes_eq name (codes "follow") then Follow (flag_in (codes "part") given)
     else if bytes_eq name (codes "host") then Host
     else if bytes_eq name (codes "world") then World
     else if bytes_eq name (codes "record") then Record

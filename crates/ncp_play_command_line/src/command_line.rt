@@ -1,6 +1,6 @@
 //! The command line of the program `ncp`.
 ghost use Rattle.std.specs.Prelude.{◌≡◌, IfOk, map, option_map, false};
-ghost use Rattle.ncp_play_command_line.specs.CommandLine.{auditing, bare_program, converting, explaining, flag_asked, flag_in, named, number_in, of_files, of_players, of_readers, of_recorders, order_in, order_of, program, reading, file_named, word_in, word_of};
+ghost use Rattle.ncp_play_command_line.specs.CommandLine.{auditing, bare_program, converting, explaining, flag_asked, following, flag_in, named, number_in, of_files, of_players, of_readers, of_recorders, order_in, order_of, program, reading, file_named, word_in, word_of};
 ghost use Rattle.clap.specs.Faults.{fault_of};
 ghost use Rattle.clap.specs.Kinds.{FailsBy};
 ghost use Rattle.clap.specs.Simple.{app_of, shape_of, subcommand_rows_of, with_subcommand};
@@ -9,7 +9,8 @@ ghost use Rattle.clap.specs.declared.builder.command.Command.TheViews.{out-Comma
 ghost use Rattle.clap.specs.Walk.{first_of, rows_of, rule_of};
 
 use crate::help::{
-    AUDITED, CHECKED, CONVERTED, EXPLAINED, PLAYED, PLAYED_HOST, PROGRAM_HELP, RECORDED, SHOWN,
+    AUDITED, CHECKED, CONVERTED, EXPLAINED, FOLLOWED, PLAYED, PLAYED_HOST, PROGRAM_HELP, RECORDED,
+    SHOWN,
 };
 use crate::orders::{Order, Request};
 use clap::{Arg, ArgAction, ArgMatches, Command, Error};
@@ -21,7 +22,7 @@ const PROGRAM: &str = "ncp";
 
 const VERSION: &str = "1.1.0";
 
-// The names of its subcommands, of the arguments of `convert` and `audit`, and of the word behind a subcommand.
+// The names of its subcommands, of the arguments of `convert`, `audit` and `follow`, and of the word behind a subcommand.
 const SHOW: &str = "show";
 
 const CHECK: &str = "check";
@@ -29,6 +30,8 @@ const CHECK: &str = "check";
 const CONVERT: &str = "convert";
 
 const AUDIT: &str = "audit";
+
+const FOLLOW: &str = "follow";
 
 const HOST: &str = "host";
 
@@ -43,6 +46,9 @@ const AT: &str = "at";
 const PART: &str = "part";
 
 const STANDARD: &str = "standard";
+
+// What `--part` says.
+const PART_HELP: &str = "The capture may begin in the middle";
 
 const WORD: &str = "word";
 
@@ -70,6 +76,9 @@ fn order_named(name: &str, given: &ArgMatches) -> Order
         _ if name == AUDIT => Order::Audit {
             part: flag_in(given, PART),
             standard: flag_in(given, STANDARD),
+        },
+        _ if name == FOLLOW => Order::Follow {
+            part: flag_in(given, PART),
         },
         _ if name == HOST => Order::Host,
         _ if name == WORLD => Order::World,
@@ -163,13 +172,26 @@ fn auditing<'a>(alloc: Global) -> Result<Command<'a>, AllocError>
     ensures shape { IfOk result (λ command. shape_of command ≡ auditing) }
     ensures local { IfOk result (λ command. (fields_of command).has_globals ≡ false) }
 {
-    let part = flag(alloc, PART, "The capture may begin in the middle");
+    let part = flag(alloc, PART, PART_HELP);
     let standard = flag(alloc, STANDARD, "Leave out what only this program asks for");
     Command::new(alloc, AUDIT)
         .about("Says which rules the messages of a message file break, and which host did")
         .after_help(AUDITED)
         .arg(part)?
         .arg(standard)?
+        .arg(file(alloc))
+}
+
+// `follow`, with what may be asked of it.
+fn following<'a>(alloc: Global) -> Result<Command<'a>, AllocError>
+    ensures shape { IfOk result (λ command. shape_of command ≡ following) }
+    ensures local { IfOk result (λ command. (fields_of command).has_globals ≡ false) }
+{
+    let part = flag(alloc, PART, PART_HELP);
+    Command::new(alloc, FOLLOW)
+        .about("Says what was said on each connection of a message file")
+        .after_help(FOLLOWED)
+        .arg(part)?
         .arg(file(alloc))
 }
 
@@ -224,6 +246,13 @@ fn and_audit<'a>(program: Command<'a>, alloc: Global) -> Result<Command<'a>, All
     program.subcommand(auditing(alloc)?)
 }
 
+// The program with `follow` too.
+fn and_follow<'a>(program: Command<'a>, alloc: Global) -> Result<Command<'a>, AllocError>
+    ensures { IfOk result (λ command. app_of command ≡ with_subcommand (app_of program.entry) following) }
+{
+    program.subcommand(following(alloc)?)
+}
+
 // The program with `explain` too.
 fn and_explain<'a>(program: Command<'a>, alloc: Global) -> Result<Command<'a>, AllocError>
     ensures { IfOk result (λ command. app_of command ≡ with_subcommand (app_of program.entry) explaining) }
@@ -242,11 +271,11 @@ fn with_files<'a>(alloc: Global) -> Result<Command<'a>, AllocError>
     and_convert(program, alloc)
 }
 
-// The program with the subcommand that judges message files too.
+// The program with the subcommands that judge message files and follow connections too.
 fn with_readers<'a>(alloc: Global) -> Result<Command<'a>, AllocError>
     ensures { IfOk result (λ command. app_of command ≡ of_readers) }
 {
-    and_audit(with_files(alloc)?, alloc)
+    and_follow(and_audit(with_files(alloc)?, alloc)?, alloc)
 }
 
 // The program with the subcommands that play scripts too.

@@ -63,6 +63,23 @@ Statuses:
 
 A message file of version 2 begins with the letters NCPJ: docs/FORMATS.md, and ncp(1).";
 
+/// Of `follow`.
+pub(crate) const FOLLOWED: &str =
+    "Two lines for each connection that was opened, in the order of opening: the host at whose interface it is
+seen, the other, the sockets, the link, the records that opened and ended it, and then its text. 'ncp explain
+WHY' says what stands behind by=. A line with - counts the texts of no connection. The file is one of version 2.
+
+Of a text the first 8192 bits are shown, of a file the first 4096 connections.
+
+Example:
+  ncp record examples/one_connection.script | ncp follow
+
+Statuses:
+  0  the whole file is followed
+  2  the file has a fault, or could not be read or written
+
+A message file of version 2 begins with the letters NCPJ: docs/FORMATS.md, and ncp(1).";
+
 /// Of `host`.
 pub(crate) const PLAYED_HOST: &str = "Example:
   printf 'host 1 2\\nreset 2\\nout\\n' | ncp host

@@ -4,7 +4,7 @@ ghost use Rattle.clap.specs.Faults.{fault_of};
 ghost use Rattle.clap.specs.declared.error.kind.ErrorKind.TheVariants as kind;
 ghost use Rattle.ncp_play_command_line.specs.CommandLine.{order_in, program, word_in};
 ghost use Rattle.ncp_play_command_line.specs.Examples.{after_convert, after_ncp};
-ghost use Rattle.ncp_play_command_line.specs.declared.orders.Order.TheVariants.{Audit, Convert, Explain, Record, Show, World};
+ghost use Rattle.ncp_play_command_line.specs.declared.orders.Order.TheVariants.{Audit, Convert, Explain, Follow, Record, Show, World};
 
 use crate::orders::Order;
 
@@ -43,6 +43,13 @@ pub fn audits_are_read_so()
     ensures both { order_in (after_ncp (codes "audit" ∷ codes "--standard" ∷ codes "first.ncp" ∷ codes "--part" ∷ [])) ≡ Audit true true }
     ensures file { word_in (after_ncp (codes "audit" ∷ codes "--standard" ∷ codes "first.ncp" ∷ codes "--part" ∷ [])) ≡ Some (codes "first.ncp") }
     ensures valued { fault_of program (after_ncp (codes "audit" ∷ codes "--part=7" ∷ [])) ≡ kind.TooManyValues ∷ [] }
+{}
+
+/// Worked command lines of `follow`.
+pub fn follows_are_read_so()
+    ensures bare { order_in (after_ncp (codes "follow" ∷ [])) ≡ Follow false }
+    ensures part { order_in (after_ncp (codes "follow" ∷ codes "first.ncp" ∷ codes "--part" ∷ [])) ≡ Follow true }
+    ensures file { word_in (after_ncp (codes "follow" ∷ codes "--part" ∷ codes "first.ncp" ∷ [])) ≡ Some (codes "first.ncp") }
 {}
 
 /// Worked words behind a subcommand: a file leaves the order as it is, `-` is a word as any other, there is one at most,

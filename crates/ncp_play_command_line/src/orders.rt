@@ -12,6 +12,8 @@ pub enum Order {
     /// Say which rules the messages of a file break, and by whom: of a part of a capture, and of the standard's rules
     /// alone.
     Audit { part: bool, standard: bool },
+    /// Say what was said on each connection of a file: of a part of a capture.
+    Follow { part: bool },
     /// Play a script of one host.
     Host,
     /// Play a script of two to eight hosts and the subnet between them.

@@ -2,15 +2,17 @@
 ghost use Rattle.std.specs.Prelude.{◌≡◌, map, true, false, IsErr};
 ghost use Rattle.ncp_play_notes.specs.Faults.{is_read_failed, is_write_failed};
 ghost use Rattle.ncp_play_program.specs.Orders.{seen, Does};
-ghost use Rattle.ncp_play_command_line.specs.declared.orders.Order.TheVariants.{Audit};
+ghost use Rattle.ncp_play_command_line.specs.declared.orders.Order.TheVariants.{Audit, Follow};
 ghost use Rattle.ncp_play_program.specs.Obeying.{heard, Tells, status_of, status_after, Obeys};
 
 use crate::put::put;
 use crate::telling::explanation;
 use ncp_bits::PackedStore;
+use ncp_follow::Follower;
 use ncp_play_audit::{Auditor, audit};
 use ncp_play_command_line::{Order, request};
 use ncp_play_files::{check, convert, show};
+use ncp_play_follow::follow;
 use ncp_play_host::play_host;
 use ncp_play_notes::PlayFault;
 use ncp_play_stream::{Sink, Source};
@@ -58,6 +60,30 @@ fn judge<S: Source, W: Sink>(
     }
 }
 
+// Says what was said on each connection of a message file.
+fn trace<S: Source, W: Sink>(
+    alloc: Global,
+    part: bool,
+    source: &mut S,
+    sink: &mut W,
+) -> Result<bool, PlayFault>
+    requires source_clean { S.has_failed source.old ≡ false }
+    requires sink_clean { W.has_failed sink.old ≡ false }
+    ensures does { Does
+        (seen (S.left source.old) (S.has_failed source.old) (W.written sink.old) (W.has_failed sink.old)) result
+        (seen (S.left source.new) (S.has_failed source.new) (W.written sink.new) (W.has_failed sink.new)) (Follow part) }
+    ensures read_failed { S.has_failed source.new ≡ true → IsErr result }
+    ensures write_failed { W.has_failed sink.new ≡ true → IsErr result }
+{
+    let Ok(mut follower) = Follower::new(alloc, part) else {
+        return Err(PlayFault::OutOfMemory);
+    };
+    match follow(&mut follower, source, sink) {
+        Ok(()) => Ok(true),
+        Err(fault) => Err(PlayFault::Feed(fault)),
+    }
+}
+
 /// Carries out an order with the word behind the subcommand, and answers whether all was good. A fault of a message
 /// file is told as one of a feed is.
 pub(crate) fn carry_out<S: Source, W: Sink>(
@@ -89,6 +115,7 @@ pub(crate) fn carry_out<S: Source, W: Sink>(
             Err(fault) => Err(PlayFault::Feed(fault)),
         },
         Order::Audit { part, standard } => judge(alloc, part, standard, source, sink),
+        Order::Follow { part } => trace(alloc, part, source, sink),
         Order::Host => play_host::<PackedStore, _, _>(alloc, source, sink),
         Order::World => play_world::<PackedStore, _, _>(alloc, source, sink),
         Order::Record => record_world::<PackedStore, _, _>(alloc, source, sink),

@@ -8,6 +8,7 @@ use ncp_play_faults::{
     NAMES, Player, meaning, nearest, wrong_first_line, wrong_header, wrong_line,
 };
 use ncp_play_files::FileFault;
+use ncp_play_follow::{ENDS, end_meaning};
 use ncp_play_notes::PlayFault;
 use std::alloc::{AllocError, Global};
 
@@ -100,9 +101,9 @@ fn of_feed(alloc: Global, kept: &Kept, meant: &str) -> Result<String, AllocError
     }
 }
 
-// Whether an order judges a message file.
-fn is_audit(order: Order) -> bool {
-    matches!(order, Order::Audit { .. })
+// Whether an order reads message files of version 2 alone.
+fn wants_hosts(order: Order) -> bool {
+    matches!(order, Order::Audit { .. } | Order::Follow { .. })
 }
 
 // Whether bytes begin as a message file of version 1.
@@ -121,7 +122,7 @@ fn of_file(
     if order == Order::Host {
         return of_feed(alloc, kept, meant);
     }
-    if fault == FileFault::BadHeader && is_audit(order) && is_plain(kept.first()) {
+    if fault == FileFault::BadHeader && wants_hosts(order) && is_plain(kept.first()) {
         return format!(in alloc;
             "  this is a file of version 1, which names no host: 'ncp convert --at H' makes one of version 2\n"
         );
@@ -160,7 +161,7 @@ pub(crate) fn explained(
 // All names, in the order of their table.
 fn all_names(alloc: Global) -> Result<String, AllocError> {
     let mut text = String::new(alloc);
-    for (name, _) in NAMES.iter().chain(RULES.iter()) {
+    for (name, _) in NAMES.iter().chain(RULES.iter()).chain(ENDS.iter()) {
         text.push_str(" ")?;
         text.push_str(name)?;
     }
@@ -173,6 +174,7 @@ fn unknown(alloc: Global, name: &str) -> Result<String, AllocError> {
     let names: Vec<&str> = NAMES
         .iter()
         .chain(RULES.iter())
+        .chain(ENDS.iter())
         .map(|known| known.0)
         .collect(alloc)?;
     let near = match nearest(name, names.as_slice()) {
@@ -181,13 +183,13 @@ fn unknown(alloc: Global, name: &str) -> Result<String, AllocError> {
     };
     let all = all_names(alloc)?;
     format!(in alloc;
-        "'{word}' is no name of a fault, a refusal or a rule{near}\nThe names are{all}\n"
+        "'{word}' is no name of a fault, a refusal, a rule or an end{near}\nThe names are{all}\n"
     )
 }
 
 /// What is said of a name, and whether it is one.
 pub(crate) fn explanation(alloc: Global, name: &str) -> Result<(String, bool), AllocError> {
-    match meaning(name).or(rule_meaning(name)) {
+    match meaning(name).or(rule_meaning(name)).or(end_meaning(name)) {
         Some(text) => Ok((format!(in alloc; "{name}\n  {text}\n")?, true)),
         None => Ok((unknown(alloc, name)?, false)),
     }

@@ -15,6 +15,7 @@ Commands:
   check    Counts the messages of a message file, and says whether all are well formed
   convert  Turns a message file of one version into the other
   audit    Says which rules the messages of a message file break, and which host did
+  follow   Says what was said on each connection of a message file
   host     Plays a script of one host
   world    Plays a script of two to eight hosts and the subnet between them
   record   Plays a script of two to eight hosts, and writes its messages as a message file
@@ -99,6 +100,8 @@ fn name_of(alloc: Global, words: &[&str]) -> Option<&'static str> {
         Ok(Order::Convert(_)) => Some("convert"),
         Ok(Order::Audit { part: false, .. }) => Some("audit"),
         Ok(Order::Audit { part: true, .. }) => Some("audit of a part"),
+        Ok(Order::Follow { part: false }) => Some("follow"),
+        Ok(Order::Follow { part: true }) => Some("follow a part"),
         Ok(Order::Host) => Some("host"),
         Ok(Order::World) => Some("world"),
         Ok(Order::Record) => Some("record"),
@@ -116,6 +119,8 @@ fn reads_orders(rt: HostRuntime) {
         (&["ncp", "audit"], "audit"),
         (&["ncp", "audit", "--standard"], "audit"),
         (&["ncp", "audit", "first.ncp", "--part"], "audit of a part"),
+        (&["ncp", "follow"], "follow"),
+        (&["ncp", "follow", "--part"], "follow a part"),
         (&["ncp", "host"], "host"),
         (&["ncp", "world"], "world"),
         (&["ncp", "record"], "record"),

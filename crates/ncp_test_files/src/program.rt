@@ -20,6 +20,9 @@ const FAULTY: &[u8] = &[0x4E, 0x43, 0x50, 0x48, 0, 72, 0, 2, 2, 0, 1, 0, 0, 0, 0
 // A file that ends inside its record.
 const CUT: &[u8] = &[0x4E, 0x43, 0x50, 0x48, 0, 32, 5, 2];
 
+// A text on a link of no connection.
+const LOOSE: &[u8] = b"NCPJI\x01\x00\x50\x00\x02\x03\x00\x00\x08\x00\x01\x00\x61";
+
 // An answer to a message that went out, and one to none.
 const STRAY: &[u8] = &[
     0x4E, 0x43, 0x50, 0x4A, 0x48, 7, 0, 80, 0, 2, 0, 0, 0, 8, 0, 1, 0, 12, 0x49, 7, 0, 32, 5, 2, 0,
@@ -157,6 +160,20 @@ fn audits_end_with_each_status(rt: HostRuntime) -> Result<(), Fail> {
 }
 
 #[test]
+fn follows_end_with_each_status(rt: HostRuntime) -> Result<(), Fail> {
+    const FOUND: End<'static> = (0, b"- at=1 host=2 sent=0/0 came=1/8\n", b"");
+    const ROWS: &[Row<'static>] = &[
+        (&["ncp", "follow"], ANSWERED, (0, b"", b"")),
+        (&["ncp", "follow"], LOOSE, FOUND),
+        (&["ncp", "follow", "--part"], LOOSE, FOUND),
+        (&["ncp", "follow"], SOUND, (2, b"", b"ncp: BadHeader\n")),
+    ];
+    let wrong = wrong_row(&rt, ROWS)?;
+    assert!(rt; wrong.is_none(), "at row {wrong:?}");
+    Ok(())
+}
+
+#[test]
 fn scripts_of_one_host_end_with_each_status(rt: HostRuntime) -> Result<(), Fail> {
     const WORDS: &[&str] = &["ncp", "host"];
     const NOTHING: &[u8] = b"1 out nothing\n";
@@ -192,11 +209,12 @@ fn scripts_of_two_hosts_end_with_each_status(rt: HostRuntime) -> Result<(), Fail
 }
 
 // The words of each subcommand, with what it may read.
-const EACH: [(&[&str], &[u8]); 7] = [
+const EACH: [(&[&str], &[u8]); 8] = [
     (&["ncp", "show"], SOUND),
     (&["ncp", "check"], SOUND),
     (&["ncp", "convert", "--at", "7"], SOUND),
     (&["ncp", "audit"], STRAY),
+    (&["ncp", "follow"], LOOSE),
     (&["ncp", "host"], HOST),
     (&["ncp", "world"], WORLD),
     (&["ncp", "record"], WORLD),

@@ -28,3 +28,6 @@ returns-in-Record-clause-does g c = rw c.in-Record.is
 
 pub returns-in-Audit-clause-does : goal.returns-in-Audit-clause-does
 returns-in-Audit-clause-does g c = rw c.in-Audit.is c.judge.ensures.does
+
+pub returns-in-Follow-clause-does : goal.returns-in-Follow-clause-does
+returns-in-Follow-clause-does g c = rw c.in-Follow.is c.trace.ensures.does

@@ -1,0 +1,66 @@
+-- A connection that was opened, and what was said on it.
+use Rattle.std.specs.Prelude.{ℕ, ◌+◌, ◌-◌, ◌^◌, min, nat_lt, Bool, true, false, List, [], ◌∷◌, ◌++◌, length, take, get_or, slice_set, Option, Some, None, if◌then◌else◌}
+use Rattle.ncp_bits.specs.declared.bits.TheConstants.{MAX_BITS}
+use Rattle.ncp_follow.specs.declared.life.Life.{Life}
+use Rattle.ncp_follow.specs.declared.connection.Connection.{Connection}
+use Rattle.ncp_follow.specs.declared.connection.End.{End}
+use Rattle.ncp_follow.specs.declared.connection.End.TheVariants.{Open}
+use Rattle.ncp_follow.specs.Amounts.{nothing, with_more}
+use Rattle.ncp_follow.specs.Lives.{new_life}
+
+abbrev pub number_in : Option ℕ → ℕ
+number_in None = 0
+number_in (Some number) = number
+
+-- one with this number, opened by this record
+abbrev pub opened_as : ℕ → ℕ → Life → Connection
+opened_as number opened life = record {
+  number = number;
+  at = life.at;
+  peer = life.peer;
+  local = life.local;
+  remote = life.remote;
+  link = number_in life.link;
+  size = number_in life.size;
+  opened = opened;
+  ended = None;
+  end = Open;
+  said = nothing;
+  late = 0;
+  granted = nothing;
+  returned = nothing;
+  text = [];
+}
+
+-- a text with one behind it: of all that is said the first bits are kept
+abbrev pub text_with : List Bool → List Bool → List Bool
+text_with text more = text ++ take (MAX_BITS - length text) more
+
+abbrev pub with_text : Connection → List Bool → Connection
+with_text connection text = record connection { said = with_more connection.said 1 (length text); text = text_with connection.text text }
+
+-- one more text on its link that is not one of it
+abbrev pub with_late : Connection → Connection
+with_late connection = record connection { late = min (connection.late + 1) (2 ^ 32 - 1) }
+
+abbrev pub with_granted : Connection → ℕ → ℕ → Connection
+with_granted connection messages bits = record connection { granted = with_more connection.granted messages bits }
+
+abbrev pub with_returned : Connection → ℕ → ℕ → Connection
+with_returned connection messages bits = record connection { returned = with_more connection.returned messages bits }
+
+abbrev pub with_end : Connection → End → Option ℕ → Connection
+with_end connection end ended = record connection { end = end; ended = ended }
+
+-- ---- in a row, in the order in which they were opened
+
+abbrev pub told_at : List Connection → ℕ → Connection
+told_at told place = get_or told place (opened_as 0 0 (new_life 0 0 0 0))
+
+-- with another connection at a place, if one is there
+abbrev pub put_told : List Connection → ℕ → Connection → List Connection
+put_told told place connection = if nat_lt place (length told) then slice_set told place connection else told
+
+abbrev pub end_told : List Connection → Option ℕ → End → Option ℕ → List Connection
+end_told told None end ended = told
+end_told told (Some place) end ended = put_told told place (with_end (told_at told place) end ended)

@@ -1,0 +1,185 @@
+-- What a record says of connections, and what is known after it.
+use Rattle.std.specs.Prelude.{ℕ, ◌==◌, not, ◌&&◌, ◌||◌, nat_le, Bool, true, false, List, [], ◌∷◌, length, Option, Some, None, Result, Ok, if◌then◌else◌}
+use Rattle.std.specs.declared.result.Result.TheVariants.{Err as Fault}
+use Rattle.ncp_numbers.specs.Bytes.{bytes_of}
+use Rattle.ncp_leader.specs.declared.fault.MessageFault.{MessageFault}
+use Rattle.ncp_leader.specs.declared.leader.Leader.{Leader}
+use Rattle.ncp_leader.specs.declared.leader.Short.{Short}
+use Rattle.ncp_leader.specs.Leader.{leader_in}
+use Rattle.ncp_leader.specs.Message.{Message, message_in}
+use Rattle.ncp_terms.specs.declared.command.Command.{Command}
+use Rattle.ncp_terms.specs.declared.command.Command.TheVariants.{Nop, Rts, Str, Cls, All as Allocate, Gvb, Ret, Inr, Ins, Eco, Erp, Err, Rst, Rrp}
+use Rattle.ncp_terms.specs.declared.fault.CommandFault.{CommandFault}
+use Rattle.ncp_control.specs.Texts.{items_of}
+use Rattle.ncp_control.specs.Reading.{commands_in, fault_in}
+use Rattle.ncp_follow.specs.declared.connection.End.{End}
+use Rattle.ncp_follow.specs.declared.connection.End.TheVariants.{ResetSent, ResetCame, ReplyCame}
+use Rattle.ncp_follow.specs.declared.request.Request.TheVariants.{Link, Size}
+use Rattle.ncp_follow.specs.declared.saying.Reading.{Reading}
+use Rattle.ncp_follow.specs.declared.saying.Reading.TheVariants as read
+use Rattle.ncp_follow.specs.declared.session.Session.{Session}
+use Rattle.ncp_follow.specs.declared.tables.Tables.{Tables}
+use Rattle.ncp_follow.specs.declared.turn.Turn.{Turn}
+use Rattle.ncp_follow.specs.declared.follower.Follower.{Follower}
+use Rattle.ncp_follow.specs.Sessions.{is_heard, after_reset, after_reply, with_stray, session_of, with_session}
+use Rattle.ncp_follow.specs.Slots.{place_on, is_repeat, with_out, with_answer}
+use Rattle.ncp_follow.specs.Tables.{after_asking, after_close, after_grant, after_return, after_text, belongs, after_clearing}
+
+-- ---- items of a control text
+
+-- a command that is neither RST nor RRP
+abbrev pub after_command : Turn → Command → Tables → Tables
+after_command turn Nop tables = tables
+after_command turn (Rts receive send link) tables = after_asking turn receive send (Link link) tables
+after_command turn (Str send receive size) tables = after_asking turn receive send (Size size) tables
+after_command turn (Cls my your) tables = after_close turn my your tables
+after_command turn (Allocate link messages bits) tables = after_grant turn link messages bits tables
+after_command turn (Gvb link fm fb) tables = tables
+after_command turn (Ret link messages bits) tables = after_return turn link messages bits tables
+after_command turn (Inr link) tables = tables
+after_command turn (Ins link) tables = tables
+after_command turn (Eco byte) tables = tables
+after_command turn (Erp byte) tables = tables
+after_command turn (Err code bytes) tables = tables
+after_command turn Rst tables = tables
+after_command turn Rrp tables = tables
+
+abbrev pub end_of_reset : Bool → End
+end_of_reset sent = if sent then ResetSent else ResetCame
+
+-- the RRP that the host waits for clears once more what was asked meanwhile
+abbrev pub ends_reset : Turn → Session → Bool
+ends_reset turn session = not turn.sent && session.host_waits
+
+abbrev pub heard_after : Turn → Command → Session → Tables → Tables
+heard_after turn command session tables = if is_heard session turn.sent then after_command turn command tables else tables
+
+-- what an item does to connections
+abbrev pub tables_after : Turn → Result Command CommandFault → Session → Tables → Tables
+tables_after turn (Fault fault) session tables = tables
+tables_after turn (Ok Rst) session tables = after_clearing turn (end_of_reset turn.sent) tables
+tables_after turn (Ok Rrp) session tables = if ends_reset turn session then after_clearing turn ReplyCame tables else tables
+tables_after turn (Ok Nop) session tables = heard_after turn Nop session tables
+tables_after turn (Ok (Rts receive send link)) session tables = heard_after turn (Rts receive send link) session tables
+tables_after turn (Ok (Str send receive size)) session tables = heard_after turn (Str send receive size) session tables
+tables_after turn (Ok (Cls my your)) session tables = heard_after turn (Cls my your) session tables
+tables_after turn (Ok (Allocate link messages bits)) session tables = heard_after turn (Allocate link messages bits) session tables
+tables_after turn (Ok (Gvb link fm fb)) session tables = heard_after turn (Gvb link fm fb) session tables
+tables_after turn (Ok (Ret link messages bits)) session tables = heard_after turn (Ret link messages bits) session tables
+tables_after turn (Ok (Inr link)) session tables = heard_after turn (Inr link) session tables
+tables_after turn (Ok (Ins link)) session tables = heard_after turn (Ins link) session tables
+tables_after turn (Ok (Eco byte)) session tables = heard_after turn (Eco byte) session tables
+tables_after turn (Ok (Erp byte)) session tables = heard_after turn (Erp byte) session tables
+tables_after turn (Ok (Err code bytes)) session tables = heard_after turn (Err code bytes) session tables
+
+-- and to the session
+abbrev pub session_after : Turn → Result Command CommandFault → Session → Session
+session_after turn (Fault fault) session = session
+session_after turn (Ok Rst) session = after_reset session turn.sent
+session_after turn (Ok Rrp) session = after_reply session turn.sent
+session_after turn (Ok Nop) session = session
+session_after turn (Ok (Rts receive send link)) session = session
+session_after turn (Ok (Str send receive size)) session = session
+session_after turn (Ok (Cls my your)) session = session
+session_after turn (Ok (Allocate link messages bits)) session = session
+session_after turn (Ok (Gvb link fm fb)) session = session
+session_after turn (Ok (Ret link messages bits)) session = session
+session_after turn (Ok (Inr link)) session = session
+session_after turn (Ok (Ins link)) session = session
+session_after turn (Ok (Eco byte)) session = session
+session_after turn (Ok (Erp byte)) session = session
+session_after turn (Ok (Err code bytes)) session = session
+
+-- all items of a control text, one after the other
+abbrev pub session_after_all : Turn → List (Result Command CommandFault) → Session → Session
+session_after_all turn [] session = session
+session_after_all turn (item ∷ items) session = session_after_all turn items (session_after turn item session)
+
+abbrev pub tables_after_all : Turn → List (Result Command CommandFault) → Session → Tables → Tables
+tables_after_all turn [] session tables = tables
+tables_after_all turn (item ∷ items) session tables = tables_after_all turn items (session_after turn item session) (tables_after turn item session tables)
+
+-- the commands of a control text, and its fault behind them
+abbrev pub items_said : List Bool → List (Result Command CommandFault)
+items_said text = items_of (commands_in (bytes_of text)) (fault_in (bytes_of text))
+
+-- ---- texts
+
+abbrev pub is_told : Turn → ℕ → Session → Tables → Bool
+is_told turn link session tables = is_heard session turn.sent && belongs turn link tables
+
+abbrev pub text_tables : Turn → ℕ → ℕ → List Bool → Session → Tables → Tables
+text_tables turn link size text session tables = if is_heard session turn.sent then after_text turn link size text tables else tables
+
+abbrev pub text_session : Turn → ℕ → List Bool → Session → Tables → Session
+text_session turn link text session tables = if is_told turn link session tables then session else with_stray session turn.sent (length text)
+
+-- ---- messages
+
+-- link 0 with bytes of eight bits carries control, the links of connections carry texts
+abbrev pub reading_of : Message → Reading
+reading_of message =
+    if message.leader.link == 0 then if message.size == 8 then read.Control else read.Nothing
+    else if nat_le 2 message.leader.link && nat_le message.leader.link 71 then read.Text
+    else read.Nothing
+
+abbrev pub read_session : Reading → Turn → Message → Session → Tables → Session
+read_session read.Nothing turn message session tables = session
+read_session read.Text turn message session tables = text_session turn message.leader.link message.text session tables
+read_session read.Control turn message session tables = session_after_all turn (items_said message.text) session
+
+abbrev pub read_tables : Reading → Turn → Message → Session → Tables → Tables
+read_tables read.Nothing turn message session tables = tables
+read_tables read.Text turn message session tables = text_tables turn message.leader.link message.size message.text session tables
+read_tables read.Control turn message session tables = tables_after_all turn (items_said message.text) session tables
+
+abbrev pub after_regular : Turn → Message → Follower → Follower
+after_regular turn message follower =
+    let session = session_of follower.part follower.sessions turn.at turn.peer in
+    record follower {
+      sessions = with_session follower.sessions (read_session (reading_of message) turn message session follower.tables);
+      tables = read_tables (reading_of message) turn message session follower.tables;
+    }
+
+abbrev pub after_said : Turn → Result Message MessageFault → Follower → Follower
+after_said turn (Ok message) follower = after_regular turn message follower
+after_said turn (Fault fault) follower = follower
+
+-- ---- records
+
+-- a message that goes out again says nothing new
+abbrev pub after_out : ℕ → ℕ → ℕ → ℕ → List Bool → Follower → Follower
+after_out number at peer link bits follower =
+    let after = record follower { outs = with_out follower.outs at peer link bits } in
+    if is_repeat follower.outs (place_on at peer link follower.outs) bits then after
+    else after_said (record { number = number; at = at; peer = peer; sent = true }) (message_in bits) after
+
+abbrev pub after_in : ℕ → ℕ → ℕ → List Bool → Follower → Follower
+after_in number at peer bits follower = after_said (record { number = number; at = at; peer = peer; sent = false }) (message_in bits) follower
+
+-- Ready For Next Message says that a message came, Destination Dead and Incomplete Transmission that it did not
+abbrev pub is_answer : ℕ → Bool
+is_answer kind = kind == 5 || kind == 7 || kind == 9
+
+abbrev pub after_answer : ℕ → ℕ → ℕ → ℕ → Follower → Follower
+after_answer at peer link kind follower = record follower { outs = with_answer follower.outs at peer link (kind == 5) }
+
+abbrev pub after_leader : ℕ → Bool → ℕ → Leader → List Bool → Follower → Follower
+after_leader number sent at leader bits follower =
+    if leader.host == at then follower
+    else if leader.kind == 0 then
+    if sent then after_out number at leader.host leader.link bits follower else after_in number at leader.host bits follower
+    else if not sent && is_answer leader.kind then after_answer at leader.host leader.link leader.kind follower
+    else follower
+
+abbrev pub after_read : ℕ → Bool → ℕ → Result Leader Short → List Bool → Follower → Follower
+after_read number sent at (Ok leader) bits follower = after_leader number sent at leader bits follower
+after_read number sent at (Fault short) bits follower = follower
+
+-- a record with this number: a message that went out of a host, or came to it
+abbrev pub after_record : ℕ → Bool → ℕ → List Bool → Follower → Follower
+after_record number sent at bits follower = after_read number sent at (leader_in bits) bits follower
+
+-- nothing was seen; a part of a capture may begin in the middle
+abbrev pub new_follower : Bool → Follower
+new_follower part = record { part = part; sessions = []; outs = []; tables = record { lives = []; told = [] } }

@@ -1,0 +1,51 @@
+-- The links of a host: a message that did not come goes out again, and then says nothing new (BBN 1822, section 3, RFNM,
+-- Incomplete Transmission and Destination Dead).
+use Rattle.std.specs.Prelude.{ℕ, ◌==◌, not, ◌&&◌, ◌||◌, nat_lt, Bool, true, false, List, [], ◌∷◌, ◌++◌, length, get_or, slice_set, Option, Some, None, if◌then◌else◌}
+use Rattle.std.specs.List.{position, remove}
+use Rattle.std.specs.Cmp.Lexicographic.{pointwise}
+use Rattle.std.proofs.Math.Bool.{beq}
+use Rattle.ncp_follow.specs.declared.out.Out.{Out}
+use Rattle.ncp_follow.specs.declared.slots.TheConstants.{MAX_OUT}
+
+abbrev pub same_bits : List Bool → List Bool → Bool
+same_bits = pointwise beq
+
+-- a message that goes out
+abbrev pub gone_out : ℕ → ℕ → ℕ → List Bool → Out
+gone_out at peer link bits = record { at = at; peer = peer; link = link; again = false; message = bits }
+
+abbrev pub is_on : ℕ → ℕ → ℕ → Out → Bool
+is_on at peer link out = out.at == at && out.peer == peer && out.link == link
+
+abbrev pub no_message : Out
+no_message = gone_out 0 0 0 []
+
+abbrev pub out_at : List Out → ℕ → Out
+out_at outs place = get_or outs place no_message
+
+abbrev pub place_on : ℕ → ℕ → ℕ → List Out → Option ℕ
+place_on at peer link outs = position (is_on at peer link) outs
+
+-- a message is the one that goes out again
+abbrev pub is_repeat : List Out → Option ℕ → List Bool → Bool
+is_repeat outs None bits = false
+is_repeat outs (Some place) bits = (out_at outs place).again && same_bits (out_at outs place).message bits
+
+-- with a message that goes out, in the place of the last one on its link, or behind the others, if there is room
+abbrev pub put_out : List Out → Option ℕ → Out → List Out
+put_out outs (Some place) out = slice_set outs place out
+put_out outs None out = if nat_lt (length outs) MAX_OUT then outs ++ out ∷ [] else outs
+
+abbrev pub with_out : List Out → ℕ → ℕ → ℕ → List Bool → List Out
+with_out outs at peer link bits = put_out outs (place_on at peer link outs) (gone_out at peer link bits)
+
+-- after an answer, that the message came, or that it did not
+abbrev pub answered : List Out → Bool → Option ℕ → List Out
+answered outs came None = outs
+answered outs came (Some place) =
+    if (out_at outs place).again then outs
+    else if came then remove outs place
+    else slice_set outs place (record (out_at outs place) { again = true })
+
+abbrev pub with_answer : List Out → ℕ → ℕ → ℕ → Bool → List Out
+with_answer outs at peer link came = answered outs came (place_on at peer link outs)

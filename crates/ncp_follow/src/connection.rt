@@ -1,0 +1,117 @@
+//! `Connection`: what was said on one that was opened.
+ghost use Rattle.std.specs.Prelude.{◌≡◌, ◌≤◌, length};
+ghost use Rattle.ncp_follow.specs.Connections.{number_in, opened_as, with_text, text_with, with_end};
+
+use crate::amount::Amount;
+use crate::life::Life;
+use ncp_bits::{Bits, MAX_BITS, Part};
+
+/// How a connection ended, or what was seen of its end last.
+#[derive(Clone, Copy, Debug, Drop, PartialEq, Eq)]
+pub enum End {
+    /// Nothing.
+    Open,
+    /// The host sent its CLS.
+    CloseSent,
+    /// The CLS of the other came.
+    CloseCame,
+    /// Both were seen.
+    Closed,
+    /// An RST of the other came.
+    ResetCame,
+    /// The host sent an RST.
+    ResetSent,
+    /// The RRP came that the host waited for.
+    ReplyCame,
+}
+
+/// A connection that was opened, and what was said on it.
+#[derive(Drop)]
+pub struct Connection {
+    /// Its number, by the order of opening, from 1 on.
+    pub number: u32,
+    /// The host at whose interface it is seen.
+    pub at: u8,
+    /// The other.
+    pub peer: u8,
+    /// The socket of the host: odd where it is the sender.
+    pub local: u32,
+    /// The socket of the other.
+    pub remote: u32,
+    /// The link.
+    pub link: u8,
+    /// The byte size.
+    pub size: u8,
+    /// The record of the second request.
+    pub opened: u32,
+    /// The record with which it ended.
+    pub ended: Option<u32>,
+    /// How it ended.
+    pub end: End,
+    /// The texts on it.
+    pub said: Amount,
+    /// How many more texts were on its link.
+    pub late: u32,
+    /// What was allocated.
+    pub granted: Amount,
+    /// What was returned.
+    pub returned: Amount,
+    /// Its text: at most the first [`MAX_BITS`] bits.
+    pub text: Bits,
+}
+
+// A number that was given.
+fn number_in(given: Option<u8>) -> u8
+    ensures { result ≡ number_in given }
+{
+    given.unwrap_or(0)
+}
+
+// Appends so much of a text as there is room for.
+fn append_front(text: &mut Bits, more: Part<'_>)
+    ensures { text.new ≡ text_with text.old more.entry }
+{
+    let len = more.len().min(MAX_BITS - text.len());
+    text.append(more.slice(0, len)).unwrap();
+}
+
+impl Connection {
+    // One that is opened, with this number, by this record.
+    pub(crate) fn new(number: u32, opened: u32, life: Life) -> Connection
+        ensures { result ≡ opened_as number opened life }
+    {
+        Connection {
+            number,
+            at: life.at,
+            peer: life.peer,
+            local: life.local,
+            remote: life.remote,
+            link: number_in(life.link),
+            size: number_in(life.size),
+            opened,
+            ended: None,
+            end: End::Open,
+            said: Amount::nothing(),
+            late: 0,
+            granted: Amount::nothing(),
+            returned: Amount::nothing(),
+            text: Bits::new(),
+        }
+    }
+
+    // A text more.
+    pub(crate) fn say(&mut self, text: Part<'_>)
+        ensures { self.new ≡ with_text self.old text.entry }
+    {
+        self.said = self.said.more(1, text.len() as u32);
+        append_front(&mut self.text, text);
+    }
+
+    // What is seen of its end.
+    pub(crate) fn be_ended(&mut self, end: End, ended: Option<u32>)
+        ensures { self.new ≡ with_end self.old end ended }
+    {
+        self.end = end;
+        self.ended = ended;
+    }
+}

@@ -1,0 +1,144 @@
+//! `Follower`.
+ghost use Rattle.std.specs.Prelude.{◌≡◌, ◌≤◌, [], length, IfOk};
+ghost use Rattle.ncp_leader.specs.Message.{message_in};
+ghost use Rattle.ncp_follow.specs.Followed.{after_regular, after_said, after_out, after_in, is_answer, after_answer, after_leader, after_record, new_follower};
+
+use crate::connection::Connection;
+use crate::saying::hear_regular;
+use crate::session::Session;
+use crate::sessions::Sessions;
+use crate::slots::Slots;
+use crate::tables::Tables;
+use crate::turn::Turn;
+use ncp_bits::Bits;
+use ncp_leader::{
+    DESTINATION_DEAD, INCOMPLETE, Leader, REGULAR, RFNM, Regular, read_leader, read_regular,
+};
+use std::alloc::{AllocError, Global};
+
+/// What the records of a capture have shown of connections so far.
+#[derive(Drop)]
+pub struct Follower {
+    /// Whether the capture may begin in the middle.
+    part: bool,
+    /// What is seen of each two hosts.
+    sessions: Sessions,
+    /// The messages that are out.
+    outs: Slots,
+    /// The connections.
+    tables: Tables,
+}
+
+// Whether a type is one of an answer to a message.
+fn is_answer(kind: u8) -> bool
+    ensures { result ≡ is_answer kind }
+{
+    kind == RFNM || kind == DESTINATION_DEAD || kind == INCOMPLETE
+}
+
+impl Follower {
+    /// Nothing was seen. A part of a capture may begin in the middle: then two hosts are in touch without a reset. It alone
+    /// takes memory, once.
+    pub fn new(alloc: Global, part: bool) -> Result<Follower, AllocError>
+        ensures { IfOk result (λ follower. follower ≡ new_follower part) }
+    {
+        let sessions = Sessions::new(alloc)?;
+        let outs = Slots::new(alloc)?;
+        let tables = Tables::new(alloc)?;
+        Ok(Follower {
+            part,
+            sessions,
+            outs,
+            tables,
+        })
+    }
+
+    /// The connections that were opened, in order.
+    pub fn told(&self) -> &[Connection]
+        ensures { result.now ≡ self.now.tables.told }
+    {
+        self.tables.told.as_slice()
+    }
+
+    /// What is seen of each two hosts, in the order of their first messages.
+    pub fn sessions(&self) -> &[Session]
+        ensures { result.now ≡ self.now.sessions }
+    {
+        self.sessions.as_slice()
+    }
+
+    // A message that is regular.
+    fn hear_regular(&mut self, turn: &Turn, regular: &Regular<'_>)
+        ensures { self.new ≡ after_regular turn.now regular.now self.old }
+    {
+        let session = self.sessions.of(self.part, turn.at, turn.peer);
+        let after = hear_regular(turn, regular, session, &mut self.tables);
+        self.sessions.set(after);
+    }
+
+    // What a message says.
+    fn hear_message(&mut self, turn: &Turn, message: &Bits)
+        ensures { self.new ≡ after_said turn.now (message_in message.now) self.old }
+    {
+        if let Ok(regular) = read_regular(message) {
+            self.hear_regular(turn, &regular);
+        }
+    }
+
+    // A message goes out.
+    fn hear_out(&mut self, number: u32, at: u8, peer: u8, link: u8, message: &Bits)
+        ensures { self.new ≡ after_out number at peer link message.now self.old }
+    {
+        if self.outs.send(at, peer, link, message) {
+            return;
+        }
+        let turn = Turn {
+            number,
+            at,
+            peer,
+            sent: true,
+        };
+        self.hear_message(&turn, message);
+    }
+
+    // A message comes.
+    fn hear_in(&mut self, number: u32, at: u8, peer: u8, message: &Bits)
+        ensures { self.new ≡ after_in number at peer message.now self.old }
+    {
+        let turn = Turn {
+            number,
+            at,
+            peer,
+            sent: false,
+        };
+        self.hear_message(&turn, message);
+    }
+
+    // A message with this leader.
+    fn hear_leader(&mut self, number: u32, sent: bool, at: u8, leader: &Leader, message: &Bits)
+        ensures { self.new ≡ after_leader number sent at leader.now message.now self.old }
+    {
+        let peer = leader.host;
+        if peer == at {
+            return;
+        }
+        if leader.kind == REGULAR {
+            if sent {
+                self.hear_out(number, at, peer, leader.link, message);
+            } else {
+                self.hear_in(number, at, peer, message);
+            }
+        } else if !sent && is_answer(leader.kind) {
+            self.outs.answer(at, peer, leader.link, leader.kind == RFNM);
+        }
+    }
+
+    /// A record with this number: a message that went out of a host, or came to it.
+    pub fn hear(&mut self, number: u32, sent: bool, at: u8, message: &Bits)
+        ensures { self.new ≡ after_record number sent at message.now self.old }
+    {
+        if let Ok(leader) = read_leader(message) {
+            self.hear_leader(number, sent, at, &leader, message);
+        }
+    }
+}

@@ -1,0 +1,33 @@
+//! What is said on each connection: a fold over the records of a message file of version 2. It reads each record once, in
+//! order, and looks at no file and writes no line.
+//!
+//! - *Use:* `ncp_play_follow` follows a message file with it, record by record.
+//! - *Proved:* what is known after a record is what the definitions say (`Follower::hear`): which connections were
+//!   opened, in order, what was said on each, and how each ended.
+//! - *Tests:* worked cases in `laws`; captures in `ncp_test_follow`.
+#![tactic(auto)]
+
+mod amount;
+mod connection;
+mod follower;
+pub mod laws;
+mod life;
+mod lives;
+mod out;
+mod request;
+mod saying;
+mod session;
+mod sessions;
+mod slots;
+mod tables;
+mod told;
+mod turn;
+
+pub use amount::Amount;
+pub use connection::{Connection, End};
+pub use follower::Follower;
+pub use lives::MAX_LIVES;
+pub use session::Session;
+pub use sessions::MAX_SESSIONS;
+pub use slots::MAX_OUT;
+pub use told::MAX_TOLD;

@@ -1,0 +1,153 @@
+//! `Life`: a connection, or a request for one.
+ghost use Rattle.std.specs.Prelude.{◌≡◌};
+ghost use Rattle.ncp_follow.specs.Lives.{new_life, is_pair, sends, is_given, is_used, has_left, with_left, has_asked, with_request, is_whole, is_live, takes};
+
+use crate::amount::Amount;
+use crate::request::Request;
+
+/// A connection between two sockets, or a request for one, as it is seen at the interface of a host.
+#[derive(Clone, Copy, Debug, Drop, PartialEq, Eq)]
+pub struct Life {
+    /// The host at whose interface it is seen.
+    pub at: u8,
+    /// The other.
+    pub peer: u8,
+    /// The socket of the host.
+    pub local: u32,
+    /// The socket of the other.
+    pub remote: u32,
+    /// The link, once the receiver asked.
+    pub link: Option<u8>,
+    /// The byte size, once the sender asked.
+    pub size: Option<u8>,
+    /// Whether the host sent its CLS.
+    pub host_left: bool,
+    /// Whether the other did.
+    pub peer_left: bool,
+    /// What is allocated and neither used nor returned.
+    pub left: Amount,
+    /// Its place among those that were opened.
+    pub place: Option<usize>,
+}
+
+// Whether a number is the one that was given.
+fn is_given(given: Option<u8>, number: u8) -> bool
+    ensures { result ≡ is_given given number }
+{
+    match given {
+        Some(given) => given == number,
+        None => false,
+    }
+}
+
+impl Life {
+    // Nobody asked.
+    pub(crate) fn new(at: u8, peer: u8, local: u32, remote: u32) -> Life
+        ensures { result ≡ new_life at peer local remote }
+    {
+        Life {
+            at,
+            peer,
+            local,
+            remote,
+            link: None,
+            size: None,
+            host_left: false,
+            peer_left: false,
+            left: Amount::nothing(),
+            place: None,
+        }
+    }
+
+    // Whether it is between these sockets of these hosts.
+    pub(crate) fn is_pair(&self, at: u8, peer: u8, local: u32, remote: u32) -> bool
+        ensures { result ≡ is_pair at peer local remote self.now }
+    {
+        self.at == at && self.peer == peer && self.local == local && self.remote == remote
+    }
+
+    // Whether the host is its sender.
+    pub(crate) fn sends(&self) -> bool
+        ensures { result ≡ sends self.now.local }
+    {
+        self.local % 2 == 1
+    }
+
+    // Whether it has this link, and the host is its sender, or its receiver.
+    pub(crate) fn is_used(&self, at: u8, peer: u8, sends: bool, link: u8) -> bool
+        ensures { result ≡ is_used at peer sends link self.now }
+    {
+        self.at == at && self.peer == peer && self.sends() == sends && is_given(self.link, link)
+    }
+
+    // Whether a side sent its CLS.
+    pub(crate) fn has_left(self, sent: bool) -> bool
+        ensures { result ≡ has_left self sent }
+    {
+        if sent { self.host_left } else { self.peer_left }
+    }
+
+    // After a CLS of a side.
+    pub(crate) fn with_left(self, sent: bool) -> Life
+        ensures { result ≡ with_left self sent }
+    {
+        if sent {
+            Life {
+                host_left: true,
+                ..self
+            }
+        } else {
+            Life {
+                peer_left: true,
+                ..self
+            }
+        }
+    }
+
+    // Whether the side asked that makes this request.
+    pub(crate) fn has_asked(self, request: Request) -> bool
+        ensures { result ≡ has_asked self request }
+    {
+        match request {
+            Request::Link(_) => self.link.is_some(),
+            Request::Size(_) => self.size.is_some(),
+        }
+    }
+
+    // After a request.
+    pub(crate) fn with_request(self, request: Request) -> Life
+        ensures { result ≡ with_request self request }
+    {
+        match request {
+            Request::Link(link) => Life {
+                link: Some(link),
+                ..self
+            },
+            Request::Size(size) => Life {
+                size: Some(size),
+                ..self
+            },
+        }
+    }
+
+    // Whether no side left.
+    pub(crate) fn is_live(self) -> bool
+        ensures { result ≡ is_live self }
+    {
+        !self.host_left && !self.peer_left
+    }
+
+    // Whether both asked, and none left.
+    pub(crate) fn is_whole(self) -> bool
+        ensures { result ≡ is_whole self }
+    {
+        self.link.is_some() && self.size.is_some() && self.is_live()
+    }
+
+    // Whether a text of so many bits in bytes of this size is one of it.
+    pub(crate) fn takes(self, size: u8, bits: u32) -> bool
+        ensures { result ≡ takes self size bits }
+    {
+        self.is_live() && is_given(self.size, size) && self.left.covers(bits)
+    }
+}

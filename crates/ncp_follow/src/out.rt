@@ -1,0 +1,49 @@
+//! `Out`: a message that went out.
+ghost use Rattle.std.specs.Prelude.{◌≡◌};
+ghost use Rattle.ncp_follow.specs.Slots.{is_on, same_bits, gone_out};
+
+use ncp_bits::Bits;
+
+/// A message that went out and is not known to have come.
+#[derive(Drop)]
+pub struct Out {
+    /// The host that sent it.
+    pub at: u8,
+    /// The host that it is for.
+    pub peer: u8,
+    /// The link.
+    pub link: u8,
+    /// Whether it was answered that it did not come: then it goes out again.
+    pub again: bool,
+    /// The message.
+    pub message: Bits,
+}
+
+impl Out {
+    // A message that goes out.
+    pub(crate) fn new(at: u8, peer: u8, link: u8, message: &Bits) -> Out
+        ensures { result ≡ gone_out at peer link message.now }
+    {
+        Out {
+            at,
+            peer,
+            link,
+            again: false,
+            message: message.whole().to_bits(),
+        }
+    }
+
+    // Whether it is on this link.
+    pub(crate) fn is_on(&self, at: u8, peer: u8, link: u8) -> bool
+        ensures { result ≡ is_on at peer link self.now }
+    {
+        self.at == at && self.peer == peer && self.link == link
+    }
+
+    // Whether it has these bits.
+    pub(crate) fn is_same(&self, message: &Bits) -> bool
+        ensures { result ≡ same_bits self.now.message message.now }
+    {
+        self.message == *message
+    }
+}

@@ -1,0 +1,119 @@
+//! `Session`: what is seen of two hosts at the interface of one.
+ghost use Rattle.std.specs.Prelude.{◌≡◌};
+ghost use Rattle.ncp_follow.specs.Sessions.{new_session, is_between, is_heard, after_reset, after_reply, with_stray};
+
+use crate::amount::Amount;
+
+/// What is seen of two hosts at the interface of one: whether they are in touch, and the texts that belong to no
+/// connection that is told.
+#[derive(Clone, Copy, Debug, Drop, PartialEq, Eq)]
+pub struct Session {
+    /// The host at whose interface it is seen.
+    pub at: u8,
+    /// The other.
+    pub peer: u8,
+    /// Whether an RST or an RRP of the host was seen.
+    pub host_began: bool,
+    /// And one of the other.
+    pub peer_began: bool,
+    /// Whether the host waits for an RRP of the other.
+    pub host_waits: bool,
+    /// Whether the other waits for one of the host.
+    pub peer_waits: bool,
+    /// The texts that the host sent outside of connections.
+    pub sent: Amount,
+    /// The texts that came to it outside of connections.
+    pub came: Amount,
+}
+
+impl Session {
+    // Nothing was seen. In a part of a capture both have begun.
+    pub(crate) fn new(part: bool, at: u8, peer: u8) -> Session
+        ensures { result ≡ new_session part at peer }
+    {
+        Session {
+            at,
+            peer,
+            host_began: part,
+            peer_began: part,
+            host_waits: false,
+            peer_waits: false,
+            sent: Amount::nothing(),
+            came: Amount::nothing(),
+        }
+    }
+
+    // Whether it is between these.
+    pub(crate) fn is_between(&self, at: u8, peer: u8) -> bool
+        ensures { result ≡ is_between at peer self.now }
+    {
+        self.at == at && self.peer == peer
+    }
+
+    // Whether what a side says is heard.
+    pub(crate) fn is_heard(self, sent: bool) -> bool
+        ensures { result ≡ is_heard self sent }
+    {
+        let began = if sent {
+            self.host_began
+        } else {
+            self.peer_began
+        };
+        began && !self.host_waits && !self.peer_waits
+    }
+
+    // After an RST of a side.
+    pub(crate) fn after_reset(self, sent: bool) -> Session
+        ensures { result ≡ after_reset self sent }
+    {
+        if sent {
+            Session {
+                host_began: true,
+                host_waits: true,
+                ..self
+            }
+        } else {
+            Session {
+                peer_began: true,
+                peer_waits: true,
+                ..self
+            }
+        }
+    }
+
+    // After an RRP of a side.
+    pub(crate) fn after_reply(self, sent: bool) -> Session
+        ensures { result ≡ after_reply self sent }
+    {
+        if sent {
+            Session {
+                host_began: true,
+                peer_waits: false,
+                ..self
+            }
+        } else {
+            Session {
+                peer_began: true,
+                host_waits: false,
+                ..self
+            }
+        }
+    }
+
+    // With a text of so many bits that belongs to no connection.
+    pub(crate) fn with_stray(self, sent: bool, bits: u32) -> Session
+        ensures { result ≡ with_stray self sent bits }
+    {
+        if sent {
+            Session {
+                sent: self.sent.more(1, bits),
+                ..self
+            }
+        } else {
+            Session {
+                came: self.came.more(1, bits),
+                ..self
+            }
+        }
+    }
+}

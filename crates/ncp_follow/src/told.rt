@@ -1,0 +1,132 @@
+//! `Told`: the connections that were opened.
+ghost use Rattle.std.specs.Prelude.{◌≡◌, ◌<◌, ◌≤◌, ◌++◌, ◌∷◌, [], true, length, IfOk};
+ghost use Rattle.ncp_follow.specs.Connections.{told_at, put_told, end_told, with_text, with_late, with_granted, with_returned};
+ghost use Rattle.ncp_follow.specs.Tables.{has_place, with_opened, end_one};
+
+use crate::connection::{Connection, End};
+use crate::life::Life;
+use crate::turn::Turn;
+use ncp_bits::Part;
+use std::alloc::{AllocError, Global};
+use std::marker::Model;
+
+/// How many connections are told at most. The texts of one more belong to none.
+pub const MAX_TOLD: usize = 4096;
+
+/// The connections that were opened, in the order of opening. Their room is made at once.
+#[derive(Drop)]
+pub struct Told {
+    all: Vec<Connection>,
+}
+
+impl Model for Told {
+    ghost use Rattle.std.specs.Prelude.{◌≤◌, List};
+    ghost use Rattle.std.specs.Vec.{vec_capacity};
+    ghost use Rattle.ncp_follow.specs.declared.connection.Connection.{Connection};
+    ghost use Rattle.ncp_follow.specs.declared.told.TheConstants.{MAX_TOLD};
+
+    ghost Value = { List Connection };
+
+    ghost view = { λ told. told.all.items };
+
+    ghost invariant = { λ told. MAX_TOLD ≤ vec_capacity told.all };
+}
+
+impl Told {
+    /// None. It alone takes memory, once.
+    pub(crate) fn new(alloc: Global) -> Result<Told, AllocError>
+        ensures { IfOk result (λ told. told ≡ []) }
+    {
+        Ok(Told {
+            all: Vec::with_capacity(alloc, MAX_TOLD)?,
+        })
+    }
+
+    /// All of them.
+    pub(crate) fn as_slice(&self) -> &[Connection]
+        ensures { result.now ≡ self.now }
+    {
+        self.all.as_slice()
+    }
+
+    /// How many there are.
+    pub(crate) fn len(&self) -> usize
+        ensures { result ≡ length self.now }
+    {
+        self.all.len()
+    }
+
+    /// Whether there is room for one more.
+    pub(crate) fn has_place(&self) -> bool
+        ensures { result ≡ has_place self.now }
+    {
+        self.all.len() < MAX_TOLD
+    }
+
+    /// One more, opened by this record, for which there has to be room.
+    pub(crate) fn push(&mut self, opened: u32, life: Life)
+        requires { has_place self.old ≡ true }
+        ensures { self.new ≡ with_opened self.old opened life }
+    {
+        let number = self.all.len() as u32 + 1;
+        self.all
+            .push_reserved(Connection::new(number, opened, life));
+    }
+
+    /// A text of the one at a place.
+    pub(crate) fn say(&mut self, place: usize, text: Part<'_>)
+        ensures { self.new ≡ put_told self.old place (with_text (told_at self.old place) text.entry) }
+    {
+        if place < self.all.len() {
+            self.all[place].say(text);
+        }
+    }
+
+    /// A text on the link of the one at a place that is not one of it.
+    pub(crate) fn be_late(&mut self, place: usize)
+        ensures { self.new ≡ put_told self.old place (with_late (told_at self.old place)) }
+    {
+        if place < self.all.len() {
+            self.all[place].late = self.all[place].late.saturating_add(1);
+        }
+    }
+
+    /// So much is allocated for the one at a place.
+    pub(crate) fn grant(&mut self, place: usize, messages: u32, bits: u32)
+        ensures { self.new ≡ put_told self.old place (with_granted (told_at self.old place) messages bits) }
+    {
+        if place < self.all.len() {
+            self.all[place].granted = self.all[place].granted.more(messages, bits);
+        }
+    }
+
+    /// So much of it is returned.
+    pub(crate) fn give_back(&mut self, place: usize, messages: u32, bits: u32)
+        ensures { self.new ≡ put_told self.old place (with_returned (told_at self.old place) messages bits) }
+    {
+        if place < self.all.len() {
+            self.all[place].returned = self.all[place].returned.more(messages, bits);
+        }
+    }
+
+    /// The one of a life of these two hosts ends.
+    pub(crate) fn end_one(&mut self, turn: &Turn, end: End, life: Life)
+        ensures { self.new ≡ end_one turn.now.number turn.now.at turn.now.peer end life self.old }
+    {
+        if life.at == turn.at && life.peer == turn.peer {
+            self.end(life.place, end, Some(turn.number));
+        }
+    }
+
+    /// What is seen of the end of the one at a place, if there is one.
+    pub(crate) fn end(&mut self, place: Option<usize>, end: End, ended: Option<u32>)
+        ensures { self.new ≡ end_told self.old place end ended }
+    {
+        let Some(place) = place else {
+            return;
+        };
+        if place < self.all.len() {
+            self.all[place].be_ended(end, ended);
+        }
+    }
+}

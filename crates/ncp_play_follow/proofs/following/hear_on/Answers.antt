@@ -1,0 +1,20 @@
+use Rattle.std.proofs.Common.{◌∙◌, List, Option, ℕ, sym, subst}
+use Rattle.ncp_play_follow.specs.FollowSteps.{HearsNext}
+use Rattle.ncp_play_follow.proofs.following.hear_on.Goals as goal
+
+pub returns-clause-told : goal.returns-clause-told
+returns-clause-told g c = λ bytes a.
+    subst (λ (left : Option (List ℕ)). HearsNext c.args.follower.now c.args.number bytes c.hear_next-heard.result c.hear_next-heard.new.follower c.hear_next-heard.new.window left) (sym c.stop_at_fault.ensures.left)
+    (c.hear_next-heard.ensures.told bytes a)
+
+pub returns-clause-mark : goal.returns-clause-mark
+returns-clause-mark g c = c.stop_at_fault.ensures.mark ∙ c.hear_next-heard.ensures.mark
+
+pub returns-clause-reads : goal.returns-clause-reads
+returns-clause-reads g c = rw (c.stop_at_fault.ensures.left, c.stop_at_fault.ensures.reads) c.hear_next-heard.ensures.reads
+
+pub returns-clause-taken : goal.returns-clause-taken
+returns-clause-taken g c = rw (c.stop_at_fault.ensures.left, c.stop_at_fault.ensures.reads) c.hear_next-heard.ensures.taken
+
+pub returns-clause-effort : goal.returns-clause-effort
+returns-clause-effort g c = rw c.stop_at_fault.ensures.reads c.hear_next-heard.ensures.effort

@@ -1,0 +1,25 @@
+use Rattle.std.proofs.Common.{◌≡◌, ◌∙◌, List, ap, subst, arith}
+use Rattle.std.specs.List.{flat_map}
+use Rattle.std.proofs.Math.Bool.{or-false}
+use Rattle.ncp_follow.specs.declared.connection.Connection.{Connection}
+use Rattle.ncp_follow.specs.declared.session.Session.{Session}
+use Rattle.ncp_play_stream.specs.Streams.{SaysText, SaysBeginning, SaysTextOrBeginning}
+use Rattle.ncp_play_stream.proofs.Saying.{answers_after, answers_broken, says_beginning_longer}
+use Rattle.ncp_play_follow.specs.ConnectionLines.{connection_lines, stray_line}
+use Rattle.ncp_play_follow.proofs.following.say_lines.Goals as goal
+
+pub returns-in_err-say_connections-clause-told : goal.returns-in_err-say_connections-clause-told
+returns-in_err-say_connections-clause-told g c =
+    let w = g.W.Sink in let follower = c.args.follower.now in
+    let was = w.written c.args.sink.now in let now = w.written c.say_connections.new.sink in
+    answers_broken c.args.page.now _ was now c.say_connections.new.page c.from_residual.result c.from_residual.ensures.0
+    (says_beginning_longer c.args.page.now (flat_map connection_lines follower.tables.told) (flat_map stray_line follower.sessions) was now
+    (subst (λ (told : List Connection). SaysBeginning c.args.page.now was (flat_map connection_lines told) now) c.told.ensures c.in_err-say_connections.ensures.told))
+
+pub returns-clause-told : goal.returns-clause-told
+returns-clause-told g c =
+    let w = g.W.Sink in let follower = c.args.follower.now in
+    let was = w.written c.args.sink.now in let mid = w.written c.say_connections.new.sink in let now = w.written c.say_strays.new.sink in
+    answers_after c.args.page.now (flat_map connection_lines follower.tables.told) c.say_connections.new.page (flat_map stray_line follower.sessions) c.say_strays.new.page was mid now c.say_strays.result
+    (subst (λ (told : List Connection). SaysText c.args.page.now was (flat_map connection_lines told) c.say_connections.new.page mid) c.told.ensures c.in_ok-say_connections.ensures.told)
+    (subst (λ (sessions : List Session). SaysTextOrBeginning c.say_connections.new.page mid (flat_map stray_line sessions) c.say_strays.result c.say_strays.new.page now) c.sessions.ensures c.say_strays.ensures.told)

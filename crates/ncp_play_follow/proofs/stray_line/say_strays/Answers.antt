@@ -1,0 +1,44 @@
+use Rattle.std.proofs.Common.{◌∙◌, List, [], false, take, drop, get_or, refl, sym, subst, arith}
+use Rattle.std.specs.List.{flat_map}
+use Rattle.std.proofs.Math.Bool.{or-false}
+use Rattle.std.proofs.Math.ListN.{drop_of_length-le}
+use Rattle.std.proofs.lemmas.List.{take-append-drop, take_more}
+use Rattle.ncp_play_stream.specs.Streams.{SaysText}
+use Rattle.ncp_play_stream.proofs.Saying.{answers_broken, says_none, says_item, says_items, says_items_broken}
+use Rattle.ncp_follow.specs.Sessions.{new_session}
+use Rattle.ncp_follow.specs.declared.session.Session.{Session}
+use Rattle.ncp_play_follow.specs.ConnectionLines.{stray_line}
+use Rattle.ncp_play_follow.proofs.stray_line.say_strays.Goals as goal
+
+pub loop-session-init : goal.loop-session-init
+loop-session-init g c = record {
+  said = says_none stray_line c.args.page.now (g.W.Sink.written c.args.sink.now);
+  writes = omega arith;
+  mark = refl;
+}
+
+pub returns-in_err-make_room-clause-told : goal.returns-in_err-make_room-clause-told
+returns-in_err-make_room-clause-told g c =
+    let w = g.W.Sink in let all = c.args.sessions.now in let i = c.loop-session.session-index in
+    answers_broken c.args.page.now (flat_map stray_line all) (w.written c.args.sink.now) (w.written c.make_room.new.sink) c.make_room.new.self c.from_residual.result c.from_residual.ensures.0
+    (says_items_broken stray_line c.args.page.now c.loop-session.page (w.written c.args.sink.now) (w.written c.loop-session.sink) (w.written c.make_room.new.sink) (take i all) (drop i all) all c.loop-session.invariant.said
+    c.in_err-make_room.ensures.err (take-append-drop i all))
+
+pub loop-session-preserved : goal.loop-session-preserved
+loop-session-preserved g c =
+    let w = g.W.Sink in let all = c.args.sessions.now in let i = c.loop-session.session-index in
+    let none : Session = new_session false 0 0 in
+    let item : Session = get_or all i none in
+    record {
+      said = subst (λ (done : List Session). SaysText c.args.page.now (w.written c.args.sink.now) (flat_map stray_line done) c.push_stray.new.page (w.written c.make_room.new.sink)) (sym (take_more all i none c.loop-session-test.true))
+          (says_item stray_line c.args.page.now c.loop-session.page c.make_room.new.self c.push_stray.new.page (w.written c.args.sink.now) (w.written c.loop-session.sink) (w.written c.make_room.new.sink) (take i all) item
+          c.loop-session.invariant.said c.in_ok-make_room.ensures.ok c.push_stray.ensures);
+      writes = let one = c.in_ok-make_room.ensures.writes in omega (arith, one, c.loop-session.invariant.writes);
+      mark = c.in_ok-make_room.ensures.mark ∙ or-false _ ∙ c.loop-session.invariant.mark;
+    }
+
+pub returns-clause-told : goal.returns-clause-told
+returns-clause-told g c =
+    let w = g.W.Sink in let all = c.args.sessions.now in let i = c.loop-session.session-index in
+    says_items stray_line c.args.page.now c.loop-session.page (w.written c.args.sink.now) (w.written c.loop-session.sink) (take i all) (drop i all) all c.loop-session.invariant.said (take-append-drop i all)
+    (drop_of_length-le all c.loop-session-test.false)

@@ -1,0 +1,91 @@
+-- The lines of a connection, and of the texts that belong to none.
+use Rattle.std.specs.Prelude.{ℕ, ◌==◌, ◌%◌, ◌&&◌, Bool, List, [], ◌++◌, length, codes, decimal, Option, Some, None, if◌then◌else◌}
+use Rattle.std.specs.List.{flat_map}
+use Rattle.ncp_play_page.specs.Lines.{field}
+use Rattle.ncp_play_files.specs.Lines.{text_word}
+use Rattle.ncp_follow.specs.declared.amount.Amount.{Amount}
+use Rattle.ncp_follow.specs.declared.connection.Connection.{Connection}
+use Rattle.ncp_follow.specs.declared.connection.End.{End}
+use Rattle.ncp_follow.specs.declared.connection.End.TheVariants.{Open, CloseSent, CloseCame, Closed, ResetCame, ResetSent, ReplyCame}
+use Rattle.ncp_follow.specs.declared.session.Session.{Session}
+use Rattle.ncp_follow.specs.declared.follower.Follower.{Follower}
+
+-- numbers of messages and of bits behind their name
+unfoldable pub amount_words : List ℕ → Amount → List ℕ
+amount_words name amount = field name amount.messages ++ field (codes "/") amount.bits
+
+-- the host sends from an odd socket
+abbrev pub way_word : ℕ → List ℕ
+way_word local = if local % 2 == 1 then codes " send" else codes " receive"
+
+abbrev pub end_word : End → List ℕ
+end_word Open = codes "end"
+end_word CloseSent = codes "cls-sent"
+end_word CloseCame = codes "cls-came"
+end_word Closed = codes "cls"
+end_word ResetCame = codes "rst-came"
+end_word ResetSent = codes "rst-sent"
+end_word ReplyCame = codes "rrp-came"
+
+-- the record with which it ended, or none
+abbrev pub ended_word : Option ℕ → List ℕ
+ended_word None = codes "-"
+ended_word (Some number) = decimal number
+
+-- which one it is, and which way it goes
+unfoldable pub which_words : Connection → List ℕ
+which_words connection = decimal connection.number ++ field (codes " at=") connection.at ++ field (codes " host=") connection.peer ++ way_word connection.local
+
+unfoldable pub socket_words : Connection → List ℕ
+socket_words connection =
+    field (codes " local=") connection.local ++ field (codes " remote=") connection.remote ++ field (codes " link=") connection.link
+    ++ field (codes " size=") connection.size
+
+unfoldable pub end_words : Connection → List ℕ
+end_words connection =
+    field (codes " opened=") connection.opened ++ codes " ended=" ++ ended_word connection.ended ++ codes " by=" ++ end_word connection.end
+
+unfoldable pub said_words : Connection → List ℕ
+said_words connection =
+    field (codes " messages=") connection.said.messages ++ field (codes " bits=") connection.said.bits ++ field (codes " late=") connection.late
+
+unfoldable pub life_words : Connection → List ℕ
+life_words connection = which_words connection ++ socket_words connection ++ end_words connection ++ said_words connection
+
+unfoldable pub allocation_words : Connection → List ℕ
+allocation_words connection = amount_words (codes " granted=") connection.granted ++ amount_words (codes " returned=") connection.returned
+
+abbrev pub connection_line : Connection → List ℕ
+connection_line connection = life_words connection ++ allocation_words connection ++ codes "\n"
+
+-- how many bits of a text are shown, and of how many they are the beginning, where more were said
+abbrev pub of_words : ℕ → ℕ → List ℕ
+of_words shown said = if shown == said then [] else field (codes " of=") said
+
+unfoldable pub shown_words : ℕ → ℕ → List ℕ
+shown_words shown said = field (codes "  text bits=") shown ++ of_words shown said
+
+abbrev pub said_text : List Bool → ℕ → List ℕ
+said_text text said = shown_words (length text) said ++ text_word text ++ codes "\n"
+
+abbrev pub said_line : Connection → List ℕ
+said_line connection = said_text connection.text connection.said.bits
+
+unfoldable pub connection_lines : Connection → List ℕ
+connection_lines connection = connection_line connection ++ said_line connection
+
+-- no text was outside of connections
+abbrev pub is_quiet : Session → Bool
+is_quiet session = session.sent.messages == 0 && session.came.messages == 0
+
+abbrev pub stray_words : Session → List ℕ
+stray_words session =
+    field (codes "- at=") session.at ++ field (codes " host=") session.peer ++ amount_words (codes " sent=") session.sent
+    ++ amount_words (codes " came=") session.came ++ codes "\n"
+
+unfoldable pub stray_line : Session → List ℕ
+stray_line session = if is_quiet session then [] else stray_words session
+
+-- those of all connections, in the order of opening, and then of what belongs to none
+abbrev pub follow_lines : Follower → List ℕ
+follow_lines follower = flat_map connection_lines follower.tables.told ++ flat_map stray_line follower.sessions

@@ -1,0 +1,66 @@
+-- What `follow` writes of a message file of version 2: the lines of its connections, as its records before the first fault
+-- show them. What was seen before the file is known: mostly nothing.
+use Rattle.std.specs.Prelude.{◌≡◌, ℕ, Bool, true, false, List, [], ◌∷◌, ◌++◌, drop, Option, Some, None, Result, Ok, Err}
+use Rattle.ncp_play_files.specs.declared.file.FileFault.{FileFault}
+use Rattle.ncp_play_files.specs.declared.file.FileFault.TheVariants.{BadHeader}
+use Rattle.ncp_play_files.specs.declared.file.Direction.{Direction}
+use Rattle.ncp_play_files.specs.declared.file.Direction.TheVariants.{ToImp, FromImp}
+use Rattle.ncp_play_files.specs.declared.version.Version.{Version}
+use Rattle.ncp_play_files.specs.declared.version.Version.TheVariants.{One, Two}
+use Rattle.ncp_play_files.specs.Results.{MatchFault}
+use Rattle.ncp_play_files.specs.File.{version_of, HoldsBy, IsCut}
+use Rattle.ncp_play_files.specs.Versions.{Recorded, next_in}
+use Rattle.ncp_play_files.specs.Writing.{Wrote, WritesAll, WritesRead}
+use Rattle.ncp_play_page.specs.Lines.{number_after}
+use Rattle.ncp_follow.specs.declared.follower.Follower.{Follower}
+use Rattle.ncp_follow.specs.Followed.{after_record}
+use Rattle.ncp_play_follow.specs.ConnectionLines.{follow_lines}
+
+-- the host at whose interface a record is; each record of version 2 names one
+abbrev pub host_of : Option ℕ → ℕ
+host_of None = 0
+host_of (Some host) = host
+
+-- the host sent it
+abbrev pub is_sent : Direction → Bool
+is_sent ToImp = true
+is_sent FromImp = false
+
+-- after a record with this number, and after records from this number on
+abbrev pub after_seen : Follower → ℕ → Recorded → Follower
+after_seen follower number seen = after_record number (is_sent seen.passage.direction) (host_of seen.passage.at) seen.message follower
+
+abbrev pub after_all : Follower → ℕ → List Recorded → Follower
+after_all follower number [] = follower
+after_all follower number (seen ∷ more) = after_all (after_seen follower number seen) (number_after number) more
+
+-- by the version of a file: what is known after its records before its first fault, and that fault, if there is one; a file
+-- of version 1 names no host, so its header is a bad one
+abbrev pub ShowsIn : Follower → List ℕ → Option FileFault → Follower → Option Version → Type 0
+ShowsIn follower bytes fault after None = (after ≡ follower) × (fault ≡ Some BadHeader)
+ShowsIn follower bytes fault after (Some (One direction)) = (after ≡ follower) × (fault ≡ Some BadHeader)
+ShowsIn follower bytes fault after (Some Two) = (records : List Recorded) × HoldsBy (next_in Two) (drop 4 bytes) records fault × (after ≡ after_all follower 1 records)
+
+abbrev pub ShowsFile : Follower → List ℕ → Option FileFault → Follower → Type 0
+ShowsFile follower bytes fault after = ShowsIn follower bytes fault after (version_of bytes)
+
+-- the lines of a file
+abbrev pub FollowedAs : Follower → List ℕ → List ℕ → Option FileFault → Type 0
+FollowedAs follower bytes text fault = (after : Follower) × ShowsFile follower bytes fault after × (text ≡ follow_lines after)
+
+-- the lines of those records that are whole in bytes that came before a failed read
+abbrev pub FollowedCut : Follower → List ℕ → List ℕ → Type 0
+FollowedCut follower given text = (fault : Option FileFault) × IsCut given fault × FollowedAs follower given text fault
+
+-- a beginning of the lines was written: of all bytes, or of those that came before a failed read
+abbrev pub FollowsBeginning : Follower → List ℕ → List ℕ → Option (List ℕ) → Type 0
+FollowsBeginning follower bytes was written =
+    (given : List ℕ) × (rest : List ℕ) × (text : List ℕ) × (more : List ℕ) × (fault : Option FileFault)
+    × (bytes ≡ given ++ rest) × FollowedAs follower given (text ++ more) fault × Wrote was text written
+
+-- what was written of a file, and what is answered
+abbrev pub Follows : Follower → List ℕ → List ℕ → Option (List ℕ) → Option (List ℕ) → Result Unit FileFault → Type 0
+Follows follower bytes was left written (Ok done) = WritesAll (FollowedAs follower) bytes was written None
+Follows follower bytes was left written (Err fault) =
+    MatchFault (λ f. WritesAll (FollowedAs follower) bytes was written (Some f)) (WritesRead (FollowedCut follower) bytes was left written)
+    (FollowsBeginning follower bytes was written) fault

@@ -1,0 +1,3 @@
+pub mod ConnectionLines
+pub mod FollowedFiles
+pub mod FollowSteps

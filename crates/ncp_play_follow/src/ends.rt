@@ -1,0 +1,43 @@
+//! What the words behind `by=` mean.
+
+/// How a connection ended, in the words that `ncp follow` prints behind `by=`, and what each means.
+pub const ENDS: &[(&str, &str)] = &[
+    (
+        "cls",
+        "The connection has ended: the host and the other have both sent a CLS. The record of the second stands behind ended=.",
+    ),
+    (
+        "cls-sent",
+        "The host has sent a CLS, and none of the other came before the capture ends. A text that comes after it is late.",
+    ),
+    (
+        "cls-came",
+        "A CLS of the other came, and the host sent none before the capture ends. A text after it is late.",
+    ),
+    (
+        "rst-sent",
+        "The host sent an RST, which ends all its connections with the other. The record of the RST stands behind ended=.",
+    ),
+    (
+        "rst-came",
+        "An RST of the other came, which ends all its connections with the host. The record of the RST stands behind ended=.",
+    ),
+    (
+        "rrp-came",
+        "The RRP came that the host waited for after its RST: what was opened between the two has ended. The record of the RRP stands behind ended=.",
+    ),
+    (
+        "end",
+        "The connection is still open where the capture ends.",
+    ),
+];
+
+/// What a word behind `by=` means, if it is one.
+pub fn end_meaning(name: &str) -> Option<&'static str> {
+    for (known, text) in ENDS {
+        if *known == name {
+            return Some(*text);
+        }
+    }
+    None
+}

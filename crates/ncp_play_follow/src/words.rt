@@ -1,0 +1,21 @@
+//! Words of lines.
+ghost use Rattle.std.specs.Prelude.{◌≡◌, ◌+◌, ◌≤◌, ◌++◌, length};
+ghost use Rattle.ncp_play_follow.specs.ConnectionLines.{amount_words};
+
+use ncp_follow::Amount;
+use ncp_play_page::{PAGE_SIZE, Page, push_field};
+
+/// How many bytes the words of an amount have at most, behind a name of ten.
+pub(crate) const LONGEST_AMOUNT: usize = 31;
+
+/// Appends numbers of messages and of bits behind their name.
+#[tactic(auto, unfolding(crate::specs::ConnectionLines::amount_words))]
+pub(crate) fn push_amount(page: &mut Page, name: &[u8], amount: Amount)
+    requires name { length name.now ≤ 10 }
+    requires room { length page.old + LONGEST_AMOUNT ≤ PAGE_SIZE }
+    ensures bytes { page.new ≡ page.old ++ amount_words name.now amount }
+    ensures len { length page.new ≤ length page.old + LONGEST_AMOUNT }
+{
+    push_field(page, name, amount.messages);
+    push_field(page, b"/", amount.bits);
+}
