@@ -15,6 +15,7 @@ mod many_lines;
 mod many_notes;
 mod moves;
 mod recording;
+mod settling;
 mod world_lines;
 mod world_notes;
 
@@ -22,5 +23,6 @@ pub use first_line::{FirstLine, Watch, first_line_of};
 pub use many_lines::many_line;
 pub use many_notes::say_many_note;
 pub use recording::{say_many_record, say_world_record};
+pub use settling::{Deed, Trace, is_settle, say_settled};
 pub use world_lines::world_line;
 pub use world_notes::say_world_note;
