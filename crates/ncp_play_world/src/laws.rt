@@ -3,6 +3,7 @@ ghost use Rattle.std.specs.Prelude.{◌≡◌, codes, map, [], ◌∷◌, None, 
 ghost use Rattle.ncp_transcript_two.specs.Transcript.{new_world};
 ghost use Rattle.ncp_play_scene.specs.Telling.{told, told_from};
 ghost use Rattle.ncp_play_world.specs.WorldRules.{world_traced};
+ghost use Rattle.ncp_play_world.specs.Traces.{traces_of, place_of_line};
 ghost use Rattle.ncp_play_world.specs.LedgerLines.{amount_words, ledger_words};
 ghost use Rattle.ncp_play_world_lines.specs.declared.settling.Trace.TheVariants.{Noted, Settled};
 ghost use Rattle.ncp_play_world.specs.Tales.{lines_watching};
@@ -22,6 +23,14 @@ pub fn lines_of_moves()
 /// The line behind the events of the word `settle`.
 pub fn settling_is_told_so()
     ensures line { told_from world_traced (lines_watching None) 8 (record { hosts = new_world 1 2; traces = [] }) (Settled 6 ∷ []) ≡ codes "8 settle 6\n" }
+{}
+
+/// A word stands among notes behind as many as its mark says, and has a number of its own.
+pub fn words_stand_among_notes_so()
+    ensures marked { traces_of (7 ∷ 8 ∷ []) (record { behind = 1; many = 5 } ∷ []) ≡ Noted 7 ∷ Settled 5 ∷ Noted 8 ∷ [] }
+    ensures note { place_of_line (Noted 7 ∷ Settled 5 ∷ Noted 8 ∷ []) 3 ≡ Some 1 }
+    ensures word { place_of_line (Noted 7 ∷ Settled 5 ∷ Noted 8 ∷ []) 2 ≡ None }
+    ensures beyond { place_of_line (Noted 7 ∷ Settled 5 ∷ Noted 8 ∷ []) 4 ≡ None }
 {}
 
 /// The line of a ledger, and that there is none.

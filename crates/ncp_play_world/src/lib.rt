@@ -1,5 +1,5 @@
 //! Scripts of two hosts, or of two to eight, and a subnet: the player, which tells the lines of what is noted, or
-//! records its messages as a message file of version 2.
+//! records its messages as a message file of version 2. At the word `settle` all happens that can without a call.
 //!
 //! ```text
 //! let is_good = play_world::<PackedStore, _, _>(alloc, &mut source, &mut sink)?;    // false if a call was refused
