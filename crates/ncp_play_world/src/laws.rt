@@ -1,5 +1,5 @@
 //! Worked lines of notes, computed from the definitions: they say what the definitions mean.
-ghost use Rattle.std.specs.Prelude.{◌≡◌, codes, map, [], ◌∷◌, None, Some};
+ghost use Rattle.std.specs.Prelude.{◌≡◌, ℕ, codes, map, [], ◌∷◌, None, Some};
 ghost use Rattle.ncp_transcript_two.specs.Transcript.{new_world};
 ghost use Rattle.ncp_play_scene.specs.Telling.{told, told_from};
 ghost use Rattle.ncp_play_world.specs.WorldRules.{world_traced};
@@ -27,10 +27,10 @@ pub fn settling_is_told_so()
 
 /// A word stands among notes behind as many as its mark says, and has a number of its own.
 pub fn words_stand_among_notes_so()
-    ensures marked { traces_of (7 ∷ 8 ∷ []) (record { behind = 1; many = 5 } ∷ []) ≡ Noted 7 ∷ Settled 5 ∷ Noted 8 ∷ [] }
-    ensures note { place_of_line (Noted 7 ∷ Settled 5 ∷ Noted 8 ∷ []) 3 ≡ Some 1 }
-    ensures word { place_of_line (Noted 7 ∷ Settled 5 ∷ Noted 8 ∷ []) 2 ≡ None }
-    ensures beyond { place_of_line (Noted 7 ∷ Settled 5 ∷ Noted 8 ∷ []) 4 ≡ None }
+    ensures marked { traces_of {N = ℕ} (7 ∷ 8 ∷ []) (record { behind = 1; many = 5 } ∷ []) ≡ Noted 7 ∷ Settled 5 ∷ Noted 8 ∷ [] }
+    ensures note { place_of_line {N = ℕ} (Noted 7 ∷ Settled 5 ∷ Noted 8 ∷ []) 3 ≡ Some 1 }
+    ensures word { place_of_line {N = ℕ} (Noted 7 ∷ Settled 5 ∷ Noted 8 ∷ []) 2 ≡ None }
+    ensures beyond { place_of_line {N = ℕ} (Noted 7 ∷ Settled 5 ∷ Noted 8 ∷ []) 4 ≡ None }
 {}
 
 /// The line of a ledger, and that there is none.
