@@ -2,7 +2,7 @@
 //! are told of a note, and what is recorded of one.
 //!
 //! - *Use:* `ncp_play_world/src/two.rt` and `many.rt` read lines by `world_line` and `many_line`, and write notes by
-//!   `say_world_note` and `say_many_note`.
+//!   `say_world_note` and `say_many_note`; `is_settle` and `say_settled` are for the word `settle` of both.
 //! - *Proved:* a line asks for the event that the definition says, and a note has its lines or its record (clause
 //!   `event`, `told`).
 //! - *Tests:* worked lines in `examples` and `laws`; whole scripts in `ncp_test_play_world`.
