@@ -56,6 +56,10 @@ pub trait Scene {
         ensures room { IfOk result (λ more. more ≡ true → length (rules.notes hosts.new) < 2 ^ 64) }
         ensures err { OnErr result (hosts.new ≡ hosts.old) };
 
+    /// How many notes there are.
+    fn told(hosts: &Self::Hosts) -> usize
+        ensures { result ≡ length (rules.notes hosts.now) };
+
     /// Whether a call was refused.
     fn any_refusal(hosts: &Self::Hosts) -> bool
         ensures refusal { result ≡ any_refusal rules (rules.notes hosts.now) }

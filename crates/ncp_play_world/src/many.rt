@@ -72,6 +72,10 @@ impl<S: BitStore> Scene for ManyPlayed<S> {
         }
     }
 
+    fn told(hosts: &ManyStaged<S>) -> usize {
+        hosts.told()
+    }
+
     fn any_refusal(hosts: &ManyStaged<S>) -> bool {
         hosts.any_refusal()
     }

@@ -64,6 +64,10 @@ impl<S: BitStore> Scene for TwoPlayed<S> {
         }
     }
 
+    fn told(hosts: &TwoStaged<S>) -> usize {
+        hosts.told()
+    }
+
     fn any_refusal(hosts: &TwoStaged<S>) -> bool {
         hosts.any_refusal()
     }
