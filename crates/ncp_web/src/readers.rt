@@ -1,4 +1,4 @@
-//! What a page reads of a session between lines. The hosts stay as they were; each answers `NO_SESSION` where there is
+//! What a page reads of a session between events. The hosts stay as they were; each answers `NO_SESSION` where there is
 //! no session.
 ghost use Rattle.std.specs.Prelude.{◌≡◌, ◌≤◌, length};
 ghost use Rattle.ncp_web.specs.Readings.{quantity_of, books_of, message_over};
@@ -110,19 +110,27 @@ fn message_in_many(note: &ManyNote) -> Option<&Message> {
     }
 }
 
-// The message of an event, by its number from 1.
+// The message of an event, by the number of its line.
 fn message_of(stage: &Stage, number: usize) -> Option<&Message> {
-    let place = number.checked_sub(1)?;
     match stage {
-        Stage::Two(two) => message_in_two(two.world.transcript().get(place)?),
-        Stage::Many(of_many) => message_in_many(of_many.many.transcript().get(place)?),
+        Stage::Two(two) => {
+            let place = two.hosts.place_of(number)?;
+            message_in_two(two.hosts.world().transcript().get(place)?)
+        }
+        Stage::Many(of_many) => {
+            let place = of_many.hosts.place_of(number)?;
+            message_in_many(of_many.hosts.many().transcript().get(place)?)
+        }
     }
 }
 
 // The ledger of a sender of two hosts.
 fn ledger_at(stage: &Stage, host: u8, pair: Pair) -> Option<Ledger> {
     match stage {
-        Stage::Two(two) => two.world.ledger(side_of(two.first.hosts, host)?, pair),
+        Stage::Two(two) => two
+            .hosts
+            .world()
+            .ledger(side_of(two.first.hosts, host)?, pair),
         Stage::Many(_) => None,
     }
 }
@@ -150,10 +158,10 @@ fn ask_two(
     let Event::Call { side, call } = event else {
         return Err(Refusal::NoLine);
     };
-    let Some(note) = reading(two.world.host(side), &call) else {
+    let Some(note) = reading(two.hosts.world().host(side), &call) else {
         return Err(Refusal::NoLine);
     };
-    let number = number_of(two.world.transcript().len().saturating_add(1));
+    let number = number_of(two.hosts.told().saturating_add(1));
     match say_world_note(page, sink, number, &Note::Called { side, note }) {
         Ok(()) => Ok(()),
         Err(_) => Err(Refusal::Full),
@@ -176,13 +184,13 @@ fn ask_many(
     let ManyEvent::Call { host, call } = event else {
         return Err(Refusal::NoLine);
     };
-    let Some(asked) = stage.many.host(host) else {
+    let Some(asked) = stage.hosts.many().host(host) else {
         return Err(Refusal::NoLine);
     };
     let Some(note) = reading(asked, &call) else {
         return Err(Refusal::NoLine);
     };
-    let number = number_of(stage.many.transcript().len().saturating_add(1));
+    let number = number_of(stage.hosts.told().saturating_add(1));
     match say_many_note(page, sink, number, &ManyNote::Called { host, note }) {
         Ok(()) => Ok(()),
         Err(_) => Err(Refusal::Full),
@@ -300,7 +308,7 @@ pub extern "C" fn ncp_web_kept(
     told
 }
 
-/// The message of an event, by its number from 1: the one that went out, or came, with its length in bits.
+/// The message of an event, by the number of its line: the one that went out, or came, with its length in bits.
 ///
 /// Refused, in this order: `FULL` (fewer than `LONGEST_MESSAGE` bytes), `NO_SESSION`, `NOTHING` (there is no such event,
 /// or no message went out or came).

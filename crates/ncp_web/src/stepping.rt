@@ -1,13 +1,13 @@
-//! A line of a script, played.
-ghost use Rattle.std.specs.Prelude.{◌≡◌};
-ghost use Rattle.ncp_web.specs.Sessions.{number_of};
+//! A line of a script, played note by note.
+ghost use Rattle.std.specs.Prelude.{◌≡◌, if◌then◌else◌, [], Some};
+ghost use Rattle.ncp_web.specs.Sessions.{Notes, Reads, Steps, StepsStage, number_of};
 
 use crate::stage::{Refusal, Stage};
 use ncp_bits::PackedStore;
 use ncp_play_page::Page;
 use ncp_play_scene::{Scene, Teller};
 use ncp_play_script::Words;
-use ncp_play_stream::{Failed, MemorySink};
+use ncp_play_stream::MemorySink;
 use ncp_play_world::{ManyPlayed, NoteLines, TwoPlayed};
 use std::alloc::Global;
 
@@ -18,63 +18,96 @@ pub(crate) fn number_of(notes: usize) -> u32
     u32::try_from(notes).unwrap_or(u32::MAX)
 }
 
-// Says what is told of the last note, all of it.
-fn say_last<C: Scene, T: Teller<C>>(
-    first: &C::First,
-    hosts: &C::Hosts,
-    sink: &mut MemorySink,
-) -> Result<(), Failed> {
-    let notes = C::notes(hosts);
-    let Some(note) = notes.last() else {
-        return Ok(());
-    };
-    let mut page = Page::new();
-    T::say(first, hosts, number_of(notes.len()), note, &mut page, sink)?;
-    page.flush(sink)
+// How many notes an event has left behind the next, with which it has so many; none where it is at its end.
+fn left_then(more: bool, next: usize) -> usize
+    ensures { result ≡ (if more then next else 0) }
+{
+    if more { next } else { 0 }
 }
 
-// The event that a line asks for happens, and what is told of its note is said to an empty sink.
+// The next part of an event happens, which has left so many notes, and what is told of its note is said. It answers
+// whether the event goes on. There is no memory for more notes than can be counted.
+fn noted<C: Scene, T: Teller<C>>(
+    first: &C::First,
+    hosts: &mut C::Hosts,
+    event: &C::Event,
+    left: &mut usize,
+    page: &mut Page,
+    sink: &mut MemorySink,
+) -> Result<bool, Refusal>
+    ensures { Notes C.rules (T.tale first.now) event.now left.old hosts.old result left.new hosts.new page.old (Some sink.old.written) page.new (Some sink.new.written) }
+{
+    let Some(next) = left.checked_add(1) else {
+        return Err(Refusal::NoMemory);
+    };
+    let Ok(more) = C::step(hosts, event, *left) else {
+        return Err(Refusal::NoMemory);
+    };
+    *left = left_then(more, next);
+    match T::say(first, hosts, number_of(C::told(hosts)), page, sink) {
+        Ok(()) => Ok(more),
+        Err(_) => Err(Refusal::Full),
+    }
+}
+
+// The event that a line asks for.
+fn event_in<C: Scene>(alloc: Global, first: &C::First, line: &[u8]) -> Result<C::Event, Refusal>
+    ensures { Reads C.rules first.now line.now result }
+{
+    match C::event_of(alloc, first, &mut Words::new(line)) {
+        Ok(Some(event)) => Ok(event),
+        Ok(None) => Err(Refusal::NoLine),
+        Err(_) => Err(Refusal::NoMemory),
+    }
+}
+
+// The next part of the event that a line asks for happens, and what is told of its note is written to an empty sink.
 fn stepped<C: Scene, T: Teller<C>>(
     alloc: Global,
     first: &C::First,
     hosts: &mut C::Hosts,
+    left: &mut usize,
     line: &[u8],
     sink: &mut MemorySink,
-) -> Result<(), Refusal> {
-    let event = match C::event_of(alloc, first, &mut Words::new(line)) {
-        Ok(Some(event)) => event,
-        Ok(None) => return Err(Refusal::NoLine),
-        Err(_) => return Err(Refusal::NoMemory),
-    };
-    if C::step(hosts, &event).is_err() {
-        return Err(Refusal::NoMemory);
-    }
-    match say_last::<C, T>(first, hosts, sink) {
-        Ok(()) => Ok(()),
+) -> Result<bool, Refusal>
+    requires empty { sink.old.written ≡ [] }
+    ensures { Steps C.rules (T.tale first.now) first.now line.now left.old hosts.old result left.new hosts.new sink.new.written }
+{
+    let event = event_in::<C>(alloc, first, line)?;
+    let mut page = Page::new();
+    let more = noted::<C, T>(first, hosts, &event, left, &mut page, sink)?;
+    match page.flush(sink) {
+        Ok(()) => Ok(more),
         Err(_) => Err(Refusal::Full),
     }
 }
 
 impl Stage {
-    /// Plays a line behind the first, and says what is told of its note to an empty sink.
+    /// Plays a line behind the first up to its next note, and says what is told of that to an empty sink. It answers
+    /// whether the line goes on.
     pub(crate) fn step(
         &mut self,
         alloc: Global,
         line: &[u8],
         sink: &mut MemorySink,
-    ) -> Result<(), Refusal> {
+    ) -> Result<bool, Refusal>
+        requires empty { sink.old.written ≡ [] }
+        ensures { StepsStage line.now self.old result self.new sink.new.written }
+    {
         match self {
             Stage::Two(two) => stepped::<TwoPlayed<PackedStore>, NoteLines>(
                 alloc,
                 &two.first,
-                &mut two.world,
+                &mut two.hosts,
+                &mut two.left,
                 line,
                 sink,
             ),
             Stage::Many(of_many) => stepped::<ManyPlayed<PackedStore>, NoteLines>(
                 alloc,
                 &of_many.first,
-                &mut of_many.many,
+                &mut of_many.hosts,
+                &mut of_many.left,
                 line,
                 sink,
             ),

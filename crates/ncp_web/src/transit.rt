@@ -136,10 +136,10 @@ impl Stage {
     pub(crate) fn fate(&self, from: u8, to: u8, link: u8) -> Fate {
         match self {
             Stage::Two(two) => match side_of(two.first.hosts, from) {
-                Some(side) => fate_of_two(two.world.transcript(), side, to, link),
+                Some(side) => fate_of_two(two.hosts.world().transcript(), side, to, link),
                 None => Fate::Free,
             },
-            Stage::Many(of_many) => fate_of_many(of_many.many.transcript(), from, to, link),
+            Stage::Many(of_many) => fate_of_many(of_many.hosts.many().transcript(), from, to, link),
         }
     }
 }
