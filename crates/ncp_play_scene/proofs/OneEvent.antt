@@ -56,8 +56,8 @@ module _ {F E N W : Type 0} (rules : Rules F E N W) (event : E) where
       begins_one 0 left before mid now h (subst (λ (n : ℕ). rules.Part event n true mid now) e part)
 
   -- a part of it that was at fault
-  part_written : (left : ℕ) (on : Bool) (before mid now : W) → Begins rules event 0 left before mid → rules.Part event left on mid now → ((many : ℕ) × Begins rules event 0 many before now) ⊎ Step rules event before now
-  part_written left true before mid now h part = inl (suc left, from_beginning left before mid now h part)
+  part_written : (left : ℕ) (on : Bool) (before mid now : W) → Begins rules event 0 left before mid → rules.Part event left on mid now → ((many : ℕ) × Begins rules event 0 (suc many) before now) ⊎ Step rules event before now
+  part_written left true before mid now h part = inl (left, from_beginning left before mid now h part)
   part_written left false before mid now h part = inr (left, mid, h, part)
 
   pub part_err : (left : ℕ) (before mid now : W) (fault : PlayFault) → Begins rules event 0 left before mid → DoesPart rules event left mid (Err fault) now → DoesEvent rules event before (Err fault) now

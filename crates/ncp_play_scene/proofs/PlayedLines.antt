@@ -1,5 +1,5 @@
 -- The events of lines, one after the other.
-use Rattle.std.proofs.Common.{◌≡◌, ◌⊎◌, inl, inr, ℕ, Bool, true, false, List, [], ◌∷◌, ◌++◌, Option, Some, None, Result, Ok, Err, refl, sym, ap, ◌∙◌, subst}
+use Rattle.std.proofs.Common.{◌≡◌, ◌⊎◌, inl, inr, ℕ, suc, Bool, true, false, List, [], ◌∷◌, ◌++◌, Option, Some, None, Result, Ok, Err, refl, sym, ap, ◌∙◌, subst}
 use Rattle.std.proofs.lemmas.List.{append-nil}
 use Rattle.ncp_play_script.specs.Scripts.{Course, Ending, Over, ends}
 use Rattle.ncp_play_stream.specs.Streams.{SaidSoFar, SaysText, SaysBeginning}
@@ -77,7 +77,7 @@ module _ {F E N W : Type 0} (rules : Rules F E N W) where
         begun_first (course_of rules named first bytes) some.0 event does.0 before now some.1 does.1
     event_err event ended lines left now WriteFailed asks (inl does) =
         let some = course_some event ended lines left asks in
-        begun_first (course_of rules named first bytes) some.0 event does.0 before now some.1 does.1
+        begun_first (course_of rules named first bytes) some.0 event (suc does.0) before now some.1 does.1
     event_err event ended lines left now WriteFailed asks (inr does) =
         let some = course_some event ended lines left asks in
         more_first (course_of rules named first bytes) some.0 event before now some.1 does now (none_first some.0 now)

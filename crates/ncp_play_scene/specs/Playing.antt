@@ -1,5 +1,5 @@
 -- What a player of hosts has said, and what it does with one event.
-use Rattle.std.specs.Prelude.{◌≡◌, ◌⊎◌, ℕ, Bool, List, Option, Result, Ok, Err}
+use Rattle.std.specs.Prelude.{◌≡◌, ◌⊎◌, ℕ, suc, Bool, List, Option, Result, Ok, Err}
 use Rattle.ncp_play_stream.specs.Streams.{SaidSoFar}
 use Rattle.ncp_play_notes.specs.declared.fault.PlayFault.{PlayFault}
 use Rattle.ncp_play_notes.specs.declared.fault.PlayFault.TheVariants.{BadLine, LineTooLong, BadHosts, Feed, ReadFailed, WriteFailed, OutOfMemory}
@@ -29,11 +29,11 @@ module _ {F E N W : Type 0} (rules : Rules F E N W) where
   DoesPart event left before (Err (LineTooLong line)) now = ⊥
   DoesPart event left before (Err (Feed fault)) now = ⊥
 
-  -- one event was done; or there was no memory for all of it; or it was done up to where a write failed
+  -- one event was done; or there was no memory for all of it; or a write failed behind one of its notes, the first at least
   abbrev pub DoesEvent : E → W → Result Unit PlayFault → W → Type 0
   DoesEvent event before (Ok done) now = Step rules event before now
   DoesEvent event before (Err OutOfMemory) now = (many : ℕ) × Begins rules event 0 many before now
-  DoesEvent event before (Err WriteFailed) now = ((many : ℕ) × Begins rules event 0 many before now) ⊎ Step rules event before now
+  DoesEvent event before (Err WriteFailed) now = ((many : ℕ) × Begins rules event 0 (suc many) before now) ⊎ Step rules event before now
   DoesEvent event before (Err ReadFailed) now = ⊥
   DoesEvent event before (Err BadHosts) now = ⊥
   DoesEvent event before (Err (BadLine line)) now = ⊥
