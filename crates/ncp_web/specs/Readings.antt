@@ -1,10 +1,50 @@
 -- What is read of the hosts of a session, which stay as they were.
-use Rattle.std.specs.Prelude.{◌≡◌, ℕ, Bool, true, false, List, [], ◌∷◌, ◌++◌, length, drop, Option, None, Some}
+use Rattle.std.specs.Prelude.{◌≡◌, ◌⊎◌, ℕ, ◌+◌, ◌-◌, ◌==◌, nat_lt, slice_get, if◌then◌else◌, Bool, true, false, List, [], ◌∷◌, ◌++◌, length, drop, Option, None, Some, Result, Ok, Err}
 use Rattle.ncp_host.specs.Host.{Host}
 use Rattle.ncp_transcript.specs.declared.call.Call.{Call}
 use Rattle.ncp_transcript.specs.declared.call.Call.TheVariants as calls
 use Rattle.ncp_transcript.specs.declared.note.HostNote.{HostNote}
+use Rattle.ncp_transcript.specs.declared.note.HostNote.TheVariants as host_notes
 use Rattle.ncp_transcript.specs.Answers.{answer_to}
+use Rattle.ncp_transcript_two.specs.declared.event.Event.{Event}
+use Rattle.ncp_transcript_two.specs.declared.event.Event.TheVariants as events
+use Rattle.ncp_transcript_two.specs.declared.note.Note.{Note}
+use Rattle.ncp_transcript_two.specs.declared.note.Note.TheVariants as notes
+use Rattle.ncp_transcript_two.specs.declared.side.Side.{Side}
+use Rattle.ncp_transcript_two.specs.declared.side.Side.TheVariants.{A, B}
+use Rattle.ncp_transcript_two.specs.Between.{Hosts, host_of, transit_of}
+use Rattle.ncp_transcript_two.specs.Transcript.{Noted_world}
+use Rattle.ncp_transcript_two.specs.Ledgers.{ledger_of}
+use Rattle.ncp_model.specs.declared.pair.Pair.{Pair}
+use Rattle.ncp_terms.specs.declared.command.Command.{Command}
+use Rattle.ncp_host.specs.Host.{state_of}
+use Rattle.ncp_host.specs.Calls.{waiting_at, kept_for}
+use Rattle.ncp_transcript_many.specs.Numbered.{thing_in}
+use Rattle.ncp_transcript_many.specs.ManyHappening.{are_two}
+use Rattle.ncp_transcript_many.specs.ManyTranscript.{Noted_many}
+use Rattle.ncp_transcript_many.specs.declared.many_event.ManyEvent.{ManyEvent}
+use Rattle.ncp_transcript_many.specs.declared.many_event.ManyEvent.TheVariants as many_events
+use Rattle.ncp_transcript_many.specs.declared.many_note.ManyNote.{ManyNote}
+use Rattle.ncp_transcript_many.specs.declared.many_note.ManyNote.TheVariants as many_notes
+use Rattle.ncp_play_script.specs.Words.{words_of}
+use Rattle.ncp_play_world_lines.specs.WorldLines.{world_line_of}
+use Rattle.ncp_play_world_lines.specs.ManyLines.{many_line_of}
+use Rattle.ncp_play_world_lines.specs.WorldNotes.{world_note_lines}
+use Rattle.ncp_play_world_lines.specs.ManyNotes.{many_note_lines}
+use Rattle.ncp_web.specs.declared.stage.Stage.{Stage}
+use Rattle.ncp_web.specs.declared.stage.Stage.TheVariants.{Two, Many}
+use Rattle.ncp_web.specs.declared.stage.Refusal.{Refusal}
+use Rattle.ncp_web.specs.declared.stage.Refusal.TheVariants.{NoLine, NoMemory, Full}
+use Rattle.ncp_web.specs.declared.transit.Fate.{Fate}
+use Rattle.ncp_web.specs.declared.transit.Fate.TheVariants.{Free}
+use Rattle.ncp_web.specs.Fates.{fate_of}
+use Rattle.ncp_subnet.specs.Subnet.{transit_at}
+use Rattle.ncp_play_stream.specs.declared.source.Failed.{Failed}
+use Rattle.ncp_play_files.specs.Lines.{item_line}
+use Rattle.ncp_web.specs.declared.answer.TheConstants.{DONE, NO_MEMORY, NO_SESSION, NOTHING, FULL, LONGEST_MESSAGE}
+use Rattle.ncp_web.specs.declared.handle.held.Held.{Held}
+use Rattle.ncp_web.specs.Bytes.{IsFront}
+use Rattle.ncp_web.specs.Sessions.{number_of, side_at, host_at, code_of_step}
 use Rattle.ncp_numbers.specs.Bytes.{bytes_of, bytes_for}
 use Rattle.ncp_transcript_two.specs.declared.ledger.Amount.{Amount}
 use Rattle.ncp_transcript_two.specs.declared.ledger.Ledger.{Ledger}
@@ -30,3 +70,150 @@ books_of it = record { outstanding = quantity_of it.outstanding; counters = quan
 -- a message over the front of a buffer
 abbrev pub message_over : List Bool → List ℕ → List ℕ
 message_over message out = bytes_of message ++ drop (bytes_for (length message)) out
+
+-- The lines that a reading is answered as the next event of a script; any other line is answered nothing.
+
+abbrev pub read_as : {N : Type 0} → (ℕ → N → List ℕ) → List N → (HostNote → N) → Option HostNote → Option (List ℕ)
+read_as lines noted called None = None
+read_as lines noted called (Some note) = Some (lines (number_of (length noted + 1)) (called note))
+
+abbrev pub asked_of_two : Noted_world → Option Event → Option (List ℕ)
+asked_of_two world (Some (events.Call side call)) = read_as world_note_lines world.notes (notes.Called side) (reading_of call (host_of side world.hosts))
+asked_of_two world event = None
+
+-- of a host that there may be
+abbrev pub of_host : {A : Type 0} → (Host → Option A) → Option Host → Option A
+of_host read None = None
+of_host read (Some h) = read h
+
+abbrev pub asked_of_many : Noted_many → Option ManyEvent → Option (List ℕ)
+asked_of_many many (Some (many_events.Call host call)) = read_as many_note_lines many.notes (many_notes.Called host) (of_host (reading_of call) (thing_in many.crowd.hosts host))
+asked_of_many many event = None
+
+abbrev pub asked_of : Stage → List ℕ → Option (List ℕ)
+asked_of (Two s) line = asked_of_two s.world (world_line_of s.first.hosts (words_of line))
+asked_of (Many s) line = asked_of_many s.many (many_line_of s.first (words_of line))
+
+-- what is written of it, by the answer; there may be no memory for what the line says
+abbrev pub Asks : Option (List ℕ) → Result Unit Refusal → List ℕ → Type 0
+Asks asked (Ok done) text = asked ≡ Some text
+Asks asked (Err NoLine) text = (asked ≡ None) × (text ≡ [])
+Asks asked (Err NoMemory) text = text ≡ []
+Asks asked (Err Full) text = (more : List ℕ) × (asked ≡ Some (text ++ more))
+
+abbrev pub waiting_in : Stage → ℕ → ℕ → ℕ → Option Command
+waiting_in stage host peer place = of_host (λ h. waiting_at (state_of h peer) place) (host_at host stage)
+
+abbrev pub kept_in : Stage → ℕ → ℕ → ℕ → Option (List Bool)
+kept_in stage host peer link = of_host (λ h. kept_for (state_of h peer) link) (host_at host stage)
+
+-- the message that went out, or came, as a note tells it
+
+abbrev pub message_noted : HostNote → Option (List Bool)
+message_noted (host_notes.Out message) = Some message
+message_noted (host_notes.In message received) = Some message
+message_noted note = None
+
+abbrev pub message_of_two : Note → Option (List Bool)
+message_of_two (notes.Out side note) = message_noted note
+message_of_two (notes.Came side link note) = message_noted note
+message_of_two note = None
+
+abbrev pub message_of_many : ManyNote → Option (List Bool)
+message_of_many (many_notes.Out host note) = message_noted note
+message_of_many (many_notes.Came sender peer link note) = message_noted note
+message_of_many note = None
+
+-- of a note that there may be
+abbrev pub of_note : {A N : Type 0} → (N → Option A) → Option N → Option A
+of_note read None = None
+of_note read (Some note) = read note
+
+-- of the note of an event, by its number from 1
+abbrev pub of_event : {A N : Type 0} → (N → Option A) → List N → ℕ → Option A
+of_event read noted number = if number == 0 then None else of_note read (slice_get noted (number - 1))
+
+abbrev pub message_in : Stage → ℕ → Option (List Bool)
+message_in (Two s) number = of_event message_of_two s.world.notes number
+message_in (Many s) number = of_event message_of_many s.many.notes number
+
+-- the ledger of a sender of two hosts
+abbrev pub ledger_at_side : Option Side → Pair → Stage → Option Ledger
+ledger_at_side None pair stage = None
+ledger_at_side (Some side) pair (Two s) = ledger_of side pair s.world.hosts
+ledger_at_side (Some side) pair (Many s) = None
+
+abbrev pub ledger_in : Stage → ℕ → Pair → Option Ledger
+ledger_in (Two s) host pair = ledger_at_side (side_at s.first.hosts host) pair (Two s)
+ledger_in (Many s) host pair = None
+
+-- What became of the last message from a host to another on a link, as the subnet has it: nothing is underway where they
+-- are no two hosts of the session.
+
+abbrev pub fate_between : Option Side → Option Side → ℕ → Hosts → Fate
+fate_between (Some A) (Some B) link w = fate_of (transit_of A link w)
+fate_between (Some B) (Some A) link w = fate_of (transit_of B link w)
+fate_between sender peer link w = Free
+
+abbrev pub fate_in : Stage → ℕ → ℕ → ℕ → Fate
+fate_in (Two s) sender peer link = fate_between (side_at s.first.hosts sender) (side_at s.first.hosts peer) link s.world.hosts
+fate_in (Many s) sender peer link = if are_two sender peer s.many.crowd then fate_of (transit_at s.many.crowd.subnet sender peer link) else Free
+
+-- ---- behind a handle
+
+-- it is refused before anything is looked at, and nothing is written
+abbrev pub IsRefused : ℕ → ℕ → List ℕ → List ℕ → ℕ → Type 0
+IsRefused code result out out' written = (result ≡ code) × (out' ≡ out) × (written ≡ 0)
+
+-- a reading is written in front of a buffer, or there was no memory for as many bytes as it has
+abbrev pub AsksHeld : List ℕ → ℕ → Option Held → List ℕ → List ℕ → ℕ → Type 0
+AsksHeld line result None out out' written = IsRefused NO_SESSION result out out' written
+AsksHeld line result (Some s) out out' written =
+    (answer : Result Unit Refusal) × (text : List ℕ) × Asks (asked_of s.stage line) answer text × (result ≡ code_of_step answer) × IsFront text out out' written
+
+abbrev pub AsksSession : List ℕ → ℕ → Option Held → List ℕ → List ℕ → ℕ → Type 0
+AsksSession line result session out out' written = IsRefused NO_MEMORY result out out' written ⊎ AsksHeld line result session out out' written
+
+-- what there may be in a session: the code of it, and what is written of it where it is there
+
+abbrev pub found_in : {A : Type 0} → (Stage → Option A) → Option Held → Option A
+found_in read None = None
+found_in read (Some s) = read s.stage
+
+abbrev pub code_if_any : {A : Type 0} → Option A → ℕ
+code_if_any None = NOTHING
+code_if_any (Some found) = DONE
+
+abbrev pub code_found : {A : Type 0} → (Stage → Option A) → Option Held → ℕ
+code_found read None = NO_SESSION
+code_found read (Some s) = code_if_any (read s.stage)
+
+abbrev pub written_if_any : {A B : Type 0} → (A → B) → Option A → B → B
+written_if_any form None before = before
+written_if_any form (Some found) before = form found
+
+-- a buffer that has not room for the longest message is refused before all else, and nothing changes
+abbrev pub with_room : {A : Type 0} → List ℕ → A → A → A
+with_room out short answer = if nat_lt (length out) LONGEST_MESSAGE then short else answer
+
+-- lines were written, or a beginning of them
+abbrev pub IsSaid : List ℕ → Result Unit Failed → List ℕ → Type 0
+IsSaid lines (Ok done) text = text ≡ lines
+IsSaid lines (Err failed) text = (more : List ℕ) × (text ++ more ≡ lines)
+
+abbrev pub code_of_saying : Result Unit Failed → ℕ
+code_of_saying (Ok done) = DONE
+code_of_saying (Err failed) = FULL
+
+-- a command that waits stands as its line in front of a buffer
+abbrev pub SaysWaiting : Option Command → ℕ → List ℕ → List ℕ → ℕ → Type 0
+SaysWaiting None result out out' written = IsRefused NOTHING result out out' written
+SaysWaiting (Some command) result out out' written =
+    (answer : Result Unit Failed) × (text : List ℕ) × IsSaid (item_line (Ok command)) answer text × (result ≡ code_of_saying answer) × IsFront text out out' written
+
+abbrev pub WaitsHeld : ℕ → ℕ → ℕ → ℕ → Option Held → List ℕ → List ℕ → ℕ → Type 0
+WaitsHeld host peer place result None out out' written = IsRefused NO_SESSION result out out' written
+WaitsHeld host peer place result (Some s) out out' written = SaysWaiting (waiting_in s.stage host peer place) result out out' written
+
+abbrev pub WaitsSession : ℕ → ℕ → ℕ → ℕ → Option Held → List ℕ → List ℕ → ℕ → Type 0
+WaitsSession host peer place result session out out' written = IsRefused NO_MEMORY result out out' written ⊎ WaitsHeld host peer place result session out out' written

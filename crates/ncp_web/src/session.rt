@@ -1,5 +1,6 @@
 //! A session begins, goes on line by line, and ends.
 ghost use Rattle.std.specs.Prelude.{◌≡◌, ◌≢◌};
+ghost use Rattle.ncp_web.specs.Sessions.{Opens, StepsSession, code_of_refusal};
 ghost use Rattle.std.specs.declared.option.Option.TheVariants.{None};
 
 use crate::answer::{DONE, FULL, NO_LINE, NO_MEMORY, NO_SESSION, copy_out};
@@ -9,7 +10,9 @@ use ncp_play_stream::MemorySink;
 use std::alloc::Global;
 
 // The code of a refusal.
-pub(crate) fn code_of_refusal(refusal: Refusal) -> u32 {
+pub(crate) fn code_of_refusal(refusal: Refusal) -> u32
+    ensures { result ≡ code_of_refusal refusal }
+{
     match refusal {
         Refusal::NoLine => NO_LINE,
         Refusal::NoMemory => NO_MEMORY,
@@ -22,6 +25,7 @@ pub(crate) fn code_of_refusal(refusal: Refusal) -> u32 {
 /// Refused, in this order, and the handle stays as it was: `NO_LINE` (the line names no hosts as it should), `NO_MEMORY`.
 #[unsafe(no_mangle)]
 pub extern "C" fn ncp_web_open(alloc: Global, handle: &mut Handle, first: &[u8]) -> u32
+    ensures opens { Opens first.now result handle.old.session handle.new.session }
     ensures err { result ≢ DONE → handle.new.session ≡ handle.old.session }
 {
     let stage = match Stage::new(alloc, first) {
@@ -48,7 +52,9 @@ pub extern "C" fn ncp_web_step(
     line: &[u8],
     out: &mut [u8],
     written: &mut usize,
-) -> u32 {
+) -> u32
+    ensures step { StepsSession line.now result handle.old.session handle.new.session out.old out.new written.new }
+{
     *written = 0;
     let Ok(mut sink) = MemorySink::new(alloc, out.len(), None) else {
         return NO_MEMORY;

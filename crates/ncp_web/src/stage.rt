@@ -1,7 +1,7 @@
 //! `Stage`: the hosts of a session, with the first line that named them.
 ghost use Rattle.std.specs.Prelude.{◌≡◌, IfOk, IfSome};
 ghost use Rattle.std.specs.Option.{option_copied};
-ghost use Rattle.ncp_web.specs.Sessions.{Begins, side_at, host_at};
+ghost use Rattle.ncp_web.specs.Sessions.{Begins, BeginsStage, side_at, host_at};
 
 use ncp_bits::PackedStore;
 use ncp_host::Host;
@@ -72,7 +72,9 @@ pub(crate) fn side_of(hosts: TwoHosts, number: u8) -> Option<Side>
 
 impl Stage {
     /// The hosts that the first line of a script names, before its first event.
-    pub(crate) fn new(alloc: Global, line: &[u8]) -> Result<Stage, Refusal> {
+    pub(crate) fn new(alloc: Global, line: &[u8]) -> Result<Stage, Refusal>
+        ensures { BeginsStage line.now result }
+    {
         if is_many(&mut Words::new(line)) {
             let (first, many) = begun::<ManyPlayed<PackedStore>>(alloc, line)?;
             return Ok(Stage::Many(ManyStage { first, many }));

@@ -1,13 +1,13 @@
 //! A line of a script, played.
-ghost use Rattle.std.specs.Prelude.{◌≡◌};
-ghost use Rattle.ncp_web.specs.Sessions.{number_of};
+ghost use Rattle.std.specs.Prelude.{◌≡◌, [], Some};
+ghost use Rattle.ncp_web.specs.Sessions.{Notes, Reads, Steps, StepsStage, number_of};
 
 use crate::stage::{Refusal, Stage};
 use ncp_bits::PackedStore;
 use ncp_play_page::Page;
 use ncp_play_scene::{Scene, Teller};
 use ncp_play_script::Words;
-use ncp_play_stream::{Failed, MemorySink};
+use ncp_play_stream::MemorySink;
 use ncp_play_world::{ManyPlayed, NoteLines, TwoPlayed};
 use std::alloc::Global;
 
@@ -18,38 +18,53 @@ pub(crate) fn number_of(notes: usize) -> u32
     u32::try_from(notes).unwrap_or(u32::MAX)
 }
 
-// Says what is told of the last note, all of it.
-fn say_last<C: Scene, T: Teller<C>>(
+// An event happens, and what is told of its note is said.
+fn noted<C: Scene, T: Teller<C>>(
     first: &C::First,
-    hosts: &C::Hosts,
+    hosts: &mut C::Hosts,
+    event: &C::Event,
+    page: &mut Page,
     sink: &mut MemorySink,
-) -> Result<(), Failed> {
+) -> Result<(), Refusal>
+    ensures { Notes C.rules (T.tale first.now) event.now hosts.old result hosts.new page.old (Some sink.old.written) page.new (Some sink.new.written) }
+{
+    if C::step(hosts, event).is_err() {
+        return Err(Refusal::NoMemory);
+    }
     let notes = C::notes(hosts);
-    let Some(note) = notes.last() else {
-        return Ok(());
-    };
-    let mut page = Page::new();
-    T::say(first, hosts, number_of(notes.len()), note, &mut page, sink)?;
-    page.flush(sink)
+    let number = number_of(notes.len());
+    match T::say(first, hosts, number, &notes[notes.len() - 1], page, sink) {
+        Ok(()) => Ok(()),
+        Err(_) => Err(Refusal::Full),
+    }
 }
 
-// The event that a line asks for happens, and what is told of its note is said to an empty sink.
+// The event that a line asks for.
+fn event_in<C: Scene>(alloc: Global, first: &C::First, line: &[u8]) -> Result<C::Event, Refusal>
+    ensures { Reads C.rules first.now line.now result }
+{
+    match C::event_of(alloc, first, &mut Words::new(line)) {
+        Ok(Some(event)) => Ok(event),
+        Ok(None) => Err(Refusal::NoLine),
+        Err(_) => Err(Refusal::NoMemory),
+    }
+}
+
+// The event that a line asks for happens, and what is told of its note is written to an empty sink.
 fn stepped<C: Scene, T: Teller<C>>(
     alloc: Global,
     first: &C::First,
     hosts: &mut C::Hosts,
     line: &[u8],
     sink: &mut MemorySink,
-) -> Result<(), Refusal> {
-    let event = match C::event_of(alloc, first, &mut Words::new(line)) {
-        Ok(Some(event)) => event,
-        Ok(None) => return Err(Refusal::NoLine),
-        Err(_) => return Err(Refusal::NoMemory),
-    };
-    if C::step(hosts, &event).is_err() {
-        return Err(Refusal::NoMemory);
-    }
-    match say_last::<C, T>(first, hosts, sink) {
+) -> Result<(), Refusal>
+    requires empty { sink.old.written ≡ [] }
+    ensures { Steps C.rules (T.tale first.now) first.now line.now hosts.old result hosts.new sink.new.written }
+{
+    let event = event_in::<C>(alloc, first, line)?;
+    let mut page = Page::new();
+    noted::<C, T>(first, hosts, &event, &mut page, sink)?;
+    match page.flush(sink) {
         Ok(()) => Ok(()),
         Err(_) => Err(Refusal::Full),
     }
@@ -62,7 +77,10 @@ impl Stage {
         alloc: Global,
         line: &[u8],
         sink: &mut MemorySink,
-    ) -> Result<(), Refusal> {
+    ) -> Result<(), Refusal>
+        requires empty { sink.old.written ≡ [] }
+        ensures { StepsStage line.now self.old result self.new sink.new.written }
+    {
         match self {
             Stage::Two(two) => stepped::<TwoPlayed<PackedStore>, NoteLines>(
                 alloc,

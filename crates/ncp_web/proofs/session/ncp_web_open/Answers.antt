@@ -1,0 +1,5 @@
+use Rattle.std.proofs.Common.{inl, refl}
+use Rattle.ncp_web.proofs.session.ncp_web_open.Goals as goal
+
+pub returns-in-Ok-new-clause-opens : goal.returns-in-Ok-new-clause-opens
+returns-in-Ok-new-clause-opens c = inl (c.in-Ok.stage, c.in-Ok.ensures, refl, c.put.ensures)
