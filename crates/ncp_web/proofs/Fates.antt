@@ -1,5 +1,6 @@
 -- What the notes of a transcript make of the last message on a link is what the subnet has there.
-use Rattle.std.proofs.Common.{◌≡◌, ◌≢◌, ℕ, ◌==◌, Bool, true, false, ◌&&◌, nat_le, nat_lt, if◌then◌else◌, List, [], ◌∷◌, ◌++◌, length, Option, None, Some, unwrap_or, Result, Ok, Err, inl, inr, ◌⊎◌, refl, sym, ap, ◌∙◌, subst, arith}
+use Rattle.std.proofs.Common.{◌≡◌, ◌≢◌, ◌<◌, ◌≤◌, ◌-◌, ℕ, suc, ◌==◌, Bool, true, false, ◌&&◌, nat_le, nat_lt, if◌then◌else◌, List, [], ◌∷◌, ◌++◌, length, take, get_or, Option, None, Some, unwrap_or, Result, Ok, Err, inl, inr, ◌⊎◌, refl, sym, ap, ◌∙◌, subst, arith}
+use Rattle.std.proofs.Math.Seq.{take-suc}
 use Rattle.std.proofs.lemmas.Bool.{eqb-true, eqb-false, eq-eqb, ne_eqb}
 use Rattle.std.proofs.lemmas.Bool.Decides.{nat_tests, eqb_tells}
 use Rattle.ncp_leader.specs.declared.leader.Leader.{Leader}
@@ -43,15 +44,29 @@ use Rattle.ncp_web.specs.declared.transit.Fate.TheVariants.{Free, Underway, Deli
 use Rattle.ncp_web.specs.Fates.{fate_of, regular_leader, leader_out, is_on, is_to, is_same, if_told, fate_told, fate_told_of_many, last_told}
 
 -- the last of some notes
-pub last-one : {N : Type 0} (says : N → Option Fate) (more : List N) (note : N) (before : Fate) → last_told says (more ++ note ∷ []) before ≡ unwrap_or (says note) (last_told says more before)
+last-one : {N : Type 0} (says : N → Option Fate) (more : List N) (note : N) (before : Fate) → last_told says (more ++ note ∷ []) before ≡ unwrap_or (says note) (last_told says more before)
 last-one says [] note before = refl
 last-one says (first ∷ more) note before = last-one says more note (unwrap_or (says first) before)
 
-pub last-says : {N : Type 0} (says : N → Option Fate) (more : List N) (note : N) (before fate : Fate) → says note ≡ Some fate → last_told says (more ++ note ∷ []) before ≡ fate
-last-says says more note before fate e = last-one says more note before ∙ ap (λ (o : Option Fate). unwrap_or o (last_told says more before)) e
+-- ---- looked for from the end: so many notes are left, and what the last of them says is known
 
-pub last-says-none : {N : Type 0} (says : N → Option Fate) (more : List N) (note : N) (before : Fate) → says note ≡ None → last_told says (more ++ note ∷ []) before ≡ last_told says more before
-last-says-none says more note before e = last-one says more note before ∙ ap (λ (o : Option Fate). unwrap_or o (last_told says more before)) e
+module _ {N : Type 0} (says : N → Option Fate) (noted : List N) (left : ℕ) (before : Fate) (some : 0 < left) (within : left ≤ length noted) where
+  last-of : (other : N) → last_told says (take left noted) before ≡ unwrap_or (says (get_or noted (left - 1) other)) (last_told says (take (left - 1) noted) before)
+  last-of other =
+      let e : left ≡ suc (left - 1) = omega arith in
+      ap (λ (k : ℕ). last_told says (take k noted) before) e
+      ∙ ap (λ (l : List N). last_told says l before) (take-suc noted (left - 1) other (omega arith))
+      ∙ last-one says (take (left - 1) noted) (get_or noted (left - 1) other) before
+
+  -- it says something: that is what all say
+  pub last-found : (other : N) (fate : Fate) → says (get_or noted (left - 1) other) ≡ Some fate → last_told says (take left noted) before ≡ last_told says noted before
+      → fate ≡ last_told says noted before
+  last-found other fate e all = sym (last-of other ∙ ap (λ (o : Option Fate). unwrap_or o (last_told says (take (left - 1) noted) before)) e) ∙ all
+
+  -- it says nothing: that is what the others say
+  pub last-passed : (other : N) → says (get_or noted (left - 1) other) ≡ None → last_told says (take left noted) before ≡ last_told says noted before
+      → last_told says (take (left - 1) noted) before ≡ last_told says noted before
+  last-passed other e all = sym (last-of other ∙ ap (λ (o : Option Fate). unwrap_or o (last_told says (take (left - 1) noted) before)) e) ∙ all
 
 -- ---- something comes to be in transit
 
