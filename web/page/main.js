@@ -19,7 +19,7 @@ class Page {
     this.shownPair = [0, 1];
     this.ladder = new Ladder($("ladder"), $("heads"), {
       choose: event => this.goTo(event),
-      drag: (from, to) => this.edit(this.script.withMoved(from, to), to),
+      drag: (from, to) => this.shift(this.run.lineOf(from), this.run.lineOf(to)),
       move: (verb, from, to, link) => this.insert(this.moveLine(verb, from, to, link)),
     });
     this.editor = new Editor($("script"), $("numbers"), $("line-now"), {
@@ -29,7 +29,7 @@ class Page {
         // Where it stands at the end, it goes on to what is written there.
         this.typing = setTimeout(() => this.load(this.editor.text, this.at === this.run.length ? Infinity : this.at), WAIT_AFTER_TYPING);
       },
-      choose: number => this.goTo(this.script.eventAt(number)),
+      choose: number => this.goTo(this.run.lastOf(this.script.lineAt(number))),
     });
     this.#fillChoices();
     this.#listen();
@@ -42,22 +42,23 @@ class Page {
 
   // ---- a script
 
-  /** Plays a text from its beginning, and shows it at an event. */
-  load(text, at = 0) {
+  /** Plays a text from its beginning, and shows it at an event, or at the last one of a `line`. */
+  load(text, at = 0, line = null) {
     this.editor.show(text);
     this.script = new Script(text);
     this.isOpen = this.sessions.hold(this.script);
-    this.run = new Run(this.script.hosts(), this.script.isMany);
-    this.run.addAsked(this.script);
+    this.run = new Run(this.script);
+    this.run.addAsked();
     this.loads++;
     this.isLoading = this.isOpen && this.script.length > LONGEST_AT_ONCE;
     this.isChecked = !this.isLoading;
     this.#choosePairs();
+    const place = () => line === null ? at : this.run.lastOf(line);
     if (this.isLoading) {
-      this.#loadInSlices(at);
+      this.#loadInSlices(place);
     } else {
       this.#playWhole(true);
-      this.goTo(at);
+      this.goTo(place());
     }
   }
 
@@ -77,21 +78,21 @@ class Page {
   }
 
   /** Plays a long script event by event. What there is of it can be looked at meanwhile. */
-  async #loadInSlices(at) {
+  async #loadInSlices(place) {
     const { run, script, loads } = this, reader = this.sessions.beginToRead();
     let [isGood, isShown] = [true, false];
     this.#tellFault("");
     this.goTo(0);
-    while (isGood && run.length < script.length) {
-      for (const end = performance.now() + SLICE; run.length < script.length && performance.now() < end;) {
-        isGood = reader.step() === ANSWER.DONE;
+    while (isGood && !reader.isAtEnd) {
+      for (const end = performance.now() + SLICE; !reader.isAtEnd && performance.now() < end;) {
+        isGood = reader.step();
         if (!isGood) break;
         run.add(reader.said().trimEnd());
       }
       this.#grow();
-      if (!isShown && run.length >= at) {
+      if (!isShown && run.length >= place()) {
         isShown = true;
-        if (at) this.goTo(at);
+        if (place()) this.goTo(place());
       }
       await nextTurn();
       if (loads !== this.loads) return;
@@ -103,7 +104,7 @@ class Page {
       this.#playWhole(false);
     }
     this.#grow();
-    if (!isShown) this.goTo(at);
+    if (!isShown) this.goTo(place());
   }
 
   /** There are more events than before. */
@@ -113,18 +114,25 @@ class Page {
     this.ladder.grow();
   }
 
-  /** Another text in the place of the script, as if it were typed. */
-  edit(text, at) {
+  /** Another text in the place of the script, as if it were typed, at the last event of a line. */
+  edit(text, line) {
     const { activeElement } = document;
     clearTimeout(this.typing);
     this.editor.replace(text);
-    this.load(text, at);
+    this.load(text, 0, line);
     if (!activeElement.isConnected || activeElement === document.body) $("ladder").focus({ preventScroll: true });
   }
 
-  insert(line) {
+  /** Inserts words behind the line at which it stands: in the midst of a `settle` behind all of it. */
+  insert(words) {
+    const line = this.run.lineOf(this.at);
     this.stop();
-    this.edit(this.script.withLine(this.at, line), this.at + 1);
+    this.edit(this.script.withLine(line, words), line + 1);
+  }
+
+  /** Moves a line of the script to the place of another. */
+  shift(line, place) {
+    if (line !== place && place >= 1 && place < this.run.ends.length) this.edit(this.script.withMoved(line, place), place);
   }
 
   moveLine(verb, from, to, link) {
@@ -193,7 +201,7 @@ class Page {
     $("slider").value = at;
     $("now").textContent = at ? run.lines(at) : this.isOpen ? "No event has happened: the hosts are new." : "There are no hosts yet.";
     this.#showButtons();
-    this.editor.mark(this.script.numberOf(at));
+    this.editor.mark(this.script.numberOf(run.lineOf(at)));
   }
 
   #showButtons() {
@@ -202,7 +210,7 @@ class Page {
     $("place").textContent = `${at} of ${run.length}`;
     $("back").disabled = $("first").disabled = at === 0;
     $("step").disabled = $("last").disabled = at === run.length;
-    if (this.isLoading) $("status").textContent = `playing: ${run.length} of ${this.script.length} events`;
+    if (this.isLoading) $("status").textContent = `playing: ${run.ends.length - 1} of ${this.script.length} lines`;
   }
 
   /** What the hosts hold. */
@@ -378,22 +386,15 @@ class Page {
 
   #key(event) {
     if (event.target.closest("textarea, select, dialog, input") || event.ctrlKey || event.metaKey) return;
-    const { at } = this, move = event.altKey && this.at > 0;
+    const { at } = this, line = this.run.lineOf(at), move = event.altKey && at > 0;
     const keys = {
-      ArrowRight: () => this.goTo(at + 1), ArrowLeft: () => this.goTo(at - 1), ArrowDown: () => (move ? this.#shift(1) : this.goTo(at + 1)), ArrowUp: () => (move ? this.#shift(-1) : this.goTo(at - 1)),
+      ArrowRight: () => this.goTo(at + 1), ArrowLeft: () => this.goTo(at - 1), ArrowDown: () => (move ? this.shift(line, line + 1) : this.goTo(at + 1)), ArrowUp: () => (move ? this.shift(line, line - 1) : this.goTo(at - 1)),
       Home: () => this.goTo(0), End: () => this.goTo(this.run.length), " ": () => this.play(),
     };
     if (!keys[event.key] || (event.key === " " && event.target.closest("button"))) return;
     event.preventDefault();
     if (event.key !== " ") this.stop();
     keys[event.key]();
-  }
-
-  /** Moves the event by one place. */
-  #shift(by) {
-    const to = this.at + by;
-    if (to < 1 || to > this.run.length) return;
-    this.edit(this.script.withMoved(this.at, to), to);
   }
 }
 

@@ -2,7 +2,7 @@
  * The module, which is made of the proved crate `ncp_web`. Bytes go in, and bytes come out: nothing here knows the
  * protocol, and no line is written here.
  */
-const ANSWER = { DONE: 0, BAD: 1, FAULT: 2, NO_MEMORY: 3, NO_SESSION: 4, NO_LINE: 5, FULL: 6, NOTHING: 7 };
+const ANSWER = { DONE: 0, BAD: 1, FAULT: 2, NO_MEMORY: 3, NO_SESSION: 4, NO_LINE: 5, FULL: 6, NOTHING: 7, GOES_ON: 8 };
 
 /** What became of the last message on a link, by the number that the module answers. */
 const FATES = ["free", "underway", "delivered", "lost", "dead"];
@@ -97,36 +97,50 @@ class Module {
   }
 }
 
-/** Hosts in the module that are played line by line, and read between lines. */
+/** Hosts in the module that are played event by event, and read between events. */
 class Session {
   constructor(module) {
     this.module = module;
     this.handle = module.room(8);
     module.memory.fill(0, this.handle, this.handle + 8);
     this.out = module.room(ROOM.event);
+    this.begin();
+  }
+
+  /** No line is played; `stepped` is how many events there were, and `goesOn` whether the last line has more. */
+  begin() {
     this.stepped = 0;
+    this.line = 0;
+    this.goesOn = false;
   }
 
   /** New hosts, as the first line of a script names them. Its bytes stand in the module at an address. */
   open(script, at) {
     this.script = script;
     this.from = at;
-    this.stepped = 0;
+    this.begin();
     const [begin, end] = script.place(0);
     return this.module.exports.ncp_web_open(BigInt(this.handle), BigInt(at + begin), BigInt(end - begin));
   }
 
-  /** Plays the next line; its text is read by `said`. */
+  get isAtEnd() {
+    return !this.goesOn && this.line >= this.script.length;
+  }
+
+  /** Plays the next event, which is one more of the last line, or that of the next; its text is read by `said`. Whether it was played. */
   step() {
-    const [begin, end] = this.script.place(++this.stepped);
-    return this.module.exports.ncp_web_step(
+    if (!this.goesOn) this.line++;
+    this.stepped++;
+    const [begin, end] = this.script.place(this.line);
+    this.status = this.module.exports.ncp_web_step(
       BigInt(this.handle), BigInt(this.from + begin), BigInt(end - begin), BigInt(this.out), BigInt(ROOM.event), BigInt(this.module.counts));
+    this.goesOn = this.status === ANSWER.GOES_ON;
+    return this.goesOn || this.status === ANSWER.DONE;
   }
 
   /** The same, where it has to be played. */
   next() {
-    const status = this.step();
-    if (status !== ANSWER.DONE) throw new Error(`event ${this.stepped} is answered ${status}`);
+    if (!this.step()) throw new Error(`event ${this.stepped} is answered ${this.status}`);
   }
 
   said() {

@@ -3,10 +3,12 @@ const KINDS = ["call", "out", "deliver", "lose", "dead", "answer"];
 const MOVES = new Set(KINDS.slice(2));
 
 class Run {
-  constructor(hosts, isMany) {
-    this.hosts = hosts;
-    this.isMany = isMany;
+  constructor(script) {
+    this.script = script;
+    this.hosts = script.hosts();
+    this.isMany = script.isMany;
     this.events = [];
+    this.ends = [0];
     this.messages = [];
     this.answers = new Map();
     this.links = new Map();
@@ -27,6 +29,21 @@ class Run {
     return this.events[event - 1];
   }
 
+  /** The line of the script that an event is of: those of a `settle` are all of one. */
+  lineOf(event) {
+    let [low, high] = [0, this.ends.length];
+    while (low < high) {
+      const middle = (low + high) >> 1;
+      if (this.ends[middle] < event) low = middle + 1; else high = middle;
+    }
+    return low;
+  }
+
+  /** The last event of a line of the script; none has come to its end there yet where it is endless. */
+  lastOf(line) {
+    return this.ends[line] ?? Infinity;
+  }
+
   /** Takes the lines of all events: a line of details begins with a space. */
   addAll(text) {
     for (const lines of text.split(/\n(?! )/)) if (lines) this.add(lines);
@@ -37,6 +54,7 @@ class Run {
     const [line, ...details] = lines.split("\n");
     if (this.length % Run.BLOCK === 0) this.blocks.push([...this.last.values()].filter(it => it.end === null));
     this.events.push(lines);
+    if (!this.script.isSettle(this.ends.length) || /^\d+ settle \d+$/.test(line)) this.ends.push(this.length);
     this.hasRefused ||= line.includes(" refused ");
     this.#readEvent(line.split(" "));
     for (const it of details) this.#readDetail(it.slice(2));
@@ -77,8 +95,8 @@ class Run {
   }
 
   /** The pairs that users ask for, by the lines of the script. */
-  addAsked(script) {
-    for (const [, name, words] of script.text.matchAll(/^(\S+) ask-(?:send|receive) ([^\r\n]*)/gm)) {
+  addAsked() {
+    for (const [, name, words] of this.script.text.matchAll(/^(\S+) ask-(?:send|receive) ([^\r\n]*)/gm)) {
       const rest = words.split(" "), from = this.#column(name), to = this.isMany ? this.#column(rest.shift()) : 1 - from;
       if (from >= 0 && to >= 0 && rest.length > 1) this.addPair(from, to, rest[0], rest[1]);
     }

@@ -26,28 +26,33 @@ class Script {
     this.count--;
   }
 
-  /** How many events the lines behind the first ask for. */
+  /** How many lines are played behind the first. */
   get length() {
     return Math.max(this.begins.length - 1, 0);
   }
 
-  /** Where the line of an event begins and ends, the first line being that of event 0. */
-  place(event) {
-    return [this.begins[event] ?? 0, this.ends[event] ?? 0];
+  /** Where a line begins and ends, of those that are played; the first is line 0. */
+  place(line) {
+    return [this.begins[line] ?? 0, this.ends[line] ?? 0];
   }
 
-  /** The words of the line of an event. */
-  line(event) {
-    return asText(this.bytes.subarray(...this.place(event)));
+  /** The words of a line. */
+  line(line) {
+    return asText(this.bytes.subarray(...this.place(line)));
   }
 
-  /** The number of the line of an event in the text, from 1. */
-  numberOf(event) {
-    return this.numbers[event] ?? this.count + 1;
+  /** Whether a line asks for all that can happen without a call: it has events, and then a line of its own. */
+  isSettle(line) {
+    return this.line(line) === "settle";
   }
 
-  /** The event whose line has this number, or the last one before it. */
-  eventAt(number) {
+  /** The number of a line in the text, from 1. */
+  numberOf(line) {
+    return this.numbers[line] ?? this.count + 1;
+  }
+
+  /** The line that has this number in the text, or the last one before it. */
+  lineAt(number) {
     let [low, high] = [0, this.numbers.length];
     while (low < high) {
       const middle = (low + high) >> 1;
@@ -56,18 +61,18 @@ class Script {
     return Math.max(low - 1, 0);
   }
 
-  /** The text with a line behind that of an event. */
-  withLine(event, line) {
+  /** The text with other words behind a line. */
+  withLine(line, words) {
     const lines = this.text.replace(/\n$/, "").split("\n");
-    lines.splice(Math.min(this.numberOf(event), lines.length), 0, line);
+    lines.splice(Math.min(this.numberOf(line), lines.length), 0, words);
     return lines.join("\n") + "\n";
   }
 
-  /** The text with the line of an event in the place of that of another. */
-  withMoved(event, place) {
+  /** The text with a line in the place of another. */
+  withMoved(line, place) {
     const lines = this.text.replace(/\n$/, "").split("\n");
-    const [line] = lines.splice(this.numberOf(event) - 1, 1);
-    lines.splice(this.numberOf(place) - 1, 0, line);
+    const [words] = lines.splice(this.numberOf(line) - 1, 1);
+    lines.splice(this.numberOf(place) - 1, 0, words);
     return lines.join("\n") + "\n";
   }
 

@@ -4,8 +4,8 @@ use crate::arguments::{written, wrong_arguments};
 use crate::near::nearest;
 use crate::spelling::misspelled;
 use crate::usage::{
-    Argument, CALLS, OF_ONE_HOST, OF_THE_SUBNET, PEER, PLAIN, Player, Scene, TO, Usage, is_verb,
-    usage_in, verbs,
+    Argument, CALLS, OF_ONE_HOST, OF_THE_SUBNET, PEER, PLAIN, Player, SETTLE, Scene, TO, Usage,
+    is_verb, usage_in, verbs,
 };
 use std::alloc::{AllocError, Global};
 
@@ -50,6 +50,9 @@ fn form_of(scene: Scene, verb: &str) -> Option<Form> {
 
 // A word that is none of those that name what is to be done.
 fn unknown_verb(alloc: Global, scene: Scene, verb: &str) -> Result<String, AllocError> {
+    if verb == SETTLE && scene != Scene::Host {
+        return wrong_at_settle(alloc);
+    }
     if is_verb(verb) {
         return match scene {
             Scene::Host => format!(in alloc;
@@ -88,9 +91,15 @@ fn wrong_deed(alloc: Global, scene: Scene, words: &[&str]) -> Result<String, All
     }
 }
 
+// What is wrong with a line of several hosts that has the word of all of them, and another.
+fn wrong_at_settle(alloc: Global) -> Result<String, AllocError> {
+    format!(in alloc; "'settle' stands alone on its line")
+}
+
 // What is wrong with a line that begins with a side.
 fn wrong_at_side(alloc: Global, words: &[&str]) -> Result<String, AllocError> {
     match words.first() {
+        Some(word) if *word == SETTLE => wrong_at_settle(alloc),
         Some(side) if *side == "a" || *side == "b" => {
             wrong_deed(alloc, Scene::Sides, words.get(1..).unwrap_or(&[]))
         }
@@ -113,6 +122,7 @@ fn names_host(hosts: &[&str], word: &str) -> bool {
 // What is wrong with a line that begins with the number of a host.
 fn wrong_at_host(alloc: Global, hosts: &[&str], words: &[&str]) -> Result<String, AllocError> {
     match words.first() {
+        Some(word) if *word == SETTLE => wrong_at_settle(alloc),
         Some(word) if names_host(hosts, word) => {
             wrong_deed(alloc, Scene::Numbers, words.get(1..).unwrap_or(&[]))
         }

@@ -115,8 +115,14 @@ pub(crate) const OF_THE_SUBNET: &[Usage] = &[
     ("answer", &[LINK]),
 ];
 
+/// The word of a line of several hosts that names none of them.
+pub(crate) const SETTLE: &str = "settle";
+
+// What several hosts do, and no host is named.
+const OF_ALL_HOSTS: &[Usage] = &[(SETTLE, &[])];
+
 // All words that name what is to be done, in any script.
-const ALL: &[&[Usage]] = &[CALLS, PLAIN, OF_ONE_HOST, OF_THE_SUBNET];
+const ALL: &[&[Usage]] = &[CALLS, PLAIN, OF_ONE_HOST, OF_THE_SUBNET, OF_ALL_HOSTS];
 
 /// The usage of this name, if it is one of these.
 pub(crate) fn usage_in(usages: &'static [Usage], verb: &str) -> Option<&'static Usage> {

@@ -7,7 +7,7 @@ use Rattle.ncp_play_reader.specs.declared.lines.Lines.{Lines}
 use Rattle.ncp_play_notes.specs.Faults.{is_read_failed, is_write_failed}
 use Rattle.ncp_play_notes.specs.declared.fault.PlayFault.{PlayFault}
 use Rattle.ncp_play_notes.specs.declared.fault.PlayFault.TheVariants.{BadLine, LineTooLong, BadHosts, Feed, ReadFailed, WriteFailed, OutOfMemory}
-use Rattle.ncp_play_scene.specs.Rules.{Rules, Steps}
+use Rattle.ncp_play_scene.specs.Rules.{Rules, Begins, Step, Steps, NextBegins}
 use Rattle.ncp_play_scene.specs.Telling.{Tale, told}
 use Rattle.ncp_play_scene.specs.Playing.{DoesEvent, Tells, TellsBeginning, TellsAs}
 use Rattle.ncp_play_scene.specs.NextEvents.{course_of, course_cut, with_event, AsksOne, AsksNext}
@@ -15,22 +15,30 @@ use Rattle.ncp_play_scene.specs.Players.{PlayedTo, PlayedFirst, PlaysLines, Goes
 
 module _ {F E N W : Type 0} (rules : Rules F E N W) where
   no_events : (course : Course E) (ending : Ending) (before : W) → course ≡ ends ending → PlayedTo rules course ending before before
-  no_events course ending before e = (ap (λ c. c.ending) e, subst (λ (c : Course E). Steps rules.Step c.events before before) (sym e) refl)
+  no_events course ending before e = (ap (λ c. c.ending) e, subst (λ (c : Course E). Steps (Step rules) c.events before before) (sym e) refl)
+
+  none_begins : (events : List E) (before : W) → NextBegins rules events before before
+  none_begins [] before = refl
+  none_begins (event ∷ events) before = (0, refl)
 
   pub none_first : (course : Course E) (before : W) → PlayedFirst rules course before before
-  none_first course before = ([], course.events, refl, refl)
+  none_first course before = ([], course.events, before, refl, refl, none_begins course.events before)
+
+  -- the first event has begun
+  begun_first : (course rest : Course E) (event : E) (many : ℕ) (before now : W) → course ≡ with_event event rest → Begins rules event 0 many before now → PlayedFirst rules course before now
+  begun_first course rest event many before now e h = ([], course.events, before, refl, refl, subst (λ (c : Course E). NextBegins rules c.events before now) (sym e) (many, h))
 
   -- ---- one event, and those behind it
 
-  module _ (course rest : Course E) (event : E) (before mid : W) (e : course ≡ with_event event rest) (step : rules.Step event before mid) where
+  module _ (course rest : Course E) (event : E) (before mid : W) (e : course ≡ with_event event rest) (step : Step rules event before mid) where
     more_to : (ending : Ending) (now : W) → PlayedTo rules rest ending mid now → PlayedTo rules course ending before now
-    more_to ending now h = (ap (λ c. c.ending) e ∙ h.0, subst (λ (c : Course E). Steps rules.Step c.events before now) (sym e) (mid, step, h.1))
+    more_to ending now h = (ap (λ c. c.ending) e ∙ h.0, subst (λ (c : Course E). Steps (Step rules) c.events before now) (sym e) (mid, step, h.1))
 
     more_first : (now : W) → PlayedFirst rules rest mid now → PlayedFirst rules course before now
-    more_first now h = (event ∷ h.0, h.1, ap (λ c. c.events) e ∙ ap (λ (events : List E). event ∷ events) h.2, (mid, step, h.3))
+    more_first now h = (event ∷ h.0, h.1, h.2, ap (λ c. c.events) e ∙ ap (λ (events : List E). event ∷ events) h.3, (mid, step, h.4), h.5)
 
   module _ (named : F) (first : ℕ) (bytes : List ℕ) (before : W) where
-    goes_on : (event : E) (lines : Lines) (left : Option (List ℕ)) (mid : W) (asks : AsksOne rules named first bytes event lines left) → rules.Step event before mid → GoesOn rules named first bytes before lines.number asks.0 mid
+    goes_on : (event : E) (lines : Lines) (left : Option (List ℕ)) (mid : W) (asks : AsksOne rules named first bytes event lines left) → Step rules event before mid → GoesOn rules named first bytes before lines.number asks.0 mid
     goes_on event lines left mid asks step (Ok done) last left' h = more_to (course_of rules named first bytes) (course_of rules named lines.number asks.0) event before mid asks.1 step Over last h
     goes_on event lines left mid asks step (Err (BadLine line)) last left' h = more_to (course_of rules named first bytes) (course_of rules named lines.number asks.0) event before mid asks.1 step _ last h
     goes_on event lines left mid asks step (Err (LineTooLong line)) last left' h = more_to (course_of rules named first bytes) (course_of rules named lines.number asks.0) event before mid asks.1 step _ last h
@@ -64,8 +72,13 @@ module _ {F E N W : Type 0} (rules : Rules F E N W) where
 
     pub event_err : (event : E) (ended : Bool) (lines : Lines) (left : Option (List ℕ)) (now : W) (fault : PlayFault) → AsksNext rules named first bytes (Ok (Some (event, ended))) lines left → DoesEvent rules event before (Err fault) now
         → PlaysLines rules {X = Unit} named first bytes before (Err fault) now left
-    event_err event ended lines left now OutOfMemory asks does = subst (λ (w : W). PlayedFirst rules (course_of rules named first bytes) before w) (sym does) (none_first (course_of rules named first bytes) before)
-    event_err event ended lines left now WriteFailed asks does =
+    event_err event ended lines left now OutOfMemory asks does =
+        let some = course_some event ended lines left asks in
+        begun_first (course_of rules named first bytes) some.0 event does.0 before now some.1 does.1
+    event_err event ended lines left now WriteFailed asks (inl does) =
+        let some = course_some event ended lines left asks in
+        begun_first (course_of rules named first bytes) some.0 event does.0 before now some.1 does.1
+    event_err event ended lines left now WriteFailed asks (inr does) =
         let some = course_some event ended lines left asks in
         more_first (course_of rules named first bytes) some.0 event before now some.1 does now (none_first some.0 now)
     event_err event ended lines left now ReadFailed asks does = absurd does
@@ -74,7 +87,7 @@ module _ {F E N W : Type 0} (rules : Rules F E N W) where
     event_err event ended lines left now (LineTooLong line) asks does = absurd does
     event_err event ended lines left now (Feed fault) asks does = absurd does
 
-    pub event_ok : (event : E) (ended : Bool) (lines : Lines) (left : Option (List ℕ)) (now : W) → AsksNext rules named first bytes (Ok (Some (event, ended))) lines left → rules.Step event before now
+    pub event_ok : (event : E) (ended : Bool) (lines : Lines) (left : Option (List ℕ)) (now : W) → AsksNext rules named first bytes (Ok (Some (event, ended))) lines left → Step rules event before now
         → PlaysNext rules named first bytes before (Ok ended) now lines.number lines.window left
     event_ok event true lines left now asks step = (asks.0, asks.2, goes_on event lines left now asks step)
     event_ok event false lines left now asks step = more_to (course_of rules named first bytes) (ends Over) event before now asks step Over now (refl, refl)
@@ -85,9 +98,9 @@ module _ {F E N W : Type 0} (rules : Rules F E N W) where
 
     -- in any case the first events happened
     pub first_of_all : {X : Type 0} (now : W) (left : Option (List ℕ)) (r : Result X PlayFault) → PlaysLines rules named first bytes before r now left → PlayedFirst rules (course_of rules named first bytes) before now
-    first_of_all now left (Ok done) h = let all = course_of rules named first bytes in (all.events, [], sym (append-nil all.events), h.1)
-    first_of_all now left (Err (BadLine line)) h = let all = course_of rules named first bytes in (all.events, [], sym (append-nil all.events), h.1)
-    first_of_all now left (Err (LineTooLong line)) h = let all = course_of rules named first bytes in (all.events, [], sym (append-nil all.events), h.1)
+    first_of_all now left (Ok done) h = let all = course_of rules named first bytes in (all.events, [], now, sym (append-nil all.events), h.1, refl)
+    first_of_all now left (Err (BadLine line)) h = let all = course_of rules named first bytes in (all.events, [], now, sym (append-nil all.events), h.1, refl)
+    first_of_all now left (Err (LineTooLong line)) h = let all = course_of rules named first bytes in (all.events, [], now, sym (append-nil all.events), h.1, refl)
     first_of_all now left (Err ReadFailed) h = h.3
     first_of_all now left (Err OutOfMemory) h = h
     first_of_all now left (Err WriteFailed) h = h

@@ -6,7 +6,7 @@ use Rattle.ncp_play_script.specs.Scripts.{BadLine as Is_bad_line, LineTooLong as
 use Rattle.ncp_play_reader.specs.NextLines.{next_from, ended_lines, CameBefore}
 use Rattle.ncp_play_notes.specs.declared.fault.PlayFault.{PlayFault}
 use Rattle.ncp_play_notes.specs.declared.fault.PlayFault.TheVariants.{BadLine, LineTooLong, BadHosts, Feed, ReadFailed, WriteFailed, OutOfMemory}
-use Rattle.ncp_play_scene.specs.Rules.{Rules, Steps, asks, script, any_refusal}
+use Rattle.ncp_play_scene.specs.Rules.{Rules, Step, Steps, NextBegins, asks, script, any_refusal}
 use Rattle.ncp_play_scene.specs.Telling.{Tale, told}
 use Rattle.ncp_play_scene.specs.Playing.{TellsBeginning}
 use Rattle.ncp_play_scene.specs.NextEvents.{course_of, course_cut}
@@ -16,11 +16,12 @@ module _ {F E N W : Type 0} (rules : Rules F E N W) where
 
   -- all events of a course happened, one after the other, and it ends so
   abbrev pub PlayedTo : Course E → Ending → W → W → Type 0
-  PlayedTo course ending before now = (course.ending ≡ ending) × Steps rules.Step course.events before now
+  PlayedTo course ending before now = (course.ending ≡ ending) × Steps (Step rules) course.events before now
 
-  -- the first events of a course happened
+  -- the first events of a course happened, and the next has begun at most
   abbrev pub PlayedFirst : Course E → W → W → Type 0
-  PlayedFirst course before now = (events : List E) × (more : List E) × (course.events ≡ events ++ more) × Steps rules.Step events before now
+  PlayedFirst course before now =
+      (events : List E) × (more : List E) × (mid : W) × (course.events ≡ events ++ more) × Steps (Step rules) events before mid × NextBegins rules more mid now
 
   -- a read failed: the events of the lines that came whole happened, and they are the first of all
   abbrev pub PlayedCut : F → ℕ → List ℕ → W → W → Option (List ℕ) → Type 0

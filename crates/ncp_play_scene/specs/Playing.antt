@@ -1,9 +1,9 @@
 -- What a player of hosts has said, and what it does with one event.
-use Rattle.std.specs.Prelude.{◌≡◌, ℕ, List, Option, Result, Ok, Err}
+use Rattle.std.specs.Prelude.{◌≡◌, ◌⊎◌, ℕ, Bool, List, Option, Result, Ok, Err}
 use Rattle.ncp_play_stream.specs.Streams.{SaidSoFar}
 use Rattle.ncp_play_notes.specs.declared.fault.PlayFault.{PlayFault}
 use Rattle.ncp_play_notes.specs.declared.fault.PlayFault.TheVariants.{BadLine, LineTooLong, BadHosts, Feed, ReadFailed, WriteFailed, OutOfMemory}
-use Rattle.ncp_play_scene.specs.Rules.{Rules}
+use Rattle.ncp_play_scene.specs.Rules.{Rules, Begins, Step}
 use Rattle.ncp_play_scene.specs.Telling.{Tale, after_all, told, number_behind_notes}
 
 module _ {F E N W : Type 0} (rules : Rules F E N W) where
@@ -17,11 +17,23 @@ module _ {F E N W : Type 0} (rules : Rules F E N W) where
   abbrev pub TellsBeginning : Tale N W → W → List ℕ → List N → Option (List ℕ) → Type 0
   TellsBeginning tale began was notes written = (lost : List ℕ) × SaidSoFar was lost written (told rules.after tale began notes)
 
-  -- one event was done; or there was no memory, and nothing has happened; or it was done, and a write failed
+  -- an event, which has left so many notes, left one more; or there was no memory, and nothing has happened; or it left
+  -- one more, and a write failed
+  abbrev pub DoesPart : E → ℕ → W → Result Bool PlayFault → W → Type 0
+  DoesPart event left before (Ok more) now = rules.Part event left more before now
+  DoesPart event left before (Err OutOfMemory) now = now ≡ before
+  DoesPart event left before (Err WriteFailed) now = (more : Bool) × rules.Part event left more before now
+  DoesPart event left before (Err ReadFailed) now = ⊥
+  DoesPart event left before (Err BadHosts) now = ⊥
+  DoesPart event left before (Err (BadLine line)) now = ⊥
+  DoesPart event left before (Err (LineTooLong line)) now = ⊥
+  DoesPart event left before (Err (Feed fault)) now = ⊥
+
+  -- one event was done; or there was no memory for all of it; or it was done up to where a write failed
   abbrev pub DoesEvent : E → W → Result Unit PlayFault → W → Type 0
-  DoesEvent event before (Ok done) now = rules.Step event before now
-  DoesEvent event before (Err OutOfMemory) now = now ≡ before
-  DoesEvent event before (Err WriteFailed) now = rules.Step event before now
+  DoesEvent event before (Ok done) now = Step rules event before now
+  DoesEvent event before (Err OutOfMemory) now = (many : ℕ) × Begins rules event 0 many before now
+  DoesEvent event before (Err WriteFailed) now = ((many : ℕ) × Begins rules event 0 many before now) ⊎ Step rules event before now
   DoesEvent event before (Err ReadFailed) now = ⊥
   DoesEvent event before (Err BadHosts) now = ⊥
   DoesEvent event before (Err (BadLine line)) now = ⊥

@@ -1,6 +1,6 @@
 -- What a script plays, whatever hosts it has: hosts that are new, the events that its lines ask for, how an event
 -- happens, and the notes that events leave.
-use Rattle.std.specs.Prelude.{◌≡◌, ℕ, Bool, List, [], ◌∷◌, Option, option_map}
+use Rattle.std.specs.Prelude.{◌≡◌, ℕ, zero, suc, Bool, true, false, List, [], ◌∷◌, Option, option_map}
 use Rattle.std.specs.List.{list_any}
 use Rattle.ncp_play_script.specs.Scripts.{Asked, Event as Asks, Script, script_of}
 
@@ -11,7 +11,7 @@ pub record Rules (F E N W : Type 0) : Type 1 where
   pub begun : F → W  -- new hosts, which have no notes
   pub notes : W → List N
   pub after : N → W → W  -- the hosts and their notes behind one note more
-  pub Step : E → W → W → Type 0  -- one event happened
+  pub Part : E → ℕ → Bool → W → W → Type 0  -- an event, which has left so many notes, leaves one more; then it goes on, or is at its end
   pub IsRun : W → Type 0  -- the notes are a transcript of the hosts
   pub is_refusal : N → Bool  -- a call was refused
 
@@ -22,6 +22,20 @@ module _ {E W : Type 0} (Step : E → W → W → Type 0) where
   Steps (event ∷ events) before now = (next : W) × Step event before next × Steps events next now
 
 module _ {F E N W : Type 0} (rules : Rules F E N W) where
+  -- an event that has left so many notes left so many more, and is not at its end
+  abbrev pub Begins : E → ℕ → ℕ → W → W → Type 0
+  Begins event left zero before now = now ≡ before
+  Begins event left (suc more) before now = (next : W) × rules.Part event left true before next × Begins event (suc left) more next now
+
+  -- one event happened, to its end
+  abbrev pub Step : E → W → W → Type 0
+  Step event before now = (many : ℕ) × (last : W) × Begins event 0 many before last × rules.Part event many false last now
+
+  -- the first of these events, if there is one, is not at its end
+  abbrev pub NextBegins : List E → W → W → Type 0
+  NextBegins [] before now = now ≡ before
+  NextBegins (event ∷ events) before now = (many : ℕ) × Begins event 0 many before now
+
   -- what a line of these words asks for, behind a first line
   abbrev pub asks : F → List (List ℕ) → Option (Asked E)
   asks named words = option_map Asks (rules.reads named words)

@@ -1,5 +1,5 @@
 //! The player of scripts, whatever hosts they have: lines are read, the event that each asks for happens, and
-//! what is told of its note is written.
+//! what is told of each note that it leaves is written.
 //!
 //! - *Use:* `ncp_play_world` has a `Scene` of two hosts, one of many, and two `Teller`s: lines, and a recording.
 //! - *Proved:* the events are those of the bytes, and what is written is what the teller tells of the notes

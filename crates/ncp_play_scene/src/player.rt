@@ -3,7 +3,6 @@ ghost use Rattle.std.specs.Prelude.{◌≡◌, ◌<◌, ◌||◌, ◌⊎◌, ℕ
 ghost use Rattle.ncp_play_stream.specs.Streams.{Ahead};
 ghost use Rattle.ncp_play_page.specs.Windows.{effort};
 ghost use Rattle.ncp_play_notes.specs.Faults.{is_read_failed, is_write_failed};
-ghost use Rattle.ncp_play_scene.specs.Rules.{any_refusal};
 ghost use Rattle.ncp_play_scene.specs.Telling.{Tale};
 ghost use Rattle.ncp_play_scene.specs.NextEvents.{FindsFirst};
 ghost use Rattle.ncp_play_scene.specs.Playing.{Tells, TellsAs};
@@ -102,13 +101,6 @@ fn play_rest<C: Scene, T: Teller<C>, R: Source, W: Sink>(
     }
 }
 
-// Whether a call was refused.
-fn any_refusal<C: Scene>(notes: &[C::Note]) -> bool
-    ensures { result ≡ any_refusal C.rules notes.now }
-{
-    notes.iter().any(|note| C::is_refusal(note))
-}
-
 // Plays the lines behind the first, and answers whether no call was refused.
 fn play_all<C: Scene, T: Teller<C>, R: Source, W: Sink>(
     alloc: Global,
@@ -128,7 +120,7 @@ fn play_all<C: Scene, T: Teller<C>, R: Source, W: Sink>(
     ensures sink_mark { W.has_failed sink.new ≡ (W.has_failed sink.old || is_write_failed result) }
 {
     let played = play_rest::<C, T, R, W>(alloc, first, ended, lines, source, player, sink);
-    let good = !any_refusal::<C>(C::notes(&player.hosts));
+    let good = !C::any_refusal(&player.hosts);
     played?;
     Ok(good)
 }

@@ -1,8 +1,8 @@
-//! One event of a player: it happens to the hosts, and its note is told.
-ghost use Rattle.std.specs.Prelude.{◌≡◌, ◌+◌, ◌≤◌, ◌||◌, ℕ, List, is_err};
+//! One event of a player: it happens to the hosts, and each note that it leaves is told.
+ghost use Rattle.std.specs.Prelude.{◌≡◌, ◌+◌, ◌≤◌, ◌<◌, ◌^◌, ◌||◌, ℕ, List, true, length, IfOk};
 ghost use Rattle.ncp_play_stream.specs.Pieces.{bytes_and_writes, lost_pieces};
 ghost use Rattle.ncp_play_notes.specs.Faults.{is_write_failed};
-ghost use Rattle.ncp_play_scene.specs.Playing.{DoesEvent, Tells, TellsAs};
+ghost use Rattle.ncp_play_scene.specs.Playing.{DoesPart, DoesEvent, Tells, TellsAs};
 
 use crate::scene::Scene;
 use crate::teller::Teller;
@@ -11,11 +11,40 @@ use ncp_play_page::Page;
 use ncp_play_reader::{Lines, let_out};
 use ncp_play_stream::Sink;
 
-/// Does what an event says in a script of this first line, and says what is told of its note, which has
-/// this number; then the number is that of the next note.
+// Does the next part of an event, which has left so many notes, and says what is told of the note that it leaves, which
+// has this number; then the number is that of the next note. It answers whether the event goes on.
+fn play_part<C: Scene, T: Teller<C>, W: Sink>(
+    first: &C::First,
+    hosts: &mut C::Hosts,
+    event: &C::Event,
+    left: usize,
+    number: &mut u32,
+    page: &mut Page,
+    sink: &mut W,
+) -> Result<bool, PlayFault>
+    ensures part { DoesPart C.rules event.now left hosts.old result hosts.new }
+    ensures told { (began : C.Hosts) (was : List ℕ) → Tells C.rules (T.tale first.now) began was hosts.old number.old page.old (W.written sink.old) → TellsAs C.rules (T.tale first.now) began was hosts.new result number.new page.new (W.written sink.new) }
+    ensures room { IfOk result (λ more. more ≡ true → length (C.rules.notes hosts.new) < 2 ^ 64) }
+    ensures writes { bytes_and_writes W.takes_all (W.writes sink.old) (W.written sink.old) ≤ bytes_and_writes W.takes_all (W.writes sink.new) (W.written sink.new) + lost_pieces (is_write_failed result) }
+    ensures mark { W.has_failed sink.new ≡ (W.has_failed sink.old || is_write_failed result) }
+{
+    let Ok(more) = C::step(hosts, event, left) else {
+        return Err(PlayFault::OutOfMemory);
+    };
+    match T::say(first, hosts, *number, page, sink) {
+        Ok(()) => {
+            *number = number.saturating_add(1);
+            Ok(more)
+        }
+        Err(_) => Err(PlayFault::WriteFailed),
+    }
+}
+
+/// Does what an event says in a script of this first line, and says what is told of each note that it leaves, the first
+/// of which has this number; then the number is that of the next note.
 ///
-/// After `OutOfMemory` nothing has happened, and the same event may be given again; after
-/// `WriteFailed` the event was done, and a beginning of all that is told is written.
+/// After `OutOfMemory` the event was done up to the note for which there was none: where it leaves one, nothing has happened;
+/// after `WriteFailed` the event was done so far, and a beginning of all that is told is written.
 pub fn play_event<C: Scene, T: Teller<C>, W: Sink>(
     first: &C::First,
     hosts: &mut C::Hosts,
@@ -29,17 +58,11 @@ pub fn play_event<C: Scene, T: Teller<C>, W: Sink>(
     ensures writes { bytes_and_writes W.takes_all (W.writes sink.old) (W.written sink.old) ≤ bytes_and_writes W.takes_all (W.writes sink.new) (W.written sink.new) + lost_pieces (is_write_failed result) }
     ensures mark { W.has_failed sink.new ≡ (W.has_failed sink.old || is_write_failed result) }
 {
-    if C::step(hosts, event).is_err() {
-        return Err(PlayFault::OutOfMemory);
+    let mut left = 0;
+    while play_part::<C, T, W>(first, hosts, event, left, number, page, sink)? {
+        left += 1;
     }
-    let notes = C::notes(hosts);
-    match T::say(first, hosts, *number, &notes[notes.len() - 1], page, sink) {
-        Ok(()) => {
-            *number = number.saturating_add(1);
-            Ok(())
-        }
-        Err(_) => Err(PlayFault::WriteFailed),
-    }
+    Ok(())
 }
 
 /// Plays an event as [`play_event`] does. Where the next line has still to be read, all that is told is written.

@@ -1,5 +1,5 @@
 //! `Scene`: the hosts that a script plays.
-ghost use Rattle.std.specs.Prelude.{◌≡◌, ◌++◌, ◌∷◌, [], ℕ, List, IfOk, IfSome, OnOk, OnErr};
+ghost use Rattle.std.specs.Prelude.{◌≡◌, ◌++◌, ◌∷◌, ◌<◌, ◌^◌, [], ℕ, List, Bool, true, length, IfOk, IfSome, OnErr};
 
 use ncp_play_script::Words;
 use std::alloc::{AllocError, Global};
@@ -8,7 +8,7 @@ use std::alloc::{AllocError, Global};
 /// and how that happens.
 pub trait Scene {
     ghost use Rattle.ncp_play_script.specs.Calls.{NamesGiveBehind};
-    ghost use Rattle.ncp_play_scene.specs.Rules.{Rules};
+    ghost use Rattle.ncp_play_scene.specs.Rules.{Rules, any_refusal};
 
     /// The hosts, with their notes.
     type Hosts: Drop;
@@ -19,7 +19,7 @@ pub trait Scene {
     /// What a line behind it asks for.
     type Event: Drop;
 
-    /// What is noted of an event.
+    /// What a part of an event leaves.
     type Note;
 
     /// What the words of lines say, and what happens.
@@ -49,26 +49,28 @@ pub trait Scene {
         requires { IsProper first.now }
         ensures { IfOk result (λ hosts. hosts ≡ rules.begun first.now) };
 
-    /// Does what an event says, and notes it. After an `AllocError` nothing has happened.
-    fn step(hosts: &mut Self::Hosts, event: &Self::Event) -> Result<(), AllocError>
-        ensures step { OnOk result (rules.Step event.now hosts.old hosts.new) }
+    /// Does the next part of an event that has left so many notes, which leaves one note more; and answers whether
+    /// the event goes on. There is room to count all notes then. After an `AllocError` nothing has happened.
+    fn step(hosts: &mut Self::Hosts, event: &Self::Event, left: usize) -> Result<bool, AllocError>
+        ensures part { IfOk result (λ more. rules.Part event.now left more hosts.old hosts.new) }
+        ensures room { IfOk result (λ more. more ≡ true → length (rules.notes hosts.new) < 2 ^ 64) }
         ensures err { OnErr result (hosts.new ≡ hosts.old) };
 
-    /// The notes of all events, the first event's first.
-    fn notes(hosts: &Self::Hosts) -> &[Self::Note]
-        ensures notes { result.now ≡ rules.notes hosts.now }
-        ensures run { rules.IsRun hosts.now };
+    /// How many notes there are.
+    fn told(hosts: &Self::Hosts) -> usize
+        ensures { result ≡ length (rules.notes hosts.now) };
 
-    /// Whether a note says that a call was refused.
-    fn is_refusal(note: &Self::Note) -> bool
-        ensures { result ≡ rules.is_refusal note.now };
+    /// Whether a call was refused.
+    fn any_refusal(hosts: &Self::Hosts) -> bool
+        ensures refusal { result ≡ any_refusal rules (rules.notes hosts.now) }
+        ensures run { rules.IsRun hosts.now };
 
     /// New hosts have no notes; and they are a transcript.
     ghost noted_none: { (first : Self.First) → rules.notes (rules.begun first) ≡ [] };
 
     ghost run_none: { (first : Self.First) → IsProper first → rules.IsRun (rules.begun first) };
 
-    /// An event leaves one note more.
-    ghost noted_one: { (event : Self.Event) (before now : Self.Hosts) → rules.Step event before now
+    /// A part of an event leaves one note more.
+    ghost noted_one: { (event : Self.Event) (left : ℕ) (more : Bool) (before now : Self.Hosts) → rules.Part event left more before now
         → (note : Self.Note) × (rules.notes now ≡ rules.notes before ++ note ∷ []) × (now ≡ rules.after note before) };
 }

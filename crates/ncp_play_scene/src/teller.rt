@@ -1,5 +1,5 @@
 //! `Teller`: what a player tells of the notes of hosts.
-ghost use Rattle.std.specs.Prelude.{◌≡◌, ◌+◌, ◌≤◌, ◌||◌, [], is_err};
+ghost use Rattle.std.specs.Prelude.{◌≡◌, ◌+◌, ◌≤◌, ◌||◌, ◌++◌, ◌∷◌, [], List, is_err};
 ghost use Rattle.ncp_play_stream.specs.Pieces.{bytes_and_writes, lost_pieces};
 ghost use Rattle.ncp_play_stream.specs.Streams.{SaysTextOrBeginning};
 
@@ -19,16 +19,15 @@ pub trait Teller<C: Scene> {
         requires { page.old ≡ [] }
         ensures { page.new ≡ (tale first.now).head };
 
-    /// Says what is told of a note of this number, which left the hosts so.
+    /// Says what is told of the last note, which has this number and left the hosts so.
     fn say<W: Sink>(
         first: &C::First,
         hosts: &C::Hosts,
         number: u32,
-        note: &C::Note,
         page: &mut Page,
         sink: &mut W,
     ) -> Result<(), Failed>
-        ensures told { SaysTextOrBeginning page.old (W.written sink.old) ((tale first.now).of_note number note.now hosts.now) result page.new (W.written sink.new) }
+        ensures told { (before : List C.Note) (note : C.Note) → C.rules.notes hosts.now ≡ before ++ note ∷ [] → SaysTextOrBeginning page.old (W.written sink.old) ((tale first.now).of_note number note hosts.now) result page.new (W.written sink.new) }
         ensures writes { bytes_and_writes W.takes_all (W.writes sink.old) (W.written sink.old) ≤ bytes_and_writes W.takes_all (W.writes sink.new) (W.written sink.new) + lost_pieces (is_err result) }
         ensures mark { W.has_failed sink.new ≡ (W.has_failed sink.old || is_err result) };
 }

@@ -4,7 +4,7 @@ use Rattle.std.specs.List.{position_or_len, onto_first}
 use Rattle.std.proofs.lemmas.Bool.Decides.{nat_tests}
 use Rattle.std.proofs.lemmas.Grind.{common_steps}
 use Rattle.std.proofs.lemmas.List.Splits.{slice_split_first, slice_split-cons_no, length-slice_split}
-use Rattle.ncp_play_script.specs.Words.{words_of, words_left}
+use Rattle.ncp_play_script.specs.Words.{words_of, words_left, is_only}
 
 abbrev is_space : ℕ → Bool
 is_space byte = byte == 32
@@ -47,3 +47,10 @@ all_read f None false e = absurd (cc)
 all_read f (Some line) true e = absurd (cc)
 all_read f (Some line) false e =
     (λ yes. absurd (cc), λ none. let len = length-slice_split is_space (f line) in let zero : length (words_of (f line)) ≡ 0 = ap length none in absurd (omega (arith, len, zero)))
+
+-- behind a space there is a word more
+pub not_only : (wanted word rest : List ℕ) → false ≡ is_only wanted (word ∷ words_of rest)
+not_only wanted word rest = let len = length-slice_split is_space rest in several (words_of rest) (omega (arith, len)) where
+  several : (words : List (List ℕ)) → 0 < length words → false ≡ is_only wanted (word ∷ words)
+  several [] none = absurd (omega (arith, none))
+  several (next ∷ words) some = refl

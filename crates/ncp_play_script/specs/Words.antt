@@ -1,7 +1,7 @@
 -- The words of a line of a script, and the numbers that they are (this profile).
-use Rattle.std.specs.Prelude.{ℕ, ◌+◌, ◌*◌, ◌-◌, ◌^◌, ◌==◌, ◌&&◌, nat_lt, nat_le, Bool, List, [], ◌∷◌, length, Option, Some, None, option_map, if◌then◌else◌}
+use Rattle.std.specs.Prelude.{ℕ, ◌+◌, ◌*◌, ◌-◌, ◌^◌, ◌==◌, ◌&&◌, nat_lt, nat_le, Bool, false, List, [], ◌∷◌, length, Option, Some, None, option_map, if◌then◌else◌}
 use Rattle.std.specs.List.{slice_split}
-use Rattle.std.specs.Str.{all_ascii_digits}
+use Rattle.std.specs.Str.{all_ascii_digits, bytes_eq}
 use Rattle.ncp_play_script.specs.declared.numbers.TheConstants.{MAX_DIGITS}
 use Rattle.ncp_play_script.specs.declared.line_words.TheConstants.{SPACE}
 
@@ -13,6 +13,12 @@ words_of line = slice_split (λ byte. byte == SPACE) line
 abbrev pub words_left : Option (List ℕ) → List (List ℕ)
 words_left None = []
 words_left (Some rest) = words_of rest
+
+-- one word is left, and it is this
+abbrev pub is_only : List ℕ → List (List ℕ) → Bool
+is_only wanted [] = false
+is_only wanted (word ∷ []) = bytes_eq wanted word
+is_only wanted (word ∷ next ∷ words) = false
 
 -- the number that is spelled by a number's digits and these behind them, the first the most significant
 abbrev pub value_after : ℕ → List ℕ → ℕ

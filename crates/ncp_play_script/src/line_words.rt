@@ -1,6 +1,6 @@
 //! `Words`.
 ghost use Rattle.std.specs.Prelude.{◌≡◌, ◌↔◌, IsTrue, [], ◌∷◌, MatchOption, option_map};
-ghost use Rattle.ncp_play_script.specs.Words.{words_of, number_first, largest_u8, largest_u16, largest_u32};
+ghost use Rattle.ncp_play_script.specs.Words.{words_of, is_only, number_first, largest_u8, largest_u16, largest_u32};
 
 use crate::cut::place_of;
 use crate::numbers::number;
@@ -38,6 +38,19 @@ impl<'a> Words<'a> {
         ensures { IsTrue result ↔ (self.now ≡ []) }
     {
         self.rest.is_none()
+    }
+
+    /// Whether one word is left, and it is this.
+    pub fn is_only(&self, word: &[u8]) -> bool
+        ensures { result ≡ is_only word.now self.now }
+    {
+        let Some(rest) = self.rest else {
+            return false;
+        };
+        match place_of(SPACE, rest) {
+            Some(_) => false,
+            None => word == rest,
+        }
     }
 
     /// The next word, if one is left.

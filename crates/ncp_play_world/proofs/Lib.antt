@@ -1,2 +1,5 @@
 pub mod ManyFound
 mod Tellings
+mod Traces
+mod Places
+mod Staging

@@ -1,5 +1,5 @@
 -- What a recorder tells of notes, as the file of what is recorded of them.
-use Rattle.std.proofs.Common.{◌≡◌, ℕ, List, [], ◌∷◌, ◌++◌, Option, Some, None, option_to_list, refl, ap, sym, ◌∙◌}
+use Rattle.std.proofs.Common.{◌≡◌, ℕ, ◌+◌, List, [], ◌∷◌, ◌++◌, length, Option, Some, None, Result, option_to_list, refl, ap, sym, ◌∙◌, subst, arith}
 use Rattle.std.proofs.lemmas.List.{append-nil}
 use Rattle.std.proofs.lemmas.List.Concat.{flat_map-append}
 use Rattle.std.specs.List.{flat_map}
@@ -7,13 +7,17 @@ use Rattle.ncp_play_files.specs.declared.version.Version.TheVariants.{Two}
 use Rattle.ncp_play_page.specs.Lines.{number_after}
 use Rattle.ncp_play_files.specs.Versions.{Recorded, bytes_of_record, header_of}
 use Rattle.ncp_transcript_two.specs.declared.note.Note.{Note}
-use Rattle.ncp_transcript_two.specs.Transcript.{Noted_world}
 use Rattle.ncp_play_world_lines.specs.declared.first_line.FirstLine.{FirstLine}
+use Rattle.ncp_play_world_lines.specs.declared.settling.Trace.{Trace}
+use Rattle.ncp_play_world_lines.specs.declared.settling.Trace.TheVariants.{Noted, Settled}
+use Rattle.ncp_play_world.specs.Traces.{notes_in, IsLast}
+use Rattle.ncp_play_world.proofs.Traces.{same_last, one_more}
+use Rattle.ncp_play_stream.specs.Streams.{SaysText, SaysTextOrBeginning}
+use Rattle.ncp_play_stream.specs.declared.source.Failed.{Failed}
 use Rattle.ncp_play_scene.specs.Telling.{told_from, told}
-use Rattle.ncp_play_world.specs.WorldRules.{noted}
+use Rattle.ncp_play_world.specs.WorldRules.{StagedWorld, world_traced}
 use Rattle.ncp_transcript_many.specs.declared.many_note.ManyNote.{ManyNote}
-use Rattle.ncp_transcript_many.specs.ManyTranscript.{Noted_many}
-use Rattle.ncp_play_world.specs.ManyRules.{many_noted}
+use Rattle.ncp_play_world.specs.ManyRules.{StagedMany, many_traced}
 use Rattle.ncp_play_world_lines.specs.Recorded.{record_of, record_of_many, bytes_if, note_bytes, many_note_bytes, records_of, records_of_many, file_of_notes, file_of_many_notes}
 use Rattle.ncp_play_world.specs.Tales.{recording_of, recording_of_many}
 
@@ -21,22 +25,39 @@ one : (recorded : Option Recorded) → bytes_if recorded ≡ flat_map bytes_of_r
 one None = refl
 one (Some recorded) = sym (append-nil (bytes_of_record recorded))
 
-from : (first : FirstLine) (number : ℕ) (w : Noted_world) (notes : List Note) → told_from noted (recording_of first) number w notes ≡ flat_map bytes_of_record (records_of first.hosts notes)
+from : (first : FirstLine) (number : ℕ) (w : StagedWorld) (traces : List (Trace Note)) → told_from world_traced (recording_of first) number w traces ≡ flat_map bytes_of_record (records_of first.hosts (notes_in traces))
 from first number w [] = refl
-from first number w (note ∷ notes) =
-    ap (λ rest. note_bytes first.hosts note ++ rest) (from first (number_after number) (noted note w) notes)
-    ∙ ap (λ bytes. bytes ++ flat_map bytes_of_record (records_of first.hosts notes)) (one (record_of first.hosts note))
-    ∙ sym (flat_map-append bytes_of_record (option_to_list (record_of first.hosts note)) (records_of first.hosts notes))
+from first number w (Settled many ∷ traces) = from first (number_after number) (world_traced (Settled many) w) traces
+from first number w (Noted note ∷ traces) =
+    ap (λ rest. note_bytes first.hosts note ++ rest) (from first (number_after number) (world_traced (Noted note) w) traces)
+    ∙ ap (λ bytes. bytes ++ flat_map bytes_of_record (records_of first.hosts (notes_in traces))) (one (record_of first.hosts note))
+    ∙ sym (flat_map-append bytes_of_record (option_to_list (record_of first.hosts note)) (records_of first.hosts (notes_in traces)))
 
-pub told_is_file : (first : FirstLine) (began : Noted_world) (notes : List Note) → told noted (recording_of first) began notes ≡ file_of_notes first.hosts notes
-told_is_file first began notes = ap (λ bytes. header_of Two ++ bytes) (from first 1 began notes)
+pub told_is_file : (first : FirstLine) (began : StagedWorld) (traces : List (Trace Note)) → told world_traced (recording_of first) began traces ≡ file_of_notes first.hosts (notes_in traces)
+told_is_file first began traces = ap (λ bytes. header_of Two ++ bytes) (from first 1 began traces)
 
-from_many : (hosts : List ℕ) (number : ℕ) (m : Noted_many) (notes : List ManyNote) → told_from many_noted (recording_of_many hosts) number m notes ≡ flat_map bytes_of_record (records_of_many notes)
+from_many : (hosts : List ℕ) (number : ℕ) (m : StagedMany) (traces : List (Trace ManyNote)) → told_from many_traced (recording_of_many hosts) number m traces ≡ flat_map bytes_of_record (records_of_many (notes_in traces))
 from_many hosts number m [] = refl
-from_many hosts number m (note ∷ notes) =
-    ap (λ rest. many_note_bytes note ++ rest) (from_many hosts (number_after number) (many_noted note m) notes)
-    ∙ ap (λ bytes. bytes ++ flat_map bytes_of_record (records_of_many notes)) (one (record_of_many note))
-    ∙ sym (flat_map-append bytes_of_record (option_to_list (record_of_many note)) (records_of_many notes))
+from_many hosts number m (Settled many ∷ traces) = from_many hosts (number_after number) (many_traced (Settled many) m) traces
+from_many hosts number m (Noted note ∷ traces) =
+    ap (λ rest. many_note_bytes note ++ rest) (from_many hosts (number_after number) (many_traced (Noted note) m) traces)
+    ∙ ap (λ bytes. bytes ++ flat_map bytes_of_record (records_of_many (notes_in traces))) (one (record_of_many note))
+    ∙ sym (flat_map-append bytes_of_record (option_to_list (record_of_many note)) (records_of_many (notes_in traces)))
 
-pub told_is_file_of_many : (hosts : List ℕ) (began : Noted_many) (notes : List ManyNote) → told many_noted (recording_of_many hosts) began notes ≡ file_of_many_notes notes
-told_is_file_of_many hosts began notes = ap (λ bytes. header_of Two ++ bytes) (from_many hosts 1 began notes)
+pub told_is_file_of_many : (hosts : List ℕ) (began : StagedMany) (traces : List (Trace ManyNote)) → told many_traced (recording_of_many hosts) began traces ≡ file_of_many_notes (notes_in traces)
+told_is_file_of_many hosts began traces = ap (λ bytes. header_of Two ++ bytes) (from_many hosts 1 began traces)
+
+-- ---- the last trace
+
+module _ {N : Type 0} (traces before : List (Trace N)) (trace : Trace N) (e : traces ≡ before ++ trace ∷ []) where
+  -- what is said of the last is said of it
+  pub told_last : (text : Trace N → List ℕ) (it : Trace N) (page last : List ℕ) (a b : Option (List ℕ)) (r : Result Unit Failed) → IsLast it traces → SaysTextOrBeginning page a (text it) r last b → SaysTextOrBeginning page a (text trace) r last b
+  told_last text it page last a b r is says = subst (λ (t : Trace N). SaysTextOrBeginning page a (text t) r last b) (same_last traces before is.0 trace it e is.1) says
+
+  -- there is one
+  pub no_last : traces ≡ [] → ⊥
+  no_last none = let longer = one_more traces before trace e in let empty = ap length none in omega (arith, longer, empty)
+
+-- nothing is said
+pub nothing_said : (page : List ℕ) (a : Option (List ℕ)) → SaysText page a [] page a
+nothing_said page a = λ was said k. (k.0, k.1, k.2 ∙ sym (append-nil said))

@@ -1,3 +1,4 @@
+pub mod Traces
 pub mod WorldRules
 pub mod WorldLaws
 pub mod LedgerLines

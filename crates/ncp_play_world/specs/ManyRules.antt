@@ -9,9 +9,17 @@ use Rattle.ncp_transcript_many.specs.declared.many_event.ManyEvent.{ManyEvent}
 use Rattle.ncp_transcript_many.specs.declared.many_note.ManyNote.{ManyNote}
 use Rattle.ncp_transcript_many.specs.declared.many_note.ManyNote.TheVariants as many
 use Rattle.ncp_transcript_many.specs.Crowd.{are_hosts, after_many}
-use Rattle.ncp_transcript_many.specs.ManyTranscript.{Noted_many, IsManyStep, IsManyTranscript, new_many}
+use Rattle.ncp_transcript_many.specs.ManyHappening.{ManyNoted}
+use Rattle.ncp_transcript_many.specs.ManyTranscript.{Noted_many, IsManySaid, IsManyTranscript, new_many}
 use Rattle.ncp_play_scene.specs.Rules.{Rules, script}
+use Rattle.ncp_proof_progress_many.specs.ManySettling.{AreSettled, ManyByItself}
+use Rattle.ncp_play_world_lines.specs.declared.settling.Deed.{Deed}
+use Rattle.ncp_play_world_lines.specs.declared.settling.Deed.TheVariants.{Event as Does, Settle}
+use Rattle.ncp_play_world_lines.specs.declared.settling.Trace.{Trace}
+use Rattle.ncp_play_world_lines.specs.declared.settling.Trace.TheVariants.{Noted, Settled}
+use Rattle.ncp_play_world_lines.specs.Settling.{deed_of}
 use Rattle.ncp_play_world_lines.specs.ManyLines.{many_line_of}
+use Rattle.ncp_play_world.specs.Traces.{Staged, notes_in, traced, is_trace_refusal}
 use Rattle.ncp_play_world.specs.ManyHosts.{many_of}
 
 -- the first line that is not skipped begins with the word `many`
@@ -36,17 +44,31 @@ is_many_refusal (many.Nothing event) = false
 abbrev pub many_noted : ManyNote → Noted_many → Noted_many
 many_noted note m = record { crowd = after_many note m.crowd; notes = m.notes ++ note ∷ [] }
 
--- its first line names the hosts; the lines behind it ask for events of new hosts
-abbrev pub many_rules : Rules (List ℕ) ManyEvent ManyNote Noted_many
+abbrev pub StagedMany : Type 0
+StagedMany = Staged Noted_many ManyNote
+
+-- hosts behind one trace more
+abbrev pub many_traced : Trace ManyNote → StagedMany → StagedMany
+many_traced trace s = traced many_noted trace s
+
+-- A part of what a line asks for, which has left so many notes, as of two hosts.
+abbrev pub ManyPart : Deed ManyEvent → ℕ → Bool → StagedMany → StagedMany → Type 0
+ManyPart (Does event) left false before now = (note : ManyNote) × ManyNoted event note before.hosts.crowd × (now ≡ many_traced (Noted note) before)
+ManyPart (Does event) left true before now = ⊥
+ManyPart Settle left true before now = (note : ManyNote) × IsManySaid note before.hosts.crowd × ManyByItself note before.hosts.crowd × (now ≡ many_traced (Noted note) before)
+ManyPart Settle left false before now = AreSettled before.hosts.crowd × (now ≡ many_traced (Settled left) before)
+
+-- its first line names the hosts; the lines behind it ask for events of new hosts, or that they settle
+abbrev pub many_rules : Rules (List ℕ) (Deed ManyEvent) (Trace ManyNote) StagedMany
 many_rules = record {
   first = many_of;
-  reads = many_line_of;
-  begun = new_many;
-  notes = λ m. m.notes;
-  after = many_noted;
-  Step = IsManyStep;
-  IsRun = λ m. IsManyTranscript m.notes m.crowd;
-  is_refusal = is_many_refusal;
+  reads = λ hosts. deed_of (many_line_of hosts);
+  begun = λ hosts. record { hosts = new_many hosts; traces = [] };
+  notes = λ s. s.traces;
+  after = many_traced;
+  Part = ManyPart;
+  IsRun = λ s. IsManyTranscript s.hosts.notes s.hosts.crowd × (notes_in s.traces ≡ s.hosts.notes);
+  is_refusal = is_trace_refusal is_many_refusal;
 }
 
 -- hosts that can be: each number has a place in a leader
@@ -54,5 +76,5 @@ abbrev pub AreProper : List ℕ → Type 0
 AreProper hosts = (are_hosts hosts ≡ true) × ((place : ℕ) → get_or hosts place 0 < 256)
 
 -- the script of two to eight hosts that bytes are
-abbrev pub many_script : List ℕ → Script (List ℕ) ManyEvent
+abbrev pub many_script : List ℕ → Script (List ℕ) (Deed ManyEvent)
 many_script bytes = script many_rules bytes

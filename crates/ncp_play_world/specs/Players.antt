@@ -2,19 +2,18 @@
 use Rattle.std.specs.Prelude.{ℕ, Bool, List, Option, Result}
 use Rattle.ncp_play_notes.specs.declared.fault.PlayFault.{PlayFault}
 use Rattle.ncp_transcript_two.specs.declared.note.Note.{Note}
-use Rattle.ncp_transcript_two.specs.Transcript.{Noted_world}
 use Rattle.ncp_transcript_many.specs.declared.many_note.ManyNote.{ManyNote}
-use Rattle.ncp_transcript_many.specs.ManyTranscript.{Noted_many}
+use Rattle.ncp_play_world_lines.specs.declared.settling.Trace.{Trace}
 use Rattle.ncp_play_scene.specs.Telling.{Tale}
 use Rattle.ncp_play_scene.specs.Players.{PlaysScript}
 use Rattle.ncp_play_world_lines.specs.declared.first_line.FirstLine.{FirstLine}
-use Rattle.ncp_play_world.specs.WorldRules.{world_rules}
-use Rattle.ncp_play_world.specs.ManyRules.{many_rules}
+use Rattle.ncp_play_world.specs.WorldRules.{StagedWorld, world_rules}
+use Rattle.ncp_play_world.specs.ManyRules.{StagedMany, many_rules}
 
 -- what was done with a script of two hosts and written of it, by the answer
-abbrev pub PlaysWorld : (FirstLine → Tale Note Noted_world) → List ℕ → List ℕ → Result Bool PlayFault → Option (List ℕ) → Option (List ℕ) → Type 0
+abbrev pub PlaysWorld : (FirstLine → Tale (Trace Note) StagedWorld) → List ℕ → List ℕ → Result Bool PlayFault → Option (List ℕ) → Option (List ℕ) → Type 0
 PlaysWorld tale bytes was result left written = PlaysScript world_rules tale bytes was result left written
 
 -- the same of a script of two to eight hosts
-abbrev pub PlaysMany : (List ℕ → Tale ManyNote Noted_many) → List ℕ → List ℕ → Result Bool PlayFault → Option (List ℕ) → Option (List ℕ) → Type 0
+abbrev pub PlaysMany : (List ℕ → Tale (Trace ManyNote) StagedMany) → List ℕ → List ℕ → Result Bool PlayFault → Option (List ℕ) → Option (List ℕ) → Type 0
 PlaysMany tale bytes was result left written = PlaysScript many_rules tale bytes was result left written

@@ -1,16 +1,26 @@
 -- What a script of two hosts plays (this profile).
-use Rattle.std.specs.Prelude.{ℕ, Bool, false, List, [], ◌∷◌, ◌++◌}
+use Rattle.std.specs.Prelude.{◌≡◌, ℕ, Bool, true, false, List, [], ◌∷◌, ◌++◌}
 use Rattle.ncp_transcript.specs.Notes as host_notes
 use Rattle.ncp_play_script.specs.Scripts.{Script}
 use Rattle.ncp_transcript_two.specs.declared.event.Event.{Event}
 use Rattle.ncp_transcript_two.specs.declared.note.Note.{Note}
 use Rattle.ncp_transcript_two.specs.declared.note.Note.TheVariants as notes
 use Rattle.ncp_transcript_two.specs.Between.{after_note}
-use Rattle.ncp_transcript_two.specs.Transcript.{Noted_world, IsStep, IsTranscript, new_world}
+use Rattle.ncp_transcript_two.specs.Happening.{Noted as Happens}
+use Rattle.ncp_transcript_two.specs.Seen.{seen}
+use Rattle.ncp_transcript_two.specs.Transcript.{Noted_world, IsSaid, IsTranscript, new_world}
+use Rattle.ncp_proof_progress_settled.specs.Settled.{IsSettled}
+use Rattle.ncp_proof_settling.specs.Settling.{ByItself}
 use Rattle.ncp_play_scene.specs.Rules.{Rules, script}
 use Rattle.ncp_play_world_lines.specs.declared.first_line.FirstLine.{FirstLine}
 use Rattle.ncp_play_world_lines.specs.FirstLine.{first_line_of}
 use Rattle.ncp_play_world_lines.specs.WorldLines.{world_line_of}
+use Rattle.ncp_play_world_lines.specs.declared.settling.Deed.{Deed}
+use Rattle.ncp_play_world_lines.specs.declared.settling.Deed.TheVariants.{Event as Does, Settle}
+use Rattle.ncp_play_world_lines.specs.declared.settling.Trace.{Trace}
+use Rattle.ncp_play_world_lines.specs.declared.settling.Trace.TheVariants.{Noted, Settled}
+use Rattle.ncp_play_world_lines.specs.Settling.{deed_of}
+use Rattle.ncp_play_world.specs.Traces.{Staged, notes_in, traced, is_trace_refusal}
 
 -- a call was refused
 abbrev pub is_refusal : Note → Bool
@@ -26,20 +36,35 @@ is_refusal (notes.Nothing side link wanted) = false
 abbrev pub noted : Note → Noted_world → Noted_world
 noted note w = record { hosts = after_note note w.hosts; notes = w.notes ++ note ∷ [] }
 
+abbrev pub StagedWorld : Type 0
+StagedWorld = Staged Noted_world Note
+
+-- two hosts behind one trace more
+abbrev pub world_traced : Trace Note → StagedWorld → StagedWorld
+world_traced trace s = traced noted trace s
+
+-- A part of what a line asks for, which has left so many notes. An event is one part. The word `settle` goes on by one
+-- event that can happen without a call; where there is none, it leaves how many there were.
+abbrev pub WorldPart : Deed Event → ℕ → Bool → StagedWorld → StagedWorld → Type 0
+WorldPart (Does event) left false before now = (note : Note) × Happens event note before.hosts.hosts × (now ≡ world_traced (Noted note) before)
+WorldPart (Does event) left true before now = ⊥
+WorldPart Settle left true before now = (note : Note) × IsSaid note before.hosts.hosts × ByItself note before.hosts.hosts × (now ≡ world_traced (Noted note) before)
+WorldPart Settle left false before now = IsSettled (seen before.hosts.hosts) × (now ≡ world_traced (Settled left) before)
+
 -- its first line names the two hosts, and what is watched, which changes no event; the lines behind it ask for
--- events of a new world
-abbrev pub world_rules : Rules FirstLine Event Note Noted_world
+-- events of a new world, or that it settles
+abbrev pub world_rules : Rules FirstLine (Deed Event) (Trace Note) StagedWorld
 world_rules = record {
   first = first_line_of;
-  reads = λ named. world_line_of named.hosts;
-  begun = λ named. new_world named.hosts.a named.hosts.b;
-  notes = λ w. w.notes;
-  after = noted;
-  Step = IsStep;
-  IsRun = λ w. IsTranscript w.notes w.hosts;
-  is_refusal = is_refusal;
+  reads = λ named. deed_of (world_line_of named.hosts);
+  begun = λ named. record { hosts = new_world named.hosts.a named.hosts.b; traces = [] };
+  notes = λ s. s.traces;
+  after = world_traced;
+  Part = WorldPart;
+  IsRun = λ s. IsTranscript s.hosts.notes s.hosts.hosts × (notes_in s.traces ≡ s.hosts.notes);
+  is_refusal = is_trace_refusal is_refusal;
 }
 
 -- the script of two hosts that bytes are
-abbrev pub world_script : List ℕ → Script FirstLine Event
+abbrev pub world_script : List ℕ → Script FirstLine (Deed Event)
 world_script bytes = script world_rules bytes

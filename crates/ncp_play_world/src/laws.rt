@@ -1,21 +1,36 @@
 //! Worked lines of notes, computed from the definitions: they say what the definitions mean.
-ghost use Rattle.std.specs.Prelude.{◌≡◌, codes, None, Some};
+ghost use Rattle.std.specs.Prelude.{◌≡◌, ℕ, codes, map, [], ◌∷◌, None, Some};
 ghost use Rattle.ncp_transcript_two.specs.Transcript.{new_world};
 ghost use Rattle.ncp_play_scene.specs.Telling.{told, told_from};
-ghost use Rattle.ncp_play_world.specs.WorldRules.{noted};
+ghost use Rattle.ncp_play_world.specs.WorldRules.{world_traced};
+ghost use Rattle.ncp_play_world.specs.Traces.{traces_of, place_of_line};
 ghost use Rattle.ncp_play_world.specs.LedgerLines.{amount_words, ledger_words};
+ghost use Rattle.ncp_play_world_lines.specs.declared.settling.Trace.TheVariants.{Noted, Settled};
 ghost use Rattle.ncp_play_world.specs.Tales.{lines_watching};
 ghost use Rattle.ncp_transcript_two.specs.Ledgers.{amount};
 ghost use Rattle.ncp_play_world.specs.Examples.{coming_up, each_move};
 
 /// The first lines of two hosts that come up.
 pub fn lines_of_coming_up()
-    ensures { told noted (lines_watching None) (new_world 1 2) coming_up ≡ codes "1 a reset ok\n2 a out host=2 link=0 bits=80\n  size=8 count=1\n  RST\n3 a deliver 0 control 1\n4 a answer 0 rfnm\n5 b out host=1 link=0 bits=80\n  size=8 count=1\n  RRP\n6 b deliver 0 control 1\n7 b answer 0 rfnm\n8 b ask-receive ok\n" }
+    ensures { told world_traced (lines_watching None) (record { hosts = new_world 1 2; traces = [] }) (map Noted coming_up) ≡ codes "1 a reset ok\n2 a out host=2 link=0 bits=80\n  size=8 count=1\n  RST\n3 a deliver 0 control 1\n4 a answer 0 rfnm\n5 b out host=1 link=0 bits=80\n  size=8 count=1\n  RRP\n6 b deliver 0 control 1\n7 b answer 0 rfnm\n8 b ask-receive ok\n" }
 {}
 
 /// What may become of a message, and what may not.
 pub fn lines_of_moves()
-    ensures { told_from noted (lines_watching None) 22 (new_world 1 2) each_move ≡ codes "22 a lose 2 ok\n23 a answer 2 incomplete\n24 a dead 2 ok\n25 a answer 2 dead\n26 a deliver 2 text admitted\n27 a deliver 2 nothing\n28 a lose 2 nothing\n29 b dead 255 nothing\n30 b answer 0 nothing\n31 a out nothing\n32 b state refused NoEntry\n" }
+    ensures { told_from world_traced (lines_watching None) 22 (record { hosts = new_world 1 2; traces = [] }) (map Noted each_move) ≡ codes "22 a lose 2 ok\n23 a answer 2 incomplete\n24 a dead 2 ok\n25 a answer 2 dead\n26 a deliver 2 text admitted\n27 a deliver 2 nothing\n28 a lose 2 nothing\n29 b dead 255 nothing\n30 b answer 0 nothing\n31 a out nothing\n32 b state refused NoEntry\n" }
+{}
+
+/// The line behind the events of the word `settle`.
+pub fn settling_is_told_so()
+    ensures line { told_from world_traced (lines_watching None) 8 (record { hosts = new_world 1 2; traces = [] }) (Settled 6 ∷ []) ≡ codes "8 settle 6\n" }
+{}
+
+/// A word stands among notes behind as many as its mark says, and has a number of its own.
+pub fn words_stand_among_notes_so()
+    ensures marked { traces_of {N = ℕ} (7 ∷ 8 ∷ []) (record { behind = 1; many = 5 } ∷ []) ≡ Noted 7 ∷ Settled 5 ∷ Noted 8 ∷ [] }
+    ensures note { place_of_line {N = ℕ} (Noted 7 ∷ Settled 5 ∷ Noted 8 ∷ []) 3 ≡ Some 1 }
+    ensures word { place_of_line {N = ℕ} (Noted 7 ∷ Settled 5 ∷ Noted 8 ∷ []) 2 ≡ None }
+    ensures beyond { place_of_line {N = ℕ} (Noted 7 ∷ Settled 5 ∷ Noted 8 ∷ []) 4 ≡ None }
 {}
 
 /// The line of a ledger, and that there is none.

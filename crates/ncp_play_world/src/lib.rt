@@ -1,5 +1,5 @@
 //! Scripts of two hosts, or of two to eight, and a subnet: the player, which tells the lines of what is noted, or
-//! records its messages as a message file of version 2.
+//! records its messages as a message file of version 2. At the word `settle` all happens that can without a call.
 //!
 //! ```text
 //! let is_good = play_world::<PackedStore, _, _>(alloc, &mut source, &mut sink)?;    // false if a call was refused
@@ -16,16 +16,21 @@ pub mod laws;
 mod ledger_lines;
 mod many;
 mod many_hosts;
+mod many_staged;
+mod marks;
 mod note_lines;
 mod player;
 pub mod recorded_laws;
 mod recorder;
 mod two;
+mod two_staged;
 
 pub use many::ManyPlayed;
 pub use many_hosts::ManyHosts;
-pub use ncp_play_world_lines::{FirstLine, Watch};
+pub use many_staged::ManyStaged;
+pub use ncp_play_world_lines::{Deed, FirstLine, Trace, Watch};
 pub use note_lines::NoteLines;
 pub use player::{play_script, play_world};
 pub use recorder::record_world;
 pub use two::TwoPlayed;
+pub use two_staged::TwoStaged;

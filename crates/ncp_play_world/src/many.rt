@@ -1,14 +1,18 @@
 //! The scene of two to eight hosts.
+ghost use Rattle.std.specs.Prelude.{◌≡◌};
+
 use crate::many_hosts::{ManyHosts, many_hosts};
+use crate::many_staged::ManyStaged;
 use ncp_bits::BitStore;
 use ncp_many::{Many, ManyEvent, ManyNote};
 use ncp_play_scene::Scene;
 use ncp_play_script::Words;
-use ncp_play_world_lines::many_line;
+use ncp_play_world_lines::{Deed, Trace, is_settle, many_line};
 use std::alloc::{AllocError, Global};
 use std::marker::PhantomData;
 
-/// Scripts of two to eight hosts: a [`Many`] is played.
+/// Scripts of two to eight hosts: a [`Many`] is played, and at the word `settle` goes on until nothing can happen but a
+/// call.
 pub struct ManyPlayed<S: BitStore> {
     store: PhantomData<S>,
 }
@@ -17,13 +21,13 @@ impl<S: BitStore> Scene for ManyPlayed<S> {
     ghost use Rattle.ncp_play_world.specs.ManyRules.{many_rules, AreProper};
     ghost use Rattle.ncp_play_world.specs.ManyLaws.{none_noted, none_run, one_noted};
 
-    type Hosts = Many<S>;
+    type Hosts = ManyStaged<S>;
 
     type First = ManyHosts;
 
-    type Event = ManyEvent;
+    type Event = Deed<ManyEvent>;
 
-    type Note = ManyNote;
+    type Note = Trace<ManyNote>;
 
     ghost rules = { many_rules };
 
@@ -37,30 +41,43 @@ impl<S: BitStore> Scene for ManyPlayed<S> {
         alloc: Global,
         first: &ManyHosts,
         words: &mut Words<'_>,
-    ) -> Result<Option<ManyEvent>, AllocError> {
-        many_line(alloc, first.numbers(), words)
+    ) -> Result<Option<Deed<ManyEvent>>, AllocError> {
+        if is_settle(words) {
+            return Ok(Some(Deed::Settle));
+        }
+        match many_line(alloc, first.numbers(), words)? {
+            Some(event) => Ok(Some(Deed::Event(event))),
+            None => Ok(None),
+        }
     }
 
-    fn begin(alloc: Global, first: &ManyHosts) -> Result<Many<S>, AllocError> {
+    fn begin(alloc: Global, first: &ManyHosts) -> Result<ManyStaged<S>, AllocError> {
         match Many::new(alloc, first.numbers()) {
-            Ok(hosts) => Ok(hosts),
+            Ok(many) => Ok(ManyStaged::new(alloc, many)),
             Err(_) => Err(AllocError),
         }
     }
 
-    fn step(hosts: &mut Many<S>, event: &ManyEvent) -> Result<(), AllocError> {
-        hosts.step(event)
-    }
-
-    fn notes(hosts: &Many<S>) -> &[ManyNote] {
-        hosts.transcript()
-    }
-
-    fn is_refusal(note: &ManyNote) -> bool {
-        match note {
-            ManyNote::Called { note, .. } => note.is_refusal(),
-            _ => false,
+    fn step(
+        hosts: &mut ManyStaged<S>,
+        deed: &Deed<ManyEvent>,
+        left: usize,
+    ) -> Result<bool, AllocError> {
+        match deed {
+            Deed::Event(event) => {
+                hosts.step(event)?;
+                Ok(false)
+            }
+            Deed::Settle => hosts.go_on(left),
         }
+    }
+
+    fn told(hosts: &ManyStaged<S>) -> usize {
+        hosts.told()
+    }
+
+    fn any_refusal(hosts: &ManyStaged<S>) -> bool {
+        hosts.any_refusal()
     }
 
     ghost noted_none = { none_noted };

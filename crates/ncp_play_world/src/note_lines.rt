@@ -2,16 +2,17 @@
 use crate::ledger_lines::say_ledger;
 use crate::many::ManyPlayed;
 use crate::many_hosts::ManyHosts;
+use crate::many_staged::ManyStaged;
 use crate::two::TwoPlayed;
+use crate::two_staged::TwoStaged;
 use ncp_bits::BitStore;
-use ncp_many::{Many, ManyNote};
 use ncp_play_page::Page;
 use ncp_play_scene::Teller;
 use ncp_play_stream::{Failed, Sink};
-use ncp_play_world_lines::{FirstLine, say_many_note, say_world_note};
-use ncp_world::{Note, World};
+use ncp_play_world_lines::{FirstLine, Trace, say_many_note, say_settled, say_world_note};
 
-/// The lines of notes, and behind those of each the ledger that is watched, if one is.
+/// The lines of notes, and behind those of each the ledger that is watched, if one is; and of each word `settle` how many
+/// events it made.
 pub struct NoteLines;
 
 impl<S: BitStore> Teller<TwoPlayed<S>> for NoteLines {
@@ -23,14 +24,19 @@ impl<S: BitStore> Teller<TwoPlayed<S>> for NoteLines {
 
     fn say<W: Sink>(
         first: &FirstLine,
-        world: &World<S>,
+        hosts: &TwoStaged<S>,
         number: u32,
-        note: &Note,
         page: &mut Page,
         sink: &mut W,
     ) -> Result<(), Failed> {
-        say_world_note(page, sink, number, note)?;
-        say_ledger(page, sink, first.watch, world)
+        match hosts.last() {
+            Some(Trace::Noted(note)) => {
+                say_world_note(page, sink, number, note)?;
+                say_ledger(page, sink, first.watch, hosts.world())
+            }
+            Some(Trace::Settled(many)) => say_settled(page, sink, number, many),
+            None => Ok(()),
+        }
     }
 }
 
@@ -43,12 +49,15 @@ impl<S: BitStore> Teller<ManyPlayed<S>> for NoteLines {
 
     fn say<W: Sink>(
         _first: &ManyHosts,
-        _hosts: &Many<S>,
+        hosts: &ManyStaged<S>,
         number: u32,
-        note: &ManyNote,
         page: &mut Page,
         sink: &mut W,
     ) -> Result<(), Failed> {
-        say_many_note(page, sink, number, note)
+        match hosts.last() {
+            Some(Trace::Noted(note)) => say_many_note(page, sink, number, note),
+            Some(Trace::Settled(many)) => say_settled(page, sink, number, many),
+            None => Ok(()),
+        }
     }
 }

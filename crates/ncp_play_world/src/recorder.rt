@@ -7,17 +7,17 @@ ghost use Rattle.ncp_play_world.specs.Tales.{recording_of, recording_of_many};
 
 use crate::many::ManyPlayed;
 use crate::many_hosts::ManyHosts;
+use crate::many_staged::ManyStaged;
 use crate::player::play_script;
 use crate::two::TwoPlayed;
+use crate::two_staged::TwoStaged;
 use ncp_bits::BitStore;
-use ncp_many::{Many, ManyNote};
 use ncp_play_files::{Version, push_header};
 use ncp_play_notes::PlayFault;
 use ncp_play_page::Page;
 use ncp_play_scene::Teller;
 use ncp_play_stream::{Failed, Sink, Source};
-use ncp_play_world_lines::{FirstLine, say_many_record, say_world_record};
-use ncp_world::{Note, World};
+use ncp_play_world_lines::{FirstLine, Trace, say_many_record, say_world_record};
 use std::alloc::Global;
 
 // Tells what is recorded of notes, whatever is watched.
@@ -34,13 +34,16 @@ impl<S: BitStore> Teller<TwoPlayed<S>> for Recorder {
 
     fn say<W: Sink>(
         first: &FirstLine,
-        _world: &World<S>,
+        hosts: &TwoStaged<S>,
         _number: u32,
-        note: &Note,
         page: &mut Page,
         sink: &mut W,
     ) -> Result<(), Failed> {
-        say_world_record(page, sink, first.hosts, note)
+        match hosts.last() {
+            Some(Trace::Noted(note)) => say_world_record(page, sink, first.hosts, note),
+            Some(Trace::Settled(_)) => Ok(()),
+            None => Ok(()),
+        }
     }
 }
 
@@ -55,20 +58,23 @@ impl<S: BitStore> Teller<ManyPlayed<S>> for Recorder {
 
     fn say<W: Sink>(
         _first: &ManyHosts,
-        _hosts: &Many<S>,
+        hosts: &ManyStaged<S>,
         _number: u32,
-        note: &ManyNote,
         page: &mut Page,
         sink: &mut W,
     ) -> Result<(), Failed> {
-        say_many_record(page, sink, note)
+        match hosts.last() {
+            Some(Trace::Noted(note)) => say_many_record(page, sink, note),
+            Some(Trace::Settled(_)) => Ok(()),
+            None => Ok(()),
+        }
     }
 }
 
 /// Plays a script of two hosts, or of two to eight, as [`crate::play_world`] does, and writes in place of lines
 /// a message file of version 2: its header once the hosts are known, then each message that went out,
 /// at its sender; each that came, at its receiver, as it came; and each answer, at the host that it
-/// answers. What is watched has no effect. It answers whether no call was refused.
+/// answers. What is watched has no effect, and of the word `settle` nothing is recorded but the messages. It answers whether no call was refused.
 ///
 /// Nothing is written where the first line names no hosts. After `ReadFailed` the lines that came whole
 /// were played, after `OutOfMemory` the first events; after `WriteFailed` a beginning of the file is

@@ -7,3 +7,4 @@ pub mod ManyNotes
 pub mod Recorded
 pub mod Examples
 pub mod RecordedExamples
+pub mod Settling

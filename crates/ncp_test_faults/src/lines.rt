@@ -46,6 +46,8 @@ fn wrong_words_have_their_answers(rt: HostRuntime) -> Result<(), Fail> {
         (b"c reset", "'c' is no side: a line begins with a or b"),
         (b"1 reset", "'1' is no side: a line begins with a or b"),
         (b"help", "'help' is no side: a line begins with a or b"),
+        (b"settle 1", "'settle' stands alone on its line"),
+        (b"a settle", "'settle' stands alone on its line"),
     ];
     expect(&rt, rt.alloc(), Player::World, b"hosts 1 2", ROWS)
 }
@@ -168,6 +170,8 @@ fn wrong_lines_of_many_have_their_answers(rt: HostRuntime) -> Result<(), Fail> {
         ),
         (b"1 reset", "PEER is missing: reset PEER"),
         (b"1 deliver 0", "LINK is missing: deliver TO LINK"),
+        (b"settle 1", "'settle' stands alone on its line"),
+        (b"1 settle", "'settle' stands alone on its line"),
         (
             b"1 reset 9",
             "a host that it names is none of the first line's",
@@ -183,6 +187,10 @@ fn wrong_lines_of_one_host_have_their_answers(rt: HostRuntime) -> Result<(), Fai
         (
             b"deliver 0",
             "'deliver' is a word of scripts of several hosts, which 'ncp world' plays",
+        ),
+        (
+            b"settle",
+            "'settle' is a word of scripts of several hosts, which 'ncp world' plays",
         ),
         (
             b"feed",

@@ -7,7 +7,7 @@ use ncp_play_faults::{NAMES, Player, meaning, verbs, wrong_line};
 use ncp_play_files::FileFault;
 use ncp_play_notes::PlayFault;
 use ncp_play_script::{TwoHosts, Words, host_line};
-use ncp_play_world_lines::{many_line, world_line};
+use ncp_play_world_lines::{is_settle, many_line, world_line};
 use std::alloc::{AllocError, Global};
 use std::process::Abort;
 use std::test::Fail;
@@ -64,8 +64,11 @@ const OF_THE_SUBNET: &[Row] = &[
     ("answer", &["255"]),
 ];
 
-// How many words the four tables have.
-const ALL: usize = 24;
+// The word that stands alone.
+const SETTLE: &str = "settle";
+
+// How many words the four tables have, with the one that stands alone.
+const ALL: usize = 25;
 
 // Whether the reader of these scripts takes a line. It tells the prover nothing.
 fn is_taken(alloc: Global, script: Script, line: &[u8]) -> Result<bool, AllocError> {
@@ -186,6 +189,25 @@ fn lines_of_numbers_are_read_so(rt: HostRuntime) -> Result<(), Fail> {
     )
 }
 
+/// The word of all hosts stands alone on its line, and is told so.
+#[test]
+fn settle_is_read_alone(rt: HostRuntime) -> Result<(), Fail> {
+    assert!(rt; is_settle(&Words::new(SETTLE.as_bytes())));
+    for (script, line) in [
+        (Script::Sides, "settle 7"),
+        (Script::Numbers, "settle 7"),
+        (Script::Sides, "a settle"),
+        (Script::Numbers, "1 settle"),
+    ] {
+        assert!(rt; !is_settle(&Words::new(line.as_bytes())), "{line}");
+        assert!(rt;
+            agree_on(rt.alloc(), script, &[line], &[], false)?,
+            "{line}"
+        );
+    }
+    Ok(())
+}
+
 // Whether a word is one of these rows.
 fn is_in(rows: &[Row], word: &str) -> bool {
     rows.iter().any(|row| row.0 == word)
@@ -199,7 +221,8 @@ fn no_other_word_is_a_verb(rt: HostRuntime) -> Result<(), Fail> {
         let known = is_in(CALLS, word)
             || is_in(PLAIN, word)
             || is_in(OF_ONE_HOST, word)
-            || is_in(OF_THE_SUBNET, word);
+            || is_in(OF_THE_SUBNET, word)
+            || *word == SETTLE;
         assert!(rt; known, "{word}");
     }
     Ok(())

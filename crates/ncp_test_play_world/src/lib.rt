@@ -23,4 +23,6 @@ mod refused;
 #[cfg(test)]
 mod scripts;
 #[cfg(test)]
+mod settled;
+#[cfg(test)]
 mod streams;

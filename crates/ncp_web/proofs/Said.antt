@@ -1,5 +1,5 @@
 -- What is said of one note to an empty sink.
-use Rattle.std.proofs.Common.{◌≡◌, ℕ, List, [], ◌∷◌, ◌++◌, Option, Some, Result, Ok, Err, OnOk, OnErr, refl, sym, ap, ◌∙◌, subst}
+use Rattle.std.proofs.Common.{◌≡◌, ℕ, List, [], ◌++◌, Option, Some, Result, Ok, Err, OnOk, OnErr, refl, sym, ap, ◌∙◌, subst}
 use Rattle.std.proofs.lemmas.List.{append-nil}
 use Rattle.ncp_play_script.specs.Words.{words_of}
 use Rattle.ncp_play_scene.specs.Rules.{Rules}
@@ -9,7 +9,7 @@ use Rattle.ncp_web.specs.declared.stage.Refusal.{Refusal}
 use Rattle.ncp_web.specs.declared.stage.Refusal.TheVariants.{NoLine, NoMemory, Full}
 use Rattle.ncp_play_stream.specs.declared.source.Failed.{Failed}
 use Rattle.ncp_web.specs.Readings.{IsSaid}
-use Rattle.ncp_web.specs.Sessions.{Notes, Steps, Reads, Leaves, told_last}
+use Rattle.ncp_web.specs.Sessions.{Notes, Steps, told_last}
 
 module _ (text page before : List ℕ) (no_page : page ≡ []) (no_bytes : before ≡ []) where
   -- nothing was said so far
@@ -63,13 +63,13 @@ line_written line page before left sent (Err failed) is empty ok err =
     (err.0, subst (λ (it : List ℕ). it ++ err.0 ≡ line) sent_is (one.2 ∙ append-nil page ∙ is))
 
 -- what became of a line whose event was refused, or not told to the end
-pub refused : {F E N W : Type 0} (rules : Rules F E N W) (tale : Tale N W) (first : F) (line : List ℕ) (event : E) (was now : W) (page before page' sent : List ℕ) (refusal : Refusal)
-    → page ≡ [] → before ≡ [] → rules.reads first (words_of line) ≡ Some event → Notes rules tale event was (Err refusal) now page (Some before) page' (Some sent) → Steps rules tale first line was (Err refusal) now sent
-refused rules tale first line event was now page before page' sent NoMemory no_page no_bytes reads noted =
-    let same : Some sent ≡ Some before = noted.1 in
+pub refused : {F E N W : Type 0} (rules : Rules F E N W) (tale : Tale N W) (first : F) (line : List ℕ) (event : E) (left left' : ℕ) (was now : W) (page before page' sent : List ℕ) (refusal : Refusal)
+    → page ≡ [] → before ≡ [] → rules.reads first (words_of line) ≡ Some event → Notes rules tale event left was (Err refusal) left' now page (Some before) page' (Some sent) → Steps rules tale first line left was (Err refusal) left' now sent
+refused rules tale first line event left left' was now page before page' sent NoMemory no_page no_bytes reads noted =
+    let same : Some sent ≡ Some before = noted.2 in
     let sent_is : sent ≡ before = cc in
-    (noted.0, sent_is ∙ no_bytes)
-refused rules tale first line event was now page before page' sent Full no_page no_bytes reads noted =
-    let begun = beginning (told_last rules tale noted.0 now) page before no_page no_bytes sent noted.2 in
-    (noted.0, (event, reads, noted.1), begun.0, begun.1)
-refused rules tale first line event was now page before page' sent NoLine no_page no_bytes reads noted = absurd noted
+    (noted.0, noted.1, sent_is ∙ no_bytes)
+refused rules tale first line event left left' was now page before page' sent Full no_page no_bytes reads noted =
+    let begun = beginning (told_last rules tale noted.1 now) page before no_page no_bytes sent noted.4 in
+    (noted.0, noted.1, (event, reads, noted.2), noted.3, begun.0, begun.1)
+refused rules tale first line event left left' was now page before page' sent NoLine no_page no_bytes reads noted = absurd noted

@@ -1,5 +1,5 @@
 -- What is read of the hosts of a session, which stay as they were.
-use Rattle.std.specs.Prelude.{◌≡◌, ◌⊎◌, ℕ, ◌+◌, ◌-◌, ◌==◌, nat_lt, slice_get, if◌then◌else◌, Bool, true, false, List, [], ◌∷◌, ◌++◌, length, drop, Option, None, Some, Result, Ok, Err}
+use Rattle.std.specs.Prelude.{◌≡◌, ◌⊎◌, ℕ, ◌+◌, nat_lt, slice_get, if◌then◌else◌, Bool, true, false, List, [], ◌∷◌, ◌++◌, length, drop, Option, None, Some, Result, Ok, Err}
 use Rattle.ncp_host.specs.Host.{Host}
 use Rattle.ncp_transcript.specs.declared.call.Call.{Call}
 use Rattle.ncp_transcript.specs.declared.call.Call.TheVariants as calls
@@ -13,7 +13,6 @@ use Rattle.ncp_transcript_two.specs.declared.note.Note.TheVariants as notes
 use Rattle.ncp_transcript_two.specs.declared.side.Side.{Side}
 use Rattle.ncp_transcript_two.specs.declared.side.Side.TheVariants.{A, B}
 use Rattle.ncp_transcript_two.specs.Between.{Hosts, host_of, transit_of}
-use Rattle.ncp_transcript_two.specs.Transcript.{Noted_world}
 use Rattle.ncp_transcript_two.specs.Ledgers.{ledger_of}
 use Rattle.ncp_model.specs.declared.pair.Pair.{Pair}
 use Rattle.ncp_terms.specs.declared.command.Command.{Command}
@@ -21,7 +20,6 @@ use Rattle.ncp_host.specs.Host.{state_of}
 use Rattle.ncp_host.specs.Calls.{waiting_at, kept_for}
 use Rattle.ncp_transcript_many.specs.Numbered.{thing_in}
 use Rattle.ncp_transcript_many.specs.ManyHappening.{are_two}
-use Rattle.ncp_transcript_many.specs.ManyTranscript.{Noted_many}
 use Rattle.ncp_transcript_many.specs.declared.many_event.ManyEvent.{ManyEvent}
 use Rattle.ncp_transcript_many.specs.declared.many_event.ManyEvent.TheVariants as many_events
 use Rattle.ncp_transcript_many.specs.declared.many_note.ManyNote.{ManyNote}
@@ -31,6 +29,9 @@ use Rattle.ncp_play_world_lines.specs.WorldLines.{world_line_of}
 use Rattle.ncp_play_world_lines.specs.ManyLines.{many_line_of}
 use Rattle.ncp_play_world_lines.specs.WorldNotes.{world_note_lines}
 use Rattle.ncp_play_world_lines.specs.ManyNotes.{many_note_lines}
+use Rattle.ncp_play_world.specs.Traces.{place_of_line}
+use Rattle.ncp_play_world.specs.WorldRules.{StagedWorld}
+use Rattle.ncp_play_world.specs.ManyRules.{StagedMany}
 use Rattle.ncp_web.specs.declared.stage.Stage.{Stage}
 use Rattle.ncp_web.specs.declared.stage.Stage.TheVariants.{Two, Many}
 use Rattle.ncp_web.specs.declared.stage.Refusal.{Refusal}
@@ -44,7 +45,7 @@ use Rattle.ncp_play_files.specs.Lines.{item_line}
 use Rattle.ncp_web.specs.declared.answer.TheConstants.{DONE, NO_MEMORY, NO_SESSION, NOTHING, FULL, LONGEST_MESSAGE}
 use Rattle.ncp_web.specs.declared.handle.held.Held.{Held}
 use Rattle.ncp_web.specs.Bytes.{IsFront}
-use Rattle.ncp_web.specs.Sessions.{number_of, side_at, host_at, code_of_step}
+use Rattle.ncp_web.specs.Sessions.{number_of, side_at, host_at, code_of_refusal}
 use Rattle.ncp_numbers.specs.Bytes.{bytes_of, bytes_for}
 use Rattle.ncp_transcript_two.specs.declared.ledger.Amount.{Amount}
 use Rattle.ncp_transcript_two.specs.declared.ledger.Ledger.{Ledger}
@@ -73,26 +74,26 @@ message_over message out = bytes_of message ++ drop (bytes_for (length message))
 
 -- The lines that a reading is answered as the next event of a script; any other line is answered nothing.
 
-abbrev pub read_as : {N : Type 0} → (ℕ → N → List ℕ) → List N → (HostNote → N) → Option HostNote → Option (List ℕ)
-read_as lines noted called None = None
-read_as lines noted called (Some note) = Some (lines (number_of (length noted + 1)) (called note))
+abbrev pub read_as : {N : Type 0} → (ℕ → N → List ℕ) → ℕ → (HostNote → N) → Option HostNote → Option (List ℕ)
+read_as lines told called None = None
+read_as lines told called (Some note) = Some (lines (number_of (told + 1)) (called note))
 
-abbrev pub asked_of_two : Noted_world → Option Event → Option (List ℕ)
-asked_of_two world (Some (events.Call side call)) = read_as world_note_lines world.notes (notes.Called side) (reading_of call (host_of side world.hosts))
-asked_of_two world event = None
+abbrev pub asked_of_two : StagedWorld → Option Event → Option (List ℕ)
+asked_of_two s (Some (events.Call side call)) = read_as world_note_lines (length s.traces) (notes.Called side) (reading_of call (host_of side s.hosts.hosts))
+asked_of_two s event = None
 
 -- of a host that there may be
 abbrev pub of_host : {A : Type 0} → (Host → Option A) → Option Host → Option A
 of_host read None = None
 of_host read (Some h) = read h
 
-abbrev pub asked_of_many : Noted_many → Option ManyEvent → Option (List ℕ)
-asked_of_many many (Some (many_events.Call host call)) = read_as many_note_lines many.notes (many_notes.Called host) (of_host (reading_of call) (thing_in many.crowd.hosts host))
-asked_of_many many event = None
+abbrev pub asked_of_many : StagedMany → Option ManyEvent → Option (List ℕ)
+asked_of_many s (Some (many_events.Call host call)) = read_as many_note_lines (length s.traces) (many_notes.Called host) (of_host (reading_of call) (thing_in s.hosts.crowd.hosts host))
+asked_of_many s event = None
 
 abbrev pub asked_of : Stage → List ℕ → Option (List ℕ)
-asked_of (Two s) line = asked_of_two s.world (world_line_of s.first.hosts (words_of line))
-asked_of (Many s) line = asked_of_many s.many (many_line_of s.first (words_of line))
+asked_of (Two s) line = asked_of_two s.hosts (world_line_of s.first.hosts (words_of line))
+asked_of (Many s) line = asked_of_many s.hosts (many_line_of s.first (words_of line))
 
 -- what is written of it, by the answer; there may be no memory for what the line says
 abbrev pub Asks : Option (List ℕ) → Result Unit Refusal → List ℕ → Type 0
@@ -129,18 +130,20 @@ abbrev pub of_note : {A N : Type 0} → (N → Option A) → Option N → Option
 of_note read None = None
 of_note read (Some note) = read note
 
--- of the note of an event, by its number from 1
-abbrev pub of_event : {A N : Type 0} → (N → Option A) → List N → ℕ → Option A
-of_event read noted number = if number == 0 then None else of_note read (slice_get noted (number - 1))
+-- of the note at a place that there may be
+abbrev pub of_place : {A N : Type 0} → (N → Option A) → List N → Option ℕ → Option A
+of_place read noted None = None
+of_place read noted (Some place) = of_note read (slice_get noted place)
 
+-- of the event whose line has this number
 abbrev pub message_in : Stage → ℕ → Option (List Bool)
-message_in (Two s) number = of_event message_of_two s.world.notes number
-message_in (Many s) number = of_event message_of_many s.many.notes number
+message_in (Two s) number = of_place message_of_two s.hosts.hosts.notes (place_of_line s.hosts.traces number)
+message_in (Many s) number = of_place message_of_many s.hosts.hosts.notes (place_of_line s.hosts.traces number)
 
 -- the ledger of a sender of two hosts
 abbrev pub ledger_at_side : Option Side → Pair → Stage → Option Ledger
 ledger_at_side None pair stage = None
-ledger_at_side (Some side) pair (Two s) = ledger_of side pair s.world.hosts
+ledger_at_side (Some side) pair (Two s) = ledger_of side pair s.hosts.hosts.hosts
 ledger_at_side (Some side) pair (Many s) = None
 
 abbrev pub ledger_in : Stage → ℕ → Pair → Option Ledger
@@ -156,8 +159,8 @@ fate_between (Some B) (Some A) link w = fate_of (transit_of B link w)
 fate_between sender peer link w = Free
 
 abbrev pub fate_in : Stage → ℕ → ℕ → ℕ → Fate
-fate_in (Two s) sender peer link = fate_between (side_at s.first.hosts sender) (side_at s.first.hosts peer) link s.world.hosts
-fate_in (Many s) sender peer link = if are_two sender peer s.many.crowd then fate_of (transit_at s.many.crowd.subnet sender peer link) else Free
+fate_in (Two s) sender peer link = fate_between (side_at s.first.hosts sender) (side_at s.first.hosts peer) link s.hosts.hosts.hosts
+fate_in (Many s) sender peer link = if are_two sender peer s.hosts.hosts.crowd then fate_of (transit_at s.hosts.hosts.crowd.subnet sender peer link) else Free
 
 -- ---- behind a handle
 
@@ -165,11 +168,15 @@ fate_in (Many s) sender peer link = if are_two sender peer s.many.crowd then fat
 abbrev pub IsRefused : ℕ → ℕ → List ℕ → List ℕ → ℕ → Type 0
 IsRefused code result out out' written = (result ≡ code) × (out' ≡ out) × (written ≡ 0)
 
+abbrev pub code_of_asking : Result Unit Refusal → ℕ
+code_of_asking (Ok done) = DONE
+code_of_asking (Err refusal) = code_of_refusal refusal
+
 -- a reading is written in front of a buffer, or there was no memory for as many bytes as it has
 abbrev pub AsksHeld : List ℕ → ℕ → Option Held → List ℕ → List ℕ → ℕ → Type 0
 AsksHeld line result None out out' written = IsRefused NO_SESSION result out out' written
 AsksHeld line result (Some s) out out' written =
-    (answer : Result Unit Refusal) × (text : List ℕ) × Asks (asked_of s.stage line) answer text × (result ≡ code_of_step answer) × IsFront text out out' written
+    (answer : Result Unit Refusal) × (text : List ℕ) × Asks (asked_of s.stage line) answer text × (result ≡ code_of_asking answer) × IsFront text out out' written
 
 abbrev pub AsksSession : List ℕ → ℕ → Option Held → List ℕ → List ℕ → ℕ → Type 0
 AsksSession line result session out out' written = IsRefused NO_MEMORY result out out' written ⊎ AsksHeld line result session out out' written

@@ -1,5 +1,5 @@
--- A session: hosts that are played line by line.
-use Rattle.std.specs.Prelude.{◌≡◌, ◌≢◌, ◌⊎◌, ℕ, ◌==◌, if◌then◌else◌, Bool, true, false, List, [], ◌∷◌, ◌++◌, length, min, Option, None, Some, Result, Ok, Err}
+-- A session: hosts that are played line by line, and each line note by note.
+use Rattle.std.specs.Prelude.{◌≡◌, ◌⊎◌, ℕ, zero, suc, ◌+◌, ◌==◌, if◌then◌else◌, Bool, true, false, List, [], ◌∷◌, ◌++◌, length, min, Option, None, Some, Result, Ok, Err}
 use Rattle.ncp_host.specs.Host.{Host}
 use Rattle.ncp_play_script.specs.FirstLines.{is_many}
 use Rattle.ncp_play_script.specs.Words.{words_of}
@@ -9,13 +9,13 @@ use Rattle.ncp_transcript_two.specs.declared.side.Side.TheVariants.{A, B}
 use Rattle.ncp_transcript_two.specs.Between.{host_of}
 use Rattle.ncp_transcript_many.specs.Numbered.{thing_in}
 use Rattle.ncp_play_stream.specs.Streams.{SaysText, SaysBeginning}
-use Rattle.ncp_play_scene.specs.Rules.{Rules}
+use Rattle.ncp_play_scene.specs.Rules.{Rules, Step}
 use Rattle.ncp_play_scene.specs.Telling.{Tale}
 use Rattle.ncp_play_world.specs.WorldRules.{world_rules}
 use Rattle.ncp_play_world.specs.ManyRules.{many_rules}
 use Rattle.ncp_play_world.specs.Tales.{lines_of_script, lines_of_many}
 use Rattle.ncp_web.specs.Bytes.{IsFront}
-use Rattle.ncp_web.specs.declared.answer.TheConstants.{DONE, NO_LINE, NO_MEMORY, NO_SESSION, FULL}
+use Rattle.ncp_web.specs.declared.answer.TheConstants.{DONE, NO_LINE, NO_MEMORY, NO_SESSION, FULL, GOES_ON}
 use Rattle.ncp_web.specs.declared.handle.held.Held.{Held}
 use Rattle.ncp_web.specs.declared.stage.Stage.{Stage}
 use Rattle.ncp_web.specs.declared.stage.Stage.TheVariants.{Two, Many}
@@ -29,6 +29,10 @@ number_of count = min count 4294967295
 -- the side of a host, by its number
 abbrev pub side_at : TwoHosts → ℕ → Option Side
 side_at hosts number = if number == hosts.a then Some A else if number == hosts.b then Some B else None
+
+-- how many notes the line has left that is not at its end, behind one note more
+abbrev pub left_then : Bool → ℕ → ℕ
+left_then more left = if more then left + 1 else 0
 
 module _ {F E N W : Type 0} (rules : Rules F E N W) where
   -- new hosts, which a first line names
@@ -45,48 +49,66 @@ module _ {F E N W : Type 0} (rules : Rules F E N W) where
   Reads first line (Err NoMemory) = Unit {0}
   Reads first line (Err Full) = ⊥
 
-  -- an event happened, and left a note
-  abbrev pub Leaves : E → W → N → W → Type 0
-  Leaves event before note now = rules.Step event before now × (rules.notes now ≡ rules.notes before ++ note ∷ [])
+  -- the next part of an event happened, which had left so many notes, and left one more; then it goes on, or is at its end
+  abbrev pub Leaves : E → ℕ → Bool → W → N → W → Type 0
+  Leaves event left more before note now = rules.Part event left more before now × (rules.notes now ≡ rules.notes before ++ note ∷ [])
 
-  -- the event that a line asks for happened, and left a note
-  abbrev pub Happens : F → List ℕ → W → N → W → Type 0
-  Happens first line before note now = (event : E) × (rules.reads first (words_of line) ≡ Some event) × Leaves event before note now
+  -- the same of the event that a line asks for
+  abbrev pub Happens : F → List ℕ → ℕ → Bool → W → N → W → Type 0
+  Happens first line left more before note now = (event : E) × (rules.reads first (words_of line) ≡ Some event) × Leaves event left more before note now
 
   -- what is told of the last note, which has the number of all
   abbrev pub told_last : Tale N W → N → W → List ℕ
   told_last tale note now = tale.of_note (number_of (length (rules.notes now))) note now
 
   -- what became of an event, by the answer, and what was said of it
-  abbrev pub Notes : Tale N W → E → W → Result Unit Refusal → W → List ℕ → Option (List ℕ) → List ℕ → Option (List ℕ) → Type 0
-  Notes tale event before (Ok done) now page written page' written' = (note : N) × Leaves event before note now × SaysText page written (told_last tale note now) page' written'
-  Notes tale event before (Err NoMemory) now page written page' written' = (now ≡ before) × (written' ≡ written)
-  Notes tale event before (Err Full) now page written page' written' = (note : N) × Leaves event before note now × SaysBeginning page written (told_last tale note now) written'
-  Notes tale event before (Err NoLine) now page written page' written' = ⊥
+  abbrev pub Notes : Tale N W → E → ℕ → W → Result Bool Refusal → ℕ → W → List ℕ → Option (List ℕ) → List ℕ → Option (List ℕ) → Type 0
+  Notes tale event left before (Ok more) left' now page written page' written' =
+      (note : N) × Leaves event left more before note now × (left' ≡ left_then more left) × SaysText page written (told_last tale note now) page' written'
+  Notes tale event left before (Err NoMemory) left' now page written page' written' = (now ≡ before) × (left' ≡ left) × (written' ≡ written)
+  Notes tale event left before (Err Full) left' now page written page' written' =
+      (more : Bool) × (note : N) × Leaves event left more before note now × (left' ≡ left_then more left) × SaysBeginning page written (told_last tale note now) written'
+  Notes tale event left before (Err NoLine) left' now page written page' written' = ⊥
 
   -- what became of a line, by the answer, and what was written of it
-  abbrev pub Steps : Tale N W → F → List ℕ → W → Result Unit Refusal → W → List ℕ → Type 0
-  Steps tale first line before (Ok done) now text = (note : N) × Happens first line before note now × (text ≡ told_last tale note now)
-  Steps tale first line before (Err NoLine) now text = (rules.reads first (words_of line) ≡ None) × (now ≡ before) × (text ≡ [])
-  Steps tale first line before (Err NoMemory) now text = (now ≡ before) × (text ≡ [])
-  Steps tale first line before (Err Full) now text = (note : N) × Happens first line before note now × (more : List ℕ) × (text ++ more ≡ told_last tale note now)
+  abbrev pub Steps : Tale N W → F → List ℕ → ℕ → W → Result Bool Refusal → ℕ → W → List ℕ → Type 0
+  Steps tale first line left before (Ok more) left' now text = (note : N) × Happens first line left more before note now × (left' ≡ left_then more left) × (text ≡ told_last tale note now)
+  Steps tale first line left before (Err NoLine) left' now text = (rules.reads first (words_of line) ≡ None) × (now ≡ before) × (left' ≡ left) × (text ≡ [])
+  Steps tale first line left before (Err NoMemory) left' now text = (now ≡ before) × (left' ≡ left) × (text ≡ [])
+  Steps tale first line left before (Err Full) left' now text =
+      (more : Bool) × (note : N) × Happens first line left more before note now × (left' ≡ left_then more left) × (rest : List ℕ) × (text ++ rest ≡ told_last tale note now)
+
+  -- a line left so many notes one after the other, and goes on behind each
+  abbrev pub GoesOn : Tale N W → F → List ℕ → ℕ → ℕ → W → ℕ → W → Type 0
+  GoesOn tale first line zero left before left' now = (left' ≡ left) × (now ≡ before)
+  GoesOn tale first line (suc many) left before left' now =
+      (between : ℕ) × (next : W) × (text : List ℕ) × Steps tale first line left before (Ok true) between next text × GoesOn tale first line many between next left' now
+
+  -- the same, and then its last
+  abbrev pub PlaysOut : Tale N W → F → List ℕ → W → W → Type 0
+  PlaysOut tale first line before now =
+      (many : ℕ) × (left : ℕ) × (last : W) × (text : List ℕ) × GoesOn tale first line many 0 before left last × Steps tale first line left last (Ok false) 0 now text
+
+  -- it has done what it does in a script
+  abbrev pub IsDone : F → List ℕ → W → W → Type 0
+  IsDone first line before now = (event : E) × (rules.reads first (words_of line) ≡ Some event) × Step rules event before now
 
 -- ---- a session of two hosts, or of two to eight
 
 abbrev pub host_at : ℕ → Stage → Option Host
-host_at number (Two s) = if number == s.first.hosts.a then Some (host_of A s.world.hosts) else if number == s.first.hosts.b then Some (host_of B s.world.hosts) else None
-host_at number (Many s) = thing_in s.many.crowd.hosts number
+host_at number (Two s) = if number == s.first.hosts.a then Some (host_of A s.hosts.hosts.hosts) else if number == s.first.hosts.b then Some (host_of B s.hosts.hosts.hosts) else None
+host_at number (Many s) = thing_in s.hosts.hosts.crowd.hosts number
 
 -- the hosts that the first line of a script names, new
 abbrev pub BeginsStage : List ℕ → Result Stage Refusal → Type 0
-BeginsStage line (Ok (Two s)) = (is_many (words_of line) ≡ false) × Begins world_rules line (Ok (s.first, s.world))
-BeginsStage line (Ok (Many s)) = (is_many (words_of line) ≡ true) × Begins many_rules line (Ok (s.first, s.many))
+BeginsStage line (Ok (Two s)) = (is_many (words_of line) ≡ false) × Begins world_rules line (Ok (s.first, s.hosts)) × (s.left ≡ 0)
+BeginsStage line (Ok (Many s)) = (is_many (words_of line) ≡ true) × Begins many_rules line (Ok (s.first, s.hosts)) × (s.left ≡ 0)
 BeginsStage line (Err refusal) = (is_many (words_of line) ≡ false → Begins world_rules line (Err refusal)) × (is_many (words_of line) ≡ true → Begins many_rules line (Err refusal))
 
 -- what became of a line, and what was written of it
-abbrev pub StepsStage : List ℕ → Stage → Result Unit Refusal → Stage → List ℕ → Type 0
-StepsStage line (Two s) answer (Two t) text = (t.first ≡ s.first) × Steps world_rules (lines_of_script s.first) s.first line s.world answer t.world text
-StepsStage line (Many s) answer (Many t) text = (t.first ≡ s.first) × Steps many_rules (lines_of_many s.first) s.first line s.many answer t.many text
+abbrev pub StepsStage : List ℕ → Stage → Result Bool Refusal → Stage → List ℕ → Type 0
+StepsStage line (Two s) answer (Two t) text = (t.first ≡ s.first) × Steps world_rules (lines_of_script s.first) s.first line s.left s.hosts answer t.left t.hosts text
+StepsStage line (Many s) answer (Many t) text = (t.first ≡ s.first) × Steps many_rules (lines_of_many s.first) s.first line s.left s.hosts answer t.left t.hosts text
 StepsStage line (Two s) answer (Many t) text = ⊥
 StepsStage line (Many s) answer (Two t) text = ⊥
 
@@ -97,8 +119,9 @@ code_of_refusal NoLine = NO_LINE
 code_of_refusal NoMemory = NO_MEMORY
 code_of_refusal Full = FULL
 
-abbrev pub code_of_step : Result Unit Refusal → ℕ
-code_of_step (Ok done) = DONE
+abbrev pub code_of_step : Result Bool Refusal → ℕ
+code_of_step (Ok true) = GOES_ON
+code_of_step (Ok false) = DONE
 code_of_step (Err refusal) = code_of_refusal refusal
 
 -- the session that a first line opens stands in the place of the one that was there; where it is refused that stays
@@ -112,7 +135,7 @@ abbrev pub StepsHeld : List ℕ → ℕ → Option Held → Option Held → List
 StepsHeld line result None now out out' written = (result ≡ NO_SESSION) × (now ≡ None)
 StepsHeld line result (Some s) None out out' written = ⊥
 StepsHeld line result (Some s) (Some t) out out' written =
-    (answer : Result Unit Refusal) × (text : List ℕ) × StepsStage line s.stage answer t.stage text × (result ≡ code_of_step answer) × IsFront text out out' written
+    (answer : Result Bool Refusal) × (text : List ℕ) × StepsStage line s.stage answer t.stage text × (result ≡ code_of_step answer) × IsFront text out out' written
 
 -- the same, or there was no memory for as many bytes as the buffer has, and nothing has happened
 abbrev pub StepsSession : List ℕ → ℕ → Option Held → Option Held → List ℕ → List ℕ → ℕ → Type 0

@@ -23,6 +23,8 @@ pub const NO_LINE: u32 = 5;
 pub const FULL: u32 = 6;
 /// There is nothing to tell.
 pub const NOTHING: u32 = 7;
+/// It was done, and the line goes on: played again, it does what comes next.
+pub const GOES_ON: u32 = 8;
 
 /// How many bytes the longest message takes.
 pub const LONGEST_MESSAGE: usize = MAX_BITS / 8;

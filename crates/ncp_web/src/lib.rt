@@ -1,5 +1,6 @@
 //! What a page calls: scripts are played and recorded, message files shown, checked and audited, from bytes to bytes; and
-//! a session, which is hosts behind a handle that are played line by line and read between lines. A static library.
+//! a session, which is hosts behind a handle that are played line by line, each event by event, and read in between. A
+//! static library.
 //!
 //! What a page has to uphold: a handle is all zeros before its first use, and then what these functions left there,
 //! neither altered nor copied and used twice; pointers lead to as much as their length says, and do not overlap. Each
@@ -7,9 +8,9 @@
 //!
 //! - *Use:* `web/ncp.html`, whose module this library is.
 //! - *Proved:* what is written is what the players and the readers of files write (clauses `played`, `recorded`,
-//!   `shown`, `checked` and `audited`). A step does what its line asks for (`step`). What is read between steps is what
-//!   the definitions say of the hosts and the subnet (`asked`, `waits`, `message`, `told`, `fate`), and leaves the session
-//!   as it was (`session`).
+//!   `shown`, `checked` and `audited`). A step does the next event of its line, and what is written is what a script tells
+//!   of it (`step`). What is read between steps is what the definitions say of the hosts and the subnet (`asked`, `waits`,
+//!   `message`, `told`, `fate`), and leaves the session as it was (`session`).
 //! - *Tests:* `web/test`, in a browser.
 #![tactic(auto)]
 
@@ -17,6 +18,7 @@ mod answer;
 mod faults;
 mod files;
 mod handle;
+pub mod laws;
 mod readers;
 mod reading;
 mod scripts;
@@ -26,7 +28,7 @@ mod stepping;
 mod transit;
 
 pub use answer::{
-    BAD, DONE, FAULT, FULL, LONGEST_MESSAGE, NO_LINE, NO_MEMORY, NO_SESSION, NOTHING,
+    BAD, DONE, FAULT, FULL, GOES_ON, LONGEST_MESSAGE, NO_LINE, NO_MEMORY, NO_SESSION, NOTHING,
 };
 pub use handle::Handle;
 pub use readers::{Books, Quantity};

@@ -1,4 +1,4 @@
-//! What a page reads of a session between lines. The hosts stay as they were; each answers `NO_SESSION` where there is
+//! What a page reads of a session between events. The hosts stay as they were; each answers `NO_SESSION` where there is
 //! no session.
 ghost use Rattle.std.specs.Prelude.{◌≡◌, ◌≤◌, [], length, Some, Ok};
 ghost use Rattle.std.specs.Option.{option_copied};
@@ -128,14 +128,19 @@ fn message_in_many(note: &ManyNote) -> Option<&Message>
     }
 }
 
-// The message of an event, by its number from 1.
+// The message of an event, by the number of its line.
 fn message_of(stage: &Stage, number: usize) -> Option<&Message>
     ensures { option_copied result ≡ message_in stage.now number }
 {
-    let place = number.checked_sub(1)?;
     match stage {
-        Stage::Two(two) => message_in_two(two.world.transcript().get(place)?),
-        Stage::Many(of_many) => message_in_many(of_many.many.transcript().get(place)?),
+        Stage::Two(two) => {
+            let place = two.hosts.place_of(number)?;
+            message_in_two(two.hosts.world().transcript().get(place)?)
+        }
+        Stage::Many(of_many) => {
+            let place = of_many.hosts.place_of(number)?;
+            message_in_many(of_many.hosts.many().transcript().get(place)?)
+        }
     }
 }
 
@@ -144,7 +149,10 @@ fn ledger_at(stage: &Stage, host: u8, pair: Pair) -> Option<Ledger>
     ensures { result ≡ ledger_in stage.now host pair }
 {
     match stage {
-        Stage::Two(two) => two.world.ledger(side_of(two.first.hosts, host)?, pair),
+        Stage::Two(two) => two
+            .hosts
+            .world()
+            .ledger(side_of(two.first.hosts, host)?, pair),
         Stage::Many(_) => None,
     }
 }
@@ -186,7 +194,7 @@ fn say_many(number: u32, note: &ManyNote, sink: &mut MemorySink) -> Result<(), F
 // What a line of a script of two hosts would be answered that reads a host, as the next note.
 fn ask_two(alloc: Global, two: &TwoStage, line: &[u8], sink: &mut MemorySink) -> Result<(), Refusal>
     requires empty { sink.old.written ≡ [] }
-    ensures { Asks (asked_of_two two.now.world (world_line_of two.now.first.hosts (words_of line.now))) result sink.new.written }
+    ensures { Asks (asked_of_two two.now.hosts (world_line_of two.now.first.hosts (words_of line.now))) result sink.new.written }
 {
     let event = match world_line(alloc, two.first.hosts, &mut Words::new(line)) {
         Ok(Some(event)) => event,
@@ -196,10 +204,10 @@ fn ask_two(alloc: Global, two: &TwoStage, line: &[u8], sink: &mut MemorySink) ->
     let Event::Call { side, call } = event else {
         return Err(Refusal::NoLine);
     };
-    let Some(note) = reading(two.world.host(side), &call) else {
+    let Some(note) = reading(two.hosts.world().host(side), &call) else {
         return Err(Refusal::NoLine);
     };
-    let number = number_of(two.world.transcript().len() + 1);
+    let number = number_of(two.hosts.told().saturating_add(1));
     match say_two(number, &Note::Called { side, note }, sink) {
         Ok(()) => Ok(()),
         Err(_) => Err(Refusal::Full),
@@ -214,7 +222,7 @@ fn ask_many(
     sink: &mut MemorySink,
 ) -> Result<(), Refusal>
     requires empty { sink.old.written ≡ [] }
-    ensures { Asks (asked_of_many stage.now.many (many_line_of stage.now.first (words_of line.now))) result sink.new.written }
+    ensures { Asks (asked_of_many stage.now.hosts (many_line_of stage.now.first (words_of line.now))) result sink.new.written }
 {
     let event = match many_line(alloc, stage.first.numbers(), &mut Words::new(line)) {
         Ok(Some(event)) => event,
@@ -224,13 +232,13 @@ fn ask_many(
     let ManyEvent::Call { host, call } = event else {
         return Err(Refusal::NoLine);
     };
-    let Some(asked) = stage.many.host(host) else {
+    let Some(asked) = stage.hosts.many().host(host) else {
         return Err(Refusal::NoLine);
     };
     let Some(note) = reading(asked, &call) else {
         return Err(Refusal::NoLine);
     };
-    let number = number_of(stage.many.transcript().len() + 1);
+    let number = number_of(stage.hosts.told().saturating_add(1));
     match say_many(number, &ManyNote::Called { host, note }, sink) {
         Ok(()) => Ok(()),
         Err(_) => Err(Refusal::Full),

@@ -1,9 +1,9 @@
 //! A session begins, goes on line by line, and ends.
 ghost use Rattle.std.specs.Prelude.{◌≡◌, ◌≢◌};
-ghost use Rattle.ncp_web.specs.Sessions.{Opens, StepsSession, code_of_refusal};
+ghost use Rattle.ncp_web.specs.Sessions.{Opens, StepsSession, code_of_refusal, code_of_step};
 ghost use Rattle.std.specs.declared.option.Option.TheVariants.{None};
 
-use crate::answer::{DONE, FULL, NO_LINE, NO_MEMORY, NO_SESSION, copy_out};
+use crate::answer::{DONE, FULL, GOES_ON, NO_LINE, NO_MEMORY, NO_SESSION, copy_out};
 use crate::handle::{Handle, Held, put, take};
 use crate::stage::{Refusal, Stage};
 use ncp_play_stream::MemorySink;
@@ -17,6 +17,17 @@ pub(crate) fn code_of_refusal(refusal: Refusal) -> u32
         Refusal::NoLine => NO_LINE,
         Refusal::NoMemory => NO_MEMORY,
         Refusal::Full => FULL,
+    }
+}
+
+// The code of a step.
+fn code_of_step(answer: Result<bool, Refusal>) -> u32
+    ensures { result ≡ code_of_step answer }
+{
+    match answer {
+        Ok(true) => GOES_ON,
+        Ok(false) => DONE,
+        Err(refusal) => code_of_refusal(refusal),
     }
 }
 
@@ -41,7 +52,9 @@ pub extern "C" fn ncp_web_open(alloc: Global, handle: &mut Handle, first: &[u8])
     }
 }
 
-/// Plays a line behind the first, and writes what is told of its note.
+/// Plays a line behind the first up to its next note, and writes what is told of that. An event leaves one note. The word
+/// `settle` leaves one of each event, and one of how many they were: before that last one it answers `GOES_ON`, and is to
+/// be played again. It ends, too, where another line is played in its place.
 ///
 /// Refused, in this order: `NO_MEMORY` (for as many bytes as the buffer has), `NO_SESSION`, `NO_LINE`, `NO_MEMORY`: then
 /// nothing has happened. After `FULL` it has, and a beginning is written.
@@ -65,10 +78,7 @@ pub extern "C" fn ncp_web_step(
     let stepped = held.stage.step(alloc, line, &mut sink);
     put(handle, held);
     *written = copy_out(&sink, out);
-    match stepped {
-        Ok(()) => DONE,
-        Err(refusal) => code_of_refusal(refusal),
-    }
+    code_of_step(stepped)
 }
 
 /// Frees the hosts of the handle, if it has some.

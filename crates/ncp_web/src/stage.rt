@@ -5,25 +5,26 @@ ghost use Rattle.ncp_web.specs.Sessions.{Begins, BeginsStage, side_at, host_at};
 
 use ncp_bits::PackedStore;
 use ncp_host::Host;
-use ncp_many::Many;
 use ncp_play_scene::Scene;
 use ncp_play_script::{TwoHosts, Words, is_many};
-use ncp_play_world::{FirstLine, ManyHosts, ManyPlayed, TwoPlayed};
-use ncp_world::{Side, World};
+use ncp_play_world::{FirstLine, ManyHosts, ManyPlayed, ManyStaged, TwoPlayed, TwoStaged};
+use ncp_world::Side;
 use std::alloc::Global;
 
-/// Two hosts, with the first line of their script.
+/// Two hosts, with the first line of their script, and how many notes the line has left that is not at its end.
 #[derive(Drop)]
 pub struct TwoStage {
     pub first: FirstLine,
-    pub world: World<PackedStore>,
+    pub hosts: TwoStaged<PackedStore>,
+    pub left: usize,
 }
 
-/// Two to eight hosts, with the first line of their script.
+/// The same of two to eight hosts.
 #[derive(Drop)]
 pub struct ManyStage {
     pub first: ManyHosts,
-    pub many: Many<PackedStore>,
+    pub hosts: ManyStaged<PackedStore>,
+    pub left: usize,
 }
 
 /// The hosts of a session.
@@ -76,11 +77,19 @@ impl Stage {
         ensures { BeginsStage line.now result }
     {
         if is_many(&mut Words::new(line)) {
-            let (first, many) = begun::<ManyPlayed<PackedStore>>(alloc, line)?;
-            return Ok(Stage::Many(ManyStage { first, many }));
+            let (first, hosts) = begun::<ManyPlayed<PackedStore>>(alloc, line)?;
+            return Ok(Stage::Many(ManyStage {
+                first,
+                hosts,
+                left: 0,
+            }));
         }
-        let (first, world) = begun::<TwoPlayed<PackedStore>>(alloc, line)?;
-        Ok(Stage::Two(TwoStage { first, world }))
+        let (first, hosts) = begun::<TwoPlayed<PackedStore>>(alloc, line)?;
+        Ok(Stage::Two(TwoStage {
+            first,
+            hosts,
+            left: 0,
+        }))
     }
 
     /// The host of a number, if there is one.
@@ -90,9 +99,9 @@ impl Stage {
         match self {
             Stage::Two(two) => {
                 let side = side_of(two.first.hosts, number)?;
-                Some(two.world.host(side))
+                Some(two.hosts.world().host(side))
             }
-            Stage::Many(of_many) => of_many.many.host(number),
+            Stage::Many(of_many) => of_many.hosts.many().host(number),
         }
     }
 }

@@ -1,5 +1,5 @@
-//! A line of a script, played.
-ghost use Rattle.std.specs.Prelude.{◌≡◌, [], Some};
+//! A line of a script, played note by note.
+ghost use Rattle.std.specs.Prelude.{◌≡◌, if◌then◌else◌, [], Some};
 ghost use Rattle.ncp_web.specs.Sessions.{Notes, Reads, Steps, StepsStage, number_of};
 
 use crate::stage::{Refusal, Stage};
@@ -18,23 +18,34 @@ pub(crate) fn number_of(notes: usize) -> u32
     u32::try_from(notes).unwrap_or(u32::MAX)
 }
 
-// An event happens, and what is told of its note is said.
+// How many notes an event has left behind the next, with which it has so many; none where it is at its end.
+fn left_then(more: bool, next: usize) -> usize
+    ensures { result ≡ (if more then next else 0) }
+{
+    if more { next } else { 0 }
+}
+
+// The next part of an event happens, which has left so many notes, and what is told of its note is said. It answers
+// whether the event goes on. There is no memory for more notes than can be counted.
 fn noted<C: Scene, T: Teller<C>>(
     first: &C::First,
     hosts: &mut C::Hosts,
     event: &C::Event,
+    left: &mut usize,
     page: &mut Page,
     sink: &mut MemorySink,
-) -> Result<(), Refusal>
-    ensures { Notes C.rules (T.tale first.now) event.now hosts.old result hosts.new page.old (Some sink.old.written) page.new (Some sink.new.written) }
+) -> Result<bool, Refusal>
+    ensures { Notes C.rules (T.tale first.now) event.now left.old hosts.old result left.new hosts.new page.old (Some sink.old.written) page.new (Some sink.new.written) }
 {
-    if C::step(hosts, event).is_err() {
+    let Some(next) = left.checked_add(1) else {
         return Err(Refusal::NoMemory);
-    }
-    let notes = C::notes(hosts);
-    let number = number_of(notes.len());
-    match T::say(first, hosts, number, &notes[notes.len() - 1], page, sink) {
-        Ok(()) => Ok(()),
+    };
+    let Ok(more) = C::step(hosts, event, *left) else {
+        return Err(Refusal::NoMemory);
+    };
+    *left = left_then(more, next);
+    match T::say(first, hosts, number_of(C::told(hosts)), page, sink) {
+        Ok(()) => Ok(more),
         Err(_) => Err(Refusal::Full),
     }
 }
@@ -50,34 +61,36 @@ fn event_in<C: Scene>(alloc: Global, first: &C::First, line: &[u8]) -> Result<C:
     }
 }
 
-// The event that a line asks for happens, and what is told of its note is written to an empty sink.
+// The next part of the event that a line asks for happens, and what is told of its note is written to an empty sink.
 fn stepped<C: Scene, T: Teller<C>>(
     alloc: Global,
     first: &C::First,
     hosts: &mut C::Hosts,
+    left: &mut usize,
     line: &[u8],
     sink: &mut MemorySink,
-) -> Result<(), Refusal>
+) -> Result<bool, Refusal>
     requires empty { sink.old.written ≡ [] }
-    ensures { Steps C.rules (T.tale first.now) first.now line.now hosts.old result hosts.new sink.new.written }
+    ensures { Steps C.rules (T.tale first.now) first.now line.now left.old hosts.old result left.new hosts.new sink.new.written }
 {
     let event = event_in::<C>(alloc, first, line)?;
     let mut page = Page::new();
-    noted::<C, T>(first, hosts, &event, &mut page, sink)?;
+    let more = noted::<C, T>(first, hosts, &event, left, &mut page, sink)?;
     match page.flush(sink) {
-        Ok(()) => Ok(()),
+        Ok(()) => Ok(more),
         Err(_) => Err(Refusal::Full),
     }
 }
 
 impl Stage {
-    /// Plays a line behind the first, and says what is told of its note to an empty sink.
+    /// Plays a line behind the first up to its next note, and says what is told of that to an empty sink. It answers
+    /// whether the line goes on.
     pub(crate) fn step(
         &mut self,
         alloc: Global,
         line: &[u8],
         sink: &mut MemorySink,
-    ) -> Result<(), Refusal>
+    ) -> Result<bool, Refusal>
         requires empty { sink.old.written ≡ [] }
         ensures { StepsStage line.now self.old result self.new sink.new.written }
     {
@@ -85,14 +98,16 @@ impl Stage {
             Stage::Two(two) => stepped::<TwoPlayed<PackedStore>, NoteLines>(
                 alloc,
                 &two.first,
-                &mut two.world,
+                &mut two.hosts,
+                &mut two.left,
                 line,
                 sink,
             ),
             Stage::Many(of_many) => stepped::<ManyPlayed<PackedStore>, NoteLines>(
                 alloc,
                 &of_many.first,
-                &mut of_many.many,
+                &mut of_many.hosts,
+                &mut of_many.left,
                 line,
                 sink,
             ),

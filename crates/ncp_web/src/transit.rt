@@ -187,7 +187,7 @@ fn fate_between(two: &TwoStage, sender: u8, peer: u8, link: u8) -> Fate
     if is_same(side, other) {
         return Fate::Free;
     }
-    fate_of_two(two.world.transcript(), side, link)
+    fate_of_two(two.hosts.world().transcript(), side, link)
 }
 
 // What became of it among two to eight.
@@ -195,7 +195,7 @@ fn fate_among(of_many: &ManyStage, sender: u8, peer: u8, link: u8) -> Fate
     ensures { result ≡ fate_in (Many of_many.now) sender peer link }
 {
     what_goes_out_of_each_of_many_is_taken();
-    let many = &of_many.many;
+    let many = of_many.hosts.many();
     if many.host(sender).is_some() && many.host(peer).is_some() && sender != peer {
         fate_of_many(many.transcript(), sender, peer, link)
     } else {

@@ -1,5 +1,6 @@
 //! The worked scripts, each behind its beginning, and the records of it.
-use super::{expect_given, expect_sent, expect_up};
+use super::opening::COMING_UP_RECORDS;
+use super::{expect_behind, expect_given, expect_sent, expect_up};
 use std::test::Fail;
 
 #[test]
@@ -18,6 +19,20 @@ a out
             b"I\x02\x00\x58\x00\x01\x02\x00\x00\x08\x00\x02\x00\x61\x62",
             b"I\x01\x00\x20\x05\x02\x02\x00",
         ],
+    )
+}
+
+/// The word `settle` records the messages of its events, and nothing of its line.
+#[test]
+fn both_come_up_by_themselves(rt: HostRuntime) -> Result<(), Fail> {
+    expect_behind(
+        &rt,
+        rt.alloc(),
+        &[b"hosts 1 2\nsettle\na reset\nsettle\nsettle\n"],
+        &[COMING_UP_RECORDS],
+        b"",
+        true,
+        &[],
     )
 }
 

@@ -1,52 +1,40 @@
-use Rattle.std.proofs.Common.{◌≡◌, ◌∙◌, ℕ, sym, subst}
-use Rattle.ncp_play_stream.specs.Streams.{SaysText, SaysBeginning}
-use Rattle.ncp_play_notes.proofs.OneInput.{on_no_error, on_error}
-use Rattle.ncp_play_scene.specs.Playing.{Tells}
-use Rattle.ncp_play_scene.proofs.OneEvent.{tells_one, tells_one_broken, last_note}
+use Rattle.std.proofs.Common.{◌≡◌, ◌∙◌, ℕ, Bool, arith}
+use Rattle.std.proofs.Math.Bool.{or-false}
+use Rattle.std.proofs.lemmas.Result.{err_from_is_err_and}
+use Rattle.ncp_play_scene.proofs.OneEvent.{part_err, part_more, part_last, one_longer}
+use Rattle.ncp_play_scene.proofs.PlayedLines.{tells_err}
 use Rattle.ncp_play_scene.proofs.playing.play_event.Goals as goal
 
-pub returns-then-is_err-clause-event : goal.returns-then-is_err-clause-event
-returns-then-is_err-clause-event g c = on_error (c.step.new.hosts ≡ c.args.hosts.now) c.step.result c.step.ensures.err (sym c.is_err.ensures.value ∙ c.if-is_err.true)
+pub loop-left-preserved : goal.loop-left-preserved
+loop-left-preserved g c =
+    let rules = g.C.Scene.rules in let mid = c.loop-left.hosts in let now = c.play_part.new.hosts in
+    let one = g.met.C.Scene.noted_one c.args.event.now c.loop-left.left c.in_ok-play_part.field-0 mid now c.in_ok-play_part.ensures.part in
+    let longer = one_longer (rules.notes mid) (rules.notes now) one.0 one.1 in
+    let few = c.loop-left.invariant.few in
+    let before = c.loop-left.invariant.writes in
+    let behind = c.in_ok-play_part.ensures.writes in
+    record {
+      begun = part_more rules c.args.event.now c.loop-left.left c.in_ok-play_part.field-0 c.args.hosts.now mid now c.if-branch.true c.loop-left.invariant.begun c.in_ok-play_part.ensures.part;
+      told = λ began was told. c.in_ok-play_part.ensures.told began was (c.loop-left.invariant.told began was told);
+      few = omega (arith, few, longer);
+      writes = omega (arith, before, behind);
+      mark = c.in_ok-play_part.ensures.mark ∙ or-false _ ∙ c.loop-left.invariant.mark;
+    }
 
-pub returns-then-is_err-clause-told : goal.returns-then-is_err-clause-told
-returns-then-is_err-clause-told g c = λ began was told.
-    let same = on_error (c.step.new.hosts ≡ c.args.hosts.now) c.step.result c.step.ensures.err (sym c.is_err.ensures.value ∙ c.if-is_err.true) in
-    subst (λ (hosts : g.row.C-Hosts.Denot). Tells g.C.Scene.rules (g.T.Teller.tale c.args.first.now) began was hosts c.args.number.now c.args.page.now (g.W.Sink.written c.args.sink.now)) (sym same) told
+pub returns-in_err-play_part-clause-event : goal.returns-in_err-play_part-clause-event
+returns-in_err-play_part-clause-event g c =
+    let p = err_from_is_err_and c.from_residual.result c.from_residual.ensures.1 in
+    rw (p.1, p.2) (part_err g.C.Scene.rules c.args.event.now c.loop-left.left c.args.hosts.now c.loop-left.hosts c.play_part.new.hosts c.in_err-play_part.field-0.0 c.loop-left.invariant.begun c.in_err-play_part.ensures.part)
 
-pub returns-in-Ok-clause-event : goal.returns-in-Ok-clause-event
-returns-in-Ok-clause-event g c = on_no_error (g.C.Scene.rules.Step c.args.event.now c.args.hosts.now c.step.new.hosts) c.step.result c.step.ensures.step (sym c.is_err.ensures.value ∙ c.if-is_err.false)
+pub returns-in_err-play_part-clause-told : goal.returns-in_err-play_part-clause-told
+returns-in_err-play_part-clause-told g c = λ began was told.
+    let p = err_from_is_err_and c.from_residual.result c.from_residual.ensures.1 in
+    rw (p.1, p.2) (
+    tells_err g.C.Scene.rules (g.T.Teller.tale c.args.first.now) began was c.play_part.new.hosts Bool (Unit {0}) c.play_part.new.number c.play_part.new.page (g.W.Sink.written c.play_part.new.sink) c.in_err-play_part.field-0.0
+    (c.in_err-play_part.ensures.told began was (c.loop-left.invariant.told began was told)))
 
-pub returns-in-Err-clause-event : goal.returns-in-Err-clause-event
-returns-in-Err-clause-event g c = on_no_error (g.C.Scene.rules.Step c.args.event.now c.args.hosts.now c.step.new.hosts) c.step.result c.step.ensures.step (sym c.is_err.ensures.value ∙ c.if-is_err.false)
+pub returns-clause-event : goal.returns-clause-event
+returns-clause-event g c = part_last g.C.Scene.rules c.args.event.now c.loop-left.left c.in_ok-play_part.field-0 c.args.hosts.now c.loop-left.hosts c.play_part.new.hosts c.if-branch.false c.loop-left.invariant.begun c.in_ok-play_part.ensures.part
 
-pub returns-in-Ok-clause-told : goal.returns-in-Ok-clause-told
-returns-in-Ok-clause-told g c = λ began was told.
-    let w = g.W.Sink in let rules = g.C.Scene.rules in let tale = g.T.Teller.tale c.args.first.now in let before = c.args.hosts.now in let page = c.args.page.now in let number = c.args.number.now in
-    let old = w.written c.args.sink.now in let now = w.written c.say.new.sink in let last = c.say.new.page in let hosts = c.step.new.hosts in
-    let step : rules.Step c.args.event.now before hosts = on_no_error (rules.Step c.args.event.now before hosts) c.step.result c.step.ensures.step (sym c.is_err.ensures.value ∙ c.if-is_err.false) in
-    let one = g.met.C.Scene.noted_one c.args.event.now before hosts step in
-    let same : c.index-notes-notes.result ≡ one.0 = last_note c.notes-notes.result.now (rules.notes before) one.0 c.index-notes-notes.result (c.notes-notes.ensures.notes ∙ one.1) c.index-notes-notes.is in
-    let says = subst (λ (note : g.row.C-Note.Denot). SaysText page old (tale.of_note number note hosts) last now) same c.in-Ok.ensures.told in
-    subst (λ (next : ℕ). Tells rules tale began was hosts next last now) (sym c.saturating_add.ensures) (tells_one rules tale began was number before hosts one.0 page old told one.1 one.2 last now says)
-
-pub returns-in-Err-clause-told : goal.returns-in-Err-clause-told
-returns-in-Err-clause-told g c = λ began was told.
-    let w = g.W.Sink in let rules = g.C.Scene.rules in let tale = g.T.Teller.tale c.args.first.now in let before = c.args.hosts.now in let page = c.args.page.now in let number = c.args.number.now in
-    let old = w.written c.args.sink.now in let now = w.written c.say.new.sink in let hosts = c.step.new.hosts in
-    let step : rules.Step c.args.event.now before hosts = on_no_error (rules.Step c.args.event.now before hosts) c.step.result c.step.ensures.step (sym c.is_err.ensures.value ∙ c.if-is_err.false) in
-    let one = g.met.C.Scene.noted_one c.args.event.now before hosts step in
-    let same : c.index-notes-notes.result ≡ one.0 = last_note c.notes-notes.result.now (rules.notes before) one.0 c.index-notes-notes.result (c.notes-notes.ensures.notes ∙ one.1) c.index-notes-notes.is in
-    let says = subst (λ (note : g.row.C-Note.Denot). SaysBeginning page old (tale.of_note number note hosts) now) same c.in-Err.ensures.told in
-    tells_one_broken rules tale began was number before hosts one.0 page old told one.1 one.2 now says
-
-pub returns-in-Ok-clause-mark : goal.returns-in-Ok-clause-mark
-returns-in-Ok-clause-mark g c = c.in-Ok.ensures.mark
-
-pub returns-in-Ok-clause-writes : goal.returns-in-Ok-clause-writes
-returns-in-Ok-clause-writes g c = c.in-Ok.ensures.writes
-
-pub returns-in-Err-clause-mark : goal.returns-in-Err-clause-mark
-returns-in-Err-clause-mark g c = c.in-Err.ensures.mark
-
-pub returns-in-Err-clause-writes : goal.returns-in-Err-clause-writes
-returns-in-Err-clause-writes g c = c.in-Err.ensures.writes
+pub returns-clause-told : goal.returns-clause-told
+returns-clause-told g c = λ began was told. c.in_ok-play_part.ensures.told began was (c.loop-left.invariant.told began was told)

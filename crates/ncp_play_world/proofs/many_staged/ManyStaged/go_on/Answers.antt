@@ -1,0 +1,33 @@
+use Rattle.std.proofs.Common.{◌<◌, ◌^◌, true, false, List, length, sym, ap, subst, arith}
+use Rattle.ncp_play_world_lines.specs.declared.settling.Deed.TheVariants as deeds
+use Rattle.ncp_play_world.specs.declared.marks.Mark.{Mark}
+use Rattle.ncp_play_world.specs.Traces.{traces_of}
+use Rattle.ncp_play_world.specs.ManyRules.{ManyPart}
+use Rattle.ncp_play_world.proofs.Staging.{staged_many, many_on_part, many_rest_part, many_rest_all, room_so}
+use Rattle.ncp_play_world.proofs.many_staged.ManyStaged.go_on.Goals as goal
+
+pub returns-then-branch-clause-part : goal.returns-then-branch-clause-part
+returns-then-branch-clause-part g c =
+    subst (λ (marks : List Mark). ManyPart deeds.Settle c.args.left true c.args.self.now (staged_many c.go_on.new.self marks)) (sym c.noted.ensures.marks)
+    (many_on_part c.self.inside.many c.self.inside.marks.marks.items c.self.inside.marks.since c.self.invariant c.args.self.now c.self.view_is c.args.left c.in_ok-go_on.field-0 c.go_on.new.self c.if-branch.true c.in_ok-go_on.ensures.on)
+
+pub returns-then-branch-clause-room : goal.returns-then-branch-clause-room
+returns-then-branch-clause-room g c = λ _.
+    let told = ap length c.transcript.ensures.notes in
+    let many = c.count_of-notes.ensures.count in
+    let fits = c.count_of-notes.ensures.room in
+    let counted = c.count-words.ensures.count in
+    let few = c.count-words.ensures.room in
+    let notes : length c.go_on.new.self.notes < 2 ^ 63 = omega (arith, told, many, fits) in
+    let marks : length c.self.inside.marks.marks.items < 2 ^ 63 = omega (arith, counted, few) in
+    subst (λ (marks : List Mark). length (traces_of c.go_on.new.self.notes marks) < 2 ^ 64) (sym c.noted.ensures.marks) (room_so c.go_on.new.self.notes c.self.inside.marks.marks.items notes marks)
+
+pub invariant_of-self-2 : goal.invariant_of-self-2
+invariant_of-self-2 g c =
+    many_rest_all c.self.inside.many c.self.inside.marks.marks.items c.self.inside.marks.since c.self.invariant c.args.self.now c.self.view_is c.args.left c.in_ok-go_on.field-0 c.go_on.new.self c.settled.new.self.marks.items c.settled.new.self.since
+    c.if-branch.false c.in_ok-go_on.ensures.on c.in_ok-settled.ensures.marks c.in_ok-settled.ensures.since
+
+pub returns-clause-part : goal.returns-clause-part
+returns-clause-part g c =
+    subst (λ (marks : List Mark). ManyPart deeds.Settle c.args.left false c.args.self.now (staged_many c.go_on.new.self marks)) (sym c.in_ok-settled.ensures.marks)
+    (many_rest_part c.self.inside.many c.self.inside.marks.marks.items c.self.inside.marks.since c.self.invariant c.args.self.now c.self.view_is c.args.left c.in_ok-go_on.field-0 c.go_on.new.self c.if-branch.false c.in_ok-go_on.ensures.on)

@@ -1,0 +1,149 @@
+//! Two hosts that a script plays.
+ghost use Rattle.std.specs.Prelude.{◌≡◌, ◌<◌, ◌^◌, [], true, false, length, IfOk, OnErr, MatchOption};
+ghost use Rattle.std.specs.List.{list_any};
+ghost use Rattle.ncp_play_scene.specs.Rules.{any_refusal};
+ghost use Rattle.ncp_play_world_lines.specs.Settling.{trace_of};
+ghost use Rattle.ncp_play_world_lines.specs.declared.settling.Deed.TheVariants as deeds;
+ghost use Rattle.ncp_play_world.specs.Traces.{IsLast, place_of_line};
+ghost use Rattle.ncp_play_world.specs.WorldRules.{WorldPart, is_refusal, world_rules};
+
+use crate::marks::Marks;
+use ncp_bits::BitStore;
+use ncp_play_world_lines::Trace;
+use ncp_world::{Event, Note, World};
+use std::alloc::{AllocError, Global};
+use std::marker::Model;
+
+/// A world, and where the word `settle` stood among its notes.
+#[derive(Drop)]
+pub struct TwoStaged<S: BitStore> {
+    world: World<S>,
+    marks: Marks,
+}
+
+impl<S: BitStore> Model for TwoStaged<S> {
+    ghost use Rattle.std.specs.Prelude.{◌≡◌, ◌+◌, length};
+    ghost use Rattle.std.specs.Coded.{codes};
+    ghost use Rattle.ncp_slot.specs.Slots.{coded_slots};
+    ghost use Rattle.ncp_host.specs.Codes.{coded_ends};
+    ghost use Rattle.ncp_subnet.specs.Codes.{coded_in_transit};
+    ghost use Rattle.ncp_play_world.specs.Traces.{traces_of, notes_marked};
+    ghost use Rattle.ncp_play_world.specs.WorldRules.{StagedWorld};
+
+    ghost Value = { StagedWorld };
+
+    ghost coded = { Prim.hlevel (codes, coded_ends, coded_slots, coded_in_transit) };
+
+    ghost view = { λ s. record { hosts = s.world; traces = traces_of s.world.notes s.marks.marks.items } };
+
+    ghost invariant = { λ s. notes_marked s.marks.marks.items + s.marks.since ≡ length s.world.notes };
+}
+
+// Whether a note says that a call was refused.
+fn is_refusal(note: &Note) -> bool
+    ensures { result ≡ is_refusal note.now }
+{
+    match note {
+        Note::Called { note, .. } => note.is_refusal(),
+        _ => false,
+    }
+}
+
+// How many notes there are.
+fn count_of(notes: &[Note]) -> usize
+    ensures count { result ≡ length notes.now }
+    ensures room { result < 2 ^ 63 }
+{
+    notes.len()
+}
+
+// Whether a note says so.
+fn any_refusal(notes: &[Note]) -> bool
+    ensures { result ≡ list_any is_refusal notes.now }
+{
+    notes.iter().any(|note| is_refusal(note))
+}
+
+impl<S: BitStore> TwoStaged<S> {
+    /// A world that no line has left anything of.
+    pub(crate) fn new(alloc: Global, world: World<S>) -> TwoStaged<S>
+        requires { world.notes ≡ [] }
+        ensures { result ≡ record { hosts = world; traces = [] } }
+    {
+        TwoStaged {
+            world,
+            marks: Marks::new(alloc),
+        }
+    }
+
+    /// Does what an event says. After an `AllocError` nothing has happened.
+    pub(crate) fn step(&mut self, event: &Event) -> Result<(), AllocError>
+        ensures part { IfOk result (λ done. WorldPart (deeds.Event event.now) 0 false self.old self.new) }
+        ensures err { OnErr result (self.new ≡ self.old) }
+    {
+        self.world.step(event)?;
+        let _notes = self.world.transcript().len();
+        self.marks.noted();
+        Ok(())
+    }
+
+    /// Goes on by one event, behind so many; where there is none, that is marked, and it answers false. After an
+    /// `AllocError` nothing has happened.
+    pub(crate) fn go_on(&mut self, left: usize) -> Result<bool, AllocError>
+        ensures part { IfOk result (λ more. WorldPart deeds.Settle left more self.old self.new) }
+        ensures room { IfOk result (λ more. more ≡ true → length self.new.traces < 2 ^ 64) }
+        ensures err { OnErr result (self.new ≡ self.old) }
+    {
+        if self.world.go_on()? {
+            let _notes = count_of(self.world.transcript());
+            let _words = self.marks.count();
+            self.marks.noted();
+            return Ok(true);
+        }
+        self.marks.settled(left)?;
+        Ok(false)
+    }
+
+    /// The last of what lines have left: a note, or how many events a word `settle` made.
+    pub fn last(&self) -> Option<Trace<&Note>>
+        ensures { MatchOption result (self.now.traces ≡ []) (λ trace. IsLast (trace_of (λ note. note.now) trace) self.now.traces) }
+    {
+        match self.marks.last() {
+            Some(many) => Some(Trace::Settled(many)),
+            None => {
+                let note = self.world.transcript().last()?;
+                Some(Trace::Noted(note))
+            }
+        }
+    }
+
+    /// Whether a call was refused.
+    pub(crate) fn any_refusal(&self) -> bool
+        ensures refusal { result ≡ any_refusal world_rules self.now.traces }
+        ensures run { world_rules.IsRun self.now }
+    {
+        any_refusal(self.world.transcript())
+    }
+
+    /// The hosts, with the notes of all events.
+    pub fn world(&self) -> &World<S>
+        ensures { result.now ≡ self.now.hosts }
+    {
+        &self.world
+    }
+
+    /// How many lines have a number so far: one of each event, and one of each word `settle`.
+    pub fn told(&self) -> usize
+        ensures { result ≡ length self.now.traces }
+    {
+        count_of(self.world.transcript()) + self.marks.count()
+    }
+
+    /// The place in the transcript of the event whose line has this number, counted from 1. None where there is no such
+    /// line, and of a line that says how many events a word `settle` made.
+    pub fn place_of(&self, number: usize) -> Option<usize>
+        ensures { result ≡ place_of_line self.now.traces number }
+    {
+        self.marks.place_of(number.checked_sub(1)?)
+    }
+}

@@ -1,0 +1,68 @@
+//! The word `settle` of scripts of several hosts, and the line that is told of it.
+ghost use Rattle.std.specs.Prelude.{◌≡◌, ◌+◌, ◌≤◌, ◌||◌, ◌++◌, codes, length, is_err};
+ghost use Rattle.ncp_play_stream.specs.Pieces.{bytes_and_writes, lost_pieces};
+ghost use Rattle.ncp_play_stream.specs.Streams.{SaysTextOrBeginning};
+ghost use Rattle.ncp_play_script.specs.Words.{is_only};
+ghost use Rattle.ncp_play_world_lines.specs.Settling.{settled_line};
+
+use ncp_play_page::{LONGEST_LONG, LONGEST_NUMBER, PAGE_SIZE, Page};
+use ncp_play_script::Words;
+use ncp_play_stream::{Failed, Sink};
+
+// The word.
+const SETTLE: &[u8] = b"settle";
+
+// How many bytes the line has at most.
+const LONGEST_LINE: usize = LONGEST_NUMBER + 8 + LONGEST_LONG + 1;
+
+/// What a line of a script of several hosts asks for.
+#[derive(Drop)]
+pub enum Deed<E> {
+    /// An event.
+    Event(E),
+    /// All that can happen without a call, one event after the other.
+    Settle,
+}
+
+/// What a line leaves: a note of each event, and behind those of the word `settle` how many they were.
+#[derive(Drop)]
+pub enum Trace<N> {
+    Noted(N),
+    Settled(usize),
+}
+
+/// Whether a line is the word `settle`.
+pub fn is_settle(words: &Words<'_>) -> bool
+    ensures { result ≡ is_only (codes "settle") words.now }
+{
+    words.is_only(SETTLE)
+}
+
+// Appends the line of this number that says how many events there were.
+fn push_settled(page: &mut Page, number: u32, many: usize)
+    requires { length page.old + LONGEST_LINE ≤ PAGE_SIZE }
+    ensures { page.new ≡ page.old ++ settled_line number many }
+{
+    page.push_decimal(number);
+    page.push_text(b" settle ");
+    page.push_long(many as u64);
+    page.push(b'\n');
+}
+
+/// Says the line of this number that says how many events there were.
+///
+/// After a failed write a beginning of what was said is written. It allocates nothing.
+pub fn say_settled<W: Sink>(
+    page: &mut Page,
+    sink: &mut W,
+    number: u32,
+    many: usize,
+) -> Result<(), Failed>
+    ensures told { SaysTextOrBeginning page.old (W.written sink.old) (settled_line number many) result page.new (W.written sink.new) }
+    ensures writes { bytes_and_writes W.takes_all (W.writes sink.old) (W.written sink.old) ≤ bytes_and_writes W.takes_all (W.writes sink.new) (W.written sink.new) + lost_pieces (is_err result) }
+    ensures mark { W.has_failed sink.new ≡ (W.has_failed sink.old || is_err result) }
+{
+    page.make_room(sink, LONGEST_LINE)?;
+    push_settled(page, number, many);
+    Ok(())
+}
