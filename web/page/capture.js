@@ -17,7 +17,7 @@ class Capture {
     $("soundness").textContent = asText(line) + error;
     this.#judge();
     $("capture").showModal();
-    $("capture").scrollTop = 0;
+    $("capture-body").scrollTop = 0;
   }
 
   #read(name, ...modes) {

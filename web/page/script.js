@@ -1,3 +1,5 @@
+const SETTLE = "settle";
+
 /** A script as bytes: which of its lines are played, and where each stands. */
 class Script {
   constructor(text) {
@@ -43,7 +45,8 @@ class Script {
 
   /** Whether a line asks for all that can happen without a call: it has events, and then a line of its own. */
   isSettle(line) {
-    return this.line(line) === "settle";
+    const [begin, end] = this.place(line);
+    return end - begin === SETTLE.length && this.line(line) === SETTLE;
   }
 
   /** The number of a line in the text, from 1. */
