@@ -6,6 +6,7 @@ class Page {
   constructor(module, { examples, exercises }) {
     this.module = module;
     this.sessions = new Sessions(module);
+    this.capture = new Capture(module);
     this.examples = examples;
     this.exercises = exercises;
     this.exercise = null;
@@ -290,20 +291,9 @@ class Page {
 
   // ---- captures
 
-  /** A message file is shown and checked. What follows its connections and audits them will be two more of these. */
-  showCapture(bytes, name) {
-    const readers = [["show", "What it holds"], ["check", "Whether it is sound"]];
-    $("capture-name").textContent = name;
-    $("capture-lines").innerHTML = readers.map(([call, title]) => {
-      const { bytes: lines, error } = this.module.call(call, bytes, 16 * bytes.length + ROOM.event);
-      return `<h3>${title}</h3><pre>${escaped(asText(lines))}${escaped(error)}</pre>`;
-    }).join("");
-    $("capture").showModal();
-  }
-
   async take(file) {
     const bytes = new Uint8Array(await file.arrayBuffer());
-    if (asText(bytes.subarray(0, 3)) === "NCP") this.showCapture(bytes, file.name);
+    if (asText(bytes.subarray(0, 3)) === "NCP") this.capture.show(bytes, file.name);
     else this.choose(null, asText(bytes));
   }
 
@@ -385,7 +375,6 @@ class Page {
     $("save-capture").onclick = () => this.save(this.module.call("record", this.script.bytes).bytes, "run.ncp", "application/octet-stream");
     $("save-link").onclick = () => this.copyLink();
     $("file").onchange = () => { if ($("file").files[0]) this.take($("file").files[0]); };
-    $("close-capture").onclick = () => $("capture").close();
     addEventListener("hashchange", () => this.open(location.hash));
     addEventListener("dragover", event => event.preventDefault());
     addEventListener("drop", event => {

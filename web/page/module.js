@@ -63,12 +63,12 @@ class Module {
     return Number(new DataView(this.exports.memory.buffer).getBigUint64(at, true));
   }
 
-  /** Calls a function from bytes to bytes, with more room where the bytes do not fit. */
-  call(name, input, room = 4 * input.length + ROOM.event) {
+  /** Calls a function from bytes to bytes, some of which have modes, with more room where the bytes do not fit. */
+  call(name, input, room = 4 * input.length + ROOM.event, ...modes) {
     for (;;) {
       const from = this.put(input), out = this.room(room), [written, told] = [this.counts, this.counts + 8];
       const status = this.exports[`ncp_web_${name}`](
-        BigInt(from), BigInt(input.length), BigInt(out), BigInt(room), BigInt(written), BigInt(this.words), BigInt(ROOM.words), BigInt(told));
+        ...modes, BigInt(from), BigInt(input.length), BigInt(out), BigInt(room), BigInt(written), BigInt(this.words), BigInt(ROOM.words), BigInt(told));
       const bytes = status === ANSWER.NO_MEMORY ? new Uint8Array() : this.read(out, this.number(written));
       const error = status === ANSWER.FAULT ? asText(this.read(this.words, this.number(told))) : "";
       this.free(from, out);

@@ -1,5 +1,5 @@
 -- What is said of one note to an empty sink.
-use Rattle.std.proofs.Common.{◌≡◌, ℕ, List, [], ◌++◌, Option, Some, Err, refl, sym, ap, ◌∙◌, subst}
+use Rattle.std.proofs.Common.{◌≡◌, ℕ, List, [], ◌++◌, Option, Some, Result, Ok, Err, OnOk, OnErr, refl, sym, ap, ◌∙◌, subst}
 use Rattle.std.proofs.lemmas.List.{append-nil}
 use Rattle.ncp_play_script.specs.Words.{words_of}
 use Rattle.ncp_play_scene.specs.Rules.{Rules}
@@ -7,6 +7,8 @@ use Rattle.ncp_play_scene.specs.Telling.{Tale}
 use Rattle.ncp_play_stream.specs.Streams.{SaidSoFar, SaysText, SaysBeginning}
 use Rattle.ncp_web.specs.declared.stage.Refusal.{Refusal}
 use Rattle.ncp_web.specs.declared.stage.Refusal.TheVariants.{NoLine, NoMemory, Full}
+use Rattle.ncp_play_stream.specs.declared.source.Failed.{Failed}
+use Rattle.ncp_web.specs.Readings.{IsSaid}
 use Rattle.ncp_web.specs.Sessions.{Notes, Steps, told_last}
 
 module _ (text page before : List ℕ) (no_page : page ≡ []) (no_bytes : before ≡ []) where
@@ -39,6 +41,26 @@ module _ (text page before : List ℕ) (no_page : page ≡ []) (no_bytes : befor
       let same : Some sent ≡ Some two.0 = two.1 in
       let sent_is : two.0 ≡ sent = cc in
       (broken.0, subst (λ (it : List ℕ). it ++ broken.0 ≡ text) sent_is (two.2 ∙ append-nil text))
+
+  -- a text was said, and then the page was written, or a beginning
+  pub said_all : (middle left sent : List ℕ) (written : Option (List ℕ)) (answer : Result Unit Failed) → SaysText page (Some before) text middle written
+      → OnOk answer ((left ≡ []) × SaysText middle written [] left (Some sent)) → OnErr answer (SaysBeginning middle written [] (Some sent)) → IsSaid text answer sent
+  said_all middle left sent written (Ok done) said ok err = whole middle left sent written said ok
+  said_all middle left sent written (Err failed) said ok err = broken_off middle sent written said err
+
+-- a line on a page, which is then written to an empty sink
+pub line_written : (line page before left sent : List ℕ) (answer : Result Unit Failed) → page ≡ line → before ≡ []
+    → OnOk answer ((left ≡ []) × SaysText page (Some before) [] left (Some sent)) → OnErr answer (SaysBeginning page (Some before) [] (Some sent)) → IsSaid line answer sent
+line_written line page before left sent (Ok done) is empty ok err =
+    let one = ok.1 [] page ([], ap (λ (it : List ℕ). Some it) empty, refl) in
+    let same : Some sent ≡ Some one.0 = one.1 in
+    let sent_is : sent ≡ one.0 = cc in
+    sent_is ∙ sym (append-nil one.0) ∙ ap (λ (it : List ℕ). one.0 ++ it) (sym ok.0) ∙ one.2 ∙ append-nil page ∙ is
+line_written line page before left sent (Err failed) is empty ok err =
+    let one = err.1 [] page ([], ap (λ (it : List ℕ). Some it) empty, refl) in
+    let same : Some sent ≡ Some one.0 = one.1 in
+    let sent_is : one.0 ≡ sent = cc in
+    (err.0, subst (λ (it : List ℕ). it ++ err.0 ≡ line) sent_is (one.2 ∙ append-nil page ∙ is))
 
 -- what became of a line whose event was refused, or not told to the end
 pub refused : {F E N W : Type 0} (rules : Rules F E N W) (tale : Tale N W) (first : F) (line : List ℕ) (event : E) (left left' : ℕ) (was now : W) (page before page' sent : List ℕ) (refusal : Refusal)

@@ -1,8 +1,11 @@
 -- What a page is handed of bytes: what the players and the readers of files say of them.
-use Rattle.std.specs.Prelude.{◌≡◌, ◌≢◌, ℕ, Bool, true, false, List, [], Option, Some, Result, Ok, Err, min, take, length}
+use Rattle.std.specs.Prelude.{◌≡◌, ◌≢◌, ◌≤◌, ℕ, Bool, true, false, List, [], Option, Some, Result, Ok, Err, IfOk, min, take, drop, length}
 use Rattle.ncp_play_files.specs.declared.file.FileFault.{FileFault}
 use Rattle.ncp_play_files.specs.Shown.{Shown}
 use Rattle.ncp_play_files.specs.Checked.{Checked}
+use Rattle.ncp_play_files.specs.Writing.{Writes}
+use Rattle.ncp_umpire.specs.Judged.{new_umpire}
+use Rattle.ncp_play_audit.specs.Audited.{AuditedAs, AuditedCut, HasVerdict, done_of}
 use Rattle.ncp_play_notes.specs.declared.fault.PlayFault.{PlayFault}
 use Rattle.ncp_play_host.specs.Played.{HostPlayed}
 use Rattle.ncp_play_world.specs.ManyRules.{is_many_script}
@@ -34,9 +37,20 @@ ShowsBytes bytes answer lines = (left : Option (List ℕ)) × Shown bytes [] lef
 abbrev pub ChecksBytes : List ℕ → Result Bool FileFault → List ℕ → Type 0
 ChecksBytes bytes answer line = (left : Option (List ℕ)) × Checked bytes [] left (Some line) answer
 
--- the front of a buffer has these bytes, as far as there is room
+-- the lines of the findings of a message file, and whether there is none: of a whole capture or of a part, by all rules or
+-- by those of the standard alone
+abbrev pub AuditsBytes : Bool → Bool → List ℕ → Result Bool FileFault → List ℕ → Type 0
+AuditsBytes part standard bytes answer lines =
+    ((left : Option (List ℕ)) × Writes (AuditedAs standard (new_umpire part)) (AuditedCut standard (new_umpire part)) bytes [] left (Some lines) (done_of answer))
+    × IfOk answer (HasVerdict standard (new_umpire part) bytes)
+
+-- the front of a buffer has these bytes, as far as there is room; behind them it is as it was
 abbrev pub IsFront : List ℕ → List ℕ → List ℕ → ℕ → Type 0
-IsFront bytes before now written = (written ≡ min (length bytes) (length before)) × (take written now ≡ take written bytes)
+IsFront bytes before now written = (written ≡ min (length bytes) (length before)) × (take written now ≡ take written bytes) × (drop written now ≡ drop written before)
+
+-- some words stand in front of a buffer; a refusal changes nothing
+abbrev pub Explains : ℕ → List ℕ → List ℕ → ℕ → Type 0
+Explains result before now written = (written ≤ length before) × (drop written now ≡ drop written before) × (result ≢ DONE → written ≡ 0)
 
 -- the code of an answer
 

@@ -1,10 +1,44 @@
 -- What is read of the hosts of a session, which stay as they were.
-use Rattle.std.specs.Prelude.{◌≡◌, ℕ, Bool, true, false, List, [], ◌∷◌, ◌++◌, length, drop, Option, None, Some}
+use Rattle.std.specs.Prelude.{◌≡◌, ℕ, ◌+◌, nat_lt, slice_get, if◌then◌else◌, Bool, true, false, List, [], ◌∷◌, ◌++◌, length, drop, Option, None, Some, Result, Ok, Err}
 use Rattle.ncp_host.specs.Host.{Host}
 use Rattle.ncp_transcript.specs.declared.call.Call.{Call}
 use Rattle.ncp_transcript.specs.declared.call.Call.TheVariants as calls
 use Rattle.ncp_transcript.specs.declared.note.HostNote.{HostNote}
+use Rattle.ncp_transcript.specs.declared.note.HostNote.TheVariants as host_notes
 use Rattle.ncp_transcript.specs.Answers.{answer_to}
+use Rattle.ncp_transcript_two.specs.declared.event.Event.{Event}
+use Rattle.ncp_transcript_two.specs.declared.event.Event.TheVariants as events
+use Rattle.ncp_transcript_two.specs.declared.note.Note.{Note}
+use Rattle.ncp_transcript_two.specs.declared.note.Note.TheVariants as notes
+use Rattle.ncp_transcript_two.specs.declared.side.Side.{Side}
+use Rattle.ncp_transcript_two.specs.declared.side.Side.TheVariants.{A, B}
+use Rattle.ncp_transcript_two.specs.Between.{host_of}
+use Rattle.ncp_transcript_two.specs.Ledgers.{ledger_of}
+use Rattle.ncp_model.specs.declared.pair.Pair.{Pair}
+use Rattle.ncp_terms.specs.declared.command.Command.{Command}
+use Rattle.ncp_host.specs.Host.{state_of}
+use Rattle.ncp_host.specs.Calls.{waiting_at, kept_for}
+use Rattle.ncp_transcript_many.specs.Numbered.{thing_in}
+use Rattle.ncp_transcript_many.specs.declared.many_event.ManyEvent.{ManyEvent}
+use Rattle.ncp_transcript_many.specs.declared.many_event.ManyEvent.TheVariants as many_events
+use Rattle.ncp_transcript_many.specs.declared.many_note.ManyNote.{ManyNote}
+use Rattle.ncp_transcript_many.specs.declared.many_note.ManyNote.TheVariants as many_notes
+use Rattle.ncp_play_script.specs.Words.{words_of}
+use Rattle.ncp_play_world_lines.specs.WorldLines.{world_line_of}
+use Rattle.ncp_play_world_lines.specs.ManyLines.{many_line_of}
+use Rattle.ncp_play_world_lines.specs.WorldNotes.{world_note_lines}
+use Rattle.ncp_play_world_lines.specs.ManyNotes.{many_note_lines}
+use Rattle.ncp_play_world.specs.Traces.{place_of_line}
+use Rattle.ncp_play_world.specs.WorldRules.{StagedWorld}
+use Rattle.ncp_play_world.specs.ManyRules.{StagedMany}
+use Rattle.ncp_web.specs.declared.stage.Stage.{Stage}
+use Rattle.ncp_web.specs.declared.stage.Stage.TheVariants.{Two, Many}
+use Rattle.ncp_web.specs.declared.stage.Refusal.{Refusal}
+use Rattle.ncp_web.specs.declared.stage.Refusal.TheVariants.{NoLine, NoMemory, Full}
+use Rattle.ncp_play_stream.specs.declared.source.Failed.{Failed}
+use Rattle.ncp_web.specs.declared.answer.TheConstants.{DONE, NO_SESSION, NOTHING, LONGEST_MESSAGE}
+use Rattle.ncp_web.specs.declared.handle.held.Held.{Held}
+use Rattle.ncp_web.specs.Sessions.{number_of, side_at, host_at}
 use Rattle.ncp_numbers.specs.Bytes.{bytes_of, bytes_for}
 use Rattle.ncp_transcript_two.specs.declared.ledger.Amount.{Amount}
 use Rattle.ncp_transcript_two.specs.declared.ledger.Ledger.{Ledger}
@@ -30,3 +64,110 @@ books_of it = record { outstanding = quantity_of it.outstanding; counters = quan
 -- a message over the front of a buffer
 abbrev pub message_over : List Bool → List ℕ → List ℕ
 message_over message out = bytes_of message ++ drop (bytes_for (length message)) out
+
+-- The lines that a reading is answered as the next event of a script; any other line is answered nothing.
+
+abbrev pub read_as : {N : Type 0} → (ℕ → N → List ℕ) → ℕ → (HostNote → N) → Option HostNote → Option (List ℕ)
+read_as lines told called None = None
+read_as lines told called (Some note) = Some (lines (number_of (told + 1)) (called note))
+
+abbrev pub asked_of_two : StagedWorld → Option Event → Option (List ℕ)
+asked_of_two s (Some (events.Call side call)) = read_as world_note_lines (length s.traces) (notes.Called side) (reading_of call (host_of side s.hosts.hosts))
+asked_of_two s event = None
+
+-- of a host that there may be
+abbrev pub of_host : {A : Type 0} → (Host → Option A) → Option Host → Option A
+of_host read None = None
+of_host read (Some h) = read h
+
+abbrev pub asked_of_many : StagedMany → Option ManyEvent → Option (List ℕ)
+asked_of_many s (Some (many_events.Call host call)) = read_as many_note_lines (length s.traces) (many_notes.Called host) (of_host (reading_of call) (thing_in s.hosts.crowd.hosts host))
+asked_of_many s event = None
+
+abbrev pub asked_of : Stage → List ℕ → Option (List ℕ)
+asked_of (Two s) line = asked_of_two s.hosts (world_line_of s.first.hosts (words_of line))
+asked_of (Many s) line = asked_of_many s.hosts (many_line_of s.first (words_of line))
+
+-- what is written of it, by the answer; there may be no memory for what the line says
+abbrev pub Asks : Option (List ℕ) → Result Unit Refusal → List ℕ → Type 0
+Asks asked (Ok done) text = asked ≡ Some text
+Asks asked (Err NoLine) text = (asked ≡ None) × (text ≡ [])
+Asks asked (Err NoMemory) text = text ≡ []
+Asks asked (Err Full) text = (more : List ℕ) × (asked ≡ Some (text ++ more))
+
+abbrev pub waiting_in : Stage → ℕ → ℕ → ℕ → Option Command
+waiting_in stage host peer place = of_host (λ h. waiting_at (state_of h peer) place) (host_at host stage)
+
+abbrev pub kept_in : Stage → ℕ → ℕ → ℕ → Option (List Bool)
+kept_in stage host peer link = of_host (λ h. kept_for (state_of h peer) link) (host_at host stage)
+
+-- the message that went out, or came, as a note tells it
+
+abbrev pub message_noted : HostNote → Option (List Bool)
+message_noted (host_notes.Out message) = Some message
+message_noted (host_notes.In message received) = Some message
+message_noted note = None
+
+abbrev pub message_of_two : Note → Option (List Bool)
+message_of_two (notes.Out side note) = message_noted note
+message_of_two (notes.Came side link note) = message_noted note
+message_of_two note = None
+
+abbrev pub message_of_many : ManyNote → Option (List Bool)
+message_of_many (many_notes.Out host note) = message_noted note
+message_of_many (many_notes.Came sender peer link note) = message_noted note
+message_of_many note = None
+
+-- of a note that there may be
+abbrev pub of_note : {A N : Type 0} → (N → Option A) → Option N → Option A
+of_note read None = None
+of_note read (Some note) = read note
+
+-- of the note at a place that there may be
+abbrev pub of_place : {A N : Type 0} → (N → Option A) → List N → Option ℕ → Option A
+of_place read noted None = None
+of_place read noted (Some place) = of_note read (slice_get noted place)
+
+-- of the event whose line has this number
+abbrev pub message_in : Stage → ℕ → Option (List Bool)
+message_in (Two s) number = of_place message_of_two s.hosts.hosts.notes (place_of_line s.hosts.traces number)
+message_in (Many s) number = of_place message_of_many s.hosts.hosts.notes (place_of_line s.hosts.traces number)
+
+-- the ledger of a sender of two hosts
+abbrev pub ledger_at_side : Option Side → Pair → Stage → Option Ledger
+ledger_at_side None pair stage = None
+ledger_at_side (Some side) pair (Two s) = ledger_of side pair s.hosts.hosts.hosts
+ledger_at_side (Some side) pair (Many s) = None
+
+abbrev pub ledger_in : Stage → ℕ → Pair → Option Ledger
+ledger_in (Two s) host pair = ledger_at_side (side_at s.first.hosts host) pair (Two s)
+ledger_in (Many s) host pair = None
+
+-- ---- behind a handle
+
+-- what there may be in a session: the code of it, and what is written of it where it is there
+
+abbrev pub found_in : {A : Type 0} → (Stage → Option A) → Option Held → Option A
+found_in read None = None
+found_in read (Some s) = read s.stage
+
+abbrev pub code_if_any : {A : Type 0} → Option A → ℕ
+code_if_any None = NOTHING
+code_if_any (Some found) = DONE
+
+abbrev pub code_found : {A : Type 0} → (Stage → Option A) → Option Held → ℕ
+code_found read None = NO_SESSION
+code_found read (Some s) = code_if_any (read s.stage)
+
+abbrev pub written_if_any : {A B : Type 0} → (A → B) → Option A → B → B
+written_if_any form None before = before
+written_if_any form (Some found) before = form found
+
+-- a buffer that has not room for the longest message is refused before all else, and nothing changes
+abbrev pub with_room : {A : Type 0} → List ℕ → A → A → A
+with_room out short answer = if nat_lt (length out) LONGEST_MESSAGE then short else answer
+
+-- lines were written, or a beginning of them
+abbrev pub IsSaid : List ℕ → Result Unit Failed → List ℕ → Type 0
+IsSaid lines (Ok done) text = text ≡ lines
+IsSaid lines (Err failed) text = (more : List ℕ) × (text ++ more ≡ lines)

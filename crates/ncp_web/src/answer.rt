@@ -1,5 +1,5 @@
 //! The numbers that a page is answered, and how bytes and faults are handed to it.
-ghost use Rattle.std.specs.Prelude.{◌≡◌, ◌≢◌, min, take, length};
+ghost use Rattle.std.specs.Prelude.{◌≡◌, ◌≢◌, min, take, drop, length};
 ghost use Rattle.ncp_web.specs.Bytes.{code_of_played};
 
 use ncp_bits::MAX_BITS;
@@ -33,6 +33,7 @@ pub const LONGEST_MESSAGE: usize = MAX_BITS / 8;
 pub(crate) fn copy_out(sink: &MemorySink, out: &mut [u8]) -> usize
     ensures count { result ≡ min (length sink.now.written) (length out.old) }
     ensures front { take result out.new ≡ take result sink.now.written }
+    ensures rest { drop result out.new ≡ drop result out.old }
 {
     let bytes = sink.bytes();
     let count = bytes.len().min(out.len());

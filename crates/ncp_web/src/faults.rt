@@ -1,10 +1,17 @@
 //! What is wrong, in words for the person who wrote a script: nothing rests on them.
+ghost use Rattle.std.specs.Prelude.{◌≡◌};
+ghost use Rattle.ncp_web.specs.Bytes.{Explains};
+
 use crate::answer::{DONE, FULL, NO_MEMORY, NOTHING};
+use ncp_play_audit::rule_meaning;
 use ncp_play_faults::{Player, meaning, wrong_first_line, wrong_line};
 use std::alloc::{AllocError, Global};
 
 // Copies words into the front of a buffer that has room for them.
-fn hand_out(words: &str, out: &mut [u8], written: &mut usize) -> u32 {
+fn hand_out(words: &str, out: &mut [u8], written: &mut usize) -> u32
+    requires { written.old ≡ 0 }
+    ensures { Explains result out.old out.new written.new }
+{
     let bytes = words.as_bytes();
     if bytes.len() > out.len() {
         return FULL;
@@ -15,7 +22,10 @@ fn hand_out(words: &str, out: &mut [u8], written: &mut usize) -> u32 {
 }
 
 // Copies words into a buffer, if there was memory for them.
-fn hand_out_made(words: Result<String, AllocError>, out: &mut [u8], written: &mut usize) -> u32 {
+fn hand_out_made(words: Result<String, AllocError>, out: &mut [u8], written: &mut usize) -> u32
+    requires { written.old ≡ 0 }
+    ensures { Explains result out.old out.new written.new }
+{
     match words {
         Ok(words) => hand_out(words.as_str(), out, written),
         Err(_) => NO_MEMORY,
@@ -30,7 +40,9 @@ pub extern "C" fn ncp_web_wrong_line(
     line: &[u8],
     out: &mut [u8],
     written: &mut usize,
-) -> u32 {
+) -> u32
+    ensures explains { Explains result out.old out.new written.new }
+{
     *written = 0;
     let wrong = wrong_line(alloc, Player::World, first, line);
     hand_out_made(wrong, out, written)
@@ -43,20 +55,26 @@ pub extern "C" fn ncp_web_wrong_first_line(
     first: &[u8],
     out: &mut [u8],
     written: &mut usize,
-) -> u32 {
+) -> u32
+    ensures explains { Explains result out.old out.new written.new }
+{
     *written = 0;
     let wrong = wrong_first_line(alloc, Player::World, first);
     hand_out_made(wrong, out, written)
 }
 
-/// What the name of a fault or of a refusal means; `NOTHING` where it is none.
+/// What the name of a fault, a refusal or a rule means, as `ncp explain` has it.
+///
+/// Refused, in this order, and nothing is written: `NOTHING` (it is no such name), `FULL`.
 #[unsafe(no_mangle)]
-pub extern "C" fn ncp_web_meaning(name: &[u8], out: &mut [u8], written: &mut usize) -> u32 {
+pub extern "C" fn ncp_web_meaning(name: &[u8], out: &mut [u8], written: &mut usize) -> u32
+    ensures explains { Explains result out.old out.new written.new }
+{
     *written = 0;
     let Ok(name) = std::str::from_utf8(name) else {
         return NOTHING;
     };
-    match meaning(name) {
+    match meaning(name).or(rule_meaning(name)) {
         Some(words) => hand_out(words, out, written),
         None => NOTHING,
     }

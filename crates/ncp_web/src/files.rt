@@ -1,8 +1,9 @@
-//! Message files from bytes to bytes: they are shown, or checked.
-ghost use Rattle.std.specs.Prelude.{◌≡◌, [], false};
-ghost use Rattle.ncp_web.specs.Bytes.{ShowsBytes, ChecksBytes, HandsOut, code_of_shown, code_of_checked};
+//! Message files from bytes to bytes: they are shown, checked, or audited.
+ghost use Rattle.std.specs.Prelude.{◌≡◌, [], false, IfSome};
+ghost use Rattle.ncp_web.specs.Bytes.{ShowsBytes, ChecksBytes, AuditsBytes, HandsOut, code_of_shown, code_of_checked};
 
 use crate::answer::{NO_MEMORY, conclude, copy_out};
+use ncp_play_audit::{Auditor, audit};
 use ncp_play_files::{FileFault, check, show};
 use ncp_play_notes::PlayFault;
 use ncp_play_stream::{MemorySink, MemorySource};
@@ -26,6 +27,25 @@ fn checked(input: &[u8], sink: &mut MemorySink) -> Result<bool, FileFault>
 {
     let mut source = MemorySource::new(input, None);
     check(&mut source, sink)
+}
+
+// Audits the bytes of a message file, with the lines of the findings in an empty sink, if there is memory for it.
+fn audited(
+    alloc: Global,
+    part: bool,
+    standard: bool,
+    input: &[u8],
+    sink: &mut MemorySink,
+) -> Option<Result<bool, FileFault>>
+    requires clean { sink.old.failed ≡ false }
+    requires empty { sink.old.written ≡ [] }
+    ensures { IfSome result (λ answer. AuditsBytes part standard input.now answer sink.new.written) }
+{
+    let Ok(mut auditor) = Auditor::new(alloc, part) else {
+        return None;
+    };
+    let mut source = MemorySource::new(input, None);
+    Some(audit(&mut auditor, standard, &mut source, sink))
 }
 
 /// `show`: the lines of a message file.
@@ -76,6 +96,39 @@ pub extern "C" fn ncp_web_check(
     *written = copy_out(&sink, out);
     match answer {
         Ok(sound) => conclude(alloc, Ok(sound), error, told),
+        Err(fault) => conclude(alloc, Err(PlayFault::Feed(fault)), error, told),
+    }
+}
+
+/// `audit`: the lines of the findings of a message file of version 2. Of a `part` of a capture nothing is known that was
+/// before; where `standard` is set the rules of this project's profile are left out.
+///
+/// Answers `DONE` where there is no finding, `BAD` where there is one, `FAULT` with the fault told behind the findings
+/// before it, or `NO_MEMORY`, where there was none for as many bytes as the buffer has, or for what is known of the hosts.
+#[unsafe(no_mangle)]
+pub extern "C" fn ncp_web_audit(
+    alloc: Global,
+    part: bool,
+    standard: bool,
+    input: &[u8],
+    out: &mut [u8],
+    written: &mut usize,
+    error: &mut [u8],
+    told: &mut usize,
+) -> u32
+    ensures audited { HandsOut (AuditsBytes part standard input.now) code_of_checked result out.old out.new written.new }
+{
+    *written = 0;
+    *told = 0;
+    let Ok(mut sink) = MemorySink::new(alloc, out.len(), None) else {
+        return NO_MEMORY;
+    };
+    let Some(answer) = audited(alloc, part, standard, input, &mut sink) else {
+        return NO_MEMORY;
+    };
+    *written = copy_out(&sink, out);
+    match answer {
+        Ok(clean) => conclude(alloc, Ok(clean), error, told),
         Err(fault) => conclude(alloc, Err(PlayFault::Feed(fault)), error, told),
     }
 }

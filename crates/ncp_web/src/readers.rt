@@ -1,7 +1,14 @@
 //! What a page reads of a session between events. The hosts stay as they were; each answers `NO_SESSION` where there is
 //! no session.
-ghost use Rattle.std.specs.Prelude.{◌≡◌, ◌≤◌, length};
-ghost use Rattle.ncp_web.specs.Readings.{quantity_of, books_of, message_over};
+ghost use Rattle.std.specs.Prelude.{◌≡◌, ◌≤◌, [], length, Some, Ok};
+ghost use Rattle.std.specs.Option.{option_copied};
+ghost use Rattle.ncp_play_script.specs.Words.{words_of};
+ghost use Rattle.ncp_play_files.specs.Lines.{item_line};
+ghost use Rattle.ncp_play_world_lines.specs.WorldLines.{world_line_of};
+ghost use Rattle.ncp_play_world_lines.specs.ManyLines.{many_line_of};
+ghost use Rattle.ncp_play_world_lines.specs.WorldNotes.{world_note_lines};
+ghost use Rattle.ncp_play_world_lines.specs.ManyNotes.{many_note_lines};
+ghost use Rattle.ncp_web.specs.Readings.{quantity_of, books_of, message_over, waiting_in, kept_in, message_noted, message_of_two, message_of_many, message_in, ledger_in, asked_of_two, asked_of_many, asked_of, Asks, IsSaid, code_found, found_in, written_if_any, with_room};
 
 use crate::answer::{DONE, FULL, LONGEST_MESSAGE, NO_MEMORY, NO_SESSION, NOTHING, copy_out};
 use crate::handle::{Handle, put, take};
@@ -74,17 +81,23 @@ fn write_message(message: &Bits, out: &mut [u8]) -> usize
 }
 
 // The command that waits at a host for a peer at a place.
-fn waiting_at(stage: &Stage, host: u8, peer: u8, place: u32) -> Option<Command> {
+fn waiting_at(stage: &Stage, host: u8, peer: u8, place: u32) -> Option<Command>
+    ensures { result ≡ waiting_in stage.now host peer place }
+{
     stage.host(host)?.waiting(peer, place)
 }
 
 // The message that a host keeps for a peer on a link.
-fn kept_at<'a>(stage: &'a Stage, host: u8, peer: u8, link: u8) -> Option<&'a Bits> {
+fn kept_at<'a>(stage: &'a Stage, host: u8, peer: u8, link: u8) -> Option<&'a Bits>
+    ensures { option_copied result ≡ kept_in stage.now host peer link }
+{
     stage.host(host)?.kept(peer, link)
 }
 
 // The message that a host noted which went out, or came.
-fn message_in(note: &HostNote) -> Option<&Message> {
+fn message_in(note: &HostNote) -> Option<&Message>
+    ensures { option_copied result ≡ message_noted note.now }
+{
     match note {
         HostNote::Out { message } => Some(message),
         HostNote::In { message, .. } => Some(message),
@@ -93,7 +106,9 @@ fn message_in(note: &HostNote) -> Option<&Message> {
 }
 
 // The message of a note of two hosts.
-fn message_in_two(note: &Note) -> Option<&Message> {
+fn message_in_two(note: &Note) -> Option<&Message>
+    ensures { option_copied result ≡ message_of_two note.now }
+{
     match note {
         Note::Out { note, .. } => message_in(note),
         Note::Came { note, .. } => message_in(note),
@@ -102,7 +117,9 @@ fn message_in_two(note: &Note) -> Option<&Message> {
 }
 
 // The message of a note of two to eight hosts.
-fn message_in_many(note: &ManyNote) -> Option<&Message> {
+fn message_in_many(note: &ManyNote) -> Option<&Message>
+    ensures { option_copied result ≡ message_of_many note.now }
+{
     match note {
         ManyNote::Out { note, .. } => message_in(note),
         ManyNote::Came { note, .. } => message_in(note),
@@ -111,7 +128,9 @@ fn message_in_many(note: &ManyNote) -> Option<&Message> {
 }
 
 // The message of an event, by the number of its line.
-fn message_of(stage: &Stage, number: usize) -> Option<&Message> {
+fn message_of(stage: &Stage, number: usize) -> Option<&Message>
+    ensures { option_copied result ≡ message_in stage.now number }
+{
     match stage {
         Stage::Two(two) => {
             let place = two.hosts.place_of(number)?;
@@ -125,7 +144,9 @@ fn message_of(stage: &Stage, number: usize) -> Option<&Message> {
 }
 
 // The ledger of a sender of two hosts.
-fn ledger_at(stage: &Stage, host: u8, pair: Pair) -> Option<Ledger> {
+fn ledger_at(stage: &Stage, host: u8, pair: Pair) -> Option<Ledger>
+    ensures { result ≡ ledger_in stage.now host pair }
+{
     match stage {
         Stage::Two(two) => two
             .hosts
@@ -135,21 +156,45 @@ fn ledger_at(stage: &Stage, host: u8, pair: Pair) -> Option<Ledger> {
     }
 }
 
-// Says the line of a command.
-fn say_command(command: &Command, sink: &mut MemorySink) -> Result<(), Failed> {
+// Writes the line of a command to an empty sink.
+fn say_command(command: &Command, sink: &mut MemorySink) -> Result<(), Failed>
+    requires empty { sink.old.written ≡ [] }
+    ensures { IsSaid (item_line (Ok command.now)) result sink.new.written }
+{
     let mut page = Page::new();
     push_item(&mut page, &Ok(*command));
     page.flush(sink)
 }
 
-// Says what a line of a script of two hosts would be answered that reads a host, as the next note.
-fn ask_two(
-    alloc: Global,
-    two: &TwoStage,
-    line: &[u8],
-    page: &mut Page,
-    sink: &mut MemorySink,
-) -> Result<(), Refusal> {
+// Writes the lines of a note of two hosts to an empty sink.
+fn say_two(number: u32, note: &Note, sink: &mut MemorySink) -> Result<(), Failed>
+    requires empty { sink.old.written ≡ [] }
+    ensures { IsSaid (world_note_lines number note.now) result sink.new.written }
+{
+    let mut page = Page::new();
+    match say_world_note(&mut page, sink, number, note) {
+        Ok(()) => page.flush(sink),
+        Err(failed) => Err(failed),
+    }
+}
+
+// Writes the lines of a note of two to eight hosts to an empty sink.
+fn say_many(number: u32, note: &ManyNote, sink: &mut MemorySink) -> Result<(), Failed>
+    requires empty { sink.old.written ≡ [] }
+    ensures { IsSaid (many_note_lines number note.now) result sink.new.written }
+{
+    let mut page = Page::new();
+    match say_many_note(&mut page, sink, number, note) {
+        Ok(()) => page.flush(sink),
+        Err(failed) => Err(failed),
+    }
+}
+
+// What a line of a script of two hosts would be answered that reads a host, as the next note.
+fn ask_two(alloc: Global, two: &TwoStage, line: &[u8], sink: &mut MemorySink) -> Result<(), Refusal>
+    requires empty { sink.old.written ≡ [] }
+    ensures { Asks (asked_of_two two.now.hosts (world_line_of two.now.first.hosts (words_of line.now))) result sink.new.written }
+{
     let event = match world_line(alloc, two.first.hosts, &mut Words::new(line)) {
         Ok(Some(event)) => event,
         Ok(None) => return Err(Refusal::NoLine),
@@ -162,7 +207,7 @@ fn ask_two(
         return Err(Refusal::NoLine);
     };
     let number = number_of(two.hosts.told().saturating_add(1));
-    match say_world_note(page, sink, number, &Note::Called { side, note }) {
+    match say_two(number, &Note::Called { side, note }, sink) {
         Ok(()) => Ok(()),
         Err(_) => Err(Refusal::Full),
     }
@@ -173,9 +218,11 @@ fn ask_many(
     alloc: Global,
     stage: &ManyStage,
     line: &[u8],
-    page: &mut Page,
     sink: &mut MemorySink,
-) -> Result<(), Refusal> {
+) -> Result<(), Refusal>
+    requires empty { sink.old.written ≡ [] }
+    ensures { Asks (asked_of_many stage.now.hosts (many_line_of stage.now.first (words_of line.now))) result sink.new.written }
+{
     let event = match many_line(alloc, stage.first.numbers(), &mut Words::new(line)) {
         Ok(Some(event)) => event,
         Ok(None) => return Err(Refusal::NoLine),
@@ -191,22 +238,20 @@ fn ask_many(
         return Err(Refusal::NoLine);
     };
     let number = number_of(stage.hosts.told().saturating_add(1));
-    match say_many_note(page, sink, number, &ManyNote::Called { host, note }) {
+    match say_many(number, &ManyNote::Called { host, note }, sink) {
         Ok(()) => Ok(()),
         Err(_) => Err(Refusal::Full),
     }
 }
 
 // What a line would be answered that reads a host.
-fn ask(alloc: Global, stage: &Stage, line: &[u8], sink: &mut MemorySink) -> Result<(), Refusal> {
-    let mut page = Page::new();
+fn ask(alloc: Global, stage: &Stage, line: &[u8], sink: &mut MemorySink) -> Result<(), Refusal>
+    requires empty { sink.old.written ≡ [] }
+    ensures { Asks (asked_of stage.now line.now) result sink.new.written }
+{
     match stage {
-        Stage::Two(two) => ask_two(alloc, two, line, &mut page, sink)?,
-        Stage::Many(of_many) => ask_many(alloc, of_many, line, &mut page, sink)?,
-    }
-    match page.flush(sink) {
-        Ok(()) => Ok(()),
-        Err(_) => Err(Refusal::Full),
+        Stage::Two(two) => ask_two(alloc, two, line, sink),
+        Stage::Many(of_many) => ask_many(alloc, of_many, line, sink),
     }
 }
 
@@ -290,6 +335,9 @@ pub extern "C" fn ncp_web_kept(
     bits: &mut usize,
 ) -> u32
     ensures session { handle.new.session ≡ handle.old.session }
+    ensures code { result ≡ with_room out.old FULL (code_found (λ s. kept_in s host peer link) handle.old.session) }
+    ensures message { out.new ≡ with_room out.old out.old (written_if_any (λ m. message_over m out.old) (found_in (λ s. kept_in s host peer link) handle.old.session) out.old) }
+    ensures bits { bits.new ≡ with_room out.old bits.old (written_if_any length (found_in (λ s. kept_in s host peer link) handle.old.session) bits.old) }
 {
     if out.len() < LONGEST_MESSAGE {
         return FULL;
@@ -308,7 +356,7 @@ pub extern "C" fn ncp_web_kept(
     told
 }
 
-/// The message of an event, by the number of its line: the one that went out, or came, with its length in bits.
+/// The message of an event, by its number from 1: the one that went out, or came, with its length in bits.
 ///
 /// Refused, in this order: `FULL` (fewer than `LONGEST_MESSAGE` bytes), `NO_SESSION`, `NOTHING` (there is no such event,
 /// or no message went out or came).
@@ -321,6 +369,9 @@ pub extern "C" fn ncp_web_message(
     bits: &mut usize,
 ) -> u32
     ensures session { handle.new.session ≡ handle.old.session }
+    ensures code { result ≡ with_room out.old FULL (code_found (λ s. message_in s number) handle.old.session) }
+    ensures message { out.new ≡ with_room out.old out.old (written_if_any (λ m. message_over m out.old) (found_in (λ s. message_in s number) handle.old.session) out.old) }
+    ensures bits { bits.new ≡ with_room out.old bits.old (written_if_any length (found_in (λ s. message_in s number) handle.old.session) bits.old) }
 {
     if out.len() < LONGEST_MESSAGE {
         return FULL;
@@ -352,6 +403,8 @@ pub extern "C" fn ncp_web_ledger(
     out: &mut Books,
 ) -> u32
     ensures session { handle.new.session ≡ handle.old.session }
+    ensures code { result ≡ code_found (λ s. ledger_in s host (record { local = local; remote = remote })) handle.old.session }
+    ensures told { out.new ≡ written_if_any books_of (found_in (λ s. ledger_in s host (record { local = local; remote = remote })) handle.old.session) out.old }
 {
     let Some(held) = take(alloc, handle) else {
         return NO_SESSION;
@@ -367,9 +420,10 @@ pub extern "C" fn ncp_web_ledger(
     }
 }
 
-/// What became of the last message from a host to another on a link, by the notes: the number of its [`crate::Fate`].
+/// What became of the last message from a host to another on a link, as the subnet has it: the number of its
+/// [`crate::Fate`].
 ///
-/// Refused: `NO_SESSION`.
+/// Refused: `NO_SESSION`. Where they are no two hosts of the session nothing is underway: `Free`.
 #[unsafe(no_mangle)]
 pub extern "C" fn ncp_web_transit(
     alloc: Global,

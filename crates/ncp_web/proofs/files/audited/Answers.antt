@@ -1,0 +1,20 @@
+use Rattle.std.proofs.Common.{rules, ◌≡◌, ℕ, List, [], Option, Some, subst}
+use Rattle.std.specs.Prelude.{IfOk}
+use Rattle.ncp_play_files.specs.Writing.{Writes}
+use Rattle.ncp_umpire.specs.declared.umpire.Umpire.{Umpire}
+use Rattle.ncp_play_audit.specs.Audited.{AuditedAs, AuditedCut, HasVerdict, done_of}
+use Rattle.ncp_web.proofs.files.audited.Goals as goal
+
+pub returns : goal.returns
+returns c =
+    let left : Some c.new-source.result.left ≡ Some c.args.input.now = search rules in
+    let was : Some c.args.sink.now.written ≡ Some [] = search rules in
+    let standard = c.args.standard in
+    let made = c.in-Ok.ensures in (
+      (
+        Some c.audit.new.source.left,
+        subst (λ (u : Umpire). Writes (AuditedAs standard u) (AuditedCut standard u) c.args.input.now [] (Some c.audit.new.source.left) (Some c.audit.new.sink.written) (done_of c.audit.result)) made
+            (c.audit.ensures.told c.args.input.now [] left was),
+      ),
+      subst (λ (u : Umpire). IfOk c.audit.result (HasVerdict standard u c.args.input.now)) made (c.audit.ensures.verdict c.args.input.now [] left was),
+    )
