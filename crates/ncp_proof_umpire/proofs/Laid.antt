@@ -1,12 +1,14 @@
--- What goes out of a host breaks no rule of messages by itself.
-use Rattle.std.proofs.Common.{◌≡◌, inl, inr, ◌<◌, ◌≤◌, ℕ, ◌+◌, ◌-◌, ◌*◌, ◌/◌, ◌==◌, Bool, true, false, not, ◌&&◌, ◌||◌, nat_le, nat_lt, min, if◌then◌else◌, List, [], ◌∷◌, length, take, Option, None, Some, Result, refl, sym, ap, ◌∙◌, subst, length-take-le, le-ltb, mul-pos, arith}
+-- What goes out of a host breaks no rule of messages by itself, and its commands are whole.
+use Rattle.std.proofs.Common.{◌≡◌, inl, inr, ◌<◌, ◌≤◌, ℕ, ◌+◌, ◌-◌, ◌*◌, ◌/◌, ◌==◌, suc, Bool, true, false, not, ◌&&◌, ◌||◌, nat_le, nat_lt, min, if◌then◌else◌, List, [], ◌∷◌, length, take, All, Option, None, Some, Result, Ok, refl, sym, ap, ◌∙◌, subst, length-take-le, le-ltb, mul-pos, arith}
 use Rattle.std.proofs.lemmas.Bool.{eqb-true}
 use Rattle.std.proofs.lemmas.Bool.Decides.{eqb_tells}
 use Rattle.std.proofs.lemmas.List.{length-append}
+use Rattle.std.proofs.lemmas.List.Elements.{All-nil, All-cons}
 use Rattle.std.proofs.Math.Nat.{div-mul-le_self, mul-le-mul_right, min-le_left}
 use Rattle.ncp_numbers.specs.Numbers.{bits_of}
-use Rattle.ncp_numbers.specs.Bytes.{bits_of_bytes}
+use Rattle.ncp_numbers.specs.Bytes.{bits_of_bytes, bytes_of}
 use Rattle.ncp_numbers.proofs.Bytes.{length-bits_of_bytes}
+use Rattle.ncp_numbers.proofs.Packing.{bytes_of-bits_of_bytes}
 use Rattle.ncp_leader.specs.declared.leader.Leader.{Leader}
 use Rattle.ncp_leader.specs.declared.leader.Short.{Short}
 use Rattle.ncp_leader.specs.declared.regular.TheConstants.{FRONT_BITS}
@@ -16,8 +18,9 @@ use Rattle.ncp_leader.specs.Message.{Message, message_in, message_with}
 use Rattle.ncp_terms.specs.declared.command.Command.{Command}
 use Rattle.ncp_terms.specs.declared.answer.Answer.{Answer}
 use Rattle.ncp_terms.specs.declared.answer.Answer.TheVariants.{Rfnm, Incomplete, Dead}
-use Rattle.ncp_terms.specs.Spelling.{spelling, spellings}
-use Rattle.ncp_control.proofs.Reading.{spelling_takes}
+use Rattle.ncp_terms.specs.Spelling.{spelling, spellings, IsCommand}
+use Rattle.ncp_control.specs.Reading.{fault_in}
+use Rattle.ncp_control.proofs.Reading.{spelling_takes, spellings_small, spelled_alone}
 use Rattle.ncp_slot.specs.declared.slot.Slot.TheVariants.{Empty, Ready, Travelling, Held}
 use Rattle.ncp_slot.specs.Slot.{kept_message, answered, woken}
 use Rattle.ncp_slot.specs.Slots.{LinkSlot, slot_at, with_slot}
@@ -50,6 +53,13 @@ use Rattle.ncp_proof_umpire.proofs.Fine.{Fine}
 
 abbrev pub Laid : ℕ → List Bool → Type 0
 Laid on bits = rule_of_message (message_in bits) on (length bits) ≡ None
+
+-- on link 0 it is whole commands
+abbrev pub Clean : List Bool → Type 0
+Clean bits = (m : Message) → message_in bits ≡ Ok m → (m.leader.link == 0) ≡ true → fault_in (bytes_of m.text) ≡ None
+
+abbrev pub Whole : ℕ → List Bool → Type 0
+Whole on bits = Laid on bits × Clean bits
 
 -- ---- a message that is made
 
@@ -101,16 +111,41 @@ weighs room (c ∷ cs) = go (nat_le (length (spelling c)) room) refl (weighs (ro
     go true e h = let l = length-append (spelling c) (spellings (fitting (room - length (spelling c)) cs)) in grind arith
     go false e h = grind arith
 
-commands_laid : (n : ℕ) (message : List Bool) (cs : List Command) → n < 256 → length (spellings cs) ≤ 120 → control_message n cs ≡ Some message → Laid 0 message
-commands_laid n message [] l w e = absurd (cc)
-commands_laid n message (c ∷ cs) l w e =
+-- the first of commands that can be written
+fitting_all : (room : ℕ) (cs : List Command) → All IsCommand cs → All IsCommand (fitting room cs)
+fitting_all room [] k = All-nil IsCommand
+fitting_all room (c ∷ cs) k = go (nat_le (length (spelling c)) room) (fitting_all (room - length (spelling c)) cs (λ i d l. k (suc i) d (omega (arith, l))))
+  where
+    go : (b : Bool) → All IsCommand (fitting (room - length (spelling c)) cs) → All IsCommand (if b then c ∷ fitting (room - length (spelling c)) cs else [])
+    go true rest = All-cons IsCommand c (fitting (room - length (spelling c)) cs) (k 0 c (omega arith)) rest
+    go false rest = All-nil IsCommand
+
+-- the message that is read of what was written
+is_read : (n on size : ℕ) (text : List Bool) (m : Message) → n < 256 → is_one_of on links ≡ true → IsText size text → message_in (message_to n on size text) ≡ Ok m → message_with (leader_to n on) size text ≡ m
+is_read n on size text m l u t e = let same : Ok (message_with (leader_to n on) size text) ≡ Ok m = sym (read n on size text l (link_small on u) t) ∙ e in cc
+
+commands_clean : (n : ℕ) (cs : List Command) → n < 256 → All IsCommand cs → IsText 8 (bits_of_bytes (spellings cs)) → Clean (message_to n 0 8 (bits_of_bytes (spellings cs)))
+commands_clean n cs l k t m e c =
+    ap (λ (x : Message). fault_in (bytes_of x.text)) (sym (is_read n 0 8 (bits_of_bytes (spellings cs)) m l refl t e))
+    ∙ ap fault_in (bytes_of-bits_of_bytes (spellings cs) (spellings_small cs k)) ∙ (spelled_alone cs k).1
+
+-- a text is on another link
+text_clean : (n on size : ℕ) (text : List Bool) → n < 256 → is_one_of on links ≡ true → IsText size text → (on == 0) ≡ false → Clean (message_to n on size text)
+text_clean n on size text l u t z m e c =
+    let nay : true ≡ false = sym c ∙ ap (λ (x : Message). x.leader.link == 0) (sym (is_read n on size text m l u t e)) ∙ z in
+    absurd (cc)
+
+commands_whole : (n : ℕ) (message : List Bool) (cs : List Command) → n < 256 → length (spellings cs) ≤ 120 → All IsCommand cs → control_message n cs ≡ Some message → Whole 0 message
+commands_whole n message [] l w k e = absurd (cc)
+commands_whole n message (c ∷ cs) l w k e =
     let text : List Bool = bits_of_bytes (spellings (c ∷ cs)) in
     let bits : length text ≡ 8 * length (spellings (c ∷ cs)) = length-bits_of_bytes (spellings (c ∷ cs)) in
     let more : length (spellings (c ∷ cs)) ≡ length (spelling c) + length (spellings cs) = length-append (spelling c) (spellings cs) in
     let takes : 0 < length (spelling c) = spelling_takes c in
     let few : length text ≤ 960 = omega (arith, bits, w) in
     let is : message_to n 0 8 text ≡ message = cc in
-    subst (Laid 0) is (laid n 0 8 text l refl (omega arith, omega arith, omega (arith, bits, w), omega (arith, bits)) (omega (arith, bits, more, takes)) few refl)
+    let fits : IsText 8 text = (omega arith, omega arith, omega (arith, bits, w), omega (arith, bits)) in
+    subst (Whole 0) is (laid n 0 8 text l refl fits (omega (arith, bits, more, takes)) few refl, commands_clean n (c ∷ cs) l k fits)
 
 -- ---- of a text
 
@@ -139,38 +174,38 @@ some_text on m text size x = go (sender_on on m) x
     go None x = absurd (cc x)
     go (Some q) x = some_cut q.0 q.1 text size x
 
-text_laid : (n on : ℕ) (m : List Bool) (p : Peer) (o : Option (ℕ × List Bool)) → n < 256 → is_one_of on links ≡ true → (on == 0) ≡ false → Fine p → answer (cut_in on p.ends) ≡ o → text_message n on o ≡ Some m → Laid on m
-text_laid n on m p None l u z k g e = absurd (cc)
-text_laid n on m p (Some t) l u z k g e =
+text_whole : (n on : ℕ) (m : List Bool) (p : Peer) (o : Option (ℕ × List Bool)) → n < 256 → is_one_of on links ≡ true → (on == 0) ≡ false → Fine p → answer (cut_in on p.ends) ≡ o → text_message n on o ≡ Some m → Whole on m
+text_whole n on m p None l u z k g e = absurd (cc)
+text_whole n on m p (Some t) l u z k g e =
     let is : message_to n on t.0 t.1 ≡ m = cc in
     let text : IsText t.0 t.1 = cut-written on p.ends t k.good k.well.ends g in
     let most : most_bits on ≡ 7928 = ap (λ (b : Bool). if b then 960 else 7928) z in
     let few : length t.1 ≤ 7928 = text.2 in
-    subst (Laid on) is (laid n on t.0 t.1 l u text (some_text on p.ends t text.0 g) (omega (arith, most, few)) (ap (λ (b : Bool). b && not (t.0 == 8)) z))
+    subst (Whole on) is (laid n on t.0 t.1 l u text (some_text on p.ends t text.0 g) (omega (arith, most, few)) (ap (λ (b : Bool). b && not (t.0 == 8)) z), text_clean n on t.0 t.1 l u text z)
 
-made_laid : (n on : ℕ) (m : List Bool) (p : Peer) → n < 256 → is_one_of on links ≡ true → Fine p → made_on n on p ≡ Some m → Laid on m
-made_laid n on m p l u k e = go (on == control_link) refl e
+made_whole : (n on : ℕ) (m : List Bool) (p : Peer) → n < 256 → is_one_of on links ≡ true → Fine p → made_on n on p ≡ Some m → Whole on m
+made_whole n on m p l u k e = go (on == control_link) refl e
   where
-    go : (b : Bool) → (on == control_link) ≡ b → (if b then control_message n (next_commands p.phase.waiting) else text_message n on (answer (cut_in on p.ends))) ≡ Some m → Laid on m
-    go true g e = subst (λ (j : ℕ). Laid j m) (sym (eqb-true on 0 g)) (commands_laid n m (next_commands p.phase.waiting) l (weighs MAX_CONTROL p.phase.waiting) e)
-    go false g e = text_laid n on m p (answer (cut_in on p.ends)) l u g k refl e
+    go : (b : Bool) → (on == control_link) ≡ b → (if b then control_message n (next_commands p.phase.waiting) else text_message n on (answer (cut_in on p.ends))) ≡ Some m → Whole on m
+    go true g e = subst (λ (j : ℕ). Whole j m) (sym (eqb-true on 0 g)) (commands_whole n m (next_commands p.phase.waiting) l (weighs MAX_CONTROL p.phase.waiting) (fitting_all MAX_CONTROL p.phase.waiting k.well.waiting) e)
+    go false g e = text_whole n on m p (answer (cut_in on p.ends)) l u g k refl e
 
 -- ---- what is kept
 
--- each message that is kept for a peer is laid out so
-abbrev pub AllLaid : PeerState → Type 0
-AllLaid s = (on : ℕ) (m : List Bool) → kept_message (slot_at s.slots on) ≡ Some m → Laid on m
+-- each message that is kept for a peer is so
+abbrev pub AllWhole : PeerState → Type 0
+AllWhole s = (on : ℕ) (m : List Bool) → kept_message (slot_at s.slots on) ≡ Some m → Whole on m
 
-pub out_laid : (n : ℕ) (m : List Bool) (s : PeerState) (is : IsOut n m s) → n < 256 → Fine s.peer → AllLaid s → Laid is.on m
-out_laid n m s is l k a = go (slot_at s.slots is.on) refl is.ready
+pub out_whole : (n : ℕ) (m : List Bool) (s : PeerState) (is : IsOut n m s) → n < 256 → Fine s.peer → AllWhole s → Whole is.on m
+out_whole n m s is l k a = go (slot_at s.slots is.on) refl is.ready
   where
-    go : (slot : LinkSlot) → slot_at s.slots is.on ≡ slot → output_by slot n is.on s.peer ≡ Some m → Laid is.on m
-    go Empty q e = made_laid n is.on m s.peer l is.a_link k e
+    go : (slot : LinkSlot) → slot_at s.slots is.on ≡ slot → output_by slot n is.on s.peer ≡ Some m → Whole is.on m
+    go Empty q e = made_whole n is.on m s.peer l is.a_link k e
     go (Ready x) q e = a is.on m (ap kept_message q ∙ e)
     go (Travelling x) q e = absurd (cc)
     go (Held x) q e = absurd (cc)
 
-same_kept : (on : ℕ) (s t : PeerState) → ((m : List Bool) → kept_message (slot_at t.slots on) ≡ Some m → kept_message (slot_at s.slots on) ≡ Some m) → AllLaid s → (m : List Bool) → kept_message (slot_at t.slots on) ≡ Some m → Laid on m
+same_kept : (on : ℕ) (s t : PeerState) → ((m : List Bool) → kept_message (slot_at t.slots on) ≡ Some m → kept_message (slot_at s.slots on) ≡ Some m) → AllWhole s → (m : List Bool) → kept_message (slot_at t.slots on) ≡ Some m → Whole on m
 same_kept on s t f a m e = a on m (f m e)
 
 woken_kept : (slot : LinkSlot) → kept_message (woken slot) ≡ kept_message slot
@@ -193,44 +228,44 @@ answered_kept Dead (Ready x) m e = e
 answered_kept Dead (Travelling x) m e = e
 answered_kept Dead (Held x) m e = e
 
-call_laid : (note : HostNote) (s : PeerState) → is_of_call note ≡ true → AllLaid s → AllLaid (note_for note s)
-call_laid note s c a on m e = elim (call_leaves note c s on) [
+call_whole : (note : HostNote) (s : PeerState) → is_of_call note ≡ true → AllWhole s → AllWhole (note_for note s)
+call_whole note s c a on m e = elim (call_leaves note c s on) [
   | inl same ↦ a on m (ap kept_message (sym same) ∙ e)
   | inr woke ↦ a on m (sym (ap kept_message woke ∙ woken_kept (slot_at s.slots on)) ∙ e)
 ]
 
-goes_laid : (n : ℕ) (m : List Bool) (s : PeerState) → IsOut n m s → n < 256 → Fine s.peer → AllLaid s → AllLaid (note_for (notes.Out m) s)
-goes_laid n m s is l k a = subst (λ (r : Result Leader Short). AllLaid (out_for r m s)) (sym is.leader) after
+goes_whole : (n : ℕ) (m : List Bool) (s : PeerState) → IsOut n m s → n < 256 → Fine s.peer → AllWhole s → AllWhole (note_for (notes.Out m) s)
+goes_whole n m s is l k a = subst (λ (r : Result Leader Short). AllWhole (out_for r m s)) (sym is.leader) after
   where
-    after : AllLaid (after_output is.on m s)
+    after : AllWhole (after_output is.on m s)
     after on x e = elim (eqb_tells on is.on) [
       | inl same ↦ here same.1
       | inr other ↦ a on x (ap kept_message (sym (slot_at-with_slot_other s.slots is.on (Travelling m) on other.1)) ∙ e)
     ]
       where
-        here : on ≡ is.on → Laid on x
+        here : on ≡ is.on → Whole on x
         here same =
             let one : Some m ≡ Some x = sym (ap (λ (j : ℕ). kept_message (slot_at (with_slot s.slots is.on (Travelling m)) j)) same ∙ ap kept_message (slot_at-with_slot_same s.slots is.on (Travelling m))) ∙ e in
             let is_x : m ≡ x = cc in
-            subst (λ (j : ℕ). Laid j x) (sym same) (subst (λ (y : List Bool). Laid is.on y) is_x (out_laid n m s is l k a))
+            subst (λ (j : ℕ). Whole j x) (sym same) (subst (λ (y : List Bool). Whole is.on y) is_x (out_whole n m s is l k a))
 
-pub note_laid : (n : ℕ) (note : HostNote) (s : PeerState) → IsSaidOf n note s → n < 256 → Fine s.peer → AllLaid s → AllLaid (note_for note s)
-note_laid n (notes.Out m) s p l k a = goes_laid n m s p l k a
-note_laid n notes.Nothing s p l k a = a
-note_laid n (notes.In m received) s p l k a = λ on x e. a on x (ap kept_message (sym (bits_leave (leader_in m) m s on)) ∙ e)
-note_laid n (notes.Answered peer link how received) s p l k a = λ on x e. elim (eqb_tells on link) [
+pub note_whole : (n : ℕ) (note : HostNote) (s : PeerState) → IsSaidOf n note s → n < 256 → Fine s.peer → AllWhole s → AllWhole (note_for note s)
+note_whole n (notes.Out m) s p l k a = goes_whole n m s p l k a
+note_whole n notes.Nothing s p l k a = a
+note_whole n (notes.In m received) s p l k a = λ on x e. a on x (ap kept_message (sym (bits_leave (leader_in m) m s on)) ∙ e)
+note_whole n (notes.Answered peer link how received) s p l k a = λ on x e. elim (eqb_tells on link) [
   | inl same ↦ a on x (subst (λ (j : ℕ). kept_message (slot_at s.slots j) ≡ Some x) (sym same.1)
       (answered_kept how (slot_at s.slots link) x (ap kept_message (sym (answer_here link how s)) ∙ subst (λ (j : ℕ). kept_message (slot_at (answer_comes link how s).slots j) ≡ Some x) same.1 e)))
   | inr other ↦ a on x (ap kept_message (sym (answer_there link on how s other.1)) ∙ e)
 ]
-note_laid n (notes.Refused call fault) s p l k a = call_laid (notes.Refused call fault) s refl a
-note_laid n (notes.Done call) s p l k a = call_laid (notes.Done call) s refl a
-note_laid n (notes.Took peer pair bytes text) s p l k a = call_laid (notes.Took peer pair bytes text) s refl a
-note_laid n (notes.State peer pair r) s p l k a = a
-note_laid n (notes.Phase peer flags) s p l k a = a
-note_laid n (notes.Echoed peer byte) s p l k a = a
-note_laid n (notes.Errors peer errors) s p l k a = a
-note_laid n (notes.Counts peer counts) s p l k a = a
-note_laid n (notes.Waiting peer place command) s p l k a = a
-note_laid n (notes.Kept peer link message) s p l k a = a
-note_laid n (notes.Ignored ignored) s p l k a = a
+note_whole n (notes.Refused call fault) s p l k a = call_whole (notes.Refused call fault) s refl a
+note_whole n (notes.Done call) s p l k a = call_whole (notes.Done call) s refl a
+note_whole n (notes.Took peer pair bytes text) s p l k a = call_whole (notes.Took peer pair bytes text) s refl a
+note_whole n (notes.State peer pair r) s p l k a = a
+note_whole n (notes.Phase peer flags) s p l k a = a
+note_whole n (notes.Echoed peer byte) s p l k a = a
+note_whole n (notes.Errors peer errors) s p l k a = a
+note_whole n (notes.Counts peer counts) s p l k a = a
+note_whole n (notes.Waiting peer place command) s p l k a = a
+note_whole n (notes.Kept peer link message) s p l k a = a
+note_whole n (notes.Ignored ignored) s p l k a = a

@@ -1,6 +1,7 @@
 pub mod Spared
 pub mod Steps
 pub mod Goes
+mod Commands
 pub mod Leaders
 pub mod KeptOne
 pub mod Shown

@@ -29,42 +29,43 @@ use Rattle.ncp_umpire.specs.declared.finding.Rule.TheVariants as rule
 use Rattle.ncp_umpire.specs.declared.umpire.Umpire.{Umpire}
 use Rattle.ncp_umpire.specs.declared.way.Way.TheVariants.{ToImp, FromImp}
 use Rattle.ncp_umpire.specs.Judged.{new_umpire, by_host, sees, record_findings, after_record}
-use Rattle.ncp_umpire.proofs.Passing.{Pass, both, is_said, goes}
+use Rattle.ncp_umpire.proofs.Passing.{Pass, both, is_said}
 use Rattle.ncp_proof_umpire.specs.Recordings.{gone_by, recording, findings_from, spares, begun, AreFit, NoFalseAlarmWhereFit, is_of_message}
 use Rattle.ncp_proof_umpire.proofs.Spared.{rule_spared, spared}
 use Rattle.ncp_proof_umpire.proofs.Steps.{noted}
 use Rattle.ncp_proof_umpire.proofs.Goes.{links_unjudged}
+use Rattle.ncp_proof_umpire.proofs.Commands.{is_bad, goes_whole}
 use Rattle.ncp_proof_umpire.proofs.Leaders.{peers_parts, peer_of_turn}
 use Rattle.ncp_proof_umpire.proofs.HostSlots.{was}
 use Rattle.ncp_proof_umpire.proofs.Fine.{Fine, note_fine}
-use Rattle.ncp_proof_umpire.proofs.Laid.{AllLaid, Laid, out_laid, note_laid}
+use Rattle.ncp_proof_umpire.proofs.Laid.{AllWhole, Whole, out_whole, note_whole}
 
-unsaid : (r : Rule) → is_said r ≡ true → is_of_message r ≡ false
-unsaid (rule.Short bits) e = absurd (cc)
-unsaid (rule.OwnHost kind link) e = absurd (cc)
-unsaid (rule.Kind kind) e = absurd (cc)
-unsaid (rule.WrongLink link) e = absurd (cc)
-unsaid (rule.Fault fault link) e = absurd (cc)
-unsaid (rule.WrongSize size) e = absurd (cc)
-unsaid (rule.Extras flags low text rest) e = absurd (cc)
-unsaid (rule.Occupied link) e = refl
-unsaid (rule.Changed link) e = refl
-unsaid (rule.Stray kind link) e = refl
-unsaid (rule.Unsent host link why) e = refl
-unsaid (rule.FalseAnswer kind host link came) e = refl
-unsaid (rule.Bad fault) e = refl
-unsaid (rule.Early what began waits owes) e = refl
-unsaid rule.RstAgain e = refl
-unsaid rule.RrpUnasked e = refl
-unsaid (rule.Unquiet reply link) e = refl
-unsaid rule.RrpFirst e = refl
-unsaid rule.MissingRrp e = refl
+unsaid : (r : Rule) → is_said r ≡ true → is_bad r ≡ false → is_of_message r ≡ false
+unsaid (rule.Short bits) e b = absurd (cc)
+unsaid (rule.OwnHost kind link) e b = absurd (cc)
+unsaid (rule.Kind kind) e b = absurd (cc)
+unsaid (rule.WrongLink link) e b = absurd (cc)
+unsaid (rule.Fault fault link) e b = absurd (cc)
+unsaid (rule.WrongSize size) e b = absurd (cc)
+unsaid (rule.Extras flags low text rest) e b = absurd (cc)
+unsaid (rule.Occupied link) e b = refl
+unsaid (rule.Changed link) e b = refl
+unsaid (rule.Stray kind link) e b = refl
+unsaid (rule.Unsent host link why) e b = refl
+unsaid (rule.FalseAnswer kind host link came) e b = refl
+unsaid (rule.Bad fault) e b = absurd (cc)
+unsaid (rule.Early what began waits owes) e b = refl
+unsaid rule.RstAgain e b = refl
+unsaid rule.RrpUnasked e b = refl
+unsaid (rule.Unquiet reply link) e b = refl
+unsaid rule.RrpFirst e b = refl
+unsaid rule.MissingRrp e b = refl
 
 -- ---- what is kept for each peer
 
 pub record Ready (s : PeerState) : Type 0 where
   pub fine : Fine s.peer
-  pub kept : AllLaid s
+  pub kept : AllWhole s
 
 abbrev AllReady : Host → Type 0
 AllReady h = (n : ℕ) (s : PeerState) → state_of h n ≡ Some s → Ready s
@@ -77,7 +78,7 @@ ready_after ns note h k p fits all n now e =
     by : (s : PeerState) → state_of h n ≡ Some s → (b : Bool) → names n note ≡ b → Ready (if b then note_for note s else s)
     by s there true g =
         let r = all n s there in
-        record { fine = note_fine note s fits r.fine; kept = note_laid n note s (note-said ns note h n s k p there g) (k.good n s there).0 r.fine r.kept }
+        record { fine = note_fine note s fits r.fine; kept = note_whole n note s (note-said ns note h n s k p there g) (k.good n s there).0 r.fine r.kept }
     by s there false g = all n s there
 
 fits_in : (o : Option Leader) (bits : List Bool) (h : Host) (note : HostNote) → note ≡ note_as o bits (received_in bits h) → Fits (told_call note)
@@ -96,11 +97,12 @@ lays ns me h umpire message k a all e =
     let t = out-turn ns h message k e in
     let is : IsOut t.n message t.s = out-is ns h message k t in
     let r = all t.n t.s t.found in
-    let fine : Laid is.on message = out_laid t.n message t.s is (k.good t.n t.s t.found).0 r.fine r.kept in
-    goes (spares is_of_message me) umpire me t.n is.on message is.leader (peer_of_turn ns me h message k a t)
-    (λ x s. rule_spared is_of_message me (by_host me x) (unsaid x s))
+    let fine : Whole is.on message = out_whole t.n message t.s is (k.good t.n t.s t.found).0 r.fine r.kept in
+    goes_whole (spares is_of_message me) umpire me t.n is.on message is.leader (peer_of_turn ns me h message k a t)
+    (λ x s b. rule_spared is_of_message me (by_host me x) (unsaid x s b))
     (links_unjudged is_of_message (sees umpire me) me t.n is.on message refl refl)
-    (λ x f. none_said x (sym fine ∙ f))
+    (λ x f. none_said x (sym fine.0 ∙ f))
+    fine.1
   where
     none_said : (x : Rule) → None ≡ Some x → spares is_of_message me (by_host me x) ≡ true
     none_said x e = absurd (cc)

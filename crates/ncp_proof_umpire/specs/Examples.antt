@@ -14,6 +14,11 @@ use Rattle.ncp_umpire.specs.declared.way.Way.TheVariants.{ToImp, FromImp}
 abbrev pub too_short : List (Way × List Bool)
 too_short = (ToImp, true ∷ true ∷ []) ∷ []
 
+-- a control message to host 2 of one byte, 14, which is no command
+abbrev pub no_command : List (Way × List Bool)
+no_command =
+    (ToImp, message_on_0 ++ replicate 12 false ++ (true ∷ []) ++ replicate 18 false ++ (true ∷ []) ++ replicate 12 false ++ (true ∷ true ∷ true ∷ false ∷ [])) ∷ []
+
 -- a message on link 0 to host 2, and once more with no answer between
 abbrev pub two_at_once : List (Way × List Bool)
 two_at_once = (ToImp, message_on_0) ∷ (ToImp, message_on_0) ∷ []

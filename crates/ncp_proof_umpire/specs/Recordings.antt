@@ -93,7 +93,7 @@ is_of_leader (rule.Kind kind) = true
 is_of_leader (rule.WrongLink link) = true
 is_of_leader other = false
 
--- of a message by itself: of its leader, its layout and its sizes
+-- of a message by itself: of its leader, its layout and its sizes, and of a control text that it is whole commands
 abbrev pub is_of_message : Rule → Bool
 is_of_message (rule.Short bits) = true
 is_of_message (rule.OwnHost kind link) = true
@@ -102,6 +102,7 @@ is_of_message (rule.Fault fault link) = true
 is_of_message (rule.WrongLink link) = true
 is_of_message (rule.WrongSize size) = true
 is_of_message (rule.Extras flags low text rest) = true
+is_of_message (rule.Bad fault) = true
 is_of_message other = false
 
 -- of a link: one message is out at a time, and what was not delivered goes out again as it was

@@ -1,5 +1,7 @@
 use Rattle.std.proofs.Common.{refl}
+use Rattle.ncp_numbers.specs.Bytes.{bytes_of, byte_of}
 use Rattle.ncp_numbers.specs.Numbers.{number_of}
+use Rattle.ncp_control.specs.Reading.{command_at, commands_within}
 use Rattle.ncp_proof_umpire.proofs.alarms.wrong_hosts_are_blamed.Goals as goal
 
 pub returns-clause-recorded : goal.returns-clause-recorded
@@ -8,6 +10,10 @@ returns-clause-recorded c = refl
 pub returns-clause-short : goal.returns-clause-short
 unfolding number_of
 returns-clause-short c = refl
+
+pub returns-clause-bad : goal.returns-clause-bad
+unfolding number_of byte_of bytes_of command_at commands_within
+returns-clause-bad c = refl
 
 pub returns-clause-twice : goal.returns-clause-twice
 unfolding number_of
