@@ -30,6 +30,12 @@ out_keeps umpire me n on bits led apart =
     subst (λ (e : Event). Keeps after (after_event v me bits e)) (sym (goes_to me n on bits led apart))
     (said_keeps after me n (turn_at after me n me true) (fresh_out v me n on bits) (message_in bits))
 
+-- it is read on
+pub out_is : (umpire : Umpire) (me n on : ℕ) (bits : List Bool) → leader_in bits ≡ Ok (to_host n on) → (n == me) ≡ false
+    → after_record umpire ToImp me bits
+    ≡ after_said (after_out (sees umpire me) me n on bits) me n (turn_at (after_out (sees umpire me) me n on bits) me n me true) (fresh_out (sees umpire me) me n on bits) (message_in bits)
+out_is umpire me n on bits led apart = ap (λ (e : Event). after_event (sees umpire me) me bits e) (goes_to me n on bits led apart)
+
 -- what comes, by its leader: whether it names the host itself, is regular, and is an answer
 
 abbrev pub of_leader : Leader → Bool → Bool → Bool → Event
@@ -61,6 +67,11 @@ own_is umpire me bits leader zero answer led o z a = by_leader umpire me bits le
     go true answer = refl
     go false true = refl
     go false false = refl
+
+pub in_is : (umpire : Umpire) (me : ℕ) (bits : List Bool) (leader : Leader) (answer : Bool) → leader_in bits ≡ Ok leader → (leader.host == me) ≡ false → (leader.kind == 0) ≡ true → is_answer leader.kind ≡ answer
+    → after_record umpire FromImp me bits
+    ≡ after_said (after_in (sees umpire me) me leader.host leader.link) me leader.host (turn_at (after_in (sees umpire me) me leader.host leader.link) me leader.host leader.host false) true (message_in bits)
+in_is umpire me bits leader answer led o z a = by_leader umpire me bits leader false true answer led o z a
 
 pub in_keeps : (umpire : Umpire) (me : ℕ) (bits : List Bool) (leader : Leader) (answer : Bool) → leader_in bits ≡ Ok leader → (leader.host == me) ≡ false → (leader.kind == 0) ≡ true → is_answer leader.kind ≡ answer
     → Keeps (after_in (sees umpire me) me leader.host leader.link) (after_record umpire FromImp me bits)

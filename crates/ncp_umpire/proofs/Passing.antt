@@ -194,6 +194,21 @@ to_host n on = record { flags = 0; kind = 0; host = n; link = on; low = 0 }
 pub goes_to : (me n on : ℕ) (bits : List Bool) → leader_in bits ≡ Ok (to_host n on) → (n == me) ≡ false → event_of ToImp me bits ≡ event.Out n on
 goes_to me n on bits led apart = ap (event_behind ToImp me) led ∙ ap (λ (b : Bool). if b then event.Own 0 on else event.Out n on) apart
 
+pub goes_said : (P : Finding → Bool) (umpire : Umpire) (me n on : ℕ) (bits : List Bool) → leader_in bits ≡ Ok (to_host n on) → (n == me) ≡ false
+    → Pass P (option_to_list (out_finding (sees umpire me) me n on bits))
+    → ((r : Rule) → rule_of_message (message_in bits) on (length bits) ≡ Some r → P (by_host me r) ≡ true)
+    → Pass P (said_findings (after_out (sees umpire me) me n on bits) me n (turn_at (after_out (sees umpire me) me n on bits) me n me true) (fresh_out (sees umpire me) me n on bits) (message_in bits))
+    → Pass P (record_findings umpire ToImp me bits)
+goes_said P umpire me n on bits led apart link own rest =
+    let v = sees umpire me in
+    let after = after_out v me n on bits in
+    let turn = turn_at after me n me true in
+    let fresh = fresh_out v me n on bits in
+    subst (λ (e : Event). Pass P (event_findings v ToImp me bits e)) (sym (goes_to me n on bits led apart))
+    (both P (option_to_list (out_finding v me n on bits)) (message_findings after me n turn fresh on bits) link
+    (both P (option_to_list (option_map (by turn) (rule_of_message (message_in bits) on (length bits)))) (said_findings after me n turn fresh (message_in bits))
+    (mapped P (by turn) (rule_of_message (message_in bits) on (length bits)) own) rest))
+
 pub goes : (P : Finding → Bool) (umpire : Umpire) (me n on : ℕ) (bits : List Bool) → leader_in bits ≡ Ok (to_host n on) → (n == me) ≡ false
     → ((r : Rule) → is_said r ≡ true → P (by_host me r) ≡ true)
     → Pass P (option_to_list (out_finding (sees umpire me) me n on bits))
@@ -202,7 +217,4 @@ pub goes : (P : Finding → Bool) (umpire : Umpire) (me n on : ℕ) (bits : List
 goes P umpire me n on bits led apart s link own =
     let v = sees umpire me in
     let after = after_out v me n on bits in
-    let turn = turn_at after me n me true in
-    let fresh = fresh_out v me n on bits in
-    subst (λ (e : Event). Pass P (event_findings v ToImp me bits e)) (sym (goes_to me n on bits led apart))
-    (both P (option_to_list (out_finding v me n on bits)) (message_findings after me n turn fresh on bits) link (message P turn s after me n fresh on bits own))
+    goes_said P umpire me n on bits led apart link own (said P (turn_at after me n me true) s after me n (fresh_out v me n on bits) (message_in bits))

@@ -1,5 +1,5 @@
 -- Messages by which the definitions show what they mean: at the interface of host 1, of host 1 to host 2 and back.
-use Rattle.std.specs.Prelude.{Bool, true, false, List, [], ◌∷◌, None, Result, Ok}
+use Rattle.std.specs.Prelude.{Bool, true, false, List, [], ◌∷◌, None, Some, Result, Ok}
 use Rattle.ncp_terms.specs.declared.command.Command.{Command}
 use Rattle.ncp_terms.specs.declared.command.Command.TheVariants.{Nop, Rst, Rrp}
 use Rattle.ncp_terms.specs.declared.fault.CommandFault.{CommandFault}
@@ -14,6 +14,10 @@ use Rattle.ncp_umpire.specs.Judged.{after_out, after_in}
 
 abbrev pub goes_out : Turn
 goes_out = record { by = 1; sent = true; busy = None; zero = true }
+
+-- while link 2 is busy
+abbrev pub while_busy : Turn
+while_busy = record goes_out { busy = Some 2 }
 
 abbrev pub comes : Turn
 comes = record { by = 2; sent = false; busy = None; zero = true }

@@ -106,7 +106,8 @@ after_reset_of_host turn view =
       known = true;
     }
 
--- an RST of the peer begins one too, unless a reply came too many, or one of its resets was answered twice
+-- an RST of the peer begins one too, unless a reply came too many, or one of its resets was answered twice; and a rest goes
+-- on while one is not answered: an RRP that was made before a data link was busy may still wait
 abbrev pub after_reset_of_peer : Turn → View → View
 after_reset_of_peer turn view =
     let wait = more_waiting view.peer.wait in
@@ -115,7 +116,7 @@ after_reset_of_peer turn view =
       peer = record view.peer { began = true; wait = wait };
       owes = true;
       first = is_some turn.busy;
-      rests = is_answered view.host.wait || not (is_waiting wait);
+      rests = is_answered view.host.wait || not (is_waiting wait) || (view.rests && not (view.host.asked == 0));
       told = true;
     }
 

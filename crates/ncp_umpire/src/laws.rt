@@ -6,7 +6,7 @@ ghost use Rattle.ncp_umpire.specs.declared.finding.Unsent.TheVariants as why;
 ghost use Rattle.ncp_umpire.specs.Phases.{by, items_findings, early_finding};
 ghost use Rattle.ncp_umpire.specs.Views.{new_view};
 ghost use Rattle.ncp_umpire.specs.Judged.{by_imp, unsent_finding, false_finding};
-ghost use Rattle.ncp_umpire.specs.Examples.{goes_out, comes, nop, rst, rrp, sends, hears, answered_twice, in_the_middle, one_out, one_message, two_out, one_came_two_out};
+ghost use Rattle.ncp_umpire.specs.Examples.{goes_out, while_busy, comes, nop, rst, rrp, sends, hears, answered_twice, in_the_middle, one_out, one_message, two_out, one_came_two_out};
 
 /// Worked phases at the interface of host 1: what each side may say before a reset, while it waits for the reply, and while
 /// it owes one.
@@ -19,11 +19,13 @@ pub fn phases_are_judged_so()
 {}
 
 /// Where one acts on what the other has not shown, nobody is blamed for what the wire does not tell: a reply that nobody
-/// asked for may answer an RST that still waits; a text may pass an RRP behind a peer that does not wait; and after a reset
-/// of the peer that was never answered, or a second one of the host, the session is at rest.
+/// asked for may answer an RST that still waits; a text may pass an RRP behind a peer that does not wait, and the RRP may go
+/// out behind the text, after a second reset too; and after a reset of the peer that was never answered, or a second one of
+/// the host, the session is at rest.
 pub fn nobody_is_blamed_at_rest()
     ensures unasked { items_findings goes_out (rst ∷ nop ∷ []) (hears (rrp ∷ []) (new_view false)) ≡ [] }
     ensures passing { early_finding goes_out thing.Text (hears (rst ∷ nop ∷ []) (new_view false)) ≡ None }
+    ensures behind { items_findings while_busy (rrp ∷ []) (hears (rst ∷ []) (hears (rst ∷ nop ∷ []) (new_view false))) ≡ [] }
     ensures twice { early_finding goes_out thing.Text answered_twice ≡ None }
     ensures again { (hears (rrp ∷ []) (sends (rst ∷ nop ∷ rst ∷ []) (new_view false))).rests ≡ true }
 {}

@@ -179,7 +179,9 @@ fn after_reset_of_peer(turn: &Turn, view: View) -> View
         },
         owes: true,
         first: turn.busy.is_some(),
-        rests: view.host.wait.is_answered() || !wait.is_waiting(),
+        rests: view.host.wait.is_answered()
+            || !wait.is_waiting()
+            || (view.rests && view.host.asked > 0),
         told: true,
         ..view
     }

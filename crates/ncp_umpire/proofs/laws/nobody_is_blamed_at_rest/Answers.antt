@@ -7,6 +7,9 @@ returns-clause-unasked c = refl
 pub returns-clause-passing : goal.returns-clause-passing
 returns-clause-passing c = refl
 
+pub returns-clause-behind : goal.returns-clause-behind
+returns-clause-behind c = refl
+
 pub returns-clause-twice : goal.returns-clause-twice
 returns-clause-twice c = refl
 
