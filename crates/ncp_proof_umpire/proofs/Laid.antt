@@ -103,7 +103,7 @@ laid n on size text l u t some few eight =
 
 -- ---- of commands
 
-weighs : (room : ℕ) (cs : List Command) → length (spellings (fitting room cs)) ≤ room
+pub weighs : (room : ℕ) (cs : List Command) → length (spellings (fitting room cs)) ≤ room
 weighs room [] = omega arith
 weighs room (c ∷ cs) = go (nat_le (length (spelling c)) room) refl (weighs (room - length (spelling c)) cs)
   where
@@ -112,7 +112,7 @@ weighs room (c ∷ cs) = go (nat_le (length (spelling c)) room) refl (weighs (ro
     go false e h = grind arith
 
 -- the first of commands that can be written
-fitting_all : (room : ℕ) (cs : List Command) → All IsCommand cs → All IsCommand (fitting room cs)
+pub fitting_all : (room : ℕ) (cs : List Command) → All IsCommand cs → All IsCommand (fitting room cs)
 fitting_all room [] k = All-nil IsCommand
 fitting_all room (c ∷ cs) k = go (nat_le (length (spelling c)) room) (fitting_all (room - length (spelling c)) cs (λ i d l. k (suc i) d (omega (arith, l))))
   where

@@ -1,7 +1,6 @@
 pub mod Spared
 pub mod Steps
 pub mod Goes
-mod Commands
 pub mod Leaders
 pub mod KeptOne
 pub mod Shown
@@ -11,4 +10,11 @@ pub mod LinkWalk
 pub mod EndsStay
 pub mod Fine
 pub mod Laid
-pub mod MessageWalk
+pub mod ReadyPeers
+pub mod PhaseLists
+pub mod Phased
+pub mod PhaseGoes
+pub mod PhaseSteps
+pub mod Fresh
+pub mod PhaseSeen
+pub mod PhaseWalk

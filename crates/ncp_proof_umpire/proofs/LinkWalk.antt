@@ -108,7 +108,7 @@ walk ns me (inputs.Out ∷ given) (note ∷ noted) h umpire k a p f =
     go (Some message) q e said rest = subst Whole (sym e) (out message q (subst (λ (x : HostNote). IsSaid x h) e said) (subst Rest e rest))
 
 -- at the beginning nothing is kept
-begins : (me : ℕ) (ns : List ℕ) → Follows me (new_host me ns) (new_umpire false)
+pub begins : (me : ℕ) (ns : List ℕ) → Follows me (new_host me ns) (new_umpire false)
 begins me ns full = record { agrees = λ n s e on. subst (λ (x : PeerState). Shows [] (slot_at x.slots on)) (sym (new ns n s e)) (slot_at-no_slots on); own = λ from to on e. refl }
   where
     new : (ns : List ℕ) (n : ℕ) (s : PeerState) → state_of (new_host me ns) n ≡ Some s → s ≡ new_state

@@ -212,7 +212,7 @@ in_leaves ns me h umpire bits k p f full =
     (f full)
 
 -- a message of another host
-coming_keeps : (me : ℕ) (h : Host) (umpire : Umpire) (peer link : ℕ) → (peer == me) ≡ false → Follows me h umpire → Follows me h (after_in umpire me peer link)
+pub coming_keeps : (me : ℕ) (h : Host) (umpire : Umpire) (peer link : ℕ) → (peer == me) ≡ false → Follows me h umpire → Follows me h (after_in umpire me peer link)
 coming_keeps me h umpire peer link e f = by (judges_coming umpire me peer)
   where
     full_of : (kept : List Kept) → filter (is_of peer me link) kept ≡ [] → Placed (is_of peer me link) kept → ⊥
@@ -297,7 +297,7 @@ answer_of_other me h umpire kind n on none f = guarded me h umpire (with_kept um
     answered full e = keyed me n on h h umpire.kept now (after_answering me n on (view_in umpire.views me n).known kind umpire.kept).0 slots (f full)
 
 -- no answer is regular
-no_regular : (kind : ℕ) → is_answer kind ≡ true → (kind == 0) ≡ false
+pub no_regular : (kind : ℕ) → is_answer kind ≡ true → (kind == 0) ≡ false
 no_regular kind a = go (kind == 0) refl
   where
     go : (b : Bool) → (kind == 0) ≡ b → b ≡ false

@@ -27,7 +27,7 @@ Shows [] s = s ≡ host.Empty
 Shows (k ∷ []) s = ShowsOne k.slot k.message s
 Shows (k ∷ other ∷ more) s = ⊥
 
-only : (k : Kept) (rest : List Kept) (s : LinkSlot) → Shows (k ∷ rest) s → (rest ≡ []) × ShowsOne k.slot k.message s
+pub only : (k : Kept) (rest : List Kept) (s : LinkSlot) → Shows (k ∷ rest) s → (rest ≡ []) × ShowsOne k.slot k.message s
 only k [] s h = (refl, h)
 only k (other ∷ more) s h = absurd h
 
@@ -42,7 +42,7 @@ of_itself me n on bits = ap (λ (b : Bool). b && n == n && on == on) (same me) �
       | inr nay ↦ absurd (nay.1 refl)
     ]
 
-all_same : (bits : List Bool) → same_bits bits bits ≡ true
+pub all_same : (bits : List Bool) → same_bits bits bits ≡ true
 all_same [] = refl
 all_same (true ∷ bits) = all_same bits
 all_same (false ∷ bits) = all_same bits

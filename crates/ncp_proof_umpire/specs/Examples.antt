@@ -19,6 +19,14 @@ abbrev pub no_command : List (Way × List Bool)
 no_command =
     (ToImp, message_on_0 ++ replicate 12 false ++ (true ∷ []) ++ replicate 18 false ++ (true ∷ []) ++ replicate 12 false ++ (true ∷ true ∷ true ∷ false ∷ [])) ∷ []
 
+-- one of RST, RST, RRP and NOP, which are 12, 12, 13 and 0
+abbrev pub wrong_resets : List (Way × List Bool)
+wrong_resets =
+    let twelve : List Bool = true ∷ true ∷ false ∷ false ∷ [] in (
+      ToImp,
+      message_on_0 ++ replicate 12 false ++ (true ∷ []) ++ replicate 16 false ++ (true ∷ []) ++ replicate 14 false ++ twelve ++ replicate 4 false ++ twelve ++ replicate 4 false ++ (true ∷ true ∷ false ∷ true ∷ []) ++ replicate 8 false,
+    ) ∷ []
+
 -- a message on link 0 to host 2, and once more with no answer between
 abbrev pub two_at_once : List (Way × List Bool)
 two_at_once = (ToImp, message_on_0) ∷ (ToImp, message_on_0) ∷ []

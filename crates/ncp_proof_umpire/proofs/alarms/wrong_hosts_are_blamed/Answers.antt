@@ -1,7 +1,7 @@
 use Rattle.std.proofs.Common.{refl}
 use Rattle.ncp_numbers.specs.Bytes.{bytes_of, byte_of}
 use Rattle.ncp_numbers.specs.Numbers.{number_of}
-use Rattle.ncp_control.specs.Reading.{command_at, commands_within}
+use Rattle.ncp_control.specs.Reading.{command_with, command_at, commands_within}
 use Rattle.ncp_proof_umpire.proofs.alarms.wrong_hosts_are_blamed.Goals as goal
 
 pub returns-clause-recorded : goal.returns-clause-recorded
@@ -14,6 +14,14 @@ returns-clause-short c = refl
 pub returns-clause-bad : goal.returns-clause-bad
 unfolding number_of byte_of bytes_of command_at commands_within
 returns-clause-bad c = refl
+
+pub returns-clause-resets : goal.returns-clause-resets
+unfolding number_of byte_of bytes_of command_with command_at commands_within
+returns-clause-resets c = refl
+
+pub returns-clause-blamed : goal.returns-clause-blamed
+unfolding number_of byte_of bytes_of command_with command_at commands_within
+returns-clause-blamed c = refl
 
 pub returns-clause-twice : goal.returns-clause-twice
 unfolding number_of

@@ -1,0 +1,5 @@
+use Rattle.ncp_proof_umpire.proofs.PhaseWalk.{none_blamed}
+use Rattle.ncp_proof_umpire.proofs.alarms.no_host_is_blamed.Goals as goal
+
+pub returns : goal.returns
+returns c = none_blamed
