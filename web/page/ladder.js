@@ -1,6 +1,8 @@
 /** The ladder: a line for each host, time downwards, a row for each event. Only the rows that are seen are drawn. */
 // Below the last row is room for the signs of a message that is underway.
 const ROW = 28, BELOW = 2, MARGIN = 24, OVERSCAN = 8;
+// As wide as the words of a row are seen at least: between many hosts the ladder is scrolled to the side for them.
+const WORDS = 160;
 
 const escaped = text => text.replace(/[&<>"]/g, it => ({ "&": "&amp;", "<": "&lt;", ">": "&gt;", '"': "&quot;" })[it]);
 
@@ -39,12 +41,19 @@ class Picture {
 
   #message(message, height) {
     const { fate, x, event } = this.tip(message), [x1, y1, y2] = [this.column(message.from), height(message.event), height(event) + (event === message.event ? ROW / 2 : 0)];
-    const kind = message.link === 0 ? "control" : "text", toLeft = x < x1;
+    const kind = Picture.kind(message), toLeft = x < x1;
     const angle = Math.atan2(y2 - y1, x - x1) * 180 / Math.PI;
-    const label = message.words.map(it => it.split(" ")[0]).join(" ") || kind;
     return `<g class="message ${kind} ${fate}"><line x1="${x1}" y1="${y1}" x2="${x}" y2="${y2}"/>`
       + `<path d="${Picture.MARKS[fate]}" transform="translate(${x} ${y2}) rotate(${angle})"/>`
-      + `<text x="${(x1 + x) / 2}" y="${(y1 + y2) / 2 - 5}" text-anchor="middle" data-left="${toLeft}">${escaped(label.slice(0, 24))}</text></g>`;
+      + `<text x="${(x1 + x) / 2}" y="${(y1 + y2) / 2 - 5}" text-anchor="middle" data-left="${toLeft}">${escaped(Picture.label(message))}</text></g>`;
+  }
+
+  static kind(message) {
+    return message.link === 0 ? "control" : "text";
+  }
+
+  static label(message) {
+    return (message.words.map(it => it.split(" ")[0]).join(" ") || Picture.kind(message)).slice(0, 24);
   }
 
   #event(event, y) {
@@ -75,7 +84,10 @@ class Ladder {
     this.run = null;
     this.at = 0;
     this.drag = null;
-    box.addEventListener("scroll", () => this.#soon());
+    box.addEventListener("scroll", () => {
+      heads.style.setProperty("--scrolled", `${box.scrollLeft}px`);
+      this.#soon();
+    });
     new ResizeObserver(() => this.#soon()).observe(box);
     box.addEventListener("click", event => this.#click(event));
     box.addEventListener("pointerdown", event => this.#grab(event));
@@ -88,7 +100,8 @@ class Ladder {
     const isNew = run !== this.run;
     this.run = run;
     this.at = at;
-    this.sheet.style.height = `${(run.length + BELOW) * ROW}px`;
+    this.underway = run.seen(Math.max(at, 1), Math.max(at, 1)).filter(it => it.event <= at && (it.end === null || it.end > at));
+    this.#fit();
     if (isNew) this.box.scrollTop = 0;
     this.reveal(at);
     this.draw();
@@ -96,14 +109,19 @@ class Ladder {
 
   /** There are more events than before. */
   grow() {
-    this.sheet.style.height = `${(this.run.length + BELOW) * ROW}px`;
+    this.#fit();
     this.#soon();
   }
 
+  /** As high as all rows, with room for the signs below the row that is shown. */
+  #fit() {
+    this.sheet.style.height = `${Math.max(this.run.length + BELOW, this.at + this.underway.length + 1) * ROW}px`;
+  }
+
   reveal(event) {
-    const top = (event - 1) * ROW, { scrollTop, clientHeight } = this.box;
+    const top = (event - 1) * ROW, below = (Math.max(this.underway.length, 1) + 2) * ROW, { scrollTop, clientHeight } = this.box;
     if (top < scrollTop + ROW) this.box.scrollTop = Math.max(0, top - 2 * ROW);
-    else if (top + 3 * ROW > scrollTop + clientHeight) this.box.scrollTop = top + 3 * ROW - clientHeight;
+    else if (top + below > scrollTop + clientHeight) this.box.scrollTop = Math.min(top, top + below - clientHeight);
   }
 
   get width() {
@@ -125,7 +143,7 @@ class Ladder {
     // What is there stays, so that nothing is changed below a finger.
     if (shown.every((it, each) => it === this.shown?.[each])) return;
     this.shown = shown;
-    this.heads.style.width = `${width}px`;
+    this.sheet.style.minWidth = `${width + WORDS}px`;
     this.heads.innerHTML = run.hosts.map((it, host) => `<span style="left:${picture.column(host)}px">${escaped(run.isMany ? `host ${it.number}` : `${it.name} (${it.number})`)}</span>`).join("");
     const rows = [];
     for (let event = first; event <= last; event++) rows.push(this.#row(event, width));
@@ -147,12 +165,12 @@ class Ladder {
 
   /** Behind each message that is underway now what may become of it. */
   #tips(picture) {
-    const underway = this.run.seen(Math.max(this.at, 1), Math.max(this.at, 1)).filter(it => it.event <= this.at && (it.end === null || it.end > this.at));
-    return underway.map((message, each) => {
+    const isOne = this.underway.length === 1;
+    return this.underway.map((message, each) => {
       const { x } = picture.tip(message), name = `${this.run.hosts[message.from].name} to ${this.run.hosts[message.to]?.name}, link ${message.link}`;
       const buttons = [["deliver", "✓"], ["lose", "✗"], ["dead", "†"]].map(([move, sign]) =>
         `<button class="move ${move}" tabindex="-1" data-move="${move}" data-from="${message.from}" data-to="${message.to}" data-link="${message.link}" title="${move} (${name})" aria-label="${move} the message from ${name}">${sign}</button>`);
-      return `<div class="tip" style="top:${(this.at + 0.15 + each) * ROW}px;left:${Math.max(0, x - 36)}px">${buttons.join("")}</div>`;
+      return `<div class="tip" style="top:${(this.at + 0.15 + each) * ROW}px;left:${Math.max(0, x - 36)}px">${buttons.join("")}${isOne ? "" : `<span class="${Picture.kind(message)}">${escaped(Picture.label(message))}</span>`}</div>`;
     }).join("");
   }
 

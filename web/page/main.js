@@ -287,6 +287,13 @@ class Page {
     $("exercise-text").textContent = exercise.text;
     $("wants").innerHTML = told.map(it => `<li class="${it.good ? "met" : "unmet"}"><span aria-hidden="true">${it.good ? "✓" : "○"}</span> ${escaped(it.words)} <span class="sr">${it.good ? "done" : "not yet"}</span></li>`).join("");
     $("verdict").textContent = good ? "Solved." : "";
+    if (good) this.#markSolved(exercise);
+  }
+
+  /** Marks an exercise among the choices, as long as the page is open. */
+  #markSolved({ name, title }) {
+    const number = this.exercises.findIndex(it => it.name === name) + 1;
+    document.querySelector(`#choice [value="exercise ${name}"]`).textContent = `✓ ${number}. ${title}`;
   }
 
   // ---- captures

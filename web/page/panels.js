@@ -62,14 +62,17 @@ class Panels {
   }
 }
 
+/** So many of something. */
+const counted = (count, word) => `${count} ${word}${Number(count) === 1 ? "" : "s"}`;
+
 function connectionHtml(it) {
   const flags = Object.entries(FLAG_WORDS).filter(([name]) => it[name] === "1").map(([, word]) => word).join(", ");
-  const books = `allowed ${it.messages} messages, ${it.bits} bits; ${it.end === "send" ? "waits" : "held"} ${it.stored} bits`;
+  const books = `allowed ${counted(it.messages, "message")}, ${counted(it.bits, "bit")}; ${it.end === "send" ? "waits" : "held"} ${counted(it.stored, "bit")}`;
   return `<li><b>${it.end} ${it.local} → ${it.remote}</b> link ${it.link}, size ${it.size}<br><span class="dim">${flags}</span><br>${books}${it.interrupts !== "0" ? `; interrupts ${it.interrupts}` : ""}</li>`;
 }
 
 function slotHtml(it) {
-  const size = it.message ? `${it.message.bits} bits kept` : "nothing kept";
+  const size = it.message ? `${counted(it.message.bits, "bit")} kept` : "nothing kept";
   return `<li>link ${it.link}: ${size}, subnet: <b>${it.fate}</b></li>`;
 }
 

@@ -4,6 +4,8 @@ use Rattle.ncp_play_files.specs.declared.file.FileFault.{FileFault}
 use Rattle.ncp_play_files.specs.Shown.{Shown}
 use Rattle.ncp_play_files.specs.Checked.{Checked}
 use Rattle.ncp_play_files.specs.Writing.{Writes}
+use Rattle.ncp_follow.specs.Followed.{new_follower}
+use Rattle.ncp_play_follow.specs.FollowedFiles.{Follows}
 use Rattle.ncp_umpire.specs.Judged.{new_umpire}
 use Rattle.ncp_play_audit.specs.Audited.{AuditedAs, AuditedCut, HasVerdict, done_of}
 use Rattle.ncp_play_notes.specs.declared.fault.PlayFault.{PlayFault}
@@ -36,6 +38,10 @@ ShowsBytes bytes answer lines = (left : Option (List ℕ)) × Shown bytes [] lef
 -- the line of what a message file holds
 abbrev pub ChecksBytes : List ℕ → Result Bool FileFault → List ℕ → Type 0
 ChecksBytes bytes answer line = (left : Option (List ℕ)) × Checked bytes [] left (Some line) answer
+
+-- the lines of the connections of a message file: of a whole capture or of a part
+abbrev pub FollowsBytes : Bool → List ℕ → Result Unit FileFault → List ℕ → Type 0
+FollowsBytes part bytes answer lines = (left : Option (List ℕ)) × Follows (new_follower part) bytes [] left (Some lines) answer
 
 -- the lines of the findings of a message file, and whether there is none: of a whole capture or of a part, by all rules or
 -- by those of the standard alone

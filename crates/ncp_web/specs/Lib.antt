@@ -1,4 +1,5 @@
 pub mod Handles
 pub mod Bytes
 pub mod Sessions
+pub mod Fates
 pub mod Readings

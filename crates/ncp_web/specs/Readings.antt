@@ -1,5 +1,5 @@
 -- What is read of the hosts of a session, which stay as they were.
-use Rattle.std.specs.Prelude.{◌≡◌, ℕ, ◌+◌, nat_lt, slice_get, if◌then◌else◌, Bool, true, false, List, [], ◌∷◌, ◌++◌, length, drop, Option, None, Some, Result, Ok, Err}
+use Rattle.std.specs.Prelude.{◌≡◌, ◌⊎◌, ℕ, ◌+◌, nat_lt, slice_get, if◌then◌else◌, Bool, List, [], ◌++◌, length, drop, Option, None, Some, Result, Ok, Err}
 use Rattle.ncp_host.specs.Host.{Host}
 use Rattle.ncp_transcript.specs.declared.call.Call.{Call}
 use Rattle.ncp_transcript.specs.declared.call.Call.TheVariants as calls
@@ -11,7 +11,6 @@ use Rattle.ncp_transcript_two.specs.declared.event.Event.TheVariants as events
 use Rattle.ncp_transcript_two.specs.declared.note.Note.{Note}
 use Rattle.ncp_transcript_two.specs.declared.note.Note.TheVariants as notes
 use Rattle.ncp_transcript_two.specs.declared.side.Side.{Side}
-use Rattle.ncp_transcript_two.specs.declared.side.Side.TheVariants.{A, B}
 use Rattle.ncp_transcript_two.specs.Between.{host_of}
 use Rattle.ncp_transcript_two.specs.Ledgers.{ledger_of}
 use Rattle.ncp_model.specs.declared.pair.Pair.{Pair}
@@ -35,10 +34,14 @@ use Rattle.ncp_web.specs.declared.stage.Stage.{Stage}
 use Rattle.ncp_web.specs.declared.stage.Stage.TheVariants.{Two, Many}
 use Rattle.ncp_web.specs.declared.stage.Refusal.{Refusal}
 use Rattle.ncp_web.specs.declared.stage.Refusal.TheVariants.{NoLine, NoMemory, Full}
+use Rattle.ncp_web.specs.declared.transit.Fate.{Fate}
+use Rattle.ncp_web.specs.Fates.{fate_between, fate_among}
 use Rattle.ncp_play_stream.specs.declared.source.Failed.{Failed}
-use Rattle.ncp_web.specs.declared.answer.TheConstants.{DONE, NO_SESSION, NOTHING, LONGEST_MESSAGE}
+use Rattle.ncp_play_files.specs.Lines.{item_line}
+use Rattle.ncp_web.specs.declared.answer.TheConstants.{DONE, NO_MEMORY, NO_SESSION, NOTHING, FULL, LONGEST_MESSAGE}
 use Rattle.ncp_web.specs.declared.handle.held.Held.{Held}
-use Rattle.ncp_web.specs.Sessions.{number_of, side_at, host_at}
+use Rattle.ncp_web.specs.Bytes.{IsFront}
+use Rattle.ncp_web.specs.Sessions.{number_of, side_at, host_at, code_of_refusal}
 use Rattle.ncp_numbers.specs.Bytes.{bytes_of, bytes_for}
 use Rattle.ncp_transcript_two.specs.declared.ledger.Amount.{Amount}
 use Rattle.ncp_transcript_two.specs.declared.ledger.Ledger.{Ledger}
@@ -143,7 +146,30 @@ abbrev pub ledger_in : Stage → ℕ → Pair → Option Ledger
 ledger_in (Two s) host pair = ledger_at_side (side_at s.first.hosts host) pair (Two s)
 ledger_in (Many s) host pair = None
 
+-- What became of the last message from a host to another on a link.
+
+abbrev pub fate_in : Stage → ℕ → ℕ → ℕ → Fate
+fate_in (Two s) sender peer link = fate_between (side_at s.first.hosts sender) (side_at s.first.hosts peer) link s.hosts.hosts.hosts
+fate_in (Many s) sender peer link = fate_among sender peer link s.hosts.hosts.crowd
+
 -- ---- behind a handle
+
+-- it is refused before anything is looked at, and nothing is written
+abbrev pub IsRefused : ℕ → ℕ → List ℕ → List ℕ → ℕ → Type 0
+IsRefused code result out out' written = (result ≡ code) × (out' ≡ out) × (written ≡ 0)
+
+abbrev pub code_of_asking : Result Unit Refusal → ℕ
+code_of_asking (Ok done) = DONE
+code_of_asking (Err refusal) = code_of_refusal refusal
+
+-- a reading is written in front of a buffer, or there was no memory for as many bytes as it has
+abbrev pub AsksHeld : List ℕ → ℕ → Option Held → List ℕ → List ℕ → ℕ → Type 0
+AsksHeld line result None out out' written = IsRefused NO_SESSION result out out' written
+AsksHeld line result (Some s) out out' written =
+    (answer : Result Unit Refusal) × (text : List ℕ) × Asks (asked_of s.stage line) answer text × (result ≡ code_of_asking answer) × IsFront text out out' written
+
+abbrev pub AsksSession : List ℕ → ℕ → Option Held → List ℕ → List ℕ → ℕ → Type 0
+AsksSession line result session out out' written = IsRefused NO_MEMORY result out out' written ⊎ AsksHeld line result session out out' written
 
 -- what there may be in a session: the code of it, and what is written of it where it is there
 
@@ -171,3 +197,20 @@ with_room out short answer = if nat_lt (length out) LONGEST_MESSAGE then short e
 abbrev pub IsSaid : List ℕ → Result Unit Failed → List ℕ → Type 0
 IsSaid lines (Ok done) text = text ≡ lines
 IsSaid lines (Err failed) text = (more : List ℕ) × (text ++ more ≡ lines)
+
+abbrev pub code_of_saying : Result Unit Failed → ℕ
+code_of_saying (Ok done) = DONE
+code_of_saying (Err failed) = FULL
+
+-- a command that waits stands as its line in front of a buffer
+abbrev pub SaysWaiting : Option Command → ℕ → List ℕ → List ℕ → ℕ → Type 0
+SaysWaiting None result out out' written = IsRefused NOTHING result out out' written
+SaysWaiting (Some command) result out out' written =
+    (answer : Result Unit Failed) × (text : List ℕ) × IsSaid (item_line (Ok command)) answer text × (result ≡ code_of_saying answer) × IsFront text out out' written
+
+abbrev pub WaitsHeld : ℕ → ℕ → ℕ → ℕ → Option Held → List ℕ → List ℕ → ℕ → Type 0
+WaitsHeld host peer place result None out out' written = IsRefused NO_SESSION result out out' written
+WaitsHeld host peer place result (Some s) out out' written = SaysWaiting (waiting_in s.stage host peer place) result out out' written
+
+abbrev pub WaitsSession : ℕ → ℕ → ℕ → ℕ → Option Held → List ℕ → List ℕ → ℕ → Type 0
+WaitsSession host peer place result session out out' written = IsRefused NO_MEMORY result out out' written ⊎ WaitsHeld host peer place result session out out' written

@@ -5,6 +5,7 @@ ghost use Rattle.ncp_web.specs.Bytes.{Explains};
 use crate::answer::{DONE, FULL, NO_MEMORY, NOTHING};
 use ncp_play_audit::rule_meaning;
 use ncp_play_faults::{Player, meaning, wrong_first_line, wrong_line};
+use ncp_play_follow::end_meaning;
 use std::alloc::{AllocError, Global};
 
 // Copies words into the front of a buffer that has room for them.
@@ -63,7 +64,7 @@ pub extern "C" fn ncp_web_wrong_first_line(
     hand_out_made(wrong, out, written)
 }
 
-/// What the name of a fault, a refusal or a rule means, as `ncp explain` has it.
+/// What the name of a fault, a refusal, a rule or an end of a connection means, as `ncp explain` has it.
 ///
 /// Refused, in this order, and nothing is written: `NOTHING` (it is no such name), `FULL`.
 #[unsafe(no_mangle)]
@@ -74,7 +75,7 @@ pub extern "C" fn ncp_web_meaning(name: &[u8], out: &mut [u8], written: &mut usi
     let Ok(name) = std::str::from_utf8(name) else {
         return NOTHING;
     };
-    match meaning(name).or(rule_meaning(name)) {
+    match meaning(name).or(rule_meaning(name)).or(end_meaning(name)) {
         Some(words) => hand_out(words, out, written),
         None => NOTHING,
     }

@@ -1,10 +1,12 @@
-//! Message files from bytes to bytes: they are shown, checked, or audited.
-ghost use Rattle.std.specs.Prelude.{◌≡◌, [], false, IfSome};
-ghost use Rattle.ncp_web.specs.Bytes.{ShowsBytes, ChecksBytes, AuditsBytes, HandsOut, code_of_shown, code_of_checked};
+//! Message files from bytes to bytes: they are shown, checked, followed, or audited.
+ghost use Rattle.std.specs.Prelude.{◌≡◌, ◌≢◌, [], false, IfSome};
+ghost use Rattle.ncp_web.specs.Bytes.{ShowsBytes, ChecksBytes, FollowsBytes, AuditsBytes, HandsOut, code_of_shown, code_of_checked};
 
 use crate::answer::{NO_MEMORY, conclude, copy_out};
+use ncp_follow::Follower;
 use ncp_play_audit::{Auditor, audit};
 use ncp_play_files::{FileFault, check, show};
+use ncp_play_follow::follow;
 use ncp_play_notes::PlayFault;
 use ncp_play_stream::{MemorySink, MemorySource};
 use std::alloc::Global;
@@ -29,6 +31,24 @@ fn checked(input: &[u8], sink: &mut MemorySink) -> Result<bool, FileFault>
     check(&mut source, sink)
 }
 
+// Follows the bytes of a message file, with the lines of its connections in an empty sink, if there is memory for them.
+fn followed(
+    alloc: Global,
+    part: bool,
+    input: &[u8],
+    sink: &mut MemorySink,
+) -> Option<Result<(), FileFault>>
+    requires clean { sink.old.failed ≡ false }
+    requires empty { sink.old.written ≡ [] }
+    ensures { IfSome result (λ answer. FollowsBytes part input.now answer sink.new.written) }
+{
+    let Ok(mut follower) = Follower::new(alloc, part) else {
+        return None;
+    };
+    let mut source = MemorySource::new(input, None);
+    Some(follow(&mut follower, &mut source, sink))
+}
+
 // Audits the bytes of a message file, with the lines of the findings in an empty sink, if there is memory for it.
 fn audited(
     alloc: Global,
@@ -46,6 +66,21 @@ fn audited(
     };
     let mut source = MemorySource::new(input, None);
     Some(audit(&mut auditor, standard, &mut source, sink))
+}
+
+// The code of an answer that only says whether a file has a fault, which is told.
+fn conclude_file(
+    alloc: Global,
+    answer: Result<(), FileFault>,
+    error: &mut [u8],
+    told: &mut usize,
+) -> u32
+    ensures { result ≢ NO_MEMORY → result ≡ code_of_shown answer }
+{
+    match answer {
+        Ok(()) => conclude(alloc, Ok(true), error, told),
+        Err(fault) => conclude(alloc, Err(PlayFault::Feed(fault)), error, told),
+    }
 }
 
 /// `show`: the lines of a message file.
@@ -68,10 +103,7 @@ pub extern "C" fn ncp_web_show(
     };
     let answer = shown(input, &mut sink);
     *written = copy_out(&sink, out);
-    match answer {
-        Ok(()) => conclude(alloc, Ok(true), error, told),
-        Err(fault) => conclude(alloc, Err(PlayFault::Feed(fault)), error, told),
-    }
+    conclude_file(alloc, answer, error, told)
 }
 
 /// `check`: the line of what a message file holds.
@@ -98,6 +130,35 @@ pub extern "C" fn ncp_web_check(
         Ok(sound) => conclude(alloc, Ok(sound), error, told),
         Err(fault) => conclude(alloc, Err(PlayFault::Feed(fault)), error, told),
     }
+}
+
+/// `follow`: the lines of the connections of a message file of version 2, in the order of opening. In a `part` of a capture
+/// two hosts are in touch without a reset.
+///
+/// Answers `DONE`, `FAULT` with the fault told behind the connections before it, or `NO_MEMORY`, where there was none for
+/// as many bytes as the buffer has, or for what is known of the connections.
+#[unsafe(no_mangle)]
+pub extern "C" fn ncp_web_follow(
+    alloc: Global,
+    part: bool,
+    input: &[u8],
+    out: &mut [u8],
+    written: &mut usize,
+    error: &mut [u8],
+    told: &mut usize,
+) -> u32
+    ensures followed { HandsOut (FollowsBytes part input.now) code_of_shown result out.old out.new written.new }
+{
+    *written = 0;
+    *told = 0;
+    let Ok(mut sink) = MemorySink::new(alloc, out.len(), None) else {
+        return NO_MEMORY;
+    };
+    let Some(answer) = followed(alloc, part, input, &mut sink) else {
+        return NO_MEMORY;
+    };
+    *written = copy_out(&sink, out);
+    conclude_file(alloc, answer, error, told)
 }
 
 /// `audit`: the lines of the findings of a message file of version 2. Of a `part` of a capture nothing is known that was

@@ -1,6 +1,6 @@
-//! What a page calls: scripts are played and recorded, message files shown, checked and audited, from bytes to bytes; and
-//! a session, which is hosts behind a handle that are played line by line, each event by event, and read in between. A
-//! static library.
+//! What a page calls: scripts are played and recorded, message files shown, checked, followed and audited, from bytes to
+//! bytes; and a session, which is hosts behind a handle that are played line by line, each event by event, and read in
+//! between. A static library.
 //!
 //! What a page has to uphold: a handle is all zeros before its first use, and then what these functions left there,
 //! neither altered nor copied and used twice; pointers lead to as much as their length says, and do not overlap. Each
@@ -8,9 +8,9 @@
 //!
 //! - *Use:* `web/ncp.html`, whose module this library is.
 //! - *Proved:* what is written is what the players and the readers of files write (clauses `played`, `recorded`,
-//!   `shown`, `checked` and `audited`). A step does the next event of its line, and what is written is what a script tells
-//!   of it (`step`). A message and a ledger that are read between steps are what the definitions say of the hosts
-//!   (`code`, `message`, `bits`, `told`), and what only reads a session leaves it as it was (`session`).
+//!   `shown`, `checked`, `followed` and `audited`). A step does the next event of its line, and what is written is what a script tells
+//!   of it (`step`). What is read between steps is what the definitions say of the hosts and the subnet (`asked`, `waits`,
+//!   `message`, `told`, `fate`), and leaves the session as it was (`session`).
 //! - *Tests:* `web/test`, in a browser.
 #![tactic(auto)]
 

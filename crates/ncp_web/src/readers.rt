@@ -8,7 +8,8 @@ ghost use Rattle.ncp_play_world_lines.specs.WorldLines.{world_line_of};
 ghost use Rattle.ncp_play_world_lines.specs.ManyLines.{many_line_of};
 ghost use Rattle.ncp_play_world_lines.specs.WorldNotes.{world_note_lines};
 ghost use Rattle.ncp_play_world_lines.specs.ManyNotes.{many_note_lines};
-ghost use Rattle.ncp_web.specs.Readings.{quantity_of, books_of, message_over, waiting_in, kept_in, message_noted, message_of_two, message_of_many, message_in, ledger_in, asked_of_two, asked_of_many, asked_of, Asks, IsSaid, code_found, found_in, written_if_any, with_room};
+ghost use Rattle.ncp_web.specs.Fates.{number_of_fate};
+ghost use Rattle.ncp_web.specs.Readings.{quantity_of, books_of, message_over, waiting_in, kept_in, message_noted, message_of_two, message_of_many, message_in, ledger_in, asked_of_two, asked_of_many, asked_of, fate_in, Asks, AsksSession, WaitsSession, IsSaid, code_of_asking, code_of_saying, code_found, found_in, written_if_any, with_room};
 
 use crate::answer::{DONE, FULL, LONGEST_MESSAGE, NO_MEMORY, NO_SESSION, NOTHING, copy_out};
 use crate::handle::{Handle, put, take};
@@ -255,6 +256,26 @@ fn ask(alloc: Global, stage: &Stage, line: &[u8], sink: &mut MemorySink) -> Resu
     }
 }
 
+// The code of a reading.
+fn code_of_asking(asked: Result<(), Refusal>) -> u32
+    ensures { result ≡ code_of_asking asked }
+{
+    match asked {
+        Ok(()) => DONE,
+        Err(refusal) => code_of_refusal(refusal),
+    }
+}
+
+// The code of a line that is said.
+fn code_of_saying(said: Result<(), Failed>) -> u32
+    ensures { result ≡ code_of_saying said }
+{
+    match said {
+        Ok(()) => DONE,
+        Err(_) => FULL,
+    }
+}
+
 /// The line that a reading of a host would be answered as the next event of the script: `state`, `phase`, `echoed`,
 /// `counts` or `ignored`, as a line of the script asks for it.
 ///
@@ -269,6 +290,7 @@ pub extern "C" fn ncp_web_ask(
     written: &mut usize,
 ) -> u32
     ensures session { handle.new.session ≡ handle.old.session }
+    ensures asked { AsksSession line.now result handle.old.session out.old out.new written.new }
 {
     *written = 0;
     let Ok(mut sink) = MemorySink::new(alloc, out.len(), None) else {
@@ -280,10 +302,7 @@ pub extern "C" fn ncp_web_ask(
     let asked = ask(alloc, &held.stage, line, &mut sink);
     put(handle, held);
     *written = copy_out(&sink, out);
-    match asked {
-        Ok(()) => DONE,
-        Err(refusal) => code_of_refusal(refusal),
-    }
+    code_of_asking(asked)
 }
 
 /// `Host::waiting`: the line of the command that waits at a host for a peer, at a place from the front, the first at 0.
@@ -300,6 +319,7 @@ pub extern "C" fn ncp_web_waiting(
     written: &mut usize,
 ) -> u32
     ensures session { handle.new.session ≡ handle.old.session }
+    ensures waits { WaitsSession host peer place result handle.old.session out.old out.new written.new }
 {
     *written = 0;
     let Ok(mut sink) = MemorySink::new(alloc, out.len(), None) else {
@@ -315,10 +335,7 @@ pub extern "C" fn ncp_web_waiting(
     };
     let said = say_command(&command, &mut sink);
     *written = copy_out(&sink, out);
-    match said {
-        Ok(()) => DONE,
-        Err(_) => FULL,
-    }
+    code_of_saying(said)
 }
 
 /// `Host::kept`: the message that a host has for a peer on a link and that is not taken yet, with its length in bits.
@@ -434,6 +451,8 @@ pub extern "C" fn ncp_web_transit(
     out: &mut u32,
 ) -> u32
     ensures session { handle.new.session ≡ handle.old.session }
+    ensures code { result ≡ code_found (λ s. Some (fate_in s from to link)) handle.old.session }
+    ensures fate { out.new ≡ written_if_any number_of_fate (found_in (λ s. Some (fate_in s from to link)) handle.old.session) out.old }
 {
     let Some(held) = take(alloc, handle) else {
         return NO_SESSION;

@@ -1,9 +1,17 @@
 //! What is in transit, as the notes tell it.
-use crate::stage::{Stage, side_of};
-use ncp_bits::Bits;
-use ncp_leader::read_leader;
-use ncp_many::ManyNote;
+ghost use Rattle.std.specs.Prelude.{◌≡◌};
+ghost use Rattle.ncp_transcript_many.specs.ManyHappening.{are_two};
+ghost use Rattle.ncp_web.specs.Fates.{number_of_fate, leader_out, is_on, is_to, is_same, fate_told, fate_told_of_many, last_told, fate_between, fate_among};
+ghost use Rattle.ncp_web.specs.Readings.{fate_in};
+ghost use Rattle.ncp_web.specs.Sessions.{side_at};
+
+use crate::stage::{ManyStage, Stage, TwoStage, side_of};
+use ncp_bits::PackedStore;
+use ncp_leader::{Leader, REGULAR, read_leader};
+use ncp_many::{Many, ManyNote};
+use ncp_proof_promises::taking::what_goes_out_is_taken;
 use ncp_transcript::HostNote;
+use ncp_transcript_many::taking::what_goes_out_of_each_of_many_is_taken;
 use ncp_world::{Note, Side};
 
 /// What became of the last message from a host to another on a link.
@@ -23,7 +31,9 @@ pub enum Fate {
 
 impl Fate {
     /// Its number, 0 to 4 in this order.
-    pub(crate) fn number(self) -> u32 {
+    pub(crate) fn number(self) -> u32
+        ensures { result ≡ number_of_fate self }
+    {
         match self {
             Fate::Free => 0,
             Fate::Underway => 1,
@@ -34,85 +44,117 @@ impl Fate {
     }
 }
 
-// Whether a message goes to this host on this link.
-fn goes_to(message: &Bits, to: u8, link: u8) -> bool {
-    match read_leader(message) {
-        Ok(leader) => leader.host == to && leader.link == link,
-        Err(_) => false,
+// The leader of a message that went out, if it is one that the subnet takes.
+fn leader_out(note: &HostNote) -> Option<Leader>
+    ensures { result ≡ leader_out note.now }
+{
+    let HostNote::Out { message } = note else {
+        return None;
+    };
+    match read_leader(&message.to_bits()) {
+        Ok(leader) => {
+            if leader.kind == REGULAR {
+                Some(leader)
+            } else {
+                None
+            }
+        }
+        Err(_) => None,
     }
 }
 
-// Whether a host noted that a message went out to this one on this link.
-fn went_out(note: &HostNote, to: u8, link: u8) -> bool {
-    match note {
-        HostNote::Out { message } => goes_to(&message.to_bits(), to, link),
-        _ => false,
+// Whether a message went out on this link.
+fn is_on(link: u8, leader: Option<Leader>) -> bool
+    ensures { result ≡ is_on link leader }
+{
+    match leader {
+        Some(leader) => leader.link == link,
+        None => false,
+    }
+}
+
+// Whether a message went out to this host on this link.
+fn is_to(host: u8, link: u8, leader: Option<Leader>) -> bool
+    ensures { result ≡ is_to host link leader }
+{
+    match leader {
+        Some(leader) => leader.host == host && leader.link == link,
+        None => false,
     }
 }
 
 // Whether two sides are the same.
-fn same_side(one: Side, other: Side) -> bool {
+fn is_same(one: Side, other: Side) -> bool
+    ensures { result ≡ is_same one other }
+{
     matches!((one, other), (Side::A, Side::A) | (Side::B, Side::B))
 }
 
-// What a note of two hosts makes of the last message of a side, to this host, on a link.
-fn fate_told(note: &Note, from: Side, to: u8, link: u8) -> Option<Fate> {
-    let (side, on, fate) = match note {
-        Note::Out { side, note } => (*side, went_out(note, to, link), Fate::Underway),
-        Note::Came { side, link: on, .. } => (*side, *on == link, Fate::Delivered),
-        Note::Lost { side, link: on } => (*side, *on == link, Fate::Lost),
-        Note::FoundDead { side, link: on } => (*side, *on == link, Fate::Dead),
-        Note::Answered { side, link: on, .. } => (*side, *on == link, Fate::Free),
-        _ => return None,
+// What a note of two hosts says of the last message of a side on a link.
+fn fate_told(sender: Side, link: u8, note: &Note) -> Option<Fate>
+    ensures { result ≡ fate_told sender link note.now }
+{
+    let (so, fate) = match note {
+        Note::Out { side, note } => (
+            is_same(*side, sender) && is_on(link, leader_out(note)),
+            Fate::Underway,
+        ),
+        Note::Came { side, link: on, .. } => {
+            (is_same(*side, sender) && *on == link, Fate::Delivered)
+        }
+        Note::Lost { side, link: on } => (is_same(*side, sender) && *on == link, Fate::Lost),
+        Note::FoundDead { side, link: on } => (is_same(*side, sender) && *on == link, Fate::Dead),
+        Note::Answered { side, link: on, .. } => {
+            (is_same(*side, sender) && *on == link, Fate::Free)
+        }
+        Note::Called { .. } | Note::Nothing { .. } => return None,
     };
-    if same_side(side, from) && on {
-        Some(fate)
-    } else {
-        None
-    }
+    if so { Some(fate) } else { None }
 }
 
-// What a note of two to eight hosts makes of the last message from a host to another on a link.
-fn fate_told_of_many(note: &ManyNote, from: u8, to: u8, link: u8) -> Option<Fate> {
-    let (sender, on, fate) = match note {
-        ManyNote::Out { host, note } => (*host, went_out(note, to, link), Fate::Underway),
+// What a note of two to eight hosts says of the last message from a host to another on a link.
+fn fate_told_of_many(sender: u8, peer: u8, link: u8, note: &ManyNote) -> Option<Fate>
+    ensures { result ≡ fate_told_of_many sender peer link note.now }
+{
+    let (so, fate) = match note {
+        ManyNote::Out { host, note } => (
+            *host == sender && is_to(peer, link, leader_out(note)),
+            Fate::Underway,
+        ),
         ManyNote::Came {
             from,
-            to: there,
+            to,
             link: on,
             ..
-        } => (*from, *there == to && *on == link, Fate::Delivered),
-        ManyNote::Lost {
-            from,
-            to: there,
-            link: on,
-        } => (*from, *there == to && *on == link, Fate::Lost),
-        ManyNote::FoundDead {
-            from,
-            to: there,
-            link: on,
-        } => (*from, *there == to && *on == link, Fate::Dead),
+        } => (
+            *from == sender && *to == peer && *on == link,
+            Fate::Delivered,
+        ),
+        ManyNote::Lost { from, to, link: on } => {
+            (*from == sender && *to == peer && *on == link, Fate::Lost)
+        }
+        ManyNote::FoundDead { from, to, link: on } => {
+            (*from == sender && *to == peer && *on == link, Fate::Dead)
+        }
         ManyNote::Answered {
             from,
-            to: there,
+            to,
             link: on,
             ..
-        } => (*from, *there == to && *on == link, Fate::Free),
-        _ => return None,
+        } => (*from == sender && *to == peer && *on == link, Fate::Free),
+        ManyNote::Called { .. } | ManyNote::Nothing { .. } => return None,
     };
-    if sender == from && on {
-        Some(fate)
-    } else {
-        None
-    }
+    if so { Some(fate) } else { None }
 }
 
 // What the notes of two hosts make of it: the last that says something does.
-fn fate_of_two(notes: &[Note], from: Side, to: u8, link: u8) -> Fate {
+fn fate_of_two(notes: &[Note], sender: Side, link: u8) -> Fate
+    ensures { result ≡ last_told (fate_told sender link) notes.now Fate.Free }
+{
     let mut left = notes.len();
     while left > 0 {
         left -= 1;
-        if let Some(fate) = fate_told(&notes[left], from, to, link) {
+        if let Some(fate) = fate_told(sender, link, &notes[left]) {
             return fate;
         }
     }
@@ -120,26 +162,63 @@ fn fate_of_two(notes: &[Note], from: Side, to: u8, link: u8) -> Fate {
 }
 
 // What the notes of two to eight hosts make of it.
-fn fate_of_many(notes: &[ManyNote], from: u8, to: u8, link: u8) -> Fate {
+fn fate_of_many(notes: &[ManyNote], sender: u8, peer: u8, link: u8) -> Fate
+    ensures { result ≡ last_told (fate_told_of_many sender peer link) notes.now Fate.Free }
+{
     let mut left = notes.len();
     while left > 0 {
         left -= 1;
-        if let Some(fate) = fate_told_of_many(&notes[left], from, to, link) {
+        if let Some(fate) = fate_told_of_many(sender, peer, link, &notes[left]) {
             return fate;
         }
     }
     Fate::Free
 }
 
+// What became of it between two hosts.
+fn fate_between(two: &TwoStage, sender: u8, peer: u8, link: u8) -> Fate
+    ensures { result ≡ fate_between (side_at two.now.first.hosts sender) (side_at two.now.first.hosts peer) link two.now.hosts.hosts.hosts }
+{
+    what_goes_out_is_taken();
+    let Some(side) = side_of(two.first.hosts, sender) else {
+        return Fate::Free;
+    };
+    let Some(other) = side_of(two.first.hosts, peer) else {
+        return Fate::Free;
+    };
+    if is_same(side, other) {
+        return Fate::Free;
+    }
+    fate_of_two(two.hosts.world().transcript(), side, link)
+}
+
+// Whether they are two of the hosts.
+fn are_two(many: &Many<PackedStore>, sender: u8, peer: u8) -> bool
+    ensures { result ≡ are_two sender peer many.now.crowd }
+{
+    many.host(sender).is_some() && many.host(peer).is_some() && sender != peer
+}
+
+// What became of it among two to eight.
+fn fate_among(of_many: &ManyStage, sender: u8, peer: u8, link: u8) -> Fate
+    ensures { result ≡ fate_among sender peer link of_many.now.hosts.hosts.crowd }
+{
+    what_goes_out_of_each_of_many_is_taken();
+    let many = of_many.hosts.many();
+    if !are_two(many, sender, peer) {
+        return Fate::Free;
+    }
+    fate_of_many(many.transcript(), sender, peer, link)
+}
+
 impl Stage {
     /// What became of the last message from a host to another on a link.
-    pub(crate) fn fate(&self, from: u8, to: u8, link: u8) -> Fate {
+    pub(crate) fn fate(&self, sender: u8, peer: u8, link: u8) -> Fate
+        ensures { result ≡ fate_in self.now sender peer link }
+    {
         match self {
-            Stage::Two(two) => match side_of(two.first.hosts, from) {
-                Some(side) => fate_of_two(two.hosts.world().transcript(), side, to, link),
-                None => Fate::Free,
-            },
-            Stage::Many(of_many) => fate_of_many(of_many.hosts.many().transcript(), from, to, link),
+            Stage::Two(two) => fate_between(two, sender, peer, link),
+            Stage::Many(of_many) => fate_among(of_many, sender, peer, link),
         }
     }
 }

@@ -1,4 +1,4 @@
-use Rattle.std.proofs.Common.{rules, ◌≡◌, ℕ, List, [], Option, Some, subst}
+use Rattle.std.proofs.Common.{rules, ◌≡◌, [], Some, subst}
 use Rattle.std.specs.Prelude.{IfOk}
 use Rattle.ncp_play_files.specs.Writing.{Writes}
 use Rattle.ncp_umpire.specs.declared.umpire.Umpire.{Umpire}

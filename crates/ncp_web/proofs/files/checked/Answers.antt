@@ -1,4 +1,4 @@
-use Rattle.std.proofs.Common.{rules, ◌≡◌, ℕ, List, [], Option, Some}
+use Rattle.std.proofs.Common.{rules, ◌≡◌, [], Some}
 use Rattle.ncp_web.proofs.files.checked.Goals as goal
 
 pub returns : goal.returns

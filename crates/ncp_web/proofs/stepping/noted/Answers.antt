@@ -1,6 +1,6 @@
-use Rattle.std.proofs.Common.{◌≡◌, ◌∙◌, ◌+◌, ℕ, if◌then◌else◌, Some, ap, subst}
+use Rattle.std.proofs.Common.{◌∙◌, ℕ, if◌then◌else◌, Some, ap, subst}
 use Rattle.ncp_play_stream.specs.Streams.{SaysText, SaysBeginning}
-use Rattle.ncp_web.specs.Sessions.{number_of, left_then}
+use Rattle.ncp_web.specs.Sessions.{number_of}
 use Rattle.ncp_web.proofs.stepping.noted.Goals as goal
 
 pub returns-in-Ok-say : goal.returns-in-Ok-say

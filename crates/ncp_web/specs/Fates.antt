@@ -1,0 +1,102 @@
+-- What became of the last message from one host to another on a link: the subnet has it, and each note says what it makes
+-- of it. That the notes make of it what the subnet has is proved of every transcript.
+use Rattle.std.specs.Prelude.{ℕ, ◌==◌, Bool, true, false, ◌&&◌, if◌then◌else◌, List, [], ◌∷◌, Option, None, Some, unwrap_or, Result, Ok, Err}
+use Rattle.ncp_leader.specs.declared.leader.Leader.{Leader}
+use Rattle.ncp_leader.specs.declared.leader.Short.{Short}
+use Rattle.ncp_leader.specs.declared.kinds.TheConstants.{REGULAR}
+use Rattle.ncp_leader.specs.Leader.{leader_in}
+use Rattle.ncp_subnet.specs.declared.transit.Transit.TheVariants as transits
+use Rattle.ncp_subnet.specs.Ways.{OnLink}
+use Rattle.ncp_subnet.specs.Subnet.{transit_at}
+use Rattle.ncp_transcript.specs.declared.note.HostNote.{HostNote}
+use Rattle.ncp_transcript.specs.declared.note.HostNote.TheVariants as host_notes
+use Rattle.ncp_transcript_two.specs.declared.side.Side.{Side}
+use Rattle.ncp_transcript_two.specs.declared.side.Side.TheVariants.{A, B}
+use Rattle.ncp_transcript_two.specs.declared.note.Note.{Note}
+use Rattle.ncp_transcript_two.specs.declared.note.Note.TheVariants as notes
+use Rattle.ncp_transcript_two.specs.Between.{Hosts, transit_of}
+use Rattle.ncp_transcript_many.specs.Crowd.{Crowd}
+use Rattle.ncp_transcript_many.specs.ManyHappening.{are_two}
+use Rattle.ncp_transcript_many.specs.declared.many_note.ManyNote.{ManyNote}
+use Rattle.ncp_transcript_many.specs.declared.many_note.ManyNote.TheVariants as many_notes
+use Rattle.ncp_web.specs.declared.transit.Fate.{Fate}
+use Rattle.ncp_web.specs.declared.transit.Fate.TheVariants.{Free, Underway, Delivered, Lost, Dead}
+
+-- what became of a message, as the subnet has it
+abbrev pub fate_of : OnLink → Fate
+fate_of transits.Free = Free
+fate_of (transits.Accepted message) = Underway
+fate_of transits.Delivered = Delivered
+fate_of transits.Lost = Lost
+fate_of transits.Dead = Dead
+
+-- the number of it that a page is answered
+abbrev pub number_of_fate : Fate → ℕ
+number_of_fate Free = 0
+number_of_fate Underway = 1
+number_of_fate Delivered = 2
+number_of_fate Lost = 3
+number_of_fate Dead = 4
+
+-- of two hosts by their sides, and of two of many: nothing is underway where there are no two
+abbrev pub fate_between : Option Side → Option Side → ℕ → Hosts → Fate
+fate_between (Some A) (Some B) link w = fate_of (transit_of A link w)
+fate_between (Some B) (Some A) link w = fate_of (transit_of B link w)
+fate_between sender peer link w = Free
+
+abbrev pub fate_among : ℕ → ℕ → ℕ → Crowd → Fate
+fate_among sender peer link m = if are_two sender peer m then fate_of (transit_at m.subnet sender peer link) else Free
+
+-- ---- by the notes
+
+-- the leader of a message that went out: the subnet takes regular messages alone
+abbrev pub regular_leader : Result Leader Short → Option Leader
+regular_leader (Err short) = None
+regular_leader (Ok leader) = if leader.kind == REGULAR then Some leader else None
+
+abbrev pub leader_out : HostNote → Option Leader
+leader_out (host_notes.Out message) = regular_leader (leader_in message)
+leader_out note = None
+
+abbrev pub is_on : ℕ → Option Leader → Bool
+is_on link None = false
+is_on link (Some leader) = leader.link == link
+
+abbrev pub is_to : ℕ → ℕ → Option Leader → Bool
+is_to host link None = false
+is_to host link (Some leader) = leader.host == host && leader.link == link
+
+abbrev pub is_same : Side → Side → Bool
+is_same A A = true
+is_same A B = false
+is_same B A = false
+is_same B B = true
+
+-- it is so, where a note says it of this link
+abbrev pub if_told : Bool → Fate → Option Fate
+if_told so fate = if so then Some fate else None
+
+-- what a note says of the last message of a side on a link
+abbrev pub fate_told : Side → ℕ → Note → Option Fate
+fate_told sender link (notes.Called side note) = None
+fate_told sender link (notes.Out side note) = if_told (is_same side sender && is_on link (leader_out note)) Underway
+fate_told sender link (notes.Came side on note) = if_told (is_same side sender && on == link) Delivered
+fate_told sender link (notes.Lost side on) = if_told (is_same side sender && on == link) Lost
+fate_told sender link (notes.FoundDead side on) = if_told (is_same side sender && on == link) Dead
+fate_told sender link (notes.Answered side on note) = if_told (is_same side sender && on == link) Free
+fate_told sender link (notes.Nothing side on wanted) = None
+
+-- and one of many hosts of the last message from one to another
+abbrev pub fate_told_of_many : ℕ → ℕ → ℕ → ManyNote → Option Fate
+fate_told_of_many sender peer link (many_notes.Called host note) = None
+fate_told_of_many sender peer link (many_notes.Out host note) = if_told (host == sender && is_to peer link (leader_out note)) Underway
+fate_told_of_many sender peer link (many_notes.Came from to on note) = if_told ((from == sender && to == peer) && on == link) Delivered
+fate_told_of_many sender peer link (many_notes.Lost from to on) = if_told ((from == sender && to == peer) && on == link) Lost
+fate_told_of_many sender peer link (many_notes.FoundDead from to on) = if_told ((from == sender && to == peer) && on == link) Dead
+fate_told_of_many sender peer link (many_notes.Answered from to on note) = if_told ((from == sender && to == peer) && on == link) Free
+fate_told_of_many sender peer link (many_notes.Nothing event) = None
+
+-- the last note that says something counts
+abbrev pub last_told : {N : Type 0} → (N → Option Fate) → List N → Fate → Fate
+last_told says [] before = before
+last_told says (note ∷ more) before = last_told says more (unwrap_or (says note) before)
