@@ -598,8 +598,9 @@ local function ask_reset(self, step, side, place)
   list[#list + 1] = { frame = step.n, item = place }
   if side == "K" then
     v.owe, v.first = true, link ~= nil
+    local rested = v.rest and v.asked.H > 1
     clear(v, step.n, "rst-came")
-    v.rest = v.silent or v.wait.H == -1 or v.wait.K ~= 1
+    v.rest = v.silent or v.wait.H == -1 or v.wait.K ~= 1 or rested
   elseif v.wait.H == 1 then
     clear(v, step.n, "rst-sent")
     v.spoilt, v.rest = false, v.silent
