@@ -27,45 +27,31 @@ const HEARD_ONE: Want<'static> = Want::In(Received::Control(1));
 
 const HEARD_TWO: Want<'static> = Want::In(Received::Control(2));
 
-/// A new host with this peer goes through the first steps and then the others, over one store. Whether a step was
-/// refused memory.
+/// An example: what it shows, the peer of a new host, the steps that come first, and the others.
+type Example<'a> = (&'a str, u8, &'a [Step<'a>], &'a [Step<'a>]);
+
+/// A new host goes through an example, over one store. Whether a step was refused memory.
 fn goes_over<S: BitStore>(
     rt: &impl Abort,
     alloc: Global,
-    peer: u8,
-    first: &[Step<'_>],
-    steps: &[Step<'_>],
+    (name, peer, first, steps): &Example<'_>,
 ) -> Result<bool, HostFault> {
-    let mut host = Tried::<S>::new(alloc, ME, peer)?;
-    host.goes(rt, alloc, first);
-    host.goes(rt, alloc, steps);
+    let mut host = Tried::<S>::new(alloc, ME, *peer)?;
+    host.goes(rt, alloc, name, first);
+    host.goes(rt, alloc, name, steps);
     Ok(host.was_refused())
 }
 
-/// So does one over each store.
-fn goes_with(
-    rt: &(impl Abort + Print),
-    alloc: Global,
-    peer: u8,
-    first: &[Step<'_>],
-    steps: &[Step<'_>],
-) -> Result<(), Fail> {
-    let plain = goes_over::<PlainStore>(rt, alloc, peer, first, steps)?;
-    let packed = goes_over::<PackedStore>(rt, alloc, peer, first, steps)?;
-    if plain || packed {
-        println!(rt; "refused: nothing happened but that a call's refusal is noted")?;
+#[test]
+fn examples_are_noted(rt: HostRuntime) -> Result<(), Fail> {
+    for example in EXAMPLES {
+        let plain = goes_over::<PlainStore>(&rt, rt.alloc(), example)?;
+        let packed = goes_over::<PackedStore>(&rt, rt.alloc(), example)?;
+        if plain || packed {
+            println!(rt; "refused: nothing happened but that a call's refusal is noted")?;
+        }
     }
     Ok(())
-}
-
-/// So does a host with the peer of the examples.
-fn goes_on(
-    rt: &(impl Abort + Print),
-    alloc: Global,
-    first: &[Step<'_>],
-    steps: &[Step<'_>],
-) -> Result<(), Fail> {
-    goes_with(rt, alloc, PEER, first, steps)
 }
 
 const NO_STEPS: &[Step<'static>] = &[];
@@ -90,161 +76,171 @@ const OPENS: &[Step<'static>] = &[
     ),
 ];
 
-// An echo before the host is up, a stray answer, and a second echo before the first is answered.
-#[test]
-fn a_stray_answer_and_an_echo_are_noted(rt: HostRuntime) -> Result<(), Fail> {
-    const COUNTS: Counts = Counts {
-        stray: 1,
-        ..NO_COUNTS
-    };
-    const STEPS: &[Step<'static>] = &[
-        (Act::Phase, Want::Phase(DOWN)),
-        (Act::Echo(64), Want::Refused(CallFault::NotUp)),
-        (
-            Act::Comes(&[5, 2, 0, 0]),
-            Want::Answered(0, Answer::Rfnm, Received::Stray),
-        ),
-        (Act::Counts, Want::Counts(COUNTS)),
-        (Act::Comes(&[0, 2, 0, 0, 0, 8, 0, 1, 0, 12]), HEARD_ONE),
-        (Act::Phase, Want::Phase(UP)),
-        (Act::Echo(65), Want::Done),
-        (Act::Echo(66), Want::Refused(CallFault::Busy)),
-        (
-            Act::Output,
-            Want::Out(&[0, 2, 0, 0, 0, 8, 0, 3, 0, 13, 9, 65]),
-        ),
-        (Act::Output, Want::Nothing),
-    ];
-    goes_on(&rt, rt.alloc(), NO_STEPS, STEPS)
-}
+/// RST, RRP, STR, RTS, ALL, GVB, INR and CLS, as they were made.
+const CALLED: &[u8] = &[
+    0, 2, 0, 0, 0, 8, 0, 45, 0, 12, 13, 2, 0, 0, 0, 3, 0, 0, 0, 2, 8, 1, 0, 0, 0, 4, 0, 0, 0, 5, 2,
+    4, 2, 0, 2, 0, 0, 0, 24, 5, 2, 128, 0, 7, 2, 3, 0, 0, 0, 4, 0, 0, 0, 5,
+];
 
-// Each call that changes something, once it can be done.
-#[test]
-fn calls_are_noted(rt: HostRuntime) -> Result<(), Fail> {
-    // RST, RRP, STR, RTS, ALL, GVB, INR and CLS, as they were made.
-    const CONTROL: &[u8] = &[
-        0, 2, 0, 0, 0, 8, 0, 45, 0, 12, 13, 2, 0, 0, 0, 3, 0, 0, 0, 2, 8, 1, 0, 0, 0, 4, 0, 0, 0,
-        5, 2, 4, 2, 0, 2, 0, 0, 0, 24, 5, 2, 128, 0, 7, 2, 3, 0, 0, 0, 4, 0, 0, 0, 5,
-    ];
-    const STEPS: &[Step<'static>] = &[
-        (Act::Give(OUTWARD, &[0x61, 0x62, 0x63]), Want::Done),
-        (Act::Allocate(INWARD, 2, 24), Want::Done),
-        (
-            Act::Comes(&[0, 2, 2, 0, 0, 8, 0, 2, 0, 0x68, 0x69]),
-            Want::In(Received::Text(Took::Admitted)),
-        ),
-        (Act::Take(INWARD, 100), Want::Took(&[0x68, 0x69])),
-        (Act::CallBack(INWARD, 128, 0), Want::Done),
-        (Act::Interrupt(INWARD), Want::Done),
-        (Act::Close(INWARD), Want::Done),
-        (Act::Wake, Want::Done),
-        (Act::Output, Want::Out(CONTROL)),
-        (
-            Act::Output,
-            Want::Out(&[0, 2, 2, 0, 0, 8, 0, 2, 0, 0x61, 0x62]),
-        ),
-        (Act::Output, Want::Nothing),
-    ];
-    goes_on(&rt, rt.alloc(), OPENS, STEPS)
-}
+/// RST, RRP, STR and RTS, as they were made.
+const OPENED: &[u8] = &[
+    0, 2, 0, 0, 0, 8, 0, 22, 0, 12, 13, 2, 0, 0, 0, 3, 0, 0, 0, 2, 8, 1, 0, 0, 0, 4, 0, 0, 0, 5, 2,
+];
 
-// A message goes out again after Incomplete Transmission, and after Destination Dead once it is asked for.
-#[test]
-fn what_goes_out_again_is_noted(rt: HostRuntime) -> Result<(), Fail> {
-    // RST, RRP, STR and RTS, as they were made.
-    const CONTROL: &[u8] = &[
-        0, 2, 0, 0, 0, 8, 0, 22, 0, 12, 13, 2, 0, 0, 0, 3, 0, 0, 0, 2, 8, 1, 0, 0, 0, 4, 0, 0, 0,
-        5, 2,
-    ];
-    const STEPS: &[Step<'static>] = &[
-        (Act::Output, Want::Out(CONTROL)),
-        (
-            Act::Comes(&[9, PEER, 0, 0]),
-            Want::Answered(0, Answer::Incomplete, Received::Answered),
-        ),
-        (Act::Output, Want::Out(CONTROL)),
-        (
-            Act::Comes(&[7, PEER, 0, 0]),
-            Want::Answered(0, Answer::Dead, Received::Answered),
-        ),
-        (Act::Output, Want::Nothing),
-        (Act::Wake, Want::Done),
-        (Act::Output, Want::Out(CONTROL)),
-        (
-            Act::Comes(&[5, PEER, 0, 0]),
-            Want::Answered(0, Answer::Rfnm, Received::Answered),
-        ),
-        (Act::Output, Want::Nothing),
-    ];
-    goes_on(&rt, rt.alloc(), OPENS, STEPS)
-}
+/// A text of as many bits as a message can have.
+const LONGEST: &[u8] = &[0x61; 1024];
 
-// What is read, of a connection and of the peer.
-#[test]
-fn what_is_read_is_noted(rt: HostRuntime) -> Result<(), Fail> {
-    const IGNORED: Ignored = Ignored {
-        short: 1,
-        other: 0,
-        unknown: 0,
-    };
-    const STEPS: &[Step<'static>] = &[
-        (Act::Comes(&[5]), Want::In(Received::Short)),
-        (
-            Act::Comes(&[
-                0, 2, 0, 0, 0, 8, 0, 12, 0, 11, 1, 14, 0, 0, 0, 0, 0, 0, 0, 0, 0,
-            ]),
-            HEARD_ONE,
-        ),
-        (Act::Echo(65), Want::Done),
-        (Act::Comes(&[0, 2, 0, 0, 0, 8, 0, 2, 0, 10, 65]), HEARD_ONE),
-        (Act::State(OUTWARD), Want::State(SENDER)),
-        (Act::Echoed, Want::Echoed(Some(65))),
-        (Act::Errors, Want::Errors(1)),
-        (Act::Counts, Want::Counts(NO_COUNTS)),
-        (Act::Waiting(0), Want::Waiting(Some(Command::Rst))),
-        (Act::Kept(LINK), Want::Kept(None)),
-        (Act::Ignored, Want::Ignored(IGNORED)),
-    ];
-    goes_on(&rt, rt.alloc(), OPENS, STEPS)
-}
-
-// Errors of the peer of the greatest number.
-#[test]
-fn errors_of_peer_255_are_noted(rt: HostRuntime) -> Result<(), Fail> {
-    const STEPS: &[Step<'static>] = &[
-        (Act::Reset, Want::Done),
-        (
-            Act::Comes(&[0, 255, 0, 0, 0, 8, 0, 2, 0, 12, 13]),
-            HEARD_TWO,
-        ),
-        (
-            Act::Comes(&[
-                0, 255, 0, 0, 0, 8, 0, 12, 0, 11, 1, 14, 0, 0, 0, 0, 0, 0, 0, 0, 0,
-            ]),
-            HEARD_ONE,
-        ),
-        (Act::Errors, Want::Errors(1)),
-    ];
-    goes_with(&rt, rt.alloc(), 255, NO_STEPS, STEPS)
-}
-
-// A text of as many bits as a message can have is given, and waits.
-#[test]
-fn the_longest_text_is_noted(rt: HostRuntime) -> Result<(), Fail> {
-    const LONGEST: &[u8] = &[0x61; 1024];
-    const STEPS: &[Step<'static>] = &[
-        (Act::Comes(&[0, 2, 0, 0, 0, 8, 0, 1, 0, 12]), HEARD_ONE),
-        (Act::AskSend(OUTWARD, 8, 16384), Want::Done),
-        (
-            Act::Comes(&[0, 2, 0, 0, 0, 8, 0, 10, 0, 1, 0, 0, 0, 2, 0, 0, 0, 3, 2]),
-            HEARD_ONE,
-        ),
-        (Act::Give(OUTWARD, LONGEST), Want::Done),
-        (Act::Give(OUTWARD, LONGEST), Want::Done),
-        (
-            Act::Give(OUTWARD, LONGEST),
-            Want::Refused(CallFault::NoRoom),
-        ),
-    ];
-    goes_on(&rt, rt.alloc(), NO_STEPS, STEPS)
-}
+const EXAMPLES: &[Example<'static>] = &[
+    // An echo before the host is up, a stray answer, and a second echo before the first is answered.
+    (
+        "a_stray_answer_and_an_echo_are_noted",
+        PEER,
+        NO_STEPS,
+        &[
+            (Act::Phase, Want::Phase(DOWN)),
+            (Act::Echo(64), Want::Refused(CallFault::NotUp)),
+            (
+                Act::Comes(&[5, 2, 0, 0]),
+                Want::Answered(0, Answer::Rfnm, Received::Stray),
+            ),
+            (
+                Act::Counts,
+                Want::Counts(Counts {
+                    stray: 1,
+                    ..NO_COUNTS
+                }),
+            ),
+            (Act::Comes(&[0, 2, 0, 0, 0, 8, 0, 1, 0, 12]), HEARD_ONE),
+            (Act::Phase, Want::Phase(UP)),
+            (Act::Echo(65), Want::Done),
+            (Act::Echo(66), Want::Refused(CallFault::Busy)),
+            (
+                Act::Output,
+                Want::Out(&[0, 2, 0, 0, 0, 8, 0, 3, 0, 13, 9, 65]),
+            ),
+            (Act::Output, Want::Nothing),
+        ],
+    ),
+    // Each call that changes something, once it can be done.
+    (
+        "calls_are_noted",
+        PEER,
+        OPENS,
+        &[
+            (Act::Give(OUTWARD, &[0x61, 0x62, 0x63]), Want::Done),
+            (Act::Allocate(INWARD, 2, 24), Want::Done),
+            (
+                Act::Comes(&[0, 2, 2, 0, 0, 8, 0, 2, 0, 0x68, 0x69]),
+                Want::In(Received::Text(Took::Admitted)),
+            ),
+            (Act::Take(INWARD, 100), Want::Took(&[0x68, 0x69])),
+            (Act::CallBack(INWARD, 128, 0), Want::Done),
+            (Act::Interrupt(INWARD), Want::Done),
+            (Act::Close(INWARD), Want::Done),
+            (Act::Wake, Want::Done),
+            (Act::Output, Want::Out(CALLED)),
+            (
+                Act::Output,
+                Want::Out(&[0, 2, 2, 0, 0, 8, 0, 2, 0, 0x61, 0x62]),
+            ),
+            (Act::Output, Want::Nothing),
+        ],
+    ),
+    // A message goes out again after Incomplete Transmission, and after Destination Dead once it is asked for.
+    (
+        "what_goes_out_again_is_noted",
+        PEER,
+        OPENS,
+        &[
+            (Act::Output, Want::Out(OPENED)),
+            (
+                Act::Comes(&[9, PEER, 0, 0]),
+                Want::Answered(0, Answer::Incomplete, Received::Answered),
+            ),
+            (Act::Output, Want::Out(OPENED)),
+            (
+                Act::Comes(&[7, PEER, 0, 0]),
+                Want::Answered(0, Answer::Dead, Received::Answered),
+            ),
+            (Act::Output, Want::Nothing),
+            (Act::Wake, Want::Done),
+            (Act::Output, Want::Out(OPENED)),
+            (
+                Act::Comes(&[5, PEER, 0, 0]),
+                Want::Answered(0, Answer::Rfnm, Received::Answered),
+            ),
+            (Act::Output, Want::Nothing),
+        ],
+    ),
+    // What is read, of a connection and of the peer.
+    (
+        "what_is_read_is_noted",
+        PEER,
+        OPENS,
+        &[
+            (Act::Comes(&[5]), Want::In(Received::Short)),
+            (
+                Act::Comes(&[
+                    0, 2, 0, 0, 0, 8, 0, 12, 0, 11, 1, 14, 0, 0, 0, 0, 0, 0, 0, 0, 0,
+                ]),
+                HEARD_ONE,
+            ),
+            (Act::Echo(65), Want::Done),
+            (Act::Comes(&[0, 2, 0, 0, 0, 8, 0, 2, 0, 10, 65]), HEARD_ONE),
+            (Act::State(OUTWARD), Want::State(SENDER)),
+            (Act::Echoed, Want::Echoed(Some(65))),
+            (Act::Errors, Want::Errors(1)),
+            (Act::Counts, Want::Counts(NO_COUNTS)),
+            (Act::Waiting(0), Want::Waiting(Some(Command::Rst))),
+            (Act::Kept(LINK), Want::Kept(None)),
+            (
+                Act::Ignored,
+                Want::Ignored(Ignored {
+                    short: 1,
+                    other: 0,
+                    unknown: 0,
+                }),
+            ),
+        ],
+    ),
+    // Errors of the peer of the greatest number.
+    (
+        "errors_of_peer_255_are_noted",
+        255,
+        NO_STEPS,
+        &[
+            (Act::Reset, Want::Done),
+            (
+                Act::Comes(&[0, 255, 0, 0, 0, 8, 0, 2, 0, 12, 13]),
+                HEARD_TWO,
+            ),
+            (
+                Act::Comes(&[
+                    0, 255, 0, 0, 0, 8, 0, 12, 0, 11, 1, 14, 0, 0, 0, 0, 0, 0, 0, 0, 0,
+                ]),
+                HEARD_ONE,
+            ),
+            (Act::Errors, Want::Errors(1)),
+        ],
+    ),
+    // A text of as many bits as a message can have is given, and waits.
+    (
+        "the_longest_text_is_noted",
+        PEER,
+        NO_STEPS,
+        &[
+            (Act::Comes(&[0, 2, 0, 0, 0, 8, 0, 1, 0, 12]), HEARD_ONE),
+            (Act::AskSend(OUTWARD, 8, 16384), Want::Done),
+            (
+                Act::Comes(&[0, 2, 0, 0, 0, 8, 0, 10, 0, 1, 0, 0, 0, 2, 0, 0, 0, 3, 2]),
+                HEARD_ONE,
+            ),
+            (Act::Give(OUTWARD, LONGEST), Want::Done),
+            (Act::Give(OUTWARD, LONGEST), Want::Done),
+            (
+                Act::Give(OUTWARD, LONGEST),
+                Want::Refused(CallFault::NoRoom),
+            ),
+        ],
+    ),
+];

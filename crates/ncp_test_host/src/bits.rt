@@ -5,7 +5,7 @@
 //! through a test. `pushes` alone has one, which the tests meet by constants.
 ghost use Rattle.std.specs.Prelude.{◌<◌, ◌^◌};
 
-use crate::known::{is_shown, is_told};
+use crate::known::{bits_of_one, first_bits, is_shown, is_told, is_written, part_of, run};
 use ncp_bits::{
     BitStore, Bits, BitsFault, MAX_BITS, NoRoom, PackedStore, Part, PlainStore, equality, laws,
 };
@@ -26,24 +26,9 @@ const SPARE: [u8; 14] = [
 // Numbers in the long byte: where they stand, in how many bits, and their values.
 const NUMBERS: &[(usize, usize, u64)] = &[(40, 8, 36), (72, 36, 0x123456789)];
 
-// The first bits of bytes.
-fn bits_of(rt: &impl Abort, bytes: &[u8], len: usize) -> Bits {
-    Bits::from_bytes(bytes, len).expect(rt, "bits")
-}
-
-// The same as a part.
-fn part_of<'a>(rt: &impl Abort, bytes: &'a [u8], len: usize) -> Part<'a> {
-    Part::from_bytes(bytes, len).expect(rt, "bits")
-}
-
-// The first bits of 1,024 bytes that are all this one.
-fn bits_of_one(rt: &impl Abort, byte: u8, len: usize) -> Bits {
-    bits_of(rt, &[byte; 1024], len)
-}
-
 // The bits of the long byte.
 fn long_byte(rt: &impl Abort) -> Bits {
-    bits_of(rt, &LONG_BYTE, 108)
+    first_bits(rt, &LONG_BYTE, 108)
 }
 
 // The bits that a text of zeros and ones spells.
@@ -67,12 +52,6 @@ fn is_spelled(bits: &Bits, text: &str) -> bool {
         }
     }
     true
-}
-
-// A run of bits.
-fn run<'a>(rt: &impl Abort, bits: &'a Bits, at: usize, len: usize) -> Part<'a> {
-    assert!(rt; at <= bits.len() && len <= bits.len() - at);
-    bits.slice(at, len)
 }
 
 // A run of a part's bits.
@@ -113,7 +92,7 @@ fn has_bit(part: &Part<'_>, place: usize, bit: bool) -> bool {
 }
 
 // Whether there are so many bits, they are written as these bytes, and the byte behind them stays.
-fn is_written(bits: &Bits, len: usize, bytes: &[u8]) -> bool {
+fn are_written(bits: &Bits, len: usize, bytes: &[u8]) -> bool {
     if bits.len() != len {
         return false;
     }
@@ -122,19 +101,10 @@ fn is_written(bits: &Bits, len: usize, bytes: &[u8]) -> bool {
     out[..used] == bytes[..] && out[used] == 0xff
 }
 
-// The same of a part.
-fn is_part_written(part: &Part<'_>, len: usize, bytes: &[u8]) -> bool {
-    if part.len() != len {
-        return false;
-    }
-    let mut out = [0xffu8; 1025];
-    let used = part.to_bytes(&mut out);
-    out[..used] == bytes[..] && out[used] == 0xff
-}
-
-// Why the first bits of bytes are refused.
-fn fault_of(bytes: &[u8], len: usize) -> Option<BitsFault> {
-    Bits::from_bytes(bytes, len).err()
+// Whether the first bits of bytes are refused for this reason, as bits and as a part.
+fn are_refused(bytes: &[u8], len: usize, fault: BitsFault) -> bool {
+    Bits::from_bytes(bytes, len).err() == Some(fault)
+        && Part::from_bytes(bytes, len).err() == Some(fault)
 }
 
 fn number_of(fault: BitsFault) -> u8 {
@@ -146,16 +116,11 @@ fn is_long_byte(rt: &impl Abort, part: &Part<'_>) -> bool {
     *part == long_byte(rt).whole()
 }
 
-// Why they are refused as a part.
-fn part_fault_of(bytes: &[u8], len: usize) -> Option<BitsFault> {
-    Part::from_bytes(bytes, len).err()
-}
-
 #[test]
 fn reads_and_writes_bytes(rt: HostRuntime) {
     let bits = long_byte(&rt);
     assert!(rt;
-        bits.len() == 108 && has_numbers(&bits, NUMBERS) && is_written(&bits, 108, &LONG_BYTE)
+        bits.len() == 108 && has_numbers(&bits, NUMBERS) && are_written(&bits, 108, &LONG_BYTE)
     );
 }
 
@@ -197,7 +162,7 @@ fn reads_bytes_where_they_stand(rt: HostRuntime) {
     let part = part_of(&rt, &LONG_BYTE, 108);
     assert!(rt; part.len() == 108 && part_has_numbers(&part, NUMBERS) && is_long_byte(&rt, &part));
     for &(len, fault) in REFUSED {
-        assert!(rt; part_fault_of(&LONG_BYTE, len) == Some(fault));
+        assert!(rt; are_refused(&LONG_BYTE, len, fault));
     }
 }
 
@@ -220,7 +185,7 @@ fn names_and_tells_faults_in_order(rt: HostRuntime) -> Result<(), Fail> {
     ];
     for &(len, fault, number, text) in REFUSED {
         assert!(rt;
-            fault_of(&SPARE, len) == Some(fault)
+            are_refused(&SPARE, len, fault)
                 && number_of(fault) == number
                 && is_told(rt.alloc(), &fault, text)?
         );
@@ -264,7 +229,7 @@ fn reads_parts(rt: HostRuntime) {
         text.len() == 36
             && has_bit(&text, 3, true)
             && has_bit(&text, 4, false)
-            && is_part_written(&text, 36, &LONG_BYTE[9..])
+            && is_written(&text, 36, &LONG_BYTE[9..])
     );
     let second = run_of(&rt, &text, 4, 8);
     let copy = second.to_bits();
@@ -338,40 +303,68 @@ fn takes<S: BitStore>(rt: &impl Abort, store: &mut S, count: usize) -> Bits {
     store.take(count)
 }
 
-// Whether the next bits out of a store are spelled by a text.
-fn gives<S: BitStore>(rt: &impl Abort, store: &mut S, text: &str) -> bool {
-    is_spelled(&takes(rt, store, text.len()), text)
+// What is done with a store, and what is wanted of it.
+#[derive(Clone, Copy, Drop)]
+enum Step<'a> {
+    // The bits of a text are put in.
+    Puts(&'a str),
+    // There is no room for them.
+    Refuses(&'a str),
+    // The next bits that come out are spelled by a text.
+    Gives(&'a str),
+    Clears,
+    HasRoom(usize),
+    HasLength(usize),
 }
 
 // Thirteen bits of room, filled, emptied in part and filled again, across every byte's end.
-fn keeps_thirteen_bits<S: BitStore>(rt: &impl Abort, alloc: Global) -> Result<(), Fail> {
-    let mut store = S::with_room(alloc, 13)?;
-    assert!(rt;
-        puts(rt, &mut store, "1010101")
-            && puts(rt, &mut store, "110011")
-            && store.room() == 0
-            && !puts(rt, &mut store, "1")
-            && store.len() == 13
-    );
-    assert!(rt;
-        gives(rt, &mut store, "101")
-            && puts(rt, &mut store, "111")
-            && gives(rt, &mut store, "0101110011111")
-            && puts(rt, &mut store, "01")
-    );
-    store.clear();
-    assert!(rt; store.room() == 13);
+const THIRTEEN: &[Step<'static>] = &[
+    Step::Puts("1010101"),
+    Step::Puts("110011"),
+    Step::HasRoom(0),
+    Step::Refuses("1"),
+    Step::HasLength(13),
+    Step::Gives("101"),
+    Step::Puts("111"),
+    Step::Gives("0101110011111"),
+    Step::Puts("01"),
+    Step::Clears,
+    Step::HasRoom(13),
+];
+
+fn does<S: BitStore>(rt: &impl Abort, store: &mut S, step: &Step<'_>) -> bool {
+    match step {
+        Step::Puts(text) => puts(rt, store, text),
+        Step::Refuses(text) => !puts(rt, store, text),
+        Step::Gives(text) => is_spelled(&takes(rt, store, text.len()), text),
+        Step::Clears => {
+            store.clear();
+            true
+        }
+        Step::HasRoom(room) => store.room() == *room,
+        Step::HasLength(len) => store.len() == *len,
+    }
+}
+
+// A store with so much room goes through steps.
+fn keeps_bits<S: BitStore>(
+    rt: &impl Abort,
+    alloc: Global,
+    room: usize,
+    steps: &[Step<'_>],
+) -> Result<(), AllocError> {
+    let mut store = S::with_room(alloc, room)?;
+    for (place, step) in steps.iter().enumerate() {
+        assert!(rt; does(rt, &mut store, step), "at step {place}");
+    }
     Ok(())
 }
 
 #[test]
-fn plain_store_keeps_bits(rt: HostRuntime) -> Result<(), Fail> {
-    keeps_thirteen_bits::<PlainStore>(&rt, rt.alloc())
-}
-
-#[test]
-fn packed_store_keeps_bits(rt: HostRuntime) -> Result<(), Fail> {
-    keeps_thirteen_bits::<PackedStore>(&rt, rt.alloc())
+fn stores_keep_bits(rt: HostRuntime) -> Result<(), Fail> {
+    keeps_bits::<PlainStore>(&rt, rt.alloc(), 13, THIRTEEN)?;
+    keeps_bits::<PackedStore>(&rt, rt.alloc(), 13, THIRTEEN)?;
+    Ok(())
 }
 
 // What a store holds that was given the first `kept` bits of a row, and `len` bits from `from` on.
@@ -447,7 +440,7 @@ fn has_bytes_of(rt: &impl Abort, part: &Part<'_>, bits: &Bits) -> bool {
     }
     let mut out = [0xffu8; 1024];
     let used = part.to_bytes(&mut out);
-    used == bits.len().div_ceil(8) && bits_of(rt, &out, bits.len()) == *bits
+    used == bits.len().div_ceil(8) && first_bits(rt, &out, bits.len()) == *bits
 }
 
 // Whether a part and bits of 64 at most spell the same number.
@@ -502,17 +495,12 @@ fn pass_through<S: BitStore>(
     Ok(out)
 }
 
-// Whether the same bits come out of both stores.
-fn pass_the_same(rt: &impl Abort, alloc: Global, row: &Bits) -> Result<bool, AllocError> {
-    let plain = pass_through::<PlainStore>(rt, alloc, row)?;
-    let packed = pass_through::<PackedStore>(rt, alloc, row)?;
-    Ok(plain == packed)
-}
-
 #[test]
 fn stores_pass_the_same_bits(rt: HostRuntime) -> Result<(), Fail> {
     let row = long_byte(&rt);
-    assert!(rt; row.len() == 108 && pass_the_same(&rt, rt.alloc(), &row)?);
+    let plain = pass_through::<PlainStore>(&rt, rt.alloc(), &row)?;
+    let packed = pass_through::<PackedStore>(&rt, rt.alloc(), &row)?;
+    assert!(rt; row.len() == 108 && plain == packed);
     Ok(())
 }
 
@@ -560,23 +548,14 @@ fn fills_and_empties<S: BitStore>(
     Ok(())
 }
 
-// That stores have each room.
-fn have_each_room<S: BitStore>(rt: &impl Abort, alloc: Global) -> Result<(), Fail> {
-    let row = bits_of_one(rt, 0x5a, 8191);
+#[test]
+fn stores_have_each_room(rt: HostRuntime) -> Result<(), Fail> {
+    let row = bits_of_one(&rt, 0x5a, 8191);
     for &room in ROOMS {
-        fills_and_empties::<S>(rt, alloc, room, &row)?;
+        fills_and_empties::<PlainStore>(&rt, rt.alloc(), room, &row)?;
+        fills_and_empties::<PackedStore>(&rt, rt.alloc(), room, &row)?;
     }
     Ok(())
-}
-
-#[test]
-fn plain_stores_have_each_room(rt: HostRuntime) -> Result<(), Fail> {
-    have_each_room::<PlainStore>(&rt, rt.alloc())
-}
-
-#[test]
-fn packed_stores_have_each_room(rt: HostRuntime) -> Result<(), Fail> {
-    have_each_room::<PackedStore>(&rt, rt.alloc())
 }
 
 // Whether the text of a row is compared as a part with that of a copy, of which it stands behind three bits.

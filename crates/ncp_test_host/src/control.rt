@@ -68,93 +68,92 @@ fn is_spelled(rt: &impl Abort, command: Command, bytes: &[u8]) {
     is_read(rt, bytes, &[command], None);
 }
 
-// That each command is written as its bytes, and they are read as it.
-fn are_spelled(rt: &impl Abort, rows: &[(Command, &[u8])]) {
-    for &(command, bytes) in rows {
-        is_spelled(rt, command, bytes);
+// Each command, and as which bytes it is written.
+const SPELLED: &[(Command, &[u8])] = &[
+    (Command::Nop, &[0]),
+    (
+        Command::Rts {
+            receive: 2,
+            send: 3,
+            link: 2,
+        },
+        &RTS_ROW,
+    ),
+    (
+        Command::Str {
+            send: 3,
+            receive: 2,
+            size: 8,
+        },
+        &STR_ROW,
+    ),
+    (
+        Command::Cls { my: 3, your: 2 },
+        &[3, 0, 0, 0, 3, 0, 0, 0, 2],
+    ),
+    (
+        Command::Cls {
+            my: 0x01020304,
+            your: 0xfffefdfc,
+        },
+        &[3, 1, 2, 3, 4, 0xff, 0xfe, 0xfd, 0xfc],
+    ),
+    (
+        Command::All {
+            link: 2,
+            messages: 1,
+            bits: 0,
+        },
+        &[4, 2, 0, 1, 0, 0, 0, 0],
+    ),
+    (
+        Command::All {
+            link: 71,
+            messages: 0x1234,
+            bits: 0x56789abc,
+        },
+        &[4, 71, 0x12, 0x34, 0x56, 0x78, 0x9a, 0xbc],
+    ),
+    (
+        Command::Gvb {
+            link: 2,
+            fm: 64,
+            fb: 1,
+        },
+        &[5, 2, 64, 1],
+    ),
+    (
+        Command::Ret {
+            link: 2,
+            messages: 3,
+            bits: 8,
+        },
+        &[6, 2, 0, 3, 0, 0, 0, 8],
+    ),
+    (Command::Inr { link: 2 }, &[7, 2]),
+    (Command::Ins { link: 71 }, &[8, 71]),
+    (Command::Eco { byte: 65 }, &[9, 0x41]),
+    (Command::Erp { byte: 65 }, &[10, 0x41]),
+    (
+        Command::Err {
+            code: 5,
+            bytes: [6, 9, 0, 0, 0, 0, 0, 0, 0, 0],
+        },
+        &[11, 5, 6, 9, 0, 0, 0, 0, 0, 0, 0, 0],
+    ),
+    (Command::Rst, &[12]),
+    (Command::Rrp, &[13]),
+];
+
+#[test]
+fn spells_each_command(rt: HostRuntime) {
+    for &(command, bytes) in SPELLED {
+        is_spelled(&rt, command, bytes);
     }
 }
 
 #[test]
-fn spells_requests(rt: HostRuntime) {
-    const RTS: Command = Command::Rts {
-        receive: 2,
-        send: 3,
-        link: 2,
-    };
-    const STR: Command = Command::Str {
-        send: 3,
-        receive: 2,
-        size: 8,
-    };
-    const FAR: Command = Command::Cls {
-        my: 0x01020304,
-        your: 0xfffefdfc,
-    };
-    const ROWS: &[(Command, &[u8])] = &[
-        (Command::Nop, &[0]),
-        (RTS, &RTS_ROW),
-        (STR, &STR_ROW),
-        (
-            Command::Cls { my: 3, your: 2 },
-            &[3, 0, 0, 0, 3, 0, 0, 0, 2],
-        ),
-        (FAR, &[3, 1, 2, 3, 4, 0xff, 0xfe, 0xfd, 0xfc]),
-    ];
-    are_spelled(&rt, ROWS);
-}
-
-#[test]
-fn spells_allocation(rt: HostRuntime) {
-    const ALL: Command = Command::All {
-        link: 2,
-        messages: 1,
-        bits: 0,
-    };
-    const MORE: Command = Command::All {
-        link: 71,
-        messages: 0x1234,
-        bits: 0x56789abc,
-    };
-    const GVB: Command = Command::Gvb {
-        link: 2,
-        fm: 64,
-        fb: 1,
-    };
-    const RET: Command = Command::Ret {
-        link: 2,
-        messages: 3,
-        bits: 8,
-    };
-    const ROWS: &[(Command, &[u8])] = &[
-        (ALL, &[4, 2, 0, 1, 0, 0, 0, 0]),
-        (MORE, &[4, 71, 0x12, 0x34, 0x56, 0x78, 0x9a, 0xbc]),
-        (GVB, &[5, 2, 64, 1]),
-        (RET, &[6, 2, 0, 3, 0, 0, 0, 8]),
-    ];
-    are_spelled(&rt, ROWS);
-}
-
-#[test]
-fn spells_the_others(rt: HostRuntime) {
-    const ERR: Command = Command::Err {
-        code: 5,
-        bytes: [6, 9, 0, 0, 0, 0, 0, 0, 0, 0],
-    };
-    const ROWS: &[(Command, &[u8])] = &[
-        (Command::Inr { link: 2 }, &[7, 2]),
-        (Command::Ins { link: 71 }, &[8, 71]),
-        (Command::Eco { byte: 65 }, &[9, 0x41]),
-        (Command::Erp { byte: 65 }, &[10, 0x41]),
-        (ERR, &[11, 5, 6, 9, 0, 0, 0, 0, 0, 0, 0, 0]),
-        (Command::Rst, &[12]),
-        (Command::Rrp, &[13]),
-    ];
-    are_spelled(&rt, ROWS);
-}
-
-#[test]
-fn names_faults_and_stops_at_them(rt: HostRuntime) {
+fn reads_texts_up_to_their_faults(rt: HostRuntime) {
     const ILLEGAL: CommandFault = CommandFault {
         code: 1,
         bytes: [0x0e, 0, 0, 0, 0, 0, 0, 0, 0, 0],
@@ -178,30 +177,26 @@ fn names_faults_and_stops_at_them(rt: HostRuntime) {
         code: 2,
         bytes: [5, 0, 0, 0, 0, 0, 0, 0, 0, 0],
     };
-    const ROWS: &[(&[u8], &[Command], CommandFault)] = &[
-        (&[0x0e, 0x00], &[], ILLEGAL),
-        (&[0x04, 0x02, 0x00], &[], EARLY),
-        (&[0x00, 0x09, 0x41, 0x0e], BEFORE, ILLEGAL),
+    const ROWS: &[(&[u8], &[Command], Option<CommandFault>)] = &[
+        (&[], &[], None),
+        (&[0x0e, 0x00], &[], Some(ILLEGAL)),
+        (&[0x04, 0x02, 0x00], &[], Some(EARLY)),
+        (&[0x00, 0x09, 0x41, 0x0e], BEFORE, Some(ILLEGAL)),
         (
             &[12, 0xff, 12, 13, 0, 9, 65, 0, 0, 0, 1, 2, 3],
             &[Command::Rst],
-            ILLEGAL_WITH_DATA,
+            Some(ILLEGAL_WITH_DATA),
         ),
         (
             &[13, 11, 1, 2, 3, 4, 5, 6, 7, 8, 9, 10],
             &[Command::Rrp],
-            LAST_BYTE_MISSING,
+            Some(LAST_BYTE_MISSING),
         ),
-        (&[7, 2, 5], &[Command::Inr { link: 2 }], OPCODE_ALONE),
+        (&[7, 2, 5], &[Command::Inr { link: 2 }], Some(OPCODE_ALONE)),
     ];
     for &(bytes, commands, fault) in ROWS {
-        is_read(&rt, bytes, commands, Some(fault));
+        is_read(&rt, bytes, commands, fault);
     }
-}
-
-#[test]
-fn reads_short_and_long_texts(rt: HostRuntime) {
-    is_read(&rt, &[], &[], None);
     is_read(&rt, &[0; 991], &[Command::Nop; 991], None);
 }
 

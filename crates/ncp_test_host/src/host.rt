@@ -1,5 +1,8 @@
 //! What no clause says: that the calls succeed, and that the definitions mean what the worked
 //! examples mean. An example is a list of steps, and runs over both stores.
+//!
+//! Each file has a table of examples of its subject, and one test that goes through them: a test of its own for each
+//! would cost the prover more than its steps do.
 mod arrivals;
 mod calls;
 mod clearings;
@@ -13,9 +16,9 @@ mod rooms;
 mod steps;
 mod tried;
 
-use crate::known::{ME, PEER};
+use crate::known::{DOWN, ME, UP};
 use ncp_bits::{BitStore, PackedStore, PlainStore};
-use ncp_host::Pair;
+use ncp_host::{HostFault, Pair};
 use std::alloc::Global;
 use std::process::Abort;
 use std::test::Fail;
@@ -58,43 +61,36 @@ const SENDER_CLS: [u8; 9] = [3, 0, 0, 0, 3, 0, 0, 0, 2];
 
 const RECEIVER_CLS: [u8; 9] = [3, 0, 0, 0, 2, 0, 0, 0, 3];
 
+/// An example: what it shows, the peers of a new host, the steps that come first, and the others.
+type Example<'a> = (&'a str, &'a [u8], &'a [Step<'a>], &'a [Step<'a>]);
+
 /// The first steps of an example that has none, and of one whose host comes up first.
 const NO_STEPS: &[Step<'static>] = &[];
 
 const COMES_UP: &[Step<'static>] = &[Step::ComesUp];
 
-/// A new host with these peers goes through the first steps and then the others, over one store.
+/// A new host goes through an example, over one store.
 fn goes_over<S: BitStore>(
     rt: &impl Abort,
     alloc: Global,
-    peers: &[u8],
-    first: &[Step<'_>],
-    steps: &[Step<'_>],
-) -> Result<(), Fail> {
+    (name, peers, first, steps): &Example<'_>,
+) -> Result<(), HostFault> {
     let mut host = Tried::<S>::new(alloc, ME, peers)?;
-    host.goes(rt, first);
-    host.goes(rt, steps);
+    host.goes(rt, name, first);
+    host.goes(rt, name, steps);
     Ok(())
 }
 
-/// A new host with these peers goes through these steps, over both stores.
-fn goes(rt: &impl Abort, alloc: Global, peers: &[u8], steps: &[Step<'_>]) -> Result<(), Fail> {
-    goes_over::<PlainStore>(rt, alloc, peers, NO_STEPS, steps)?;
-    goes_over::<PackedStore>(rt, alloc, peers, NO_STEPS, steps)
+/// A new host goes through each example, over both stores.
+fn goes_through(rt: &impl Abort, alloc: Global, examples: &[Example<'_>]) -> Result<(), Fail> {
+    for example in examples {
+        goes_over::<PlainStore>(rt, alloc, example)?;
+        goes_over::<PackedStore>(rt, alloc, example)?;
+    }
+    Ok(())
 }
 
-/// A new host with one peer goes through the first steps and then the others, over both stores.
-fn goes_on(
-    rt: &impl Abort,
-    alloc: Global,
-    first: &[Step<'_>],
-    steps: &[Step<'_>],
-) -> Result<(), Fail> {
-    goes_over::<PlainStore>(rt, alloc, &[PEER], first, steps)?;
-    goes_over::<PackedStore>(rt, alloc, &[PEER], first, steps)
-}
-
-/// A new host with one peer comes up with it, and goes through these steps.
-fn goes_up(rt: &impl Abort, alloc: Global, steps: &[Step<'_>]) -> Result<(), Fail> {
-    goes_on(rt, alloc, COMES_UP, steps)
+#[test]
+fn a_host_is_up_without_flags(rt: HostRuntime) {
+    assert!(rt; UP.up() && !DOWN.up());
 }

@@ -3,7 +3,7 @@
 //!
 //! The helpers have no clauses: each sees for itself that its call may be made, so the prover need not follow messages
 //! through a test.
-use crate::known::{is_shown, is_told};
+use crate::known::{bits_of_one, first_bits, is_shown, is_told, is_written, part_of, run};
 use ncp_bits::{Bits, BitsFault, Part};
 use ncp_leader::{
     Leader, MAX_FLAGS, MAX_KIND, MAX_TEXT_BITS, MessageFault, Regular, Short, equality, laws,
@@ -39,27 +39,6 @@ const DATA_LEADER: Leader = Leader {
     low: 0,
 };
 
-// The first bits of bytes.
-fn bits_of(rt: &impl Abort, bytes: &[u8], len: usize) -> Bits {
-    Bits::from_bytes(bytes, len).expect(rt, "bits")
-}
-
-// The same as a part.
-fn part_of<'a>(rt: &impl Abort, bytes: &'a [u8], len: usize) -> Part<'a> {
-    Part::from_bytes(bytes, len).expect(rt, "bits")
-}
-
-// The first bits of 1,024 bytes that are all this one.
-fn bits_of_one(rt: &impl Abort, byte: u8, len: usize) -> Bits {
-    bits_of(rt, &[byte; 1024], len)
-}
-
-// A run of bits.
-fn run<'a>(rt: &impl Abort, bits: &'a Bits, at: usize, len: usize) -> Part<'a> {
-    assert!(rt; at <= bits.len() && len <= bits.len() - at);
-    bits.slice(at, len)
-}
-
 // The message that bits are read as.
 fn message_in<'a>(rt: &impl Abort, bits: &'a Bits) -> Regular<'a> {
     read_regular(bits).expect(rt, "a message")
@@ -68,16 +47,6 @@ fn message_in<'a>(rt: &impl Abort, bits: &'a Bits) -> Regular<'a> {
 // Why bits are no message.
 fn fault_of(bits: &Bits) -> Option<MessageFault> {
     read_regular(bits).err()
-}
-
-// Whether a part has so many bits, and these bytes.
-fn is_written(part: &Part<'_>, len: usize, bytes: &[u8]) -> bool {
-    if part.len() != len {
-        return false;
-    }
-    let mut out = [0u8; 1024];
-    let used = part.to_bytes(&mut out);
-    out[..used] == bytes[..]
 }
 
 // Whether a leader is written as these bytes.
@@ -121,11 +90,6 @@ fn put(size: u8, text: Part<'_>) -> Result<Bits, MessageFault> {
     put_regular(&DATA_LEADER, size, text)
 }
 
-// What the RTS is read as with a byte of its prefix changed.
-fn fault_of_changed(place: usize, byte: u8) -> Option<MessageFault> {
-    fault_of_both(place, byte, place, byte)
-}
-
 // What the RTS is read as with two bytes of its prefix changed.
 fn fault_of_both(one: usize, byte: u8, other: usize, another: u8) -> Option<MessageFault> {
     let mut bytes = RTS;
@@ -139,13 +103,13 @@ fn fault_of_both(one: usize, byte: u8, other: usize, another: u8) -> Option<Mess
 
 // What the text of the RTS is written as.
 fn rts_written(rt: &impl Abort) -> Bits {
-    let text = bits_of(rt, &RTS[9..], 80);
+    let text = first_bits(rt, &RTS[9..], 80);
     put_regular(&RTS_LEADER, 8, text.whole()).expect(rt, "a message")
 }
 
 #[test]
 fn reads_and_writes_the_rts(rt: HostRuntime) {
-    let bits = bits_of(&rt, &RTS, 152);
+    let bits = first_bits(&rt, &RTS, 152);
     let message = message_in(&rt, &bits);
     assert!(rt;
         is_rts_in(&bits.whole()) && read_leader(&bits) == Ok(RTS_LEADER) && is_rts(&message)
@@ -188,8 +152,8 @@ fn reads_the_rts_where_it_stands(rt: HostRuntime) {
 
 #[test]
 fn reads_and_writes_a_long_byte(rt: HostRuntime) {
-    let bits = bits_of(&rt, &LONG_BYTE, 108);
-    let text = bits_of(&rt, &LONG_BYTE[9..], 36);
+    let bits = first_bits(&rt, &LONG_BYTE, 108);
+    let text = first_bits(&rt, &LONG_BYTE[9..], 36);
     let message = message_in(&rt, &bits);
     assert!(rt;
         message.leader() == DATA_LEADER
@@ -201,7 +165,7 @@ fn reads_and_writes_a_long_byte(rt: HostRuntime) {
 
 #[test]
 fn writes_a_long_byte(rt: HostRuntime) {
-    let text = bits_of(&rt, &[0x12, 0x34, 0x56, 0x78, 0x90], 36);
+    let text = first_bits(&rt, &[0x12, 0x34, 0x56, 0x78, 0x90], 36);
     let written = put(36, text.whole()).expect(&rt, "a message");
     assert!(rt; is_written(&written.whole(), 108, &LONG_BYTE));
 }
@@ -230,45 +194,37 @@ fn reads_every_field_of_a_leader(rt: HostRuntime) {
         low: 255,
     };
     let bytes = [0x13, 0x02, 0x0a, 0x05];
-    assert!(rt; read_leader(&bits_of(&rt, &bytes, 32)) == Ok(LEADER));
+    assert!(rt; read_leader(&first_bits(&rt, &bytes, 32)) == Ok(LEADER));
     assert!(rt; is_leader_written(&LEADER, &bytes) && is_leader_written(&FULL, &[0xff; 4]));
 }
 
+// The RTS with two bytes of its prefix changed, or with one, and the first of its faults.
 #[test]
-fn names_one_changed_field(rt: HostRuntime) {
-    const ROWS: &[(usize, u8, MessageFault)] = &[
-        (4, 0x01, MessageFault::M1NotZero),
-        (4, 0x80, MessageFault::M1NotZero),
-        (5, 0x00, MessageFault::SizeZero),
-        (8, 0x01, MessageFault::M2NotZero),
-        (8, 0x80, MessageFault::M2NotZero),
-        (7, 0x0b, MessageFault::TextMissing),
-        (6, 0xff, MessageFault::TextMissing),
-    ];
-    for &(place, byte, fault) in ROWS {
-        assert!(rt; fault_of_changed(place, byte) == Some(fault));
-    }
-    assert!(rt; fault_of_changed(0, 0xff).is_none());
-}
-
-#[test]
-fn names_the_first_of_two_faults(rt: HostRuntime) {
-    const ROWS: &[(usize, u8, usize, u8, MessageFault)] = &[
-        (4, 1, 5, 0, MessageFault::M1NotZero),
-        (8, 1, 4, 1, MessageFault::M1NotZero),
-        (7, 11, 4, 1, MessageFault::M1NotZero),
-        (8, 1, 5, 0, MessageFault::SizeZero),
-        (5, 0, 7, 11, MessageFault::SizeZero),
-        (7, 11, 8, 1, MessageFault::M2NotZero),
+fn names_the_first_fault(rt: HostRuntime) {
+    const ROWS: &[(usize, u8, usize, u8, Option<MessageFault>)] = &[
+        (0, 0xff, 0, 0xff, None),
+        (4, 0x01, 4, 0x01, Some(MessageFault::M1NotZero)),
+        (4, 0x80, 4, 0x80, Some(MessageFault::M1NotZero)),
+        (5, 0x00, 5, 0x00, Some(MessageFault::SizeZero)),
+        (8, 0x01, 8, 0x01, Some(MessageFault::M2NotZero)),
+        (8, 0x80, 8, 0x80, Some(MessageFault::M2NotZero)),
+        (7, 0x0b, 7, 0x0b, Some(MessageFault::TextMissing)),
+        (6, 0xff, 6, 0xff, Some(MessageFault::TextMissing)),
+        (4, 1, 5, 0, Some(MessageFault::M1NotZero)),
+        (8, 1, 4, 1, Some(MessageFault::M1NotZero)),
+        (7, 11, 4, 1, Some(MessageFault::M1NotZero)),
+        (8, 1, 5, 0, Some(MessageFault::SizeZero)),
+        (5, 0, 7, 11, Some(MessageFault::SizeZero)),
+        (7, 11, 8, 1, Some(MessageFault::M2NotZero)),
     ];
     for &(one, byte, other, another, fault) in ROWS {
-        assert!(rt; fault_of_both(one, byte, other, another) == Some(fault));
+        assert!(rt; fault_of_both(one, byte, other, another) == fault);
     }
 }
 
 // The RTS, and four bits of padding.
 fn padded(rt: &impl Abort) -> Bits {
-    let mut bits = bits_of(rt, &RTS, 152);
+    let mut bits = first_bits(rt, &RTS, 152);
     bits.push_number(0b1000, 4).expect(rt, "room");
     bits
 }
@@ -293,11 +249,11 @@ fn is_judged_cut(rt: &impl Abort, bits: &Bits, len: usize) -> bool {
 
 #[test]
 fn judges_a_message_cut_anywhere(rt: HostRuntime) {
-    let bits = bits_of(&rt, &RTS, 152);
+    let bits = first_bits(&rt, &RTS, 152);
     for len in 0..152 {
         assert!(rt; is_judged_cut(&rt, &bits, len), "at {len}");
     }
-    let short = bits_of(
+    let short = first_bits(
         &rt,
         &[0x00, 0x02, 0x00, 0x00, 0x01, 0x08, 0x00, 0x0a, 0x00],
         71,
@@ -308,7 +264,7 @@ fn judges_a_message_cut_anywhere(rt: HostRuntime) {
 // A leader and a prefix with this last byte of the count, and 1,015 bytes of 8 bits: what is left after them.
 fn longest(rt: &impl Abort, low: u8) -> Bits {
     let front = [0x00, 0x02, 0x02, 0x00, 0x00, 0x08, 0x03, low, 0x00];
-    let mut bits = bits_of(rt, &front, 72);
+    let mut bits = first_bits(rt, &front, 72);
     for _ in 0..1015 {
         bits.push_number(0xa5, 8).expect(rt, "room");
     }
@@ -447,12 +403,12 @@ fn tells_faults(rt: HostRuntime) -> Result<(), Fail> {
 fn changed(rt: &impl Abort) -> Bits {
     let mut bytes = RTS;
     bytes[18] = 3;
-    bits_of(rt, &bytes, 152)
+    first_bits(rt, &bytes, 152)
 }
 
 #[test]
 fn compares_messages(rt: HostRuntime) {
-    let bits = bits_of(&rt, &RTS, 152);
+    let bits = first_bits(&rt, &RTS, 152);
     let padded = padded(&rt);
     let changed = changed(&rt);
     let message = message_in(&rt, &bits);
@@ -478,7 +434,7 @@ fn compares_leaders_and_faults(rt: HostRuntime) {
 fn shows_messages(rt: HostRuntime) -> Result<(), Fail> {
     const SHOWN: &str =
         "Regular { leader: Leader { flags: 0, kind: 0, host: 2, link: 2, low: 0 }, size: 36, count: 1, text: bits=36 1234567890 }";
-    let bits = bits_of(&rt, &LONG_BYTE, 108);
+    let bits = first_bits(&rt, &LONG_BYTE, 108);
     assert!(rt; is_shown(rt.alloc(), &message_in(&rt, &bits), SHOWN)?);
     Ok(())
 }

@@ -1,6 +1,6 @@
 //! What no clause says: that the calls succeed, that memory is asked for where it is needed, and
 //! that the definitions mean what the worked examples mean.
-use crate::known::{is_shown, is_told};
+use crate::known::{bits_of, is_shown, is_told};
 use ncp_bits::Bits;
 use ncp_slot::laws::{
     LinkEvent, LinkNote, a_message_is_kept, each_slot_is_woken, links_are_numbered,
@@ -22,27 +22,10 @@ const TEXT: [u8; 11] = [
     0x00, 0x02, 0x02, 0x00, 0x00, 0x08, 0x00, 0x02, 0x00, 0x61, 0x62,
 ];
 
-fn message(rt: &impl Abort, bytes: &[u8]) -> Bits {
-    assert!(rt; bytes.len() <= 1024);
-    Bits::from_bytes(bytes, 8 * bytes.len()).expect(rt, "the bytes of a message")
-}
-
-fn is_message(bits: &Bits, bytes: &[u8]) -> bool {
-    if bits.len() % 8 != 0 || bits.len() / 8 != bytes.len() {
-        return false;
-    }
-    for (place, byte) in bytes.iter().enumerate() {
-        if bits.number(8 * place, 8) != u64::from(*byte) {
-            return false;
-        }
-    }
-    true
-}
-
 // Whether the message that is wanted is given, or none is wanted and none given.
-fn is_given(given: Option<&Bits>, wanted: Option<&[u8]>) -> bool {
+fn is_given(rt: &impl Abort, given: Option<&Bits>, wanted: Option<&[u8]>) -> bool {
     match (given, wanted) {
-        (Some(bits), Some(bytes)) => is_message(bits, bytes),
+        (Some(bits), Some(bytes)) => *bits == bits_of(rt, bytes),
         (None, None) => true,
         _ => false,
     }
@@ -62,17 +45,17 @@ enum Noted<'a> {
 
 fn event_of(rt: &impl Abort, noted: &Noted<'_>) -> LinkEvent {
     match noted {
-        Noted::Put(bytes, _) => LinkEvent::Put(message(rt, bytes)),
+        Noted::Put(bytes, _) => LinkEvent::Put(bits_of(rt, bytes)),
         Noted::Handed(_) => LinkEvent::Hand,
         Noted::Answered(answer, _) => LinkEvent::Answer(*answer),
         Noted::Woken => LinkEvent::Wake,
     }
 }
 
-fn says(note: &LinkNote, noted: &Noted<'_>) -> bool {
+fn says(rt: &impl Abort, note: &LinkNote, noted: &Noted<'_>) -> bool {
     match (note, noted) {
         (LinkNote::Put(put), Noted::Put(_, wanted)) => *put == *wanted,
-        (LinkNote::Handed(bits), Noted::Handed(wanted)) => is_given(bits.as_ref(), *wanted),
+        (LinkNote::Handed(bits), Noted::Handed(wanted)) => is_given(rt, bits.as_ref(), *wanted),
         (LinkNote::Answered(taken), Noted::Answered(_, wanted)) => *taken == *wanted,
         (LinkNote::Woken, Noted::Woken) => true,
         _ => false,
@@ -91,12 +74,12 @@ fn events_of(
     Ok(events)
 }
 
-fn says_each(notes: &[LinkNote], all_noted: &[Noted<'_>]) -> bool {
+fn says_each(rt: &impl Abort, notes: &[LinkNote], all_noted: &[Noted<'_>]) -> bool {
     if notes.len() != all_noted.len() {
         return false;
     }
     for (place, noted) in all_noted.iter().enumerate() {
-        if !says(&notes[place], noted) {
+        if !says(rt, &notes[place], noted) {
             return false;
         }
     }
@@ -123,7 +106,7 @@ fn slots_after(
 ) -> Result<Slots, AllocError> {
     let events = events_of(rt, alloc, all_noted)?;
     let (slots, notes) = run(rt, alloc, link, events.as_slice())?;
-    assert!(rt; says_each(notes.as_slice(), all_noted));
+    assert!(rt; says_each(rt, notes.as_slice(), all_noted));
     Ok(slots)
 }
 
@@ -152,16 +135,16 @@ enum Step<'a> {
 
 /// Goes through all steps. The functions that it calls have no clause, so the prover need not follow slots through an
 /// example.
-fn goes_on(rt: &impl Abort, slots: &mut Slots, steps: &[Step<'_>]) {
+fn goes_on(rt: &impl Abort, slots: &mut Slots, name: &str, steps: &[Step<'_>]) {
     for (place, step) in steps.iter().enumerate() {
-        assert!(rt; does(rt, slots, step), "at step {place}");
+        assert!(rt; does(rt, slots, step), "{name} at step {place}");
     }
 }
 
 /// New slots go through all steps.
-fn goes(rt: &impl Abort, alloc: Global, steps: &[Step<'_>]) -> Result<(), AllocError> {
+fn goes(rt: &impl Abort, alloc: Global, name: &str, steps: &[Step<'_>]) -> Result<(), AllocError> {
     let mut slots = Slots::new(alloc)?;
-    goes_on(rt, &mut slots, steps);
+    goes_on(rt, &mut slots, name, steps);
     Ok(())
 }
 
@@ -169,20 +152,20 @@ fn does(rt: &impl Abort, slots: &mut Slots, step: &Step<'_>) -> bool {
     match step {
         Step::Puts(link, bytes) => puts(rt, slots, *link, bytes).is_ok(),
         Step::IsBusy(link, bytes) => puts(rt, slots, *link, bytes) == Err(Busy),
-        Step::Hands(link, wanted) => is_given(hands(rt, slots, *link).as_ref(), *wanted),
+        Step::Hands(link, wanted) => is_given(rt, hands(rt, slots, *link).as_ref(), *wanted),
         Step::Answers(link, answer) => answers(slots, *link, *answer).is_ok(),
         Step::IsStray(link, answer) => answers(slots, *link, *answer) == Err(Stray),
         Step::Wakes => {
             slots.wake();
             true
         }
-        _ => tells(slots, step),
+        _ => tells(rt, slots, step),
     }
 }
 
 fn puts(rt: &impl Abort, slots: &mut Slots, link: u8, bytes: &[u8]) -> Result<(), Busy> {
     assert!(rt; has_slot(link));
-    slots.put(link, &message(rt, bytes))
+    slots.put(link, &bits_of(rt, bytes))
 }
 
 fn answers(slots: &mut Slots, link: u8, answer: Answer) -> Result<(), Stray> {
@@ -194,9 +177,9 @@ fn hands(rt: &impl Abort, slots: &mut Slots, link: u8) -> Option<Bits> {
     slots.hand(link)
 }
 
-fn tells(slots: &Slots, step: &Step<'_>) -> bool {
+fn tells(rt: &impl Abort, slots: &Slots, step: &Step<'_>) -> bool {
     match step {
-        Step::Keeps(link, wanted) => is_given(slots.kept(*link), *wanted),
+        Step::Keeps(link, wanted) => is_given(rt, slots.kept(*link), *wanted),
         Step::HasReady(link) => slots.first_ready() == *link,
         Step::IsQuiet(quiet) => slots.quiet() == *quiet,
         Step::IsEmpty(link, empty) => has_slot(*link) && slots.is_empty(*link) == *empty,
@@ -204,124 +187,171 @@ fn tells(slots: &Slots, step: &Step<'_>) -> bool {
     }
 }
 
+/// What is noted of the events on a link, and what then becomes of the slots.
+const RUNS: &[(&str, u8, &[Noted<'static>], &[Step<'static>])] = &[
+    (
+        "hands_out_again_until_taken",
+        0,
+        &[
+            Noted::Put(&RESET, true),
+            Noted::Handed(Some(&RESET)),
+            Noted::Answered(Answer::Incomplete, true),
+            Noted::Handed(Some(&RESET)),
+            Noted::Answered(Answer::Rfnm, true),
+            Noted::Handed(None),
+            Noted::Answered(Answer::Rfnm, false),
+        ],
+        &[Step::HasReady(None)],
+    ),
+    (
+        "holds_a_message_until_woken",
+        FIRST_DATA_LINK,
+        &[
+            Noted::Put(&TEXT, true),
+            Noted::Handed(Some(&TEXT)),
+            Noted::Answered(Answer::Dead, true),
+            Noted::Handed(None),
+            Noted::Answered(Answer::Rfnm, false),
+            Noted::Woken,
+            Noted::Handed(Some(&TEXT)),
+            Noted::Answered(Answer::Rfnm, true),
+        ],
+        &[Step::IsQuiet(true)],
+    ),
+    (
+        "wakes_only_what_is_held",
+        LAST_LINK,
+        &[
+            Noted::Woken,
+            Noted::Put(&TEXT, true),
+            Noted::Handed(Some(&TEXT)),
+            Noted::Woken,
+            Noted::Answered(Answer::Dead, true),
+            Noted::Put(&RESET, false),
+        ],
+        &[
+            Step::IsQuiet(false),
+            Step::HasReady(None),
+            Step::Keeps(LAST_LINK, Some(&TEXT)),
+            Step::Wakes,
+            Step::HasReady(Some(LAST_LINK)),
+        ],
+    ),
+];
+
 #[test]
-fn hands_out_again_until_taken(rt: HostRuntime) -> Result<(), Fail> {
-    const NOTED: &[Noted<'static>] = &[
-        Noted::Put(&RESET, true),
-        Noted::Handed(Some(&RESET)),
-        Noted::Answered(Answer::Incomplete, true),
-        Noted::Handed(Some(&RESET)),
-        Noted::Answered(Answer::Rfnm, true),
-        Noted::Handed(None),
-        Noted::Answered(Answer::Rfnm, false),
-    ];
-    let slots = slots_after(&rt, rt.alloc(), 0, NOTED)?;
-    assert!(rt; slots.first_ready().is_none());
-    slots_are_apart();
-    quiet_links_are_empty();
+fn runs_are_noted(rt: HostRuntime) -> Result<(), Fail> {
+    for &(name, link, noted, steps) in RUNS {
+        let mut slots = slots_after(&rt, rt.alloc(), link, noted)?;
+        goes_on(&rt, &mut slots, name, steps);
+    }
+    Ok(())
+}
+
+/// What becomes of slots that are new.
+const EXAMPLES: &[(&str, &[Step<'static>])] = &[
+    (
+        "wakes_every_link",
+        &[
+            Step::Puts(0, &TEXT),
+            Step::Hands(0, Some(&TEXT)),
+            Step::Answers(0, Answer::Dead),
+            Step::Puts(FIRST_DATA_LINK, &TEXT),
+            Step::Hands(FIRST_DATA_LINK, Some(&TEXT)),
+            Step::Answers(FIRST_DATA_LINK, Answer::Dead),
+            Step::Puts(LAST_LINK, &TEXT),
+            Step::Hands(LAST_LINK, Some(&TEXT)),
+            Step::Answers(LAST_LINK, Answer::Dead),
+            Step::HasReady(None),
+            Step::Wakes,
+            Step::Hands(0, Some(&TEXT)),
+            Step::Hands(FIRST_DATA_LINK, Some(&TEXT)),
+            Step::Hands(LAST_LINK, Some(&TEXT)),
+        ],
+    ),
+    (
+        "lends_what_is_kept",
+        &[
+            Step::Keeps(0, None),
+            Step::Keeps(UNUSED_LINK, None),
+            Step::Keeps(FIRST_DATA_LINK, None),
+            Step::Keeps(LAST_LINK, None),
+            Step::Keeps(72, None),
+            Step::Keeps(255, None),
+            Step::Puts(FIRST_DATA_LINK, &TEXT),
+            Step::Keeps(FIRST_DATA_LINK, Some(&TEXT)),
+            Step::Hands(FIRST_DATA_LINK, Some(&TEXT)),
+            Step::Keeps(FIRST_DATA_LINK, Some(&TEXT)),
+            Step::Answers(FIRST_DATA_LINK, Answer::Dead),
+            Step::Keeps(FIRST_DATA_LINK, Some(&TEXT)),
+            Step::Wakes,
+            Step::Hands(FIRST_DATA_LINK, Some(&TEXT)),
+            Step::Answers(FIRST_DATA_LINK, Answer::Rfnm),
+            Step::Keeps(FIRST_DATA_LINK, None),
+        ],
+    ),
+    (
+        "keeps_a_message_until_answered",
+        &[
+            Step::IsQuiet(true),
+            Step::HasReady(None),
+            Step::Puts(71, &TEXT),
+            Step::Puts(2, &TEXT),
+            Step::Puts(0, &RESET),
+            Step::IsBusy(2, &RESET),
+            Step::HasReady(Some(0)),
+            Step::Hands(0, Some(&RESET)),
+            Step::HasReady(Some(2)),
+            Step::Hands(2, Some(&TEXT)),
+            Step::Hands(2, None),
+            Step::IsBusy(2, &TEXT),
+            Step::HasReady(Some(71)),
+            Step::Answers(2, Answer::Incomplete),
+            Step::HasReady(Some(2)),
+            Step::Hands(2, Some(&TEXT)),
+            Step::Answers(2, Answer::Rfnm),
+            Step::IsStray(2, Answer::Rfnm),
+            Step::IsQuiet(false),
+            Step::Hands(71, Some(&TEXT)),
+            Step::Answers(71, Answer::Rfnm),
+            Step::IsQuiet(true),
+            Step::Answers(0, Answer::Rfnm),
+        ],
+    ),
+];
+
+#[test]
+fn examples_are_followed(rt: HostRuntime) -> Result<(), Fail> {
+    for &(name, steps) in EXAMPLES {
+        goes(&rt, rt.alloc(), name, steps)?;
+    }
     Ok(())
 }
 
 #[test]
-fn holds_a_message_until_woken(rt: HostRuntime) -> Result<(), Fail> {
-    const NOTED: &[Noted<'static>] = &[
-        Noted::Put(&TEXT, true),
-        Noted::Handed(Some(&TEXT)),
-        Noted::Answered(Answer::Dead, true),
-        Noted::Handed(None),
-        Noted::Answered(Answer::Rfnm, false),
-        Noted::Woken,
-        Noted::Handed(Some(&TEXT)),
-        Noted::Answered(Answer::Rfnm, true),
-    ];
-    let slots = slots_after(&rt, rt.alloc(), FIRST_DATA_LINK, NOTED)?;
-    assert!(rt; slots.quiet());
+fn states_laws(_rt: HostRuntime) {
+    slots_are_apart();
+    quiet_links_are_empty();
     each_slot_is_woken();
     a_message_is_kept::<Bits>();
     what_is_held_stays::<Bits>();
-    Ok(())
-}
-
-#[test]
-fn wakes_only_what_is_held(rt: HostRuntime) -> Result<(), Fail> {
-    const NOTED: &[Noted<'static>] = &[
-        Noted::Woken,
-        Noted::Put(&TEXT, true),
-        Noted::Handed(Some(&TEXT)),
-        Noted::Woken,
-        Noted::Answered(Answer::Dead, true),
-        Noted::Put(&RESET, false),
-    ];
-    const STEPS: &[Step<'static>] = &[
-        Step::IsQuiet(false),
-        Step::HasReady(None),
-        Step::Keeps(LAST_LINK, Some(&TEXT)),
-        Step::Wakes,
-        Step::HasReady(Some(LAST_LINK)),
-    ];
-    let mut slots = slots_after(&rt, rt.alloc(), LAST_LINK, NOTED)?;
-    goes_on(&rt, &mut slots, STEPS);
-    Ok(())
-}
-
-#[test]
-fn wakes_every_link(rt: HostRuntime) -> Result<(), Fail> {
-    const STEPS: &[Step<'static>] = &[
-        Step::Puts(0, &TEXT),
-        Step::Hands(0, Some(&TEXT)),
-        Step::Answers(0, Answer::Dead),
-        Step::Puts(FIRST_DATA_LINK, &TEXT),
-        Step::Hands(FIRST_DATA_LINK, Some(&TEXT)),
-        Step::Answers(FIRST_DATA_LINK, Answer::Dead),
-        Step::Puts(LAST_LINK, &TEXT),
-        Step::Hands(LAST_LINK, Some(&TEXT)),
-        Step::Answers(LAST_LINK, Answer::Dead),
-        Step::HasReady(None),
-        Step::Wakes,
-        Step::Hands(0, Some(&TEXT)),
-        Step::Hands(FIRST_DATA_LINK, Some(&TEXT)),
-        Step::Hands(LAST_LINK, Some(&TEXT)),
-    ];
-    goes(&rt, rt.alloc(), STEPS)?;
-    Ok(())
-}
-
-#[test]
-fn lends_what_is_kept(rt: HostRuntime) -> Result<(), Fail> {
-    const STEPS: &[Step<'static>] = &[
-        Step::Keeps(0, None),
-        Step::Keeps(UNUSED_LINK, None),
-        Step::Keeps(FIRST_DATA_LINK, None),
-        Step::Keeps(LAST_LINK, None),
-        Step::Keeps(72, None),
-        Step::Keeps(255, None),
-        Step::Puts(FIRST_DATA_LINK, &TEXT),
-        Step::Keeps(FIRST_DATA_LINK, Some(&TEXT)),
-        Step::Hands(FIRST_DATA_LINK, Some(&TEXT)),
-        Step::Keeps(FIRST_DATA_LINK, Some(&TEXT)),
-        Step::Answers(FIRST_DATA_LINK, Answer::Dead),
-        Step::Keeps(FIRST_DATA_LINK, Some(&TEXT)),
-        Step::Wakes,
-        Step::Hands(FIRST_DATA_LINK, Some(&TEXT)),
-        Step::Answers(FIRST_DATA_LINK, Answer::Rfnm),
-        Step::Keeps(FIRST_DATA_LINK, None),
-    ];
-    goes(&rt, rt.alloc(), STEPS)?;
-    Ok(())
+    links_are_numbered();
+    answers_are_compared();
+    refusals_are_compared();
+    slots_are_compared::<u8>();
 }
 
 // Whether slots are quiet that have a message on this link.
 fn is_quiet_with(rt: &impl Abort, alloc: Global, link: u8) -> Result<bool, AllocError> {
     let mut slots = Slots::new(alloc)?;
     assert!(rt; puts(rt, &mut slots, link, &RESET).is_ok());
-    assert!(rt; tells(&slots, &Step::IsEmpty(link, false)));
+    assert!(rt; tells(rt, &slots, &Step::IsEmpty(link, false)));
     Ok(slots.quiet())
 }
 
 #[test]
 fn is_quiet_without_the_control_link(rt: HostRuntime) -> Result<(), Fail> {
     const ROWS: &[(u8, bool)] = &[(0, true), (2, false), (3, false), (71, false)];
-    links_are_numbered();
     for &(link, quiet) in ROWS {
         assert!(rt; is_quiet_with(&rt, rt.alloc(), link)? == quiet);
     }
@@ -330,9 +360,6 @@ fn is_quiet_without_the_control_link(rt: HostRuntime) -> Result<(), Fail> {
 
 #[test]
 fn compares_and_tells(rt: HostRuntime) -> Result<(), Fail> {
-    answers_are_compared();
-    refusals_are_compared();
-    slots_are_compared::<u8>();
     assert!(rt;
         is_shown(rt.alloc(), &Answer::Dead, "Dead")?
             && is_shown(rt.alloc(), &Slot::Held(3u8), "Held(3)")?
@@ -348,37 +375,6 @@ fn tells_apart(rt: HostRuntime) {
             && Slot::Held(3u8) == Slot::Held(3)
             && Slot::Held(3u8) != Slot::Ready(3)
     );
-}
-
-#[test]
-fn keeps_a_message_until_answered(rt: HostRuntime) -> Result<(), Fail> {
-    const STEPS: &[Step<'static>] = &[
-        Step::IsQuiet(true),
-        Step::HasReady(None),
-        Step::Puts(71, &TEXT),
-        Step::Puts(2, &TEXT),
-        Step::Puts(0, &RESET),
-        Step::IsBusy(2, &RESET),
-        Step::HasReady(Some(0)),
-        Step::Hands(0, Some(&RESET)),
-        Step::HasReady(Some(2)),
-        Step::Hands(2, Some(&TEXT)),
-        Step::Hands(2, None),
-        Step::IsBusy(2, &TEXT),
-        Step::HasReady(Some(71)),
-        Step::Answers(2, Answer::Incomplete),
-        Step::HasReady(Some(2)),
-        Step::Hands(2, Some(&TEXT)),
-        Step::Answers(2, Answer::Rfnm),
-        Step::IsStray(2, Answer::Rfnm),
-        Step::IsQuiet(false),
-        Step::Hands(71, Some(&TEXT)),
-        Step::Answers(71, Answer::Rfnm),
-        Step::IsQuiet(true),
-        Step::Answers(0, Answer::Rfnm),
-    ];
-    goes(&rt, rt.alloc(), STEPS)?;
-    Ok(())
 }
 
 #[test]
@@ -440,6 +436,6 @@ fn asks_for_memory_once(rt: HostRuntime) -> Result<(), Fail> {
         Step::IsEmpty(FIRST_DATA_LINK, true),
         Step::IsQuiet(true),
     ];
-    goes(&rt, rt.alloc(), STEPS)?;
+    goes(&rt, rt.alloc(), "asks_for_memory_once", STEPS)?;
     Ok(())
 }

@@ -5,7 +5,6 @@ use ncp_bits::Bits;
 use ncp_subnet::equality::equal_faults;
 use ncp_subnet::laws::{each_message_is_answered_once, places_are_apart};
 use ncp_subnet::{Subnet, SubnetFault};
-use std::alloc::{AllocError, Global};
 use std::process::Abort;
 use std::test::Fail;
 
@@ -60,23 +59,10 @@ enum Step<'a> {
 
 /// Goes through all steps. The functions that it calls have no clause, so the prover need not follow a subnet through
 /// an example.
-fn goes_on(rt: &impl Abort, subnet: &mut Subnet, steps: &[Step<'_>]) {
+fn goes_on(rt: &impl Abort, subnet: &mut Subnet, name: &str, steps: &[Step<'_>]) {
     for (place, step) in steps.iter().enumerate() {
-        assert!(rt; does(rt, subnet, step), "at step {place}");
+        assert!(rt; does(rt, subnet, step), "{name} at step {place}");
     }
-}
-
-/// A new subnet of two hosts goes through all steps.
-fn goes(
-    rt: &impl Abort,
-    alloc: Global,
-    a: u8,
-    b: u8,
-    steps: &[Step<'_>],
-) -> Result<(), AllocError> {
-    let mut subnet = Subnet::new(alloc, a, b)?;
-    goes_on(rt, &mut subnet, steps);
-    Ok(())
 }
 
 fn does(rt: &impl Abort, subnet: &mut Subnet, step: &Step<'_>) -> bool {
@@ -144,97 +130,144 @@ fn is_given(rt: &impl Abort, given: Option<Bits>, wanted: Option<Message<'_>>) -
 /// The way of most examples.
 const WAY: Way = (1, 2, 0);
 
-#[test]
-fn answers_what_came(rt: HostRuntime) -> Result<(), Fail> {
-    const STEPS: &[Step<'static>] = &[
-        Step::Accepts(1, (&RESET, 80)),
-        Step::Answers(WAY, None),
-        Step::IsDelivered(WAY, false),
-        Step::Delivers(WAY, Some((&RESET_COMES, 80))),
-        Step::IsDelivered(WAY, true),
-        Step::Delivers(WAY, None),
-        Step::Loses(WAY, false),
-        Step::IsDead(WAY, false),
-        Step::Answers(WAY, Some((&[0x05, 0x02, 0x00, 0x00], 32))),
-        Step::Answers(WAY, None),
-        Step::Accepts(1, (&RESET, 80)),
-    ];
-    goes(&rt, rt.alloc(), 1, 2, STEPS)?;
-    Ok(())
-}
+/// The way of a text.
+const TEXT_WAY: Way = (1, 2, 2);
 
-#[test]
-fn answers_what_will_not_come(rt: HostRuntime) -> Result<(), Fail> {
-    const TEXT_WAY: Way = (1, 2, 2);
-    const STEPS: &[Step<'static>] = &[
-        Step::Accepts(1, (&TEXT, 108)),
-        Step::Loses(TEXT_WAY, true),
-        Step::Delivers(TEXT_WAY, None),
-        Step::IsDelivered(TEXT_WAY, false),
-        Step::Answers(TEXT_WAY, Some((&[0x09, 0x02, 0x02, 0x00], 32))),
-        Step::Accepts(1, (&TEXT, 108)),
-        Step::IsDead(TEXT_WAY, true),
-        Step::Delivers(TEXT_WAY, None),
-        Step::Loses(TEXT_WAY, false),
-        Step::Answers(TEXT_WAY, Some((&[0x07, 0x02, 0x02, 0x00], 32))),
-        Step::Accepts(1, (&TEXT, 108)),
-        Step::Delivers(TEXT_WAY, Some((&TEXT_COMES, 108))),
-    ];
-    goes(&rt, rt.alloc(), 2, 1, STEPS)?;
-    places_are_apart();
-    each_message_is_answered_once::<Bits>();
-    Ok(())
-}
-
-#[test]
-fn tells_what_can_be_and_what_it_answers(rt: HostRuntime) -> Result<(), Fail> {
-    const STEPS: &[Step<'static>] = &[
-        Step::IsAccepted(WAY, false),
-        Step::HasAnswer(WAY, false),
-        Step::Accepts(1, (&RESET, 80)),
-        Step::IsAccepted(WAY, true),
-        Step::HasAnswer(WAY, false),
-        Step::IsAccepted((2, 1, 0), false),
-        Step::IsAccepted((1, 2, 2), false),
-        Step::IsAccepted((1, 3, 0), false),
-        Step::Delivers(WAY, Some((&RESET_COMES, 80))),
-        Step::IsAccepted(WAY, false),
-        Step::HasAnswer(WAY, true),
-        Step::HasAnswer((2, 1, 0), false),
-        Step::HasAnswer((1, 2, 2), false),
-        Step::HasAnswer((1, 3, 0), false),
-        Step::Answers(WAY, Some((&[0x05, 0x02, 0x00, 0x00], 32))),
-        Step::HasAnswer(WAY, false),
-        Step::Accepts(1, (&RESET, 80)),
-        Step::Loses(WAY, true),
-        Step::IsAccepted(WAY, false),
-        Step::HasAnswer(WAY, true),
-        Step::Answers(WAY, Some((&[0x09, 0x02, 0x00, 0x00], 32))),
-        Step::Accepts(1, (&RESET, 80)),
-        Step::IsDead(WAY, true),
-        Step::HasAnswer(WAY, true),
-    ];
-    goes(&rt, rt.alloc(), 1, 2, STEPS)?;
-    Ok(())
-}
-
-#[test]
-fn refuses_in_order(rt: HostRuntime) -> Result<(), Fail> {
+/// What becomes of a new subnet of two hosts.
+const EXAMPLES: &[(&str, u8, u8, &[Step<'static>])] = &[
+    (
+        "answers_what_came",
+        1,
+        2,
+        &[
+            Step::Accepts(1, (&RESET, 80)),
+            Step::Answers(WAY, None),
+            Step::IsDelivered(WAY, false),
+            Step::Delivers(WAY, Some((&RESET_COMES, 80))),
+            Step::IsDelivered(WAY, true),
+            Step::Delivers(WAY, None),
+            Step::Loses(WAY, false),
+            Step::IsDead(WAY, false),
+            Step::Answers(WAY, Some((&[0x05, 0x02, 0x00, 0x00], 32))),
+            Step::Answers(WAY, None),
+            Step::Accepts(1, (&RESET, 80)),
+        ],
+    ),
+    (
+        "answers_what_will_not_come",
+        2,
+        1,
+        &[
+            Step::Accepts(1, (&TEXT, 108)),
+            Step::Loses(TEXT_WAY, true),
+            Step::Delivers(TEXT_WAY, None),
+            Step::IsDelivered(TEXT_WAY, false),
+            Step::Answers(TEXT_WAY, Some((&[0x09, 0x02, 0x02, 0x00], 32))),
+            Step::Accepts(1, (&TEXT, 108)),
+            Step::IsDead(TEXT_WAY, true),
+            Step::Delivers(TEXT_WAY, None),
+            Step::Loses(TEXT_WAY, false),
+            Step::Answers(TEXT_WAY, Some((&[0x07, 0x02, 0x02, 0x00], 32))),
+            Step::Accepts(1, (&TEXT, 108)),
+            Step::Delivers(TEXT_WAY, Some((&TEXT_COMES, 108))),
+        ],
+    ),
+    (
+        "tells_what_can_be_and_what_it_answers",
+        1,
+        2,
+        &[
+            Step::IsAccepted(WAY, false),
+            Step::HasAnswer(WAY, false),
+            Step::Accepts(1, (&RESET, 80)),
+            Step::IsAccepted(WAY, true),
+            Step::HasAnswer(WAY, false),
+            Step::IsAccepted((2, 1, 0), false),
+            Step::IsAccepted((1, 2, 2), false),
+            Step::IsAccepted((1, 3, 0), false),
+            Step::Delivers(WAY, Some((&RESET_COMES, 80))),
+            Step::IsAccepted(WAY, false),
+            Step::HasAnswer(WAY, true),
+            Step::HasAnswer((2, 1, 0), false),
+            Step::HasAnswer((1, 2, 2), false),
+            Step::HasAnswer((1, 3, 0), false),
+            Step::Answers(WAY, Some((&[0x05, 0x02, 0x00, 0x00], 32))),
+            Step::HasAnswer(WAY, false),
+            Step::Accepts(1, (&RESET, 80)),
+            Step::Loses(WAY, true),
+            Step::IsAccepted(WAY, false),
+            Step::HasAnswer(WAY, true),
+            Step::Answers(WAY, Some((&[0x09, 0x02, 0x00, 0x00], 32))),
+            Step::Accepts(1, (&RESET, 80)),
+            Step::IsDead(WAY, true),
+            Step::HasAnswer(WAY, true),
+        ],
+    ),
     // Shorter than a leader; of type 5, to a host that is not there; from a host that is not there,
     // to one that is not there, to itself; and the second on a link.
-    const STEPS: &[Step<'static>] = &[
-        Step::Refuses(1, (&[0, 2, 0, 0], 31), SubnetFault::NotRegular),
-        Step::Refuses(1, (&[5, 9, 0, 0], 32), SubnetFault::NotRegular),
-        Step::Refuses(3, (&RESET, 80), SubnetFault::NoHost),
-        Step::Refuses(1, (&[0, 3, 0, 0], 32), SubnetFault::NoHost),
-        Step::Refuses(2, (&RESET, 80), SubnetFault::NoHost),
-        Step::Accepts(1, (&RESET, 80)),
-        Step::Refuses(1, (&RESET, 80), SubnetFault::Occupied),
-        Step::Accepts(2, (&[0, 1, 0, 0], 32)),
-        Step::Accepts(1, (&[0, 2, 255, 0], 32)),
-    ];
-    goes(&rt, rt.alloc(), 1, 2, STEPS)?;
+    (
+        "refuses_in_order",
+        1,
+        2,
+        &[
+            Step::Refuses(1, (&[0, 2, 0, 0], 31), SubnetFault::NotRegular),
+            Step::Refuses(1, (&[5, 9, 0, 0], 32), SubnetFault::NotRegular),
+            Step::Refuses(3, (&RESET, 80), SubnetFault::NoHost),
+            Step::Refuses(1, (&[0, 3, 0, 0], 32), SubnetFault::NoHost),
+            Step::Refuses(2, (&RESET, 80), SubnetFault::NoHost),
+            Step::Accepts(1, (&RESET, 80)),
+            Step::Refuses(1, (&RESET, 80), SubnetFault::Occupied),
+            Step::Accepts(2, (&[0, 1, 0, 0], 32)),
+            Step::Accepts(1, (&[0, 2, 255, 0], 32)),
+        ],
+    ),
+    (
+        "keeps_what_became_of_a_message",
+        1,
+        2,
+        &[
+            Step::Delivers(WAY, None),
+            Step::IsDead(WAY, false),
+            Step::Accepts(1, (&[0, 2, 0, 0], 32)),
+            Step::Accepts(1, (&[0, 2, 2, 0], 32)),
+            Step::Accepts(1, (&[0, 2, 3, 0], 32)),
+            Step::Delivers(WAY, Some((&[0, 1, 0, 0], 32))),
+            Step::Loses((1, 2, 2), true),
+            Step::IsDead((1, 2, 3), true),
+            Step::Refuses(1, (&[0, 2, 0, 0], 32), SubnetFault::Occupied),
+            Step::Refuses(1, (&[0, 2, 2, 0], 32), SubnetFault::Occupied),
+            Step::Refuses(1, (&[0, 2, 3, 0], 32), SubnetFault::Occupied),
+            Step::Loses((1, 2, 2), false),
+            Step::IsDead((1, 2, 2), false),
+            Step::IsDead((1, 2, 3), false),
+        ],
+    ),
+    // The answer has neither.
+    (
+        "delivers_flags_and_low_field",
+        1,
+        2,
+        &[
+            Step::Accepts(1, (&[0x10, 0x02, 0x0a, 0x05], 32)),
+            Step::Delivers((1, 2, 0x0a), Some((&[0x10, 0x01, 0x0a, 0x05], 32))),
+            Step::Answers((1, 2, 0x0a), Some((&[0x05, 0x02, 0x0a, 0x00], 32))),
+        ],
+    ),
+];
+
+#[test]
+fn examples_are_followed(rt: HostRuntime) -> Result<(), Fail> {
+    for &(name, a, b, steps) in EXAMPLES {
+        let mut subnet = Subnet::new(rt.alloc(), a, b)?;
+        goes_on(&rt, &mut subnet, name, steps);
+    }
     Ok(())
+}
+
+#[test]
+fn states_laws(_rt: HostRuntime) {
+    places_are_apart();
+    each_message_is_answered_once::<Bits>();
 }
 
 fn number_of(fault: SubnetFault) -> u8 {
@@ -264,40 +297,6 @@ fn tells_faults(rt: HostRuntime) -> Result<(), Fail> {
 }
 
 #[test]
-fn keeps_what_became_of_a_message(rt: HostRuntime) -> Result<(), Fail> {
-    const STEPS: &[Step<'static>] = &[
-        Step::Delivers(WAY, None),
-        Step::IsDead(WAY, false),
-        Step::Accepts(1, (&[0, 2, 0, 0], 32)),
-        Step::Accepts(1, (&[0, 2, 2, 0], 32)),
-        Step::Accepts(1, (&[0, 2, 3, 0], 32)),
-        Step::Delivers(WAY, Some((&[0, 1, 0, 0], 32))),
-        Step::Loses((1, 2, 2), true),
-        Step::IsDead((1, 2, 3), true),
-        Step::Refuses(1, (&[0, 2, 0, 0], 32), SubnetFault::Occupied),
-        Step::Refuses(1, (&[0, 2, 2, 0], 32), SubnetFault::Occupied),
-        Step::Refuses(1, (&[0, 2, 3, 0], 32), SubnetFault::Occupied),
-        Step::Loses((1, 2, 2), false),
-        Step::IsDead((1, 2, 2), false),
-        Step::IsDead((1, 2, 3), false),
-    ];
-    goes(&rt, rt.alloc(), 1, 2, STEPS)?;
-    Ok(())
-}
-
-// The answer has neither.
-#[test]
-fn delivers_flags_and_low_field(rt: HostRuntime) -> Result<(), Fail> {
-    const STEPS: &[Step<'static>] = &[
-        Step::Accepts(1, (&[0x10, 0x02, 0x0a, 0x05], 32)),
-        Step::Delivers((1, 2, 0x0a), Some((&[0x10, 0x01, 0x0a, 0x05], 32))),
-        Step::Answers((1, 2, 0x0a), Some((&[0x05, 0x02, 0x0a, 0x00], 32))),
-    ];
-    goes(&rt, rt.alloc(), 1, 2, STEPS)?;
-    Ok(())
-}
-
-#[test]
 fn keeps_ways_apart(rt: HostRuntime) -> Result<(), Fail> {
     const HOSTS: &[u8] = &[1, 2, 3, 4, 5, 6, 7, 8];
     const STEPS: &[Step<'static>] = &[
@@ -317,6 +316,6 @@ fn keeps_ways_apart(rt: HostRuntime) -> Result<(), Fail> {
             assert!(rt; accepted == (from != to), "from {from} to {to}");
         }
     }
-    goes_on(&rt, &mut subnet, STEPS);
+    goes_on(&rt, &mut subnet, "keeps_ways_apart", STEPS);
     Ok(())
 }

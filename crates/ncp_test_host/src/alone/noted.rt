@@ -169,6 +169,15 @@ fn says_what_is_done(note: &HostNote, want: &Want<'_>) -> bool {
     }
 }
 
+/// Whether there is a message of so many bits, or none.
+fn is_long(message: &Option<Message>, wanted: Option<usize>) -> bool {
+    match (message, wanted) {
+        (Some(message), Some(len)) => message.len() == len,
+        (None, None) => true,
+        _ => false,
+    }
+}
+
 fn says_what_is_read(note: &HostNote, want: &Want<'_>) -> bool {
     match (note, want) {
         (HostNote::State { record, .. }, Want::State(wanted)) => *record == *wanted,
@@ -179,9 +188,7 @@ fn says_what_is_read(note: &HostNote, want: &Want<'_>) -> bool {
         }
         (HostNote::Counts { counts, .. }, Want::Counts(wanted)) => *counts == *wanted,
         (HostNote::Waiting { command, .. }, Want::Waiting(wanted)) => *command == *wanted,
-        (HostNote::Kept { message, .. }, Want::Kept(wanted)) => {
-            message.as_ref().map(|message| message.len()) == *wanted
-        }
+        (HostNote::Kept { message, .. }, Want::Kept(wanted)) => { is_long(message, *wanted) }
         (HostNote::Ignored { ignored }, Want::Ignored(wanted)) => *ignored == *wanted,
         _ => false,
     }

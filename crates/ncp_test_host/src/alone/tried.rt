@@ -50,10 +50,10 @@ impl<S: BitStore> Tried<S> {
         self.refused
     }
 
-    /// Goes through all steps.
-    pub(super) fn goes(&mut self, rt: &impl Abort, alloc: Global, steps: &[Step<'_>]) {
+    /// Goes through all steps of an example.
+    pub(super) fn goes(&mut self, rt: &impl Abort, alloc: Global, name: &str, steps: &[Step<'_>]) {
         for (place, step) in steps.iter().enumerate() {
-            assert!(rt; self.does(rt, alloc, step), "at step {place}");
+            assert!(rt; self.does(rt, alloc, step), "{name} at step {place}");
         }
     }
 

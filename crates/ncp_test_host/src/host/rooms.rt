@@ -1,22 +1,51 @@
 //! The rooms that can be asked for, the smallest, one between and the greatest, each as often at once as an
 //! end can be asked for.
 use super::steps::Step;
-use super::{ROOM, goes_up};
+use super::{COMES_UP, Example, ROOM, goes_through};
+use crate::known::PEER;
 use ncp_model::MAX_ROOM;
 use std::test::Fail;
 
-#[test]
-fn rooms_to_send_are_given(rt: HostRuntime) -> Result<(), Fail> {
-    for room in [1, ROOM, MAX_ROOM] {
-        goes_up(&rt, rt.alloc(), &[Step::AsksToSend(64, room)])?;
-    }
-    Ok(())
-}
+const EXAMPLES: &[Example<'static>] = &[
+    (
+        "rooms_to_send_are_given",
+        &[PEER],
+        COMES_UP,
+        &[Step::AsksToSend(64, 1)],
+    ),
+    (
+        "rooms_to_send_are_given",
+        &[PEER],
+        COMES_UP,
+        &[Step::AsksToSend(64, ROOM)],
+    ),
+    (
+        "rooms_to_send_are_given",
+        &[PEER],
+        COMES_UP,
+        &[Step::AsksToSend(64, MAX_ROOM)],
+    ),
+    (
+        "rooms_to_receive_are_given",
+        &[PEER],
+        COMES_UP,
+        &[Step::AsksToReceive(64, 1)],
+    ),
+    (
+        "rooms_to_receive_are_given",
+        &[PEER],
+        COMES_UP,
+        &[Step::AsksToReceive(64, ROOM)],
+    ),
+    (
+        "rooms_to_receive_are_given",
+        &[PEER],
+        COMES_UP,
+        &[Step::AsksToReceive(64, MAX_ROOM)],
+    ),
+];
 
 #[test]
-fn rooms_to_receive_are_given(rt: HostRuntime) -> Result<(), Fail> {
-    for room in [1, ROOM, MAX_ROOM] {
-        goes_up(&rt, rt.alloc(), &[Step::AsksToReceive(64, room)])?;
-    }
-    Ok(())
+fn rooms_are_given(rt: HostRuntime) -> Result<(), Fail> {
+    goes_through(&rt, rt.alloc(), EXAMPLES)
 }

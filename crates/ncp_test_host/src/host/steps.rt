@@ -74,6 +74,11 @@ pub(super) enum Step<'a> {
     FillsPlaces,
     /// So many ERRs come, with the codes 0, 1 and so on, and each code as its tenth byte.
     HearsErrors(u8),
+    /// The message of the RTS comes, cut to its first 0, 1 and so on bits, and at last whole: each is judged by how
+    /// long it is.
+    HearsCutMessages,
+    /// The text of the RTS comes, cut to so many bytes. It is answered by an ERR with these bytes, and no more.
+    HearsCutText(usize),
     /// The message on a link is answered by a message of this type.
     Answered(u8, u8, Received),
     /// STRs of size 8 come from the sockets 1, 3 and so on for socket 2: so many are read.

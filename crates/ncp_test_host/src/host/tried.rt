@@ -3,7 +3,8 @@ use super::steps::{Call, Step};
 use super::{CONTROL, INWARD, REGULAR, RFNM, ROOM, RTS, STR};
 use crate::known::{OUTWARD, UP, bits_of};
 use ncp_bits::{BitStore, Bits};
-use ncp_host::{CallFault, Host, HostFault, Pair, Received};
+use ncp_host::{CallFault, Error, Host, HostFault, Pair, Received};
+use ncp_leader::MessageFault;
 use std::alloc::Global;
 use std::process::Abort;
 
@@ -16,33 +17,63 @@ pub(super) struct Tried<S: BitStore> {
     peer: u8,
 }
 
+// The RTS as a message.
+const RTS_COMES: &[u8] = &[0, 2, 0, 0, 0, 8, 0, 10, 0, 1, 0, 0, 0, 2, 0, 0, 0, 3, 2];
+
+// RET for link 9, 0 messages and 0 bits.
+const RETURN: &[u8] = &[6, 9, 0, 0, 0, 0, 0, 0];
+
+// What becomes of the message of the RTS, cut to its first so many bits.
+fn judged(len: usize) -> Received {
+    if len < 32 {
+        Received::Short
+    } else if len < 72 {
+        Received::Fault(MessageFault::ShortPrefix)
+    } else if len < 152 {
+        Received::Fault(MessageFault::TextMissing)
+    } else {
+        Received::Control(1)
+    }
+}
+
 // The leader and the prefix of a regular message of so many bytes of 8 bits, of or for a host.
 fn prefix(rt: &impl Abort, host: u8, link: u8, count: u16) -> Bits {
-    let mut bits = bits_of(rt, &[REGULAR, host, link, 0, 0, 8]);
-    bits.push_number(u64::from(count), 16).expect(rt, "room");
-    bits.push_number(0, 8).expect(rt, "room");
-    bits
+    let [high, low] = count.to_be_bytes();
+    bits_of(rt, &[REGULAR, host, link, 0, 0, 8, high, low, 0])
 }
 
 // A regular message of bytes of 8 bits.
 fn message(rt: &impl Abort, host: u8, link: u8, text: &[u8]) -> Bits {
     let count = u16::try_from(text.len()).expect(rt, "a text");
     let mut bits = prefix(rt, host, link, count);
-    for byte in text {
-        bits.push_number(u64::from(*byte), 8).expect(rt, "room");
+    bits.append(bits_of(rt, text).whole()).expect(rt, "room");
+    bits
+}
+
+// A control message with RET so many times.
+fn returns(rt: &impl Abort, host: u8, count: u8) -> Bits {
+    let mut bits = prefix(rt, host, CONTROL, 8 * u16::from(count));
+    let command = bits_of(rt, RETURN);
+    for _command in 0..count {
+        bits.append(command.whole()).expect(rt, "room");
     }
     bits
 }
 
-// A control message with RET so many times, for link 9, 0 messages and 0 bits.
-fn returns(rt: &impl Abort, host: u8, count: u8) -> Bits {
-    let mut bits = prefix(rt, host, CONTROL, 8 * u16::from(count));
-    for _command in 0..count {
-        for byte in [6, 9, 0, 0, 0, 0, 0, 0] {
-            bits.push_number(byte, 8).expect(rt, "room");
-        }
+// What a call answers that is refused for this reason, or is not refused.
+fn refusal(fault: Option<CallFault>) -> Result<(), CallFault> {
+    match fault {
+        Some(fault) => Err(fault),
+        None => Ok(()),
     }
-    bits
+}
+
+// The ERR of a code with the code as its tenth byte, and no other.
+fn error_of(code: u8) -> Error {
+    Error {
+        code,
+        bytes: [0, 0, 0, 0, 0, 0, 0, 0, 0, code],
+    }
 }
 
 // So many bits.
@@ -63,19 +94,11 @@ impl<S: BitStore> Tried<S> {
         })
     }
 
-    /// Goes through all steps.
-    pub(super) fn goes(&mut self, rt: &impl Abort, steps: &[Step<'_>]) {
+    /// Goes through all steps of an example.
+    pub(super) fn goes(&mut self, rt: &impl Abort, name: &str, steps: &[Step<'_>]) {
         for (place, step) in steps.iter().enumerate() {
-            assert!(rt; self.does(rt, step), "at step {place}");
+            assert!(rt; self.does(rt, step), "{name} at step {place}");
         }
-    }
-
-    /// Whether the first so many bits of a message come and this becomes of them.
-    pub(super) fn receives_cut(&mut self, message: &Bits, len: usize, want: Received) -> bool {
-        if len > message.len() {
-            return false;
-        }
-        self.receives(&message.slice(0, len).to_bits(), want)
     }
 
     // Whether a step has the answer that is wanted.
@@ -110,6 +133,8 @@ impl<S: BitStore> Tried<S> {
             Step::FillsPlaces => self.fills_places(rt),
             Step::HearsErrors(count) => self.hears_errors(rt, *count),
             Step::HearsRequests(count) => self.hears_requests(rt, *count),
+            Step::HearsCutMessages => self.hears_cut_messages(rt),
+            Step::HearsCutText(len) => self.hears_cut_text(rt, *len),
             Step::Answered(kind, link, want) => self.answered(rt, *kind, *link, *want),
             Step::Puts(bytes) => self.puts(&bits_of(rt, bytes)),
             Step::Sends(link, text) => self.sends(rt, *link, text),
@@ -191,44 +216,22 @@ impl<S: BitStore> Tried<S> {
     }
 
     fn take(&mut self, pair: Pair, bytes: u32) -> Result<(), CallFault> {
-        match self.host.take(self.peer, pair, bytes) {
-            Ok(_) => Ok(()),
-            Err(fault) => Err(fault),
-        }
+        refusal(self.host.take(self.peer, pair, bytes).err())
     }
 
     fn read(&self, call: &Call<'_>) -> Result<(), CallFault> {
-        match call {
-            Call::State(pair) => {
-                self.host.state(self.peer, *pair)?;
-            }
-            Call::Phase => {
-                self.host.phase(self.peer)?;
-            }
-            Call::Echoed => {
-                self.host.echoed(self.peer)?;
-            }
-            Call::Errors => {
-                self.host.errors(self.peer)?;
-            }
-            Call::Counts => {
-                self.host.counts(self.peer)?;
-            }
-            Call::ConnectionAt(place) => {
-                self.host.connection_at(self.peer, *place)?;
-            }
-            Call::Room(pair) => {
-                self.host.room(self.peer, *pair)?;
-            }
-            Call::PairOn(end, link) => {
-                self.host.pair_on(self.peer, *end, *link)?;
-            }
-            Call::IsHeld(link) => {
-                self.host.is_held(self.peer, *link)?;
-            }
-            _ => {}
-        }
-        Ok(())
+        refusal(match call {
+            Call::State(pair) => self.host.state(self.peer, *pair).err(),
+            Call::Phase => self.host.phase(self.peer).err(),
+            Call::Echoed => self.host.echoed(self.peer).err(),
+            Call::Errors => self.host.errors(self.peer).err(),
+            Call::Counts => self.host.counts(self.peer).err(),
+            Call::ConnectionAt(place) => self.host.connection_at(self.peer, *place).err(),
+            Call::Room(pair) => self.host.room(self.peer, *pair).err(),
+            Call::PairOn(end, link) => self.host.pair_on(self.peer, *end, *link).err(),
+            Call::IsHeld(link) => self.host.is_held(self.peer, *link).err(),
+            _ => None,
+        })
     }
 
     fn refuses(&mut self, rt: &impl Abort, call: &Call<'_>, fault: CallFault) -> bool {
@@ -323,6 +326,23 @@ impl<S: BitStore> Tried<S> {
         true
     }
 
+    fn hears_cut_messages(&mut self, rt: &impl Abort) -> bool {
+        let whole = bits_of(rt, RTS_COMES);
+        for len in 0..whole.len() + 1 {
+            if !self.receives(&whole.slice(0, len).to_bits(), judged(len)) {
+                return false;
+            }
+        }
+        true
+    }
+
+    fn hears_cut_text(&mut self, rt: &impl Abort, len: usize) -> bool {
+        assert!(rt; len <= RTS.len());
+        let mut reply = [11, 2, 0, 0, 0, 0, 0, 0, 0, 0, 0, 0];
+        reply[2..2 + len].copy_from_slice(&RTS[..len]);
+        self.hears(rt, &RTS[..len], 0) && self.says(rt, &reply) && self.is_silent()
+    }
+
     fn answered(&mut self, rt: &impl Abort, kind: u8, link: u8, want: Received) -> bool {
         self.receives(&bits_of(rt, &[kind, self.peer, link, 0]), want)
     }
@@ -367,7 +387,7 @@ impl<S: BitStore> Tried<S> {
         };
         let mut next = first;
         for error in errors {
-            if error.code != next || error.bytes[9] != next {
+            if *error != error_of(next) {
                 return false;
             }
             next = next.saturating_add(1);
