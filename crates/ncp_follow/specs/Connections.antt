@@ -1,5 +1,5 @@
 -- A connection that was opened, and what was said on it.
-use Rattle.std.specs.Prelude.{ℕ, ◌+◌, ◌-◌, ◌^◌, min, nat_lt, Bool, true, false, List, [], ◌∷◌, ◌++◌, length, take, get_or, slice_set, Option, Some, None, if◌then◌else◌}
+use Rattle.std.specs.Prelude.{ℕ, ◌+◌, ◌-◌, ◌^◌, ◌==◌, min, nat_lt, Bool, true, false, List, [], ◌∷◌, ◌++◌, length, take, get_or, slice_get, slice_set, Option, Some, None, if◌then◌else◌}
 use Rattle.ncp_bits.specs.declared.bits.TheConstants.{MAX_BITS}
 use Rattle.ncp_follow.specs.declared.life.Life.{Life}
 use Rattle.ncp_follow.specs.declared.connection.Connection.{Connection}
@@ -39,6 +39,10 @@ text_with text more = text ++ take (MAX_BITS - length text) more
 abbrev pub with_text : Connection → List Bool → Connection
 with_text connection text = record connection { said = with_more connection.said 1 (length text); text = text_with connection.text text }
 
+-- as if nothing was said on it so far
+abbrev pub without_text : Connection → Connection
+without_text connection = record connection { text = [] }
+
 -- one more text on its link that is not one of it
 abbrev pub with_late : Connection → Connection
 with_late connection = record connection { late = min (connection.late + 1) (2 ^ 32 - 1) }
@@ -64,3 +68,23 @@ put_told told place connection = if nat_lt place (length told) then slice_set to
 abbrev pub end_told : List Connection → Option ℕ → End → Option ℕ → List Connection
 end_told told None end ended = told
 end_told told (Some place) end ended = put_told told place (with_end (told_at told place) end ended)
+
+-- ---- by their numbers, which are counted from 1 on
+
+abbrev pub place_of : ℕ → Option ℕ
+place_of number = if number == 0 then None else Some (number - 1)
+
+-- the one at a place, if there is one
+abbrev pub numbered : List Connection → Option ℕ → Option Connection
+numbered told None = None
+numbered told (Some place) = slice_get told place
+
+-- the text of it: where there is none, no bit
+abbrev pub text_in : Option Connection → List Bool
+text_in None = []
+text_in (Some connection) = connection.text
+
+-- with the one at a place as if nothing was said on it so far
+abbrev pub silent_at : List Connection → Option ℕ → List Connection
+silent_at told None = told
+silent_at told (Some place) = put_told told place (without_text (told_at told place))

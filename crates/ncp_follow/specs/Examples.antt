@@ -46,11 +46,15 @@ overdrawn =
     sends 16 (Ret 2 2 8 ∷ []) (hears 15 (Gvb 2 64 1 ∷ []) (hears 14 (Allocate 2 5 1000 ∷ [])
     (says 12 2 8 16 (says 10 2 7 56 (hears 9 (Allocate 2 2 16 ∷ []) as_sender)))))
 
+-- a text is said, for which and for one more there is allocation
+abbrev pub spoken : Tables
+spoken = says 8 2 8 8 (hears 7 (Allocate 2 2 16 ∷ []) as_sender)
+
 -- the sender leaves after a text, and socket 4 of host 1 receives from socket 5 of host 2
 abbrev pub left : Tables
 left =
     hears 22 (Ret 2 65535 17 ∷ []) (sends 18 (Allocate 2 1 8 ∷ []) (sends 16 (Allocate 2 65535 8 ∷ []) (hears 15 (Str 5 4 8 ∷ []) (sends 13 (Rts 4 5 2 ∷ [])
-    (sends 11 (Ins 2 ∷ []) (sends 9 (Cls 3 2 ∷ []) (says 8 2 8 8 (hears 7 (Allocate 2 2 16 ∷ []) as_sender))))))))
+    (sends 11 (Ins 2 ∷ []) (sends 9 (Cls 3 2 ∷ []) spoken))))))
 
 -- host 1 receives, and leaves before a text comes
 abbrev pub crossed : Tables

@@ -22,6 +22,7 @@ use Rattle.ncp_follow.specs.declared.tables.Tables.{Tables}
 use Rattle.ncp_follow.specs.declared.turn.Turn.{Turn}
 use Rattle.ncp_follow.specs.declared.follower.Follower.{Follower}
 use Rattle.ncp_follow.specs.Sessions.{is_heard, after_reset, after_reply, with_stray, session_of, with_session}
+use Rattle.ncp_follow.specs.Connections.{place_of, silent_at}
 use Rattle.ncp_follow.specs.Slots.{place_on, is_repeat, with_out, with_answer}
 use Rattle.ncp_follow.specs.Tables.{after_asking, after_close, after_grant, after_return, after_text, belongs, after_clearing}
 
@@ -183,3 +184,7 @@ after_record number sent at bits follower = after_read number sent at (leader_in
 -- nothing was seen; a part of a capture may begin in the middle
 abbrev pub new_follower : Bool → Follower
 new_follower part = record { part = part; sessions = []; outs = []; tables = record { lives = []; told = [] } }
+
+-- the connection with a number is as if nothing was said on it so far
+abbrev pub silent : ℕ → Follower → Follower
+silent number follower = record follower { tables = record follower.tables { told = silent_at follower.tables.told (place_of number) } }

@@ -1,6 +1,6 @@
 //! `Connection`: what was said on one that was opened.
 ghost use Rattle.std.specs.Prelude.{◌≡◌, ◌≤◌, length};
-ghost use Rattle.ncp_follow.specs.Connections.{number_in, opened_as, with_text, text_with, with_end};
+ghost use Rattle.ncp_follow.specs.Connections.{number_in, opened_as, with_text, text_with, without_text, with_end};
 
 use crate::amount::Amount;
 use crate::life::Life;
@@ -105,6 +105,13 @@ impl Connection {
     {
         self.said = self.said.more(1, text.len() as u32);
         append_front(&mut self.text, text);
+    }
+
+    // As if nothing was said on it so far.
+    pub(crate) fn forget_text(&mut self)
+        ensures { self.new ≡ without_text self.old }
+    {
+        self.text = Bits::new();
     }
 
     // What is seen of its end.

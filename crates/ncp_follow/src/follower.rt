@@ -1,7 +1,8 @@
 //! `Follower`.
-ghost use Rattle.std.specs.Prelude.{◌≡◌, ◌≤◌, [], length, IfOk};
+ghost use Rattle.std.specs.Prelude.{◌≡◌, ◌≤◌, [], length, option_map, IfOk};
+ghost use Rattle.ncp_follow.specs.Connections.{place_of, numbered};
 ghost use Rattle.ncp_leader.specs.Message.{message_in};
-ghost use Rattle.ncp_follow.specs.Followed.{after_regular, after_said, after_out, after_in, is_answer, after_answer, after_leader, after_record, new_follower};
+ghost use Rattle.ncp_follow.specs.Followed.{after_regular, after_said, after_out, after_in, is_answer, after_answer, after_leader, after_record, silent, new_follower};
 
 use crate::connection::Connection;
 use crate::saying::hear_regular;
@@ -58,6 +59,21 @@ impl Follower {
         ensures { result.now ≡ self.now.tables.told }
     {
         self.tables.told.as_slice()
+    }
+
+    /// The connection with this number, if it was opened.
+    pub fn connection(&self, number: u32) -> Option<&Connection>
+        ensures { option_map (λ one. one.now) result ≡ numbered self.now.tables.told (place_of number) }
+    {
+        self.tables.told.numbered(number)
+    }
+
+    /// The connection with this number, if it was opened, is as if nothing was said on it so far: what the records behind
+    /// say on it stands in its text alone.
+    pub fn forget_text(&mut self, number: u32)
+        ensures { self.new ≡ silent number self.old }
+    {
+        self.tables.told.forget_text(number);
     }
 
     /// What is seen of each two hosts, in the order of their first messages.

@@ -1,8 +1,9 @@
 //! Laws about what is followed: the contracts of functions.
 ghost use Rattle.std.specs.Prelude.{◌≡◌, ◌∷◌, [], true, false, None, Some, replicate};
 ghost use Rattle.ncp_follow.specs.declared.connection.End.TheVariants as ended;
+ghost use Rattle.ncp_follow.specs.Connections.{place_of, numbered, text_in, silent_at};
 ghost use Rattle.ncp_follow.specs.Sessions.{new_session, is_heard, after_reset};
-ghost use Rattle.ncp_follow.specs.Examples.{in_touch, overdrawn, left, crossed};
+ghost use Rattle.ncp_follow.specs.Examples.{in_touch, says, spoken, overdrawn, left, crossed};
 
 /// A host is heard after a reset was answered, and not before, nor while one waits for a reply.
 pub fn hosts_are_heard_so()
@@ -23,6 +24,17 @@ pub fn texts_are_late_so()
 pub fn closed_ones_stay()
     ensures { left.told ≡ (record { number = 1; at = 1; peer = 2; local = 3; remote = 2; link = 2; size = 8; opened = 6; ended = None; end = ended.CloseSent; said = record { messages = 1; bits = 8 }; late = 0; granted = record { messages = 2; bits = 16 }; returned = record { messages = 0; bits = 0 }; text = replicate 8 true })
         ∷ (record { number = 2; at = 1; peer = 2; local = 4; remote = 5; link = 2; size = 8; opened = 15; ended = None; end = ended.Open; said = record { messages = 0; bits = 0 }; late = 0; granted = record { messages = 65536; bits = 16 }; returned = record { messages = 65535; bits = 17 }; text = [] }) ∷ [] }
+{}
+
+/// Connections are counted from 1 on. On one that is as if nothing was said on it, what is said behind stands alone in its
+/// text.
+pub fn texts_are_forgotten_so()
+    ensures none { numbered left.told (place_of 0) ≡ None }
+    ensures first { text_in (numbered left.told (place_of 1)) ≡ replicate 8 true }
+    ensures second { text_in (numbered left.told (place_of 2)) ≡ [] }
+    ensures beyond { numbered left.told (place_of 3) ≡ None }
+    ensures whole { text_in (numbered (says 9 2 8 8 spoken).told (place_of 1)) ≡ replicate 16 true }
+    ensures alone { text_in (numbered (says 9 2 8 8 (record spoken { told = silent_at spoken.told (place_of 1) })).told (place_of 1)) ≡ replicate 8 true }
 {}
 
 /// A text that comes after the host left is late; with the CLS of the other the connection has ended.

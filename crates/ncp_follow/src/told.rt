@@ -1,6 +1,6 @@
 //! `Told`: the connections that were opened.
-ghost use Rattle.std.specs.Prelude.{◌≡◌, ◌<◌, ◌≤◌, ◌++◌, ◌∷◌, [], true, length, IfOk};
-ghost use Rattle.ncp_follow.specs.Connections.{told_at, put_told, end_told, with_text, with_late, with_granted, with_returned};
+ghost use Rattle.std.specs.Prelude.{◌≡◌, ◌<◌, ◌≤◌, ◌++◌, ◌∷◌, [], true, length, option_map, IfOk};
+ghost use Rattle.ncp_follow.specs.Connections.{told_at, put_told, end_told, place_of, numbered, silent_at, with_text, with_late, with_granted, with_returned};
 ghost use Rattle.ncp_follow.specs.Tables.{has_place, with_opened, end_one};
 
 use crate::connection::{Connection, End};
@@ -32,6 +32,16 @@ impl Model for Told {
     ghost invariant = { λ told. MAX_TOLD ≤ vec_capacity told.all };
 }
 
+// The place of the one with a number.
+fn place_of(number: u32) -> Option<usize>
+    ensures { result ≡ place_of number }
+{
+    if number == 0 {
+        return None;
+    }
+    Some(number as usize - 1)
+}
+
 impl Told {
     /// None. It alone takes memory, once.
     pub(crate) fn new(alloc: Global) -> Result<Told, AllocError>
@@ -47,6 +57,14 @@ impl Told {
         ensures { result.now ≡ self.now }
     {
         self.all.as_slice()
+    }
+
+    /// The one with a number, if there is one.
+    pub(crate) fn numbered(&self, number: u32) -> Option<&Connection>
+        ensures { option_map (λ one. one.now) result ≡ numbered self.now (place_of number) }
+    {
+        let place = place_of(number)?;
+        self.all.get(place)
     }
 
     /// How many there are.
@@ -106,6 +124,18 @@ impl Told {
     {
         if place < self.all.len() {
             self.all[place].returned = self.all[place].returned.more(messages, bits);
+        }
+    }
+
+    /// The one with a number, if there is one, is as if nothing was said on it so far.
+    pub(crate) fn forget_text(&mut self, number: u32)
+        ensures { self.new ≡ silent_at self.old (place_of number) }
+    {
+        let Some(place) = place_of(number) else {
+            return;
+        };
+        if place < self.all.len() {
+            self.all[place].forget_text();
         }
     }
 

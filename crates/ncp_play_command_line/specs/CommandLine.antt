@@ -1,7 +1,10 @@
 -- The command line of the program, in clap's words.
-use Rattle.std.specs.Prelude.{ℕ, Bool, true, false, List, [], Option, Some, None, option_and_then, pos, codes, if◌then◌else◌}
+use Rattle.std.specs.Prelude.{ℕ, ◌&&◌, nat_lt, Bool, true, false, List, [], length, Option, Some, None, option_and_then, pos, codes, if◌then◌else◌}
+use Rattle.std.specs.Char.{digit_value}
+use Rattle.std.specs.List.{list_all}
 use Rattle.std.specs.Option.{option_map_or}
 use Rattle.std.specs.Str.{bytes_eq}
+use Rattle.std.specs.Str.Parse.{digits_value, without_leading_plus}
 use Rattle.clap.specs.Simple.{App, Shape, new_app, new_rule, new_shape, with_rule, with_subcommand, subcommand_of}
 use Rattle.clap.specs.Walk.{Row, Rule, Text, byte_or_zero, one_of, first_of}
 use Rattle.clap.specs.declared.builder.action.ArgAction.TheVariants.{SetTrue}
@@ -42,9 +45,17 @@ flag_asked name = record (new_rule name) { long = Some name; action = Some SetTr
 abbrev pub auditing : Shape
 auditing = (with_rule (with_rule (with_rule (new_app (codes "audit")) (flag_asked (codes "part"))) (flag_asked (codes "standard"))) file_named).top
 
--- `follow`, with `--part`, and a file
+-- `--bytes N`: the number of a connection, from 1 to 4096
+abbrev pub bytes_asked : Rule
+bytes_asked = record (new_rule (codes "bytes")) {
+  long = Some (codes "bytes");
+  value_names = 1;
+  parser = Some (Signed (pos 1) (pos 4096));
+}
+
+-- `follow`, with `--part`, `--bytes`, and a file
 abbrev pub following : Shape
-following = (with_rule (with_rule (new_app (codes "follow")) (flag_asked (codes "part"))) file_named).top
+following = (with_rule (with_rule (with_rule (new_app (codes "follow")) (flag_asked (codes "part"))) bytes_asked) file_named).top
 
 -- `explain`, with a name
 abbrev pub explaining : Shape
@@ -78,6 +89,17 @@ program = with_subcommand of_recorders explaining
 abbrev pub number_in : List Row → ℕ
 number_in given = option_map_or byte_or_zero (one_of (codes "at") given) 0
 
+-- the number that a text spells in 16 bits, if it is one
+abbrev pub number_read : Text → Option ℕ
+number_read text =
+    let digits = without_leading_plus text in
+    if nat_lt 0 (length digits) && list_all (λ digit. nat_lt (digit_value digit) 10) digits && nat_lt (digits_value 10 digits) 65536
+    then Some (digits_value 10 digits) else None
+
+-- the number of `--bytes` among the arguments that clap found
+abbrev pub bytes_in : List Row → Option ℕ
+bytes_in given = option_and_then number_read (one_of (codes "bytes") given)
+
 -- whether an argument without a value is among the arguments that clap found
 abbrev pub flag_in : Text → List Row → Bool
 flag_in name given = option_map_or (λ text. bytes_eq text (codes "true")) (one_of name given) false
@@ -88,7 +110,7 @@ named name given =
     if bytes_eq name (codes "check") then Check
     else if bytes_eq name (codes "convert") then Convert (number_in given)
     else if bytes_eq name (codes "audit") then Audit (flag_in (codes "part") given) (flag_in (codes "standard") given)
-    else if bytes_eq name (codes "follow") then Follow (flag_in (codes "part") given)
+    else if bytes_eq name (codes "follow") then Follow (flag_in (codes "part") given) (bytes_in given)
     else if bytes_eq name (codes "host") then Host
     else if bytes_eq name (codes "world") then World
     else if bytes_eq name (codes "record") then Record

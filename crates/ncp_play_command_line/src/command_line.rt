@@ -1,6 +1,6 @@
 //! The command line of the program `ncp`.
 ghost use Rattle.std.specs.Prelude.{◌≡◌, IfOk, map, option_map, false};
-ghost use Rattle.ncp_play_command_line.specs.CommandLine.{auditing, bare_program, converting, explaining, flag_asked, following, flag_in, named, number_in, of_files, of_players, of_readers, of_recorders, order_in, order_of, program, reading, file_named, word_in, word_of};
+ghost use Rattle.ncp_play_command_line.specs.CommandLine.{auditing, bare_program, bytes_asked, bytes_in, converting, explaining, flag_asked, following, flag_in, named, number_in, of_files, of_players, of_readers, of_recorders, order_in, order_of, program, reading, file_named, word_in, word_of};
 ghost use Rattle.clap.specs.Faults.{fault_of};
 ghost use Rattle.clap.specs.Kinds.{FailsBy};
 ghost use Rattle.clap.specs.Simple.{app_of, shape_of, subcommand_rows_of, with_subcommand};
@@ -13,6 +13,7 @@ use crate::help::{
     SHOWN,
 };
 use crate::orders::{Order, Request};
+use clap::builder::ValueParser;
 use clap::{Arg, ArgAction, ArgMatches, Command, Error};
 use std::alloc::{AllocError, Global};
 use std::convert::AsStr;
@@ -47,6 +48,11 @@ const PART: &str = "part";
 
 const STANDARD: &str = "standard";
 
+const BYTES: &str = "bytes";
+
+/// The greatest number of `--bytes`: that of the last connection that `follow` tells of.
+pub const MOST_CONNECTIONS: u16 = 4096;
+
 // What `--part` says.
 const PART_HELP: &str = "The capture may begin in the middle";
 
@@ -57,6 +63,13 @@ fn number_in(given: &ArgMatches) -> u8
     ensures { result ≡ number_in (rows_of (found_of given.now)) }
 {
     given.get_one::<u8>(AT).unwrap_or(0)
+}
+
+// The number of `--bytes`, if it is there.
+fn bytes_in(given: &ArgMatches) -> Option<u16>
+    ensures { result ≡ bytes_in (rows_of (found_of given.now)) }
+{
+    given.get_one::<u16>(BYTES)
 }
 
 // Whether an argument without a value is there.
@@ -79,6 +92,7 @@ fn order_named(name: &str, given: &ArgMatches) -> Order
         },
         _ if name == FOLLOW => Order::Follow {
             part: flag_in(given, PART),
+            bytes: bytes_in(given),
         },
         _ if name == HOST => Order::Host,
         _ if name == WORLD => Order::World,
@@ -182,6 +196,19 @@ fn auditing<'a>(alloc: Global) -> Result<Command<'a>, AllocError>
         .arg(file(alloc))
 }
 
+// `--bytes`, with the number of a connection.
+fn bytes<'a>(alloc: Global) -> Arg<'a>
+    ensures rule { rule_of result ≡ bytes_asked }
+    ensures local { result.global ≡ false }
+{
+    let numbers = ValueParser::signed(1, i64::from(MOST_CONNECTIONS));
+    Arg::new(alloc, BYTES)
+        .long(BYTES)
+        .value_name("N")
+        .value_parser(numbers)
+        .help("Write the text of connection N as bytes, and nothing else")
+}
+
 // `follow`, with what may be asked of it.
 fn following<'a>(alloc: Global) -> Result<Command<'a>, AllocError>
     ensures shape { IfOk result (λ command. shape_of command ≡ following) }
@@ -192,6 +219,7 @@ fn following<'a>(alloc: Global) -> Result<Command<'a>, AllocError>
         .about("Says what was said on each connection of a message file")
         .after_help(FOLLOWED)
         .arg(part)?
+        .arg(bytes(alloc))?
         .arg(file(alloc))
 }
 

@@ -15,7 +15,10 @@ The formats of files, scripts and lines stand in docs/FORMATS.md and in ncp(1).
 'ncp explain NAME' says what a fault, a refusal or a rule means.";
 
 /// Of `show`.
-pub(crate) const SHOWN: &str = "Example:
+pub(crate) const SHOWN: &str =
+    "Each message is read by itself: its leader, its prefix, and its commands. 'ncp audit' says who broke which rule.
+
+Example:
   ncp show examples/first.ncp
 
 Statuses:
@@ -69,10 +72,12 @@ pub(crate) const FOLLOWED: &str =
 seen, the other, the sockets, the link, the records that opened and ended it, and then its text. 'ncp explain
 WHY' says what stands behind by=. A line with - counts the texts of no connection. The file is one of version 2.
 
-Of a text the first 8192 bits are shown, of a file the first 4096 connections.
+Of a text the first 8192 bits are shown, of a file the first 4096 connections. '--bytes N' writes the whole text
+of connection N, eight bits a byte and zeros behind the last, and no line; where there is none it writes nothing.
 
-Example:
+Examples:
   ncp record examples/one_connection.script | ncp follow
+  ncp record examples/one_connection.script | ncp follow --bytes 1
 
 Statuses:
   0  the whole file is followed

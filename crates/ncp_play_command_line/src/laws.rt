@@ -45,10 +45,15 @@ pub fn audits_are_read_so()
     ensures valued { fault_of program (after_ncp (codes "audit" ∷ codes "--part=7" ∷ [])) ≡ kind.TooManyValues ∷ [] }
 {}
 
-/// Worked command lines of `follow`.
+/// Worked command lines of `follow`: the number of `--bytes` is that of a connection, from 1 to 4096.
 pub fn follows_are_read_so()
-    ensures bare { order_in (after_ncp (codes "follow" ∷ [])) ≡ Follow false }
-    ensures part { order_in (after_ncp (codes "follow" ∷ codes "first.ncp" ∷ codes "--part" ∷ [])) ≡ Follow true }
+    ensures bare { order_in (after_ncp (codes "follow" ∷ [])) ≡ Follow false None }
+    ensures part { order_in (after_ncp (codes "follow" ∷ codes "first.ncp" ∷ codes "--part" ∷ [])) ≡ Follow true None }
+    ensures bytes { order_in (after_ncp (codes "follow" ∷ codes "--bytes" ∷ codes "7" ∷ codes "first.ncp" ∷ [])) ≡ Follow false (Some 7) }
+    ensures most { order_in (after_ncp (codes "follow" ∷ codes "--bytes=4096" ∷ codes "--part" ∷ [])) ≡ Follow true (Some 4096) }
+    ensures sound { fault_of program (after_ncp (codes "follow" ∷ codes "--bytes=4096" ∷ [])) ≡ [] }
+    ensures none { fault_of program (after_ncp (codes "follow" ∷ codes "--bytes=0" ∷ [])) ≡ kind.ValueValidation ∷ [] }
+    ensures great { fault_of program (after_ncp (codes "follow" ∷ codes "--bytes=4097" ∷ [])) ≡ kind.ValueValidation ∷ [] }
     ensures file { word_in (after_ncp (codes "follow" ∷ codes "--part" ∷ codes "first.ncp" ∷ [])) ≡ Some (codes "first.ncp") }
 {}
 

@@ -12,5 +12,5 @@ mod help;
 pub mod laws;
 mod orders;
 
-pub use command_line::{order, request};
+pub use command_line::{MOST_CONNECTIONS, order, request};
 pub use orders::{Order, Request};

@@ -12,8 +12,9 @@ pub enum Order {
     /// Say which rules the messages of a file break, and by whom: of a part of a capture, and of the standard's rules
     /// alone.
     Audit { part: bool, standard: bool },
-    /// Say what was said on each connection of a file: of a part of a capture.
-    Follow { part: bool },
+    /// Say what was said on each connection of a file: of a part of a capture; or write the text of the connection with
+    /// this number alone, as bytes.
+    Follow { part: bool, bytes: Option<u16> },
     /// Play a script of one host.
     Host,
     /// Play a script of two to eight hosts and the subnet between them.

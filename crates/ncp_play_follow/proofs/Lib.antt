@@ -1,1 +1,2 @@
 pub mod HeardFiles
+pub mod SaidTexts

@@ -1,3 +1,5 @@
 pub mod ConnectionLines
 pub mod FollowedFiles
 pub mod FollowSteps
+pub mod FollowedTexts
+pub mod TextSteps

@@ -60,8 +60,8 @@ fn hear_next<S: Source>(
     Ok(true)
 }
 
-// Hears the next record as `hear_next` does, and lets the source hear of a fault.
-fn hear_on<S: Source>(
+/// Hears the next record as `hear_next` does, and lets the source hear of a fault.
+pub(crate) fn hear_on<S: Source>(
     window: &mut Window,
     source: &mut S,
     message: &mut Bits,

@@ -1,8 +1,9 @@
-//! `follow`: what was said on each connection of a message file of version 2, line by line.
+//! `follow`: what was said on each connection of a message file of version 2, line by line; `follow_text`: the text of one,
+//! as bytes.
 //!
-//! - *Use:* `ncp follow examples/capture.ncp`.
-//! - *Proved:* the lines are those of the connections that the records show, up to the first fault of the file (`follow`,
-//!   clause `told`).
+//! - *Use:* `ncp follow examples/capture.ncp`, and `ncp follow --bytes 1 examples/capture.ncp`.
+//! - *Proved:* the lines are those of the connections that the records show, up to the first fault of the file, and the
+//!   bytes those of the text (`follow` and `follow_text`, clause `told`).
 //! - *Tests:* `ncp_test_follow`.
 #![tactic(auto)]
 
@@ -10,8 +11,10 @@ mod connection_line;
 mod ends;
 mod following;
 mod stray_line;
+mod text;
 mod words;
 
 pub use connection_line::LONGEST_CONNECTION;
 pub use ends::{ENDS, end_meaning};
 pub use following::follow;
+pub use text::follow_text;

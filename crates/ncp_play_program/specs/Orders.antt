@@ -1,6 +1,6 @@
 -- What the program does of each order: what the subcommand promises of the bytes that it is to read and of what it
 -- writes, by its answer (this profile).
-use Rattle.std.specs.Prelude.{◌≡◌, ◌⊎◌, ℕ, Bool, true, false, ◌||◌, List, Option, Some, Result, Ok, Err, IfOk}
+use Rattle.std.specs.Prelude.{◌≡◌, ◌⊎◌, ℕ, Bool, true, false, ◌||◌, List, Option, Some, None, Result, Ok, Err, IfOk}
 use Rattle.ncp_play_command_line.specs.declared.orders.Order.{Order}
 use Rattle.ncp_play_command_line.specs.declared.orders.Order.TheVariants.{Show, Check, Convert, Audit, Follow, Host, World, Record, Explain}
 use Rattle.ncp_play_files.specs.declared.file.FileFault.{FileFault}
@@ -13,6 +13,7 @@ use Rattle.ncp_umpire.specs.Judged.{new_umpire}
 use Rattle.ncp_play_audit.specs.Audited.{AuditedAs, AuditedCut, HasVerdict, done_of}
 use Rattle.ncp_follow.specs.Followed.{new_follower}
 use Rattle.ncp_play_follow.specs.FollowedFiles.{Follows}
+use Rattle.ncp_play_follow.specs.FollowedTexts.{FollowsText}
 use Rattle.ncp_play_notes.specs.declared.fault.PlayFault.{PlayFault}
 use Rattle.ncp_play_notes.specs.declared.fault.PlayFault.TheVariants.{Feed, OutOfMemory}
 use Rattle.ncp_play_notes.specs.Faults.{is_read_failed, is_write_failed}
@@ -90,7 +91,8 @@ module _ (before : Streams) (answer : Result Bool PlayFault) (now : Streams) whe
   Does Check = DoesCheck
   Does (Convert at) = DoesFile (λ done bytes was. Converted at bytes was now.left now.written done)
   Does (Audit part standard) = HasNoMemory ⊎ DoesAudit part standard
-  Does (Follow part) = HasNoMemory ⊎ DoesFile (λ done bytes was. Follows (new_follower part) bytes was now.left now.written done)
+  Does (Follow part None) = HasNoMemory ⊎ DoesFile (λ done bytes was. Follows (new_follower part) bytes was now.left now.written done)
+  Does (Follow part (Some wanted)) = HasNoMemory ⊎ DoesFile (λ done bytes was. FollowsText wanted (new_follower part) bytes was now.left now.written done)
   Does Host = Plays (λ bytes was. HostPlayed bytes was answer now.left now.written)
   Does World = Plays (λ bytes was. (is_many_script bytes ≡ false → PlaysWorld lines_of_script bytes was answer now.left now.written)
       × (is_many_script bytes ≡ true → PlaysMany lines_of_many bytes was answer now.left now.written))

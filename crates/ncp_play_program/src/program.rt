@@ -1,5 +1,5 @@
 //! What the program does with the words of its command line.
-ghost use Rattle.std.specs.Prelude.{◌≡◌, map, true, false, IsErr};
+ghost use Rattle.std.specs.Prelude.{◌≡◌, None, Some, map, true, false, IsErr};
 ghost use Rattle.ncp_play_notes.specs.Faults.{is_read_failed, is_write_failed};
 ghost use Rattle.ncp_play_program.specs.Orders.{seen, Does};
 ghost use Rattle.ncp_play_command_line.specs.declared.orders.Order.TheVariants.{Audit, Follow};
@@ -12,7 +12,7 @@ use ncp_follow::Follower;
 use ncp_play_audit::{Auditor, audit};
 use ncp_play_command_line::{Order, request};
 use ncp_play_files::{check, convert, show};
-use ncp_play_follow::follow;
+use ncp_play_follow::{follow, follow_text};
 use ncp_play_host::play_host;
 use ncp_play_notes::PlayFault;
 use ncp_play_stream::{Sink, Source};
@@ -61,7 +61,7 @@ fn judge<S: Source, W: Sink>(
 }
 
 // Says what was said on each connection of a message file.
-fn trace<S: Source, W: Sink>(
+fn trace_lines<S: Source, W: Sink>(
     alloc: Global,
     part: bool,
     source: &mut S,
@@ -71,7 +71,7 @@ fn trace<S: Source, W: Sink>(
     requires sink_clean { W.has_failed sink.old ≡ false }
     ensures does { Does
         (seen (S.left source.old) (S.has_failed source.old) (W.written sink.old) (W.has_failed sink.old)) result
-        (seen (S.left source.new) (S.has_failed source.new) (W.written sink.new) (W.has_failed sink.new)) (Follow part) }
+        (seen (S.left source.new) (S.has_failed source.new) (W.written sink.new) (W.has_failed sink.new)) (Follow part None) }
     ensures read_failed { S.has_failed source.new ≡ true → IsErr result }
     ensures write_failed { W.has_failed sink.new ≡ true → IsErr result }
 {
@@ -81,6 +81,53 @@ fn trace<S: Source, W: Sink>(
     match follow(&mut follower, source, sink) {
         Ok(()) => Ok(true),
         Err(fault) => Err(PlayFault::Feed(fault)),
+    }
+}
+
+// Writes the text of one connection of a message file, by its number.
+fn trace_text<S: Source, W: Sink>(
+    alloc: Global,
+    part: bool,
+    wanted: u16,
+    source: &mut S,
+    sink: &mut W,
+) -> Result<bool, PlayFault>
+    requires source_clean { S.has_failed source.old ≡ false }
+    requires sink_clean { W.has_failed sink.old ≡ false }
+    ensures does { Does
+        (seen (S.left source.old) (S.has_failed source.old) (W.written sink.old) (W.has_failed sink.old)) result
+        (seen (S.left source.new) (S.has_failed source.new) (W.written sink.new) (W.has_failed sink.new)) (Follow part (Some wanted)) }
+    ensures read_failed { S.has_failed source.new ≡ true → IsErr result }
+    ensures write_failed { W.has_failed sink.new ≡ true → IsErr result }
+{
+    let Ok(mut follower) = Follower::new(alloc, part) else {
+        return Err(PlayFault::OutOfMemory);
+    };
+    match follow_text(&mut follower, u32::from(wanted), source, sink) {
+        Ok(()) => Ok(true),
+        Err(fault) => Err(PlayFault::Feed(fault)),
+    }
+}
+
+// Says what was said on the connections of a message file, or writes the text of one.
+fn trace<S: Source, W: Sink>(
+    alloc: Global,
+    part: bool,
+    bytes: Option<u16>,
+    source: &mut S,
+    sink: &mut W,
+) -> Result<bool, PlayFault>
+    requires source_clean { S.has_failed source.old ≡ false }
+    requires sink_clean { W.has_failed sink.old ≡ false }
+    ensures does { Does
+        (seen (S.left source.old) (S.has_failed source.old) (W.written sink.old) (W.has_failed sink.old)) result
+        (seen (S.left source.new) (S.has_failed source.new) (W.written sink.new) (W.has_failed sink.new)) (Follow part bytes) }
+    ensures read_failed { S.has_failed source.new ≡ true → IsErr result }
+    ensures write_failed { W.has_failed sink.new ≡ true → IsErr result }
+{
+    match bytes {
+        Some(wanted) => trace_text(alloc, part, wanted, source, sink),
+        None => trace_lines(alloc, part, source, sink),
     }
 }
 
@@ -115,7 +162,7 @@ pub(crate) fn carry_out<S: Source, W: Sink>(
             Err(fault) => Err(PlayFault::Feed(fault)),
         },
         Order::Audit { part, standard } => judge(alloc, part, standard, source, sink),
-        Order::Follow { part } => trace(alloc, part, source, sink),
+        Order::Follow { part, bytes } => trace(alloc, part, bytes, source, sink),
         Order::Host => play_host::<PackedStore, _, _>(alloc, source, sink),
         Order::World => play_world::<PackedStore, _, _>(alloc, source, sink),
         Order::Record => record_world::<PackedStore, _, _>(alloc, source, sink),

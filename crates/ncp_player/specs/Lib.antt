@@ -9,6 +9,7 @@ pub use Rattle.ncp_umpire.specs.Judged
 pub use Rattle.ncp_play_audit.specs.Audited
 pub use Rattle.ncp_follow.specs.Followed
 pub use Rattle.ncp_play_follow.specs.FollowedFiles
+pub use Rattle.ncp_play_follow.specs.FollowedTexts
 pub use Rattle.ncp_play_notes.specs.Faults
 pub use Rattle.ncp_play_host.specs.Played
 pub use Rattle.ncp_play_world.specs.ManyRules

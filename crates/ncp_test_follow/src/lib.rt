@@ -5,3 +5,5 @@
 mod captures;
 #[cfg(test)]
 mod refused;
+#[cfg(test)]
+mod texts;

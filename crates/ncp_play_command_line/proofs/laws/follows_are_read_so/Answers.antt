@@ -7,5 +7,10 @@ unfolding clap_on_literals
 returns c = record {
   bare = refl;
   part = refl;
+  bytes = refl;
+  most = refl;
+  sound = refl;
+  none = refl;
+  great = refl;
   file = refl;
 }

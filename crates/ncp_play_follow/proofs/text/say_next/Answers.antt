@@ -1,0 +1,52 @@
+use Rattle.std.proofs.Common.{◌≡◌, ◌∙◌, ◌||◌, ◌++◌, List, [], ℕ, Bool, true, false, Ok, Err, refl, sym, ap, subst, le-add_right}
+use Rattle.std.proofs.Math.Bool.{or-false}
+use Rattle.std.proofs.lemmas.Result.{err_from_is_err_and}
+use Rattle.std.specs.Borrow.{Bor}
+use Rattle.std.specs.Prelude.{option_map}
+use Rattle.ncp_follow.specs.declared.connection.Connection.{Connection}
+use Rattle.ncp_follow.specs.declared.follower.Follower.{Follower}
+use Rattle.ncp_follow.specs.Connections.{place_of, numbered, text_in}
+use Rattle.ncp_play_follow.specs.FollowedFiles.{after_seen}
+use Rattle.ncp_play_follow.specs.FollowedTexts.{heard_alone, said_by}
+use Rattle.ncp_play_follow.proofs.SaidTexts.{bits_same, from_fault, from_lost}
+use Rattle.ncp_play_follow.proofs.text.say_next.Goals as goal
+
+pub returns-in_err-more-clause-told : goal.returns-in_err-more-clause-told
+returns-in_err-more-clause-told g c = λ bytes was bits a k.
+    let p = err_from_is_err_and c.from_residual.result c.from_residual.ensures.1 in
+    let heard = c.in_err-more.ensures.told bytes a in
+    rw (p.1, p.2) (
+      [],
+      from_fault c.args.wanted c.args.follower.now c.args.number bytes (g.S.Source.left c.hear_on.new.source) c.in_err-more.field-0.0 heard.0,
+      (c.args.page.now, λ f. refl, bits_same was c.args.page.now (g.W.Sink.written c.args.sink.now) c.args.spare.now bits k),
+    )
+
+pub returns-then-not-more-clause-told : goal.returns-then-not-more-clause-told
+returns-then-not-more-clause-told g c = λ bytes was bits a k.
+    let heard = rw c.if-not-more.true at (c.in_ok-more.ensures.told bytes a) in (
+      [],
+      (heard.0, refl),
+      (c.args.page.now, λ n. refl, bits_same was c.args.page.now (g.W.Sink.written c.args.sink.now) c.args.spare.now bits k),
+    )
+
+pub returns-in-Ok-clause-told : goal.returns-in-Ok-clause-told
+returns-in-Ok-clause-told g c = λ bytes was bits a k.
+    let wanted = c.args.wanted in let number = c.args.number in
+    let heard = rw c.if-not-more.false at (c.in_ok-more.ensures.told bytes a) in
+    let seen = heard.0 in
+    let text = text_in (option_map (λ (one : Bor Connection). one.now) c.connection.result) in
+    let after : c.hear_on.new.follower ≡ heard_alone wanted c.args.follower.now number seen = heard.4 ∙ ap (λ (f : Follower). after_seen f number seen) c.forget_text.ensures in
+    let said : text ≡ said_by wanted c.args.follower.now number seen =
+    ap text_in c.connection.ensures ∙ ap (λ (f : Follower). text_in (numbered f.tables.told (place_of wanted))) after in (
+      text,
+      (seen, heard.1, heard.2, heard.3, after, said),
+      (c.say_text.new.page, λ n. refl, c.in-Ok.ensures.said was bits k),
+    )
+
+pub returns-in-Err-clause-told : goal.returns-in-Err-clause-told
+returns-in-Err-clause-told g c = λ bytes was bits a k.
+    let lost = c.in-Err.ensures.said was bits k in (
+      [],
+      from_lost c.args.wanted c.args.follower.now c.args.number bytes (g.S.Source.left c.hear_on.new.source),
+      (lost.0, λ n. let f : ⊥ = cc (n) in absurd f, bits_same was lost.0 (g.W.Sink.written c.say_text.new.sink) c.say_text.new.spare bits lost.1),
+    )
