@@ -84,14 +84,6 @@ fn expect_told(
 // Words, and how the text begins that refuses them.
 type Refused<'a> = (&'a [&'a str], &'a str);
 
-// Compares what is told in place of each order.
-fn expect_refused(rt: &impl Abort, alloc: Global, rows: &[Refused<'_>]) -> Result<(), Fail> {
-    for (words, text) in rows {
-        expect_told(rt, alloc, words, 2, text)?;
-    }
-    Ok(())
-}
-
 // The name of the order that these words are.
 fn name_of(alloc: Global, words: &[&str]) -> Option<&'static str> {
     match order(alloc, words) {
@@ -110,26 +102,44 @@ fn name_of(alloc: Global, words: &[&str]) -> Option<&'static str> {
     }
 }
 
+// The host of a conversion.
+fn host_of(alloc: Global, words: &[&str]) -> Option<u8> {
+    match order(alloc, words) {
+        Ok(Order::Convert(at)) => Some(at),
+        _ => None,
+    }
+}
+
 #[test]
 fn reads_orders(rt: HostRuntime) {
-    const ROWS: &[(&[&str], &str)] = &[
-        (&["ncp"], "show"),
-        (&["ncp", "show"], "show"),
-        (&["ncp", "check"], "check"),
-        (&["ncp", "audit"], "audit"),
-        (&["ncp", "audit", "--standard"], "audit"),
-        (&["ncp", "audit", "first.ncp", "--part"], "audit of a part"),
-        (&["ncp", "follow"], "follow"),
-        (&["ncp", "follow", "--part"], "follow a part"),
-        (&["ncp", "host"], "host"),
-        (&["ncp", "world"], "world"),
-        (&["ncp", "record"], "record"),
-        (&["ncp", "explain", "BadLine"], "explain"),
-        (&["ncp", "show", "first.ncp"], "show"),
-        (&["ncp", "world", "-"], "world"),
+    // Words, the name of the order that they are, and the host of a conversion.
+    const ROWS: &[(&[&str], &str, Option<u8>)] = &[
+        (&["ncp"], "show", None),
+        (&["ncp", "show"], "show", None),
+        (&["ncp", "check"], "check", None),
+        (&["ncp", "audit"], "audit", None),
+        (&["ncp", "audit", "--standard"], "audit", None),
+        (
+            &["ncp", "audit", "first.ncp", "--part"],
+            "audit of a part",
+            None,
+        ),
+        (&["ncp", "follow"], "follow", None),
+        (&["ncp", "follow", "--part"], "follow a part", None),
+        (&["ncp", "host"], "host", None),
+        (&["ncp", "world"], "world", None),
+        (&["ncp", "record"], "record", None),
+        (&["ncp", "explain", "BadLine"], "explain", None),
+        (&["ncp", "show", "first.ncp"], "show", None),
+        (&["ncp", "world", "-"], "world", None),
+        (&["ncp", "convert", "--at", "7"], "convert", Some(7)),
+        (&["ncp", "convert", "--at=7"], "convert", Some(7)),
+        (&["ncp", "convert", "--at", "0"], "convert", Some(0)),
+        (&["ncp", "convert", "--at", "255"], "convert", Some(255)),
+        (&["ncp", "convert", "--at", "007"], "convert", Some(7)),
     ];
-    for (words, name) in ROWS {
-        assert!(rt; name_of(rt.alloc(), words) == Some(*name));
+    for (words, name, at) in ROWS {
+        assert!(rt; name_of(rt.alloc(), words) == Some(*name) && host_of(rt.alloc(), words) == *at);
     }
 }
 
@@ -157,31 +167,10 @@ fn reads_the_word_behind_a_subcommand(rt: HostRuntime) -> Result<(), Fail> {
     Ok(())
 }
 
-// The host of a conversion.
-fn host_of(alloc: Global, words: &[&str]) -> Option<u8> {
-    match order(alloc, words) {
-        Ok(Order::Convert(at)) => Some(at),
-        _ => None,
-    }
-}
-
 #[test]
-fn reads_the_number_of_a_host(rt: HostRuntime) {
-    const ROWS: &[(&[&str], u8)] = &[
-        (&["ncp", "convert", "--at", "7"], 7),
-        (&["ncp", "convert", "--at=7"], 7),
-        (&["ncp", "convert", "--at", "0"], 0),
-        (&["ncp", "convert", "--at", "255"], 255),
-        (&["ncp", "convert", "--at", "007"], 7),
-    ];
-    for (words, at) in ROWS {
-        assert!(rt; host_of(rt.alloc(), words) == Some(*at));
-    }
-}
-
-#[test]
-fn refuses_other_numbers_of_a_host(rt: HostRuntime) -> Result<(), Fail> {
+fn refuses_other_words(rt: HostRuntime) -> Result<(), Fail> {
     const ROWS: &[Refused<'static>] = &[
+        // No number of a host, or another one than there can be.
         (
             &["ncp", "convert"],
             "error: the following required arguments were not provided:\n  --at <H>\n",
@@ -210,13 +199,7 @@ fn refuses_other_numbers_of_a_host(rt: HostRuntime) -> Result<(), Fail> {
             &["ncp", "convert", "--at="],
             "error: invalid value '' for '--at <H>'",
         ),
-    ];
-    expect_refused(&rt, rt.alloc(), ROWS)
-}
-
-#[test]
-fn refuses_a_host_twice_and_elsewhere(rt: HostRuntime) -> Result<(), Fail> {
-    const ROWS: &[Refused<'static>] = &[
+        // A host twice, or elsewhere, and a word too many.
         (
             &["ncp", "convert", "--at", "7", "--at", "7"],
             "error: the argument '--at <H>' cannot be used multiple times",
@@ -233,8 +216,15 @@ fn refuses_a_host_twice_and_elsewhere(rt: HostRuntime) -> Result<(), Fail> {
             &["ncp", "convert", "--at", "7", "capture.ncp", "more.ncp"],
             "error: unexpected argument 'more.ncp' found",
         ),
+        (
+            &["ncp", "check", "a", "b", "c"],
+            "error: unexpected argument 'b' found",
+        ),
     ];
-    expect_refused(&rt, rt.alloc(), ROWS)
+    for (words, text) in ROWS {
+        expect_told(&rt, rt.alloc(), words, 2, text)?;
+    }
+    Ok(())
 }
 
 #[test]
@@ -291,13 +281,6 @@ fn has_memory_for_many_words(rt: HostRuntime) -> Result<(), Fail> {
             "error: unrecognized subcommand 'ncp'",
         )?;
     }
-    expect_told(
-        &rt,
-        rt.alloc(),
-        &["ncp", "check", "a", "b", "c"],
-        2,
-        "error: unexpected argument 'b' found",
-    )?;
     Ok(())
 }
 

@@ -4,7 +4,6 @@ use crate::shown::converted;
 use ncp_play_files::FileFault;
 use ncp_play_stream::{MemorySink, MemorySource};
 use std::alloc::Global;
-use std::process::Abort;
 use std::test::Fail;
 
 // Room for the files below.
@@ -35,129 +34,105 @@ fn is_converted(alloc: Global, row: &Row<'_>) -> Result<bool, Fail> {
     Ok(answer == Some(outcome) && sink.bytes() == written)
 }
 
-// Converts each file.
-fn expect(rt: &impl Abort, alloc: Global, rows: &[Row<'_>]) -> Result<(), Fail> {
-    for (place, row) in rows.iter().enumerate() {
-        assert!(rt; is_converted(alloc, row)?, "at row {place}");
+const FILES: &[Row<'static>] = &[
+    // There and back.
+    (ANSWERS, 7, PLACED, Ok(())),
+    (PLACED, 7, ANSWERS, Ok(())),
+    // Another passage ends a conversion.
+    (RESET, 1, FIRST, Err(FileFault::Mixed)),
+    (RESET, 2, b"", Err(FileFault::Mixed)),
+    (PLACED, 8, b"", Err(FileFault::Mixed)),
+    (
+        b"NCPJH\x01\x00\x00H\x01\x00\x00H\x02\x00\x00H\x01\x00\x00",
+        1,
+        b"NCPH\x00\x00\x00\x00",
+        Err(FileFault::Mixed),
+    ),
+    (
+        b"NCPJH\x01\x00\x00I\x01\x00\x00",
+        1,
+        b"NCPH\x00\x00",
+        Err(FileFault::Mixed),
+    ),
+    (
+        b"NCPJH\x01\x00\x00H\x02\x00\x00G",
+        1,
+        b"NCPH\x00\x00",
+        Err(FileFault::Mixed),
+    ),
+    // Files without records.
+    (b"NCPH", 1, b"NCPJ", Ok(())),
+    (b"NCPI", 1, b"NCPJ", Ok(())),
+    (b"NCPJ", 1, b"NCPH", Ok(())),
+    // Nothing is written of a fault at the front.
+    (b"NCP", 1, b"", Err(FileFault::BadHeader)),
+    (b"NCPI\x00", 1, b"", Err(FileFault::Truncated)),
+    (b"NCPI\x20\x01", 1, b"", Err(FileFault::TooLong)),
+    (b"NCPI\x00\x04\x08", 1, b"", Err(FileFault::SpareNotZero)),
+    (b"NCPJG\x01", 1, b"", Err(FileFault::BadDirection)),
+    (b"NCPJH", 1, b"", Err(FileFault::Truncated)),
+    (b"NCPJI\x02\x20\x01", 1, b"", Err(FileFault::TooLong)),
+    (
+        b"NCPJI\x02\x00\x04\x08",
+        1,
+        b"",
+        Err(FileFault::SpareNotZero),
+    ),
+    // The messages before a fault are kept.
+    (
+        b"NCPI\x00\x00\x00",
+        9,
+        b"NCPJI\x09\x00\x00",
+        Err(FileFault::Truncated),
+    ),
+    (
+        b"NCPJI\x09\x00\x00J",
+        9,
+        b"NCPI\x00\x00",
+        Err(FileFault::BadDirection),
+    ),
+    (
+        b"NCPJI\x09\x00\x00H\x09\x00",
+        9,
+        b"NCPI\x00\x00",
+        Err(FileFault::Truncated),
+    ),
+    (
+        b"NCPH\x00\x00\x20\x01",
+        9,
+        b"NCPJH\x09\x00\x00",
+        Err(FileFault::TooLong),
+    ),
+    (
+        b"NCPH\x00\x00\x00\x04\x08",
+        9,
+        b"NCPJH\x09\x00\x00",
+        Err(FileFault::SpareNotZero),
+    ),
+    (
+        b"NCPJI\x09\x00\x00I",
+        9,
+        b"NCPI\x00\x00",
+        Err(FileFault::Truncated),
+    ),
+    (
+        b"NCPJI\x09\x00\x00H\x08\x20\x01",
+        9,
+        b"NCPI\x00\x00",
+        Err(FileFault::TooLong),
+    ),
+    (
+        b"NCPJI\x09\x00\x00H\x08\x00\x04\x08",
+        9,
+        b"NCPI\x00\x00",
+        Err(FileFault::SpareNotZero),
+    ),
+];
+
+#[test]
+fn converts_files(rt: HostRuntime) -> Result<(), Fail> {
+    for (place, row) in FILES.iter().enumerate() {
+        assert!(rt; is_converted(rt.alloc(), row)?, "at row {place}");
     }
     Ok(())
-}
-
-#[test]
-fn converts_there_and_back(rt: HostRuntime) -> Result<(), Fail> {
-    const ROWS: &[Row<'static>] = &[(ANSWERS, 7, PLACED, Ok(())), (PLACED, 7, ANSWERS, Ok(()))];
-    expect(&rt, rt.alloc(), ROWS)
-}
-
-#[test]
-fn stops_at_another_passage(rt: HostRuntime) -> Result<(), Fail> {
-    const ROWS: &[Row<'static>] = &[
-        (RESET, 1, FIRST, Err(FileFault::Mixed)),
-        (RESET, 2, b"", Err(FileFault::Mixed)),
-        (PLACED, 8, b"", Err(FileFault::Mixed)),
-        (
-            b"NCPJH\x01\x00\x00H\x01\x00\x00H\x02\x00\x00H\x01\x00\x00",
-            1,
-            b"NCPH\x00\x00\x00\x00",
-            Err(FileFault::Mixed),
-        ),
-        (
-            b"NCPJH\x01\x00\x00I\x01\x00\x00",
-            1,
-            b"NCPH\x00\x00",
-            Err(FileFault::Mixed),
-        ),
-        (
-            b"NCPJH\x01\x00\x00H\x02\x00\x00G",
-            1,
-            b"NCPH\x00\x00",
-            Err(FileFault::Mixed),
-        ),
-    ];
-    expect(&rt, rt.alloc(), ROWS)
-}
-
-#[test]
-fn converts_files_without_records(rt: HostRuntime) -> Result<(), Fail> {
-    const ROWS: &[Row<'static>] = &[
-        (b"NCPH", 1, b"NCPJ", Ok(())),
-        (b"NCPI", 1, b"NCPJ", Ok(())),
-        (b"NCPJ", 1, b"NCPH", Ok(())),
-    ];
-    expect(&rt, rt.alloc(), ROWS)
-}
-
-#[test]
-fn writes_nothing_of_a_fault_at_the_front(rt: HostRuntime) -> Result<(), Fail> {
-    const ROWS: &[Row<'static>] = &[
-        (b"NCP", 1, b"", Err(FileFault::BadHeader)),
-        (b"NCPI\x00", 1, b"", Err(FileFault::Truncated)),
-        (b"NCPI\x20\x01", 1, b"", Err(FileFault::TooLong)),
-        (b"NCPI\x00\x04\x08", 1, b"", Err(FileFault::SpareNotZero)),
-        (b"NCPJG\x01", 1, b"", Err(FileFault::BadDirection)),
-        (b"NCPJH", 1, b"", Err(FileFault::Truncated)),
-        (b"NCPJI\x02\x20\x01", 1, b"", Err(FileFault::TooLong)),
-        (
-            b"NCPJI\x02\x00\x04\x08",
-            1,
-            b"",
-            Err(FileFault::SpareNotZero),
-        ),
-    ];
-    expect(&rt, rt.alloc(), ROWS)
-}
-
-#[test]
-fn keeps_the_messages_before_a_fault(rt: HostRuntime) -> Result<(), Fail> {
-    const ROWS: &[Row<'static>] = &[
-        (
-            b"NCPI\x00\x00\x00",
-            9,
-            b"NCPJI\x09\x00\x00",
-            Err(FileFault::Truncated),
-        ),
-        (
-            b"NCPJI\x09\x00\x00J",
-            9,
-            b"NCPI\x00\x00",
-            Err(FileFault::BadDirection),
-        ),
-        (
-            b"NCPJI\x09\x00\x00H\x09\x00",
-            9,
-            b"NCPI\x00\x00",
-            Err(FileFault::Truncated),
-        ),
-        (
-            b"NCPH\x00\x00\x20\x01",
-            9,
-            b"NCPJH\x09\x00\x00",
-            Err(FileFault::TooLong),
-        ),
-        (
-            b"NCPH\x00\x00\x00\x04\x08",
-            9,
-            b"NCPJH\x09\x00\x00",
-            Err(FileFault::SpareNotZero),
-        ),
-        (
-            b"NCPJI\x09\x00\x00I",
-            9,
-            b"NCPI\x00\x00",
-            Err(FileFault::Truncated),
-        ),
-        (
-            b"NCPJI\x09\x00\x00H\x08\x20\x01",
-            9,
-            b"NCPI\x00\x00",
-            Err(FileFault::TooLong),
-        ),
-        (
-            b"NCPJI\x09\x00\x00H\x08\x00\x04\x08",
-            9,
-            b"NCPI\x00\x00",
-            Err(FileFault::SpareNotZero),
-        ),
-    ];
-    expect(&rt, rt.alloc(), ROWS)
 }

@@ -1,11 +1,11 @@
 //! Reads and writes that fail, each in turn.
 
+use crate::conversions::PLACED;
 use crate::shown::{checked, shown};
 use crate::streams::{Bytewise, Piecemeal, is_front};
 use ncp_play_files::FileFault;
 use ncp_play_stream::{MemorySink, MemorySource, Sink, Source};
 use std::alloc::Global;
-use std::process::Abort;
 use std::test::Fail;
 
 // Room for the lines of the file.
@@ -19,13 +19,21 @@ const LINES: &[u8] = b"1 type-3 host=2 link=10 flags=1 low=5\n2 short\n";
 
 const COUNTS: &[u8] = b"messages=2 short=1 regular=0 faults=0 bad=0\n";
 
-fn read_bytewise(fails_at: Option<u32>) -> Bytewise<'static> {
+// The file of version 2, with the lines that are shown of it and those of its counts.
+const PLACED_LINES: &[u8] =
+    b"1 from-imp at=7 rfnm host=2 link=0\n2 from-imp at=7 incomplete host=2 link=0\n";
+
+const PLACED_COUNTS: &[u8] = b"messages=2 short=0 regular=0 faults=0 bad=0\n";
+
+/// A file, read a byte at a time. The read of this number fails, if one does.
+pub(crate) fn read_bytewise(file: &[u8], fails_at: Option<u32>) -> Bytewise<'_> {
     Bytewise {
-        source: MemorySource::new(FILE, fails_at),
+        source: MemorySource::new(file, fails_at),
     }
 }
 
-fn write_piecemeal(alloc: Global, fails_at: Option<u32>) -> Result<Piecemeal, Fail> {
+/// A sink, written a byte at a time. The write of this number fails, if one does.
+pub(crate) fn write_piecemeal(alloc: Global, fails_at: Option<u32>) -> Result<Piecemeal, Fail> {
     Ok(Piecemeal {
         sink: MemorySink::new(alloc, ROOM, fails_at)?,
     })
@@ -40,31 +48,45 @@ fn lines_of_front(len: usize) -> usize {
     }
 }
 
+// The same of the file of version 2.
+fn placed_lines_of_front(len: usize) -> usize {
+    match len {
+        0..12 => 0,
+        12..20 => 35,
+        _ => 76,
+    }
+}
+
 #[test]
 fn reads_and_writes_bytewise(rt: HostRuntime) -> Result<(), Fail> {
     let mut sink = write_piecemeal(rt.alloc(), None)?;
-    let answer = shown(&mut read_bytewise(None), &mut sink);
+    let answer = shown(&mut read_bytewise(FILE, None), &mut sink);
     assert!(rt; answer == Some(Ok(())) && sink.sink.bytes() == LINES);
     Ok(())
 }
 
 // Shows the file from a source whose n-th read fails, and compares what was written.
-fn is_shown_until_read(alloc: Global, count: u32) -> Result<bool, Fail> {
-    let mut source = read_bytewise(Some(count));
+fn is_shown_until_read(
+    alloc: Global,
+    file: &[u8],
+    count: u32,
+    lines: &[u8],
+    len: usize,
+) -> Result<bool, Fail> {
+    let mut source = read_bytewise(file, Some(count));
     let mut sink = MemorySink::new(alloc, ROOM, None)?;
     let answer = shown(&mut source, &mut sink);
-    let len = lines_of_front((count as usize).saturating_sub(1));
     Ok(
         answer == Some(Err(FileFault::ReadFailed))
             && source.failed()
             && !sink.failed()
-            && is_front(sink.bytes(), len, LINES),
+            && is_front(sink.bytes(), len, lines),
     )
 }
 
 // Checks the file so.
-fn is_checked_until_read(alloc: Global, count: u32) -> Result<bool, Fail> {
-    let mut source = read_bytewise(Some(count));
+fn is_checked_until_read(alloc: Global, file: &[u8], count: u32) -> Result<bool, Fail> {
+    let mut source = read_bytewise(file, Some(count));
     let mut sink = MemorySink::new(alloc, ROOM, None)?;
     let answer = checked(&mut source, &mut sink);
     Ok(
@@ -78,16 +100,28 @@ fn is_checked_until_read(alloc: Global, count: u32) -> Result<bool, Fail> {
 #[test]
 fn each_failed_read_is_told(rt: HostRuntime) -> Result<(), Fail> {
     for count in 1..14u32 {
-        let is_told = is_shown_until_read(rt.alloc(), count)?
-            && is_checked_until_read(rt.alloc(), count)?;
+        let len = lines_of_front((count as usize).saturating_sub(1));
+        let is_told = is_shown_until_read(rt.alloc(), FILE, count, LINES, len)?
+            && is_checked_until_read(rt.alloc(), FILE, count)?;
         assert!(rt; is_told, "at {count}");
+    }
+    for count in 1..22u32 {
+        let len = placed_lines_of_front((count as usize).saturating_sub(1));
+        let is_told = is_shown_until_read(rt.alloc(), PLACED, count, PLACED_LINES, len)?
+            && is_checked_until_read(rt.alloc(), PLACED, count)?;
+        assert!(rt; is_told, "of version 2, at {count}");
     }
     Ok(())
 }
 
 // Shows the file into a sink whose n-th write fails, and compares what was written.
-fn is_shown_until_write(alloc: Global, count: u32) -> Result<bool, Fail> {
-    let mut source = read_bytewise(None);
+fn is_shown_until_write(
+    alloc: Global,
+    file: &[u8],
+    count: u32,
+    lines: &[u8],
+) -> Result<bool, Fail> {
+    let mut source = read_bytewise(file, None);
     let mut sink = write_piecemeal(alloc, Some(count))?;
     let answer = shown(&mut source, &mut sink);
     let len = (count as usize).saturating_sub(1);
@@ -95,13 +129,18 @@ fn is_shown_until_write(alloc: Global, count: u32) -> Result<bool, Fail> {
         answer == Some(Err(FileFault::WriteFailed))
             && sink.failed()
             && !source.failed()
-            && is_front(sink.sink.bytes(), len, LINES),
+            && is_front(sink.sink.bytes(), len, lines),
     )
 }
 
 // Checks the file so.
-fn is_checked_until_write(alloc: Global, count: u32) -> Result<bool, Fail> {
-    let mut source = read_bytewise(None);
+fn is_checked_until_write(
+    alloc: Global,
+    file: &[u8],
+    count: u32,
+    counts: &[u8],
+) -> Result<bool, Fail> {
+    let mut source = read_bytewise(file, None);
     let mut sink = write_piecemeal(alloc, Some(count))?;
     let answer = checked(&mut source, &mut sink);
     let len = (count as usize).saturating_sub(1);
@@ -109,17 +148,28 @@ fn is_checked_until_write(alloc: Global, count: u32) -> Result<bool, Fail> {
         answer == Some(Err(FileFault::WriteFailed))
             && sink.failed()
             && !source.failed()
-            && is_front(sink.sink.bytes(), len, COUNTS),
+            && is_front(sink.sink.bytes(), len, counts),
     )
 }
 
 #[test]
 fn each_failed_write_is_told(rt: HostRuntime) -> Result<(), Fail> {
     for count in 1..47u32 {
-        assert!(rt; is_shown_until_write(rt.alloc(), count)?, "at {count}");
+        assert!(rt;
+            is_shown_until_write(rt.alloc(), FILE, count, LINES)?,
+            "at {count}"
+        );
+    }
+    for count in 1..77u32 {
+        assert!(rt;
+            is_shown_until_write(rt.alloc(), PLACED, count, PLACED_LINES)?,
+            "at {count}"
+        );
     }
     for count in 1..45u32 {
-        assert!(rt; is_checked_until_write(rt.alloc(), count)?, "at {count}");
+        let is_told = is_checked_until_write(rt.alloc(), FILE, count, COUNTS)?
+            && is_checked_until_write(rt.alloc(), PLACED, count, PLACED_COUNTS)?;
+        assert!(rt; is_told, "at {count}");
     }
     Ok(())
 }
@@ -127,7 +177,7 @@ fn each_failed_write_is_told(rt: HostRuntime) -> Result<(), Fail> {
 #[test]
 fn a_sink_that_is_full_is_told(rt: HostRuntime) -> Result<(), Fail> {
     let mut sink = MemorySink::new(rt.alloc(), 10, None)?;
-    let answer = shown(&mut read_bytewise(None), &mut sink);
+    let answer = shown(&mut read_bytewise(FILE, None), &mut sink);
     assert!(rt; answer == Some(Err(FileFault::WriteFailed)) && is_front(sink.bytes(), 10, LINES));
     Ok(())
 }

@@ -51,11 +51,6 @@ fn tells_faults(rt: HostRuntime) -> Result<(), Fail> {
         let told = format!(in rt.alloc(); "{fault}")?;
         assert!(rt; *fault as u8 == *number && fault.name() == *name && told.as_str() == *text);
     }
-    Ok(())
-}
-
-#[test]
-fn tells_a_failure(rt: HostRuntime) -> Result<(), Fail> {
     let told = format!(in rt.alloc(); "{Failed}")?;
     assert!(rt; told.as_str() == "a read or a write failed");
     Ok(())

@@ -104,112 +104,99 @@ fn wrong_row(rt: &HostRuntime, rows: &[Row<'_>]) -> Result<Option<usize>, Fail> 
     Ok(None)
 }
 
+const CONVERT: &[&str] = &["ncp", "convert", "--at", "7"];
+
+const SHOWN: End<'static> = (0, b"1 type-5 host=2 link=0\n", b"");
+
+const FAULTY_SHOWN: End<'static> = (0, b"1 regular host=2 link=2\n  fault M1NotZero\n", b"");
+
+const SOUND_CHECKED: End<'static> = (0, b"messages=1 short=0 regular=0 faults=0 bad=0\n", b"");
+
+const UNSOUND: End<'static> = (1, b"messages=1 short=0 regular=1 faults=1 bad=0\n", b"");
+
+const TRUNCATED: End<'static> = (2, b"", b"ncp: Truncated\n");
+
+const STRAY_FOUND: End<'static> = (1, b"3 at=7 imp stray type=5 link=0\n", b"");
+
+const LOOSE_FOUND: End<'static> = (0, b"- at=1 host=2 sent=0/0 came=1/8\n", b"");
+
+const FILES: &[Row<'static>] = &[
+    // Files.
+    (&["ncp"], SOUND, SHOWN),
+    (&["ncp", "show"], SOUND, SHOWN),
+    (&["ncp", "show"], FAULTY, FAULTY_SHOWN),
+    (&["ncp", "show"], CUT, TRUNCATED),
+    (&["ncp", "check"], SOUND, SOUND_CHECKED),
+    (&["ncp", "check"], FAULTY, UNSOUND),
+    (&["ncp", "check"], CUT, TRUNCATED),
+    // Conversions.
+    (CONVERT, SOUND, (0, PLACED, b"")),
+    (CONVERT, PLACED, (0, SOUND, b"")),
+    (CONVERT, CUT, (2, b"", b"ncp: Truncated\n")),
+    (
+        &["ncp", "convert", "--at", "8"],
+        PLACED,
+        (2, b"", b"ncp: Mixed\n"),
+    ),
+    (&["ncp", "convert"], SOUND, (2, b"", b"")),
+    // Audits.
+    (&["ncp", "audit"], ANSWERED, (0, b"", b"")),
+    (&["ncp", "audit"], STRAY, STRAY_FOUND),
+    (&["ncp", "audit", "--standard"], STRAY, STRAY_FOUND),
+    (&["ncp", "audit", "--part"], ANSWERED, (0, b"", b"")),
+    (&["ncp", "audit"], SOUND, (2, b"", b"ncp: BadHeader\n")),
+    // Connections that are followed.
+    (&["ncp", "follow"], ANSWERED, (0, b"", b"")),
+    (&["ncp", "follow"], LOOSE, LOOSE_FOUND),
+    (&["ncp", "follow", "--part"], LOOSE, LOOSE_FOUND),
+    (&["ncp", "follow"], SOUND, (2, b"", b"ncp: BadHeader\n")),
+];
+
 #[test]
 fn files_end_with_each_status(rt: HostRuntime) -> Result<(), Fail> {
-    const SHOWN: End<'static> = (0, b"1 type-5 host=2 link=0\n", b"");
-    const FAULTY_SHOWN: End<'static> = (0, b"1 regular host=2 link=2\n  fault M1NotZero\n", b"");
-    const SOUND_CHECKED: End<'static> = (0, b"messages=1 short=0 regular=0 faults=0 bad=0\n", b"");
-    const UNSOUND: End<'static> = (1, b"messages=1 short=0 regular=1 faults=1 bad=0\n", b"");
-    const TRUNCATED: End<'static> = (2, b"", b"ncp: Truncated\n");
-    const ROWS: &[Row<'static>] = &[
-        (&["ncp"], SOUND, SHOWN),
-        (&["ncp", "show"], SOUND, SHOWN),
-        (&["ncp", "show"], FAULTY, FAULTY_SHOWN),
-        (&["ncp", "show"], CUT, TRUNCATED),
-        (&["ncp", "check"], SOUND, SOUND_CHECKED),
-        (&["ncp", "check"], FAULTY, UNSOUND),
-        (&["ncp", "check"], CUT, TRUNCATED),
-    ];
-    let wrong = wrong_row(&rt, ROWS)?;
+    let wrong = wrong_row(&rt, FILES)?;
     assert!(rt; wrong.is_none(), "at row {wrong:?}");
     Ok(())
 }
 
-#[test]
-fn conversions_end_with_each_status(rt: HostRuntime) -> Result<(), Fail> {
-    const WORDS: &[&str] = &["ncp", "convert", "--at", "7"];
-    const ROWS: &[Row<'static>] = &[
-        (WORDS, SOUND, (0, PLACED, b"")),
-        (WORDS, PLACED, (0, SOUND, b"")),
-        (WORDS, CUT, (2, b"", b"ncp: Truncated\n")),
-        (
-            &["ncp", "convert", "--at", "8"],
-            PLACED,
-            (2, b"", b"ncp: Mixed\n"),
-        ),
-        (&["ncp", "convert"], SOUND, (2, b"", b"")),
-    ];
-    let wrong = wrong_row(&rt, ROWS)?;
-    assert!(rt; wrong.is_none(), "at row {wrong:?}");
-    Ok(())
-}
+const PLAY: &[&str] = &["ncp", "host"];
+
+const NOTHING: &[u8] = b"1 out nothing\n";
+
+const BAD_HOSTS: End<'static> = (2, b"", b"ncp: BadHosts\n");
+
+const SCRIPTS: &[Row<'static>] = &[
+    // Scripts of one host.
+    (PLAY, HOST, (0, NOTHING, b"")),
+    (PLAY, HOST_REFUSED, (1, HOST_REFUSED_LINES, b"")),
+    (PLAY, HOST_FAULT, (2, NOTHING, b"ncp: line 3: BadLine\n")),
+    (PLAY, FEED_FAULT, (2, NOTHING, b"ncp: BadHeader\n")),
+    // Scripts of two hosts.
+    (&["ncp", "world"], WORLD, (0, b"1 a out nothing\n", b"")),
+    (
+        &["ncp", "world"],
+        WORLD_REFUSED,
+        (1, b"1 b state refused NoEntry\n", b""),
+    ),
+    (&["ncp", "world"], WORLD_FAULT, BAD_HOSTS),
+    (&["ncp", "record"], WORLD, (0, HEADER, b"")),
+    (&["ncp", "record"], WORLD_REFUSED, (1, HEADER, b"")),
+    (&["ncp", "record"], WORLD_FAULT, BAD_HOSTS),
+    // Words that ask for no run.
+    (&["ncp", "--version"], SOUND, (0, b"", b"")),
+    (&["ncp", "--help"], SOUND, (0, b"", b"")),
+    (&["ncp", "play"], SOUND, (2, b"", b"")),
+];
 
 #[test]
-fn audits_end_with_each_status(rt: HostRuntime) -> Result<(), Fail> {
-    const FOUND: End<'static> = (1, b"3 at=7 imp stray type=5 link=0\n", b"");
-    const ROWS: &[Row<'static>] = &[
-        (&["ncp", "audit"], ANSWERED, (0, b"", b"")),
-        (&["ncp", "audit"], STRAY, FOUND),
-        (&["ncp", "audit", "--standard"], STRAY, FOUND),
-        (&["ncp", "audit", "--part"], ANSWERED, (0, b"", b"")),
-        (&["ncp", "audit"], SOUND, (2, b"", b"ncp: BadHeader\n")),
-    ];
-    let wrong = wrong_row(&rt, ROWS)?;
-    assert!(rt; wrong.is_none(), "at row {wrong:?}");
-    Ok(())
-}
-
-#[test]
-fn follows_end_with_each_status(rt: HostRuntime) -> Result<(), Fail> {
-    const FOUND: End<'static> = (0, b"- at=1 host=2 sent=0/0 came=1/8\n", b"");
-    const ROWS: &[Row<'static>] = &[
-        (&["ncp", "follow"], ANSWERED, (0, b"", b"")),
-        (&["ncp", "follow"], LOOSE, FOUND),
-        (&["ncp", "follow", "--part"], LOOSE, FOUND),
-        (&["ncp", "follow"], SOUND, (2, b"", b"ncp: BadHeader\n")),
-    ];
-    let wrong = wrong_row(&rt, ROWS)?;
-    assert!(rt; wrong.is_none(), "at row {wrong:?}");
-    Ok(())
-}
-
-#[test]
-fn scripts_of_one_host_end_with_each_status(rt: HostRuntime) -> Result<(), Fail> {
-    const WORDS: &[&str] = &["ncp", "host"];
-    const NOTHING: &[u8] = b"1 out nothing\n";
-    const ROWS: &[Row<'static>] = &[
-        (WORDS, HOST, (0, NOTHING, b"")),
-        (WORDS, HOST_REFUSED, (1, HOST_REFUSED_LINES, b"")),
-        (WORDS, HOST_FAULT, (2, NOTHING, b"ncp: line 3: BadLine\n")),
-        (WORDS, FEED_FAULT, (2, NOTHING, b"ncp: BadHeader\n")),
-    ];
-    let wrong = wrong_row(&rt, ROWS)?;
-    assert!(rt; wrong.is_none(), "at row {wrong:?}");
-    Ok(())
-}
-
-#[test]
-fn scripts_of_two_hosts_end_with_each_status(rt: HostRuntime) -> Result<(), Fail> {
-    const BAD_HOSTS: End<'static> = (2, b"", b"ncp: BadHosts\n");
-    const ROWS: &[Row<'static>] = &[
-        (&["ncp", "world"], WORLD, (0, b"1 a out nothing\n", b"")),
-        (
-            &["ncp", "world"],
-            WORLD_REFUSED,
-            (1, b"1 b state refused NoEntry\n", b""),
-        ),
-        (&["ncp", "world"], WORLD_FAULT, BAD_HOSTS),
-        (&["ncp", "record"], WORLD, (0, HEADER, b"")),
-        (&["ncp", "record"], WORLD_REFUSED, (1, HEADER, b"")),
-        (&["ncp", "record"], WORLD_FAULT, BAD_HOSTS),
-    ];
-    let wrong = wrong_row(&rt, ROWS)?;
+fn scripts_end_with_each_status(rt: HostRuntime) -> Result<(), Fail> {
+    let wrong = wrong_row(&rt, SCRIPTS)?;
     assert!(rt; wrong.is_none(), "at row {wrong:?}");
     Ok(())
 }
 
 // The words of each subcommand, with what it may read.
-const EACH: [(&[&str], &[u8]); 8] = [
+const EACH: &[(&[&str], &[u8])] = &[
     (&["ncp", "show"], SOUND),
     (&["ncp", "check"], SOUND),
     (&["ncp", "convert", "--at", "7"], SOUND),
@@ -220,40 +207,24 @@ const EACH: [(&[&str], &[u8]); 8] = [
     (&["ncp", "record"], WORLD),
 ];
 
-#[test]
-fn a_closed_output_is_a_fault(rt: HostRuntime) -> Result<(), Fail> {
-    let closed = Fails {
-        read: None,
-        write: Some(1),
-    };
-    for (words, input) in EACH {
-        let end: End = (2, b"", b"ncp: WriteFailed\n");
-        assert!(rt; ends(&rt, words, input, closed, end)?, "{words:?}");
-    }
-    Ok(())
-}
+const CLOSED_OUTPUT: Fails = Fails {
+    read: None,
+    write: Some(1),
+};
+
+const CLOSED_INPUT: Fails = Fails {
+    read: Some(1),
+    write: None,
+};
 
 #[test]
-fn a_closed_input_is_a_fault(rt: HostRuntime) -> Result<(), Fail> {
-    let closed = Fails {
-        read: Some(1),
-        write: None,
-    };
+fn closed_streams_are_faults(rt: HostRuntime) -> Result<(), Fail> {
+    const NOT_WRITTEN: End<'static> = (2, b"", b"ncp: WriteFailed\n");
+    const NOT_READ: End<'static> = (2, b"", b"ncp: ReadFailed\n");
     for (words, input) in EACH {
-        let end: End = (2, b"", b"ncp: ReadFailed\n");
-        assert!(rt; ends(&rt, words, input, closed, end)?, "{words:?}");
+        let are_told = ends(&rt, words, input, CLOSED_OUTPUT, NOT_WRITTEN)?
+            && ends(&rt, words, input, CLOSED_INPUT, NOT_READ)?;
+        assert!(rt; are_told, "{words:?}");
     }
-    Ok(())
-}
-
-#[test]
-fn words_that_ask_for_no_run_end_at_once(rt: HostRuntime) -> Result<(), Fail> {
-    const ROWS: &[Row<'static>] = &[
-        (&["ncp", "--version"], SOUND, (0, b"", b"")),
-        (&["ncp", "--help"], SOUND, (0, b"", b"")),
-        (&["ncp", "play"], SOUND, (2, b"", b"")),
-    ];
-    let wrong = wrong_row(&rt, ROWS)?;
-    assert!(rt; wrong.is_none(), "at row {wrong:?}");
     Ok(())
 }

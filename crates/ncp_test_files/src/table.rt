@@ -80,9 +80,20 @@ const ASKED_TO_RECEIVE: Record = Record {
     ..RECEIVER
 };
 
+/// An example: what it shows, and the steps of a new table.
+type Example<'a> = (&'a str, &'a [Step<'a>]);
+
 /// A new table goes through these steps, over both stores.
-fn goes(rt: &impl Abort, alloc: Global, steps: &[Step<'_>]) -> Result<(), Fail> {
-    Tried::<PlainStore>::new(alloc)?.goes(rt, steps);
-    Tried::<PackedStore>::new(alloc)?.goes(rt, steps);
+fn goes(rt: &impl Abort, alloc: Global, (name, steps): Example<'_>) -> Result<(), Fail> {
+    Tried::<PlainStore>::new(alloc)?.goes(rt, name, steps);
+    Tried::<PackedStore>::new(alloc)?.goes(rt, name, steps);
+    Ok(())
+}
+
+/// New tables go through each example.
+fn goes_through(rt: &impl Abort, alloc: Global, examples: &[Example<'_>]) -> Result<(), Fail> {
+    for example in examples {
+        goes(rt, alloc, *example)?;
+    }
     Ok(())
 }

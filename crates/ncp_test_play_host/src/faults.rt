@@ -2,57 +2,39 @@
 use crate::said::expect_told;
 use ncp_play_files::FileFault;
 use ncp_play_notes::PlayFault;
-use std::alloc::Global;
-use std::process::Abort;
 use std::test::Fail;
 
 // A fault, its number, and what is printed of it.
 type Row<'a> = (PlayFault, u8, &'a [u8]);
 
-fn expect_each(rt: &impl Abort, alloc: Global, rows: &[Row<'_>]) -> Result<(), Fail> {
-    for (fault, number, line) in rows {
-        expect_told(rt, alloc, *fault, *number, line)?;
+const TOLD: &[Row<'static>] = &[
+    (PlayFault::BadLine(7), 1, b"ncp: line 7: BadLine\n"),
+    (
+        PlayFault::LineTooLong(4294967295),
+        2,
+        b"ncp: line 4294967295: LineTooLong\n",
+    ),
+    (PlayFault::BadHosts, 3, b"ncp: BadHosts\n"),
+    (
+        PlayFault::Feed(FileFault::SpareNotZero),
+        4,
+        b"ncp: SpareNotZero\n",
+    ),
+    (
+        PlayFault::Feed(FileFault::ReadFailed),
+        4,
+        b"ncp: ReadFailed\n",
+    ),
+    (PlayFault::ReadFailed, 5, b"ncp: ReadFailed\n"),
+    (PlayFault::WriteFailed, 6, b"ncp: WriteFailed\n"),
+    (PlayFault::OutOfMemory, 7, b"ncp: OutOfMemory\n"),
+];
+
+#[test]
+fn faults_are_told(rt: HostRuntime) -> Result<(), Fail> {
+    for (fault, number, line) in TOLD {
+        expect_told(&rt, rt.alloc(), *fault, *number, line)?;
     }
-    Ok(())
-}
-
-#[test]
-fn faults_of_lines(rt: HostRuntime) -> Result<(), Fail> {
-    const ROWS: &[Row<'static>] = &[
-        (PlayFault::BadLine(7), 1, b"ncp: line 7: BadLine\n"),
-        (
-            PlayFault::LineTooLong(4294967295),
-            2,
-            b"ncp: line 4294967295: LineTooLong\n",
-        ),
-        (PlayFault::BadHosts, 3, b"ncp: BadHosts\n"),
-    ];
-    expect_each(&rt, rt.alloc(), ROWS)
-}
-
-#[test]
-fn other_faults(rt: HostRuntime) -> Result<(), Fail> {
-    const ROWS: &[Row<'static>] = &[
-        (
-            PlayFault::Feed(FileFault::SpareNotZero),
-            4,
-            b"ncp: SpareNotZero\n",
-        ),
-        (
-            PlayFault::Feed(FileFault::ReadFailed),
-            4,
-            b"ncp: ReadFailed\n",
-        ),
-        (PlayFault::ReadFailed, 5, b"ncp: ReadFailed\n"),
-        (PlayFault::WriteFailed, 6, b"ncp: WriteFailed\n"),
-        (PlayFault::OutOfMemory, 7, b"ncp: OutOfMemory\n"),
-    ];
-    expect_each(&rt, rt.alloc(), ROWS)
-}
-
-// Compares the text of a fault.
-fn expect_text(rt: &impl Abort, alloc: Global, fault: PlayFault, text: &str) -> Result<(), Fail> {
-    assert!(rt; format!(in alloc; "{}", fault)?.as_str() == text);
     Ok(())
 }
 
@@ -74,7 +56,7 @@ fn faults_have_texts(rt: HostRuntime) -> Result<(), Fail> {
         (PlayFault::OutOfMemory, "out of memory"),
     ];
     for (fault, text) in ROWS {
-        expect_text(&rt, rt.alloc(), *fault, text)?;
+        assert!(rt; format!(in rt.alloc(); "{}", *fault)?.as_str() == *text);
     }
     Ok(())
 }

@@ -1,6 +1,6 @@
-//! What scripts say (`script`), the worked lines of notes and faults, feeds (`feed`), and whole scripts of one host, as
-//! tests of what the crates below show to everybody. They stand in a crate of their own, since a crate with tests is
-//! proved twice.
+//! What scripts say (`script`), the worked lines of notes and faults, feeds (`feed`), whole scripts of one host, and what
+//! is told of mistakes (`mistakes`), as tests of what the crates below show to everybody. They stand in a crate of their
+//! own, since a crate with tests is proved twice.
 #![tactic(auto)]
 
 #[cfg(test)]
@@ -13,6 +13,8 @@ mod feed;
 mod limits;
 #[cfg(test)]
 mod lines;
+#[cfg(test)]
+mod mistakes;
 #[cfg(test)]
 mod refused;
 #[cfg(test)]

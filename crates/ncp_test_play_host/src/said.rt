@@ -3,6 +3,7 @@
 use ncp_bits::{Bits, PackedStore};
 use ncp_play_notes::{Heading, PlayFault, Speaker, play_input, say_note};
 use ncp_play_page::Page;
+use ncp_play_script::{HostLine, Words, host_line};
 use ncp_play_stream::MemorySink;
 use ncp_transcript::{Alone, HostNote, Input, Message};
 use std::alloc::Global;
@@ -17,18 +18,10 @@ const ME: u8 = 1;
 
 const PEER: u8 = 2;
 
-/// These bytes as bits.
-pub(crate) fn bits(bytes: &[u8]) -> Result<Bits, Fail> {
-    let mut bits = Bits::new();
-    for byte in bytes {
-        bits.push_number(u64::from(*byte), 8)?;
-    }
-    Ok(bits)
-}
-
 /// A message of these bytes.
 pub(crate) fn message(alloc: Global, bytes: &[u8]) -> Result<Message, Fail> {
-    Ok(Message::from_bits(alloc, &bits(bytes)?)?)
+    let bits = Bits::from_bytes(bytes, bytes.len().saturating_mul(8))?;
+    Ok(Message::from_bits(alloc, &bits)?)
 }
 
 /// What is written of the note that is the n-th.
@@ -54,33 +47,34 @@ pub(crate) fn is_said(
     }
 }
 
-/// Plays these inputs, and writes the lines of their notes.
-fn play_each(
-    alone: &mut Alone<PackedStore>,
-    inputs: &[Input],
-    sink: &mut MemorySink,
-) -> Result<(), PlayFault> {
+/// What a line of a script asks for.
+fn input_in(alloc: Global, line: &[u8]) -> Result<Input, Fail> {
+    match host_line(alloc, &mut Words::new(line))? {
+        Some(HostLine::Input(input)) => Ok(input),
+        _ => Err("the line asks for no input".into()),
+    }
+}
+
+/// Plays what these lines ask for, and compares the lines of the notes.
+pub(crate) fn expect_run(
+    rt: &impl Abort,
+    alloc: Global,
+    inputs: &[&[u8]],
+    lines: &[u8],
+) -> Result<(), Fail> {
+    let mut alone = Alone::<PackedStore>::new(alloc, ME, &[PEER])?;
+    let mut sink = MemorySink::new(alloc, ROOM, None)?;
     let mut page = Page::new();
     let mut heading = Heading {
         number: 1,
         speaker: Speaker::Host,
     };
-    for input in inputs {
-        play_input(alone, input, &mut heading, &mut page, sink)?;
+    for line in inputs {
+        let input = input_in(alloc, line)?;
+        play_input(&mut alone, &input, &mut heading, &mut page, &mut sink)?;
     }
-    page.flush(sink).or(Err(PlayFault::WriteFailed))
-}
-
-/// Plays these inputs, and compares the lines of their notes.
-pub(crate) fn expect_run(
-    rt: &impl Abort,
-    alloc: Global,
-    inputs: &[Input],
-    lines: &[u8],
-) -> Result<(), Fail> {
-    let mut alone = Alone::<PackedStore>::new(alloc, ME, &[PEER])?;
-    let mut sink = MemorySink::new(alloc, ROOM, None)?;
-    assert!(rt; play_each(&mut alone, inputs, &mut sink) == Ok(()) && sink.bytes() == lines);
+    page.flush(&mut sink)?;
+    assert!(rt; sink.bytes() == lines);
     Ok(())
 }
 

@@ -33,7 +33,7 @@ const PEERS_LINES: &[u8] =
 
 /// Plays a script, a byte at a time and in one piece, with both stores, and compares the answer and all
 /// that is written.
-pub(crate) fn expect(
+fn expect(
     rt: &impl Abort,
     alloc: Global,
     script: &[u8],
@@ -49,89 +49,119 @@ pub(crate) fn expect(
     Ok(())
 }
 
+/// A host with eight peers. The last has the greatest number; it comes up, and sends an ERR.
+const EIGHT_PEERS: &[u8] =
+    b"host 9 1 2 3 4 5 6 7 255\nin 80 00ff000000080001000c\nin 168 00ff00000008000c000b010e000000000000000000\nerrors 255\nphase 1\nphase 255\nout\nout\nout\nout\n";
+
+const EIGHT_PEERS_LINES: &[u8] =
+    b"1 in control 1\n2 in control 1\n3 errors 255 ok 1\n  ERR code=1 data=0e000000000000000000\n4 phase 1 ok down\n5 phase 255 ok up\n6 out host=255 link=0 bits=80\n  size=8 count=1\n  RRP\n7 out nothing\n8 out nothing\n9 out nothing\n";
+
 /// A script, its answer, and its lines.
 type Row<'a> = (&'a [u8], Result<bool, PlayFault>, &'a [u8]);
 
-/// Plays each script.
-fn expect_each(rt: &impl Abort, alloc: Global, rows: &[Row<'_>]) -> Result<(), Fail> {
-    for (script, answer, lines) in rows {
-        expect(rt, alloc, script, *answer, lines)?;
-    }
-    Ok(())
-}
+/// The first line names no proper hosts.
+const BAD_HOSTS: Result<bool, PlayFault> = Err(PlayFault::BadHosts);
+
+/// The lines of the first call of a script, and of an output that is asked for.
+const DOWN: &[u8] = b"1 phase 2 ok down\n";
+
+const NOTHING: &[u8] = b"1 out nothing\n";
+
+const SCRIPTS: &[Row<'static>] = &[
+    (FIRST, Ok(false), FIRST_LINES),
+    (FEED, Ok(true), FEED_LINES),
+    (PEERS, Ok(true), PEERS_LINES),
+    // Lines are read as they stand.
+    (b"host 1 2", Ok(true), b""),
+    (
+        b"# a remark\r\n\r\nhost 1 2\r\nphase 2\r\nout",
+        Ok(true),
+        b"1 phase 2 ok down\n2 out nothing\n",
+    ),
+    (
+        b"host 1 2\nphase 3\nphase 2\n",
+        Ok(false),
+        b"1 phase 3 refused UnknownPeer\n2 phase 2 ok down\n",
+    ),
+    // No hosts.
+    (b"", BAD_HOSTS, b""),
+    (b"# a\n\n", BAD_HOSTS, b""),
+    (b"phase 2\nhost 1 2\n", BAD_HOSTS, b""),
+    (b"host 1\n", BAD_HOSTS, b""),
+    (b"host 1 1\n", BAD_HOSTS, b""),
+    (b"host 1 2 2\n", BAD_HOSTS, b""),
+    (b"host 1 2 3 4 5 6 7 8 9 10\n", BAD_HOSTS, b""),
+    (b"hosts 1 2\n", BAD_HOSTS, b""),
+    // Bad lines.
+    (
+        b"host 1 2\nphase 2\n\n# a\nphase  2\nout\n",
+        Err(PlayFault::BadLine(5)),
+        DOWN,
+    ),
+    (
+        b"host 1 2\nphase 2\nphase 2\r",
+        Err(PlayFault::BadLine(3)),
+        DOWN,
+    ),
+    (
+        b"host 1 2\nphase 2\nout\r\r\n",
+        Err(PlayFault::BadLine(3)),
+        DOWN,
+    ),
+    (b"host 1 2\nphase 2\nfeed", Err(PlayFault::BadLine(3)), DOWN),
+    (
+        b"host 1 2\nphase 2\na out\n",
+        Err(PlayFault::BadLine(3)),
+        DOWN,
+    ),
+    // Faults of feeds.
+    (
+        b"host 1 2\nout\nfeed\n",
+        Err(PlayFault::Feed(FileFault::BadHeader)),
+        NOTHING,
+    ),
+    (
+        b"host 1 2\nout\nfeed\nNCPH",
+        Err(PlayFault::Feed(FileFault::BadHeader)),
+        NOTHING,
+    ),
+    (
+        b"host 1 2\nout\nfeed\r\nNCPI\x00",
+        Err(PlayFault::Feed(FileFault::Truncated)),
+        NOTHING,
+    ),
+    (
+        b"host 1 2\nout\nfeed\nNCPI\x20\x01",
+        Err(PlayFault::Feed(FileFault::TooLong)),
+        NOTHING,
+    ),
+    (
+        b"host 1 2\nout\nfeed\nNCPI\x00\x01\xc0",
+        Err(PlayFault::Feed(FileFault::SpareNotZero)),
+        NOTHING,
+    ),
+    // A host at its limit.
+    (EIGHT_PEERS, Ok(true), EIGHT_PEERS_LINES),
+];
 
 #[test]
 fn scripts_are_played(rt: HostRuntime) -> Result<(), Fail> {
-    const ROWS: &[Row<'static>] = &[
-        (FIRST, Ok(false), FIRST_LINES),
-        (FEED, Ok(true), FEED_LINES),
-        (PEERS, Ok(true), PEERS_LINES),
-    ];
-    expect_each(&rt, rt.alloc(), ROWS)
-}
-
-#[test]
-fn lines_are_read_as_they_stand(rt: HostRuntime) -> Result<(), Fail> {
-    const ROWS: &[Row<'static>] = &[
-        (b"host 1 2", Ok(true), b""),
-        (
-            b"# a remark\r\n\r\nhost 1 2\r\nphase 2\r\nout",
-            Ok(true),
-            b"1 phase 2 ok down\n2 out nothing\n",
-        ),
-        (
-            b"host 1 2\nphase 3\nphase 2\n",
-            Ok(false),
-            b"1 phase 3 refused UnknownPeer\n2 phase 2 ok down\n",
-        ),
-    ];
-    expect_each(&rt, rt.alloc(), ROWS)
-}
-
-#[test]
-fn no_hosts(rt: HostRuntime) -> Result<(), Fail> {
-    const SCRIPTS: &[&[u8]] = &[
-        b"",
-        b"# a\n\n",
-        b"phase 2\nhost 1 2\n",
-        b"host 1\n",
-        b"host 1 1\n",
-        b"host 1 2 2\n",
-        b"host 1 2 3 4 5 6 7 8 9 10\n",
-        b"hosts 1 2\n",
-    ];
-    for script in SCRIPTS {
-        expect(&rt, rt.alloc(), script, Err(PlayFault::BadHosts), b"")?;
-    }
-    Ok(())
-}
-
-#[test]
-fn bad_lines(rt: HostRuntime) -> Result<(), Fail> {
-    const ROWS: &[(&[u8], u32)] = &[
-        (b"host 1 2\nphase 2\n\n# a\nphase  2\nout\n", 5),
-        (b"host 1 2\nphase 2\nphase 2\r", 3),
-        (b"host 1 2\nphase 2\nout\r\r\n", 3),
-        (b"host 1 2\nphase 2\nfeed", 3),
-        (b"host 1 2\nphase 2\na out\n", 3),
-    ];
-    for (script, line) in ROWS {
-        let fault = PlayFault::BadLine(*line);
-        expect(&rt, rt.alloc(), script, Err(fault), b"1 phase 2 ok down\n")?;
+    for (script, answer, lines) in SCRIPTS {
+        expect(&rt, rt.alloc(), script, *answer, lines)?;
     }
     Ok(())
 }
 
 /// A script with a line of so many bytes, of which each is this one.
 #[derive(Clone, Copy, Drop)]
-pub(crate) struct LongLine<'a> {
-    pub(crate) front: &'a [u8],
-    pub(crate) byte: u8,
-    pub(crate) count: usize,
-    pub(crate) behind: &'a [u8],
+struct LongLine<'a> {
+    front: &'a [u8],
+    byte: u8,
+    count: usize,
+    behind: &'a [u8],
 }
 
-pub(crate) fn with_long_line(alloc: Global, long: &LongLine<'_>) -> Result<Vec<u8>, Fail> {
+fn with_long_line(alloc: Global, long: &LongLine<'_>) -> Result<Vec<u8>, Fail> {
     let mut script = Vec::new(alloc);
     script.extend_from_slice(long.front)?;
     for _ in 0..long.count {
@@ -141,202 +171,168 @@ pub(crate) fn with_long_line(alloc: Global, long: &LongLine<'_>) -> Result<Vec<u
     Ok(script)
 }
 
+/// How many hexadecimal digits the most bits of a line have.
+const MOST_DIGITS: usize = 2048;
+
+const LONG: &[(LongLine<'static>, Result<bool, PlayFault>, &[u8])] = &[
+    (
+        LongLine {
+            front: b"",
+            byte: b'a',
+            count: 4097,
+            behind: b"\n",
+        },
+        Err(PlayFault::LineTooLong(1)),
+        b"",
+    ),
+    (
+        LongLine {
+            front: b"host 1 2\nout\n",
+            byte: b'a',
+            count: 4097,
+            behind: b"",
+        },
+        Err(PlayFault::LineTooLong(3)),
+        b"1 out nothing\n",
+    ),
+    (
+        LongLine {
+            front: b"host 1 2\nout\n",
+            byte: b'a',
+            count: 4096,
+            behind: b"\r\n",
+        },
+        Err(PlayFault::BadLine(3)),
+        b"1 out nothing\n",
+    ),
+    (
+        LongLine {
+            front: b"host 1 2\n",
+            byte: b'#',
+            count: 9000,
+            behind: b"\nout\nin\n",
+        },
+        Err(PlayFault::BadLine(4)),
+        b"1 out nothing\n",
+    ),
+    // A text and a message of 8,192 bits, and a first line of as many bytes as a line may have.
+    (
+        LongLine {
+            front: b"host 1 2\ngive 2 3 2 8192 ",
+            byte: b'5',
+            count: MOST_DIGITS,
+            behind: b"\nout\n",
+        },
+        Ok(false),
+        b"1 give 2 refused NotUp\n2 out nothing\n",
+    ),
+    (
+        LongLine {
+            front: b"host 1 2\nin 8192 ",
+            byte: b'0',
+            count: MOST_DIGITS,
+            behind: b"",
+        },
+        Ok(true),
+        b"1 in unknown\n",
+    ),
+    (
+        LongLine {
+            front: b"",
+            byte: b'a',
+            count: 4096,
+            behind: b"\nout\n",
+        },
+        Err(PlayFault::BadHosts),
+        b"",
+    ),
+];
+
 #[test]
-fn long_lines(rt: HostRuntime) -> Result<(), Fail> {
-    const ROWS: &[(LongLine<'static>, PlayFault, &[u8])] = &[
-        (
-            LongLine {
-                front: b"",
-                byte: b'a',
-                count: 4097,
-                behind: b"\n",
-            },
-            PlayFault::LineTooLong(1),
-            b"",
-        ),
-        (
-            LongLine {
-                front: b"host 1 2\nout\n",
-                byte: b'a',
-                count: 4097,
-                behind: b"",
-            },
-            PlayFault::LineTooLong(3),
-            b"1 out nothing\n",
-        ),
-        (
-            LongLine {
-                front: b"host 1 2\nout\n",
-                byte: b'a',
-                count: 4096,
-                behind: b"\r\n",
-            },
-            PlayFault::BadLine(3),
-            b"1 out nothing\n",
-        ),
-        (
-            LongLine {
-                front: b"host 1 2\n",
-                byte: b'#',
-                count: 9000,
-                behind: b"\nout\nin\n",
-            },
-            PlayFault::BadLine(4),
-            b"1 out nothing\n",
-        ),
-    ];
-    for (long, fault, lines) in ROWS {
+fn long_lines_are_played(rt: HostRuntime) -> Result<(), Fail> {
+    for (long, answer, lines) in LONG {
         let script = with_long_line(rt.alloc(), long)?;
-        expect(&rt, rt.alloc(), &script, Err(*fault), lines)?;
+        expect(&rt, rt.alloc(), &script, *answer, lines)?;
     }
     Ok(())
 }
 
-#[test]
-fn faults_of_feeds(rt: HostRuntime) -> Result<(), Fail> {
-    const ROWS: &[(&[u8], FileFault)] = &[
-        (b"host 1 2\nout\nfeed\n", FileFault::BadHeader),
-        (b"host 1 2\nout\nfeed\nNCPH", FileFault::BadHeader),
-        (b"host 1 2\nout\nfeed\r\nNCPI\x00", FileFault::Truncated),
-        (b"host 1 2\nout\nfeed\nNCPI\x20\x01", FileFault::TooLong),
-        (
-            b"host 1 2\nout\nfeed\nNCPI\x00\x01\xc0",
-            FileFault::SpareNotZero,
-        ),
-    ];
-    for (script, fault) in ROWS {
-        let answer = Err(PlayFault::Feed(*fault));
-        expect(&rt, rt.alloc(), script, answer, b"1 out nothing\n")?;
-    }
-    Ok(())
-}
+// What is answered, and how many bytes of lines are written.
+type Outcome = (Result<bool, PlayFault>, usize);
 
-// How many bytes the lines have of those of the first script that are whole in its first bytes.
-fn first_lines_of_front(len: usize) -> usize {
+// What comes of the first script where the read behind its first bytes fails.
+fn first_of_front(len: usize) -> Outcome {
+    const FAULT: Result<bool, PlayFault> = Err(PlayFault::ReadFailed);
     match len {
-        0..17 => 0,
-        17..32 => 18,
-        32..59 => 29,
-        59..67 => 44,
-        67..77 => 60,
-        77..87 => 72,
-        87..91 => 94,
-        _ => 159,
+        0..17 => (FAULT, 0),
+        17..32 => (FAULT, 18),
+        32..59 => (FAULT, 29),
+        59..67 => (FAULT, 44),
+        67..77 => (FAULT, 60),
+        77..87 => (FAULT, 72),
+        87..91 => (FAULT, 94),
+        91 => (FAULT, 159),
+        _ => (Ok(false), FIRST_LINES.len()),
     }
 }
 
-// What is answered where a read fails behind the first bytes of the script with a feed, and how many bytes the
-// lines have.
-fn feed_of_front(len: usize) -> (PlayFault, usize) {
+// What comes of the script with a feed so.
+fn feed_of_front(len: usize) -> Outcome {
+    const FAULT: Result<bool, PlayFault> = Err(PlayFault::Feed(FileFault::ReadFailed));
     match len {
-        0..14 => (PlayFault::ReadFailed, 0),
-        14..30 => (PlayFault::Feed(FileFault::ReadFailed), 0),
-        30..36 => (PlayFault::Feed(FileFault::ReadFailed), 15),
-        _ => (PlayFault::Feed(FileFault::ReadFailed), 26),
+        0..14 => (Err(PlayFault::ReadFailed), 0),
+        14..30 => (FAULT, 0),
+        30..36 => (FAULT, 15),
+        36 => (FAULT, 26),
+        _ => (Ok(true), FEED_LINES.len()),
     }
 }
 
-// Whether a script that is played with this read and this write failing, where one does, has this answer and the first
-// so many bytes of these lines.
+// What comes of it where the write behind the first bytes of its lines fails.
+fn feed_of_written(len: usize) -> Outcome {
+    if len < FEED_LINES.len() {
+        (Err(PlayFault::WriteFailed), len)
+    } else {
+        (Ok(true), FEED_LINES.len())
+    }
+}
+
+// Whether this comes of a script that is played with this read and this write failing, where one does.
 fn is_played(
     alloc: Global,
     script: &[u8],
     (read, write): (Option<u32>, Option<u32>),
-    answer: Result<bool, PlayFault>,
-    len: usize,
+    (answer, len): Outcome,
     lines: &[u8],
 ) -> Result<bool, Fail> {
     Ok(play(alloc, script, read, write)?.is(answer, len, lines))
 }
 
 #[test]
-fn each_failed_read_is_told(rt: HostRuntime) -> Result<(), Fail> {
-    const FAULT: Result<bool, PlayFault> = Err(PlayFault::ReadFailed);
-    for count in 1..93u32 {
-        let len = first_lines_of_front((count as usize).saturating_sub(1));
-        assert!(rt;
-            is_played(
-                rt.alloc(),
-                FIRST,
-                (Some(count), None),
-                FAULT,
-                len,
-                FIRST_LINES
-            )?,
-            "at {count}"
-        );
-    }
-    let len = FIRST_LINES.len();
-    assert!(rt;
-        is_played(
+fn each_failed_read_and_write_is_told(rt: HostRuntime) -> Result<(), Fail> {
+    for before in 0..93u32 {
+        let count = Some(before + 1);
+        let len = before as usize;
+        let is_told = is_played(
             rt.alloc(),
             FIRST,
-            (Some(93), None),
-            Ok(false),
-            len,
-            FIRST_LINES
-        )?
-    );
-    Ok(())
-}
-
-#[test]
-fn each_failed_read_of_a_feed_is_told(rt: HostRuntime) -> Result<(), Fail> {
-    for count in 1..38u32 {
-        let (fault, len) = feed_of_front((count as usize).saturating_sub(1));
-        assert!(rt;
-            is_played(
-                rt.alloc(),
-                FEED,
-                (Some(count), None),
-                Err(fault),
-                len,
-                FEED_LINES
-            )?,
-            "at {count}"
-        );
-    }
-    let len = FEED_LINES.len();
-    assert!(rt;
-        is_played(
+            (count, None),
+            first_of_front(len),
+            FIRST_LINES,
+        )? && is_played(
             rt.alloc(),
             FEED,
-            (Some(38), None),
-            Ok(true),
-            len,
-            FEED_LINES
-        )?
-    );
-    Ok(())
-}
-
-#[test]
-fn each_failed_write_is_told(rt: HostRuntime) -> Result<(), Fail> {
-    const FAULT: Result<bool, PlayFault> = Err(PlayFault::WriteFailed);
-    for count in 1..92u32 {
-        let len = (count as usize).saturating_sub(1);
-        assert!(rt;
-            is_played(
-                rt.alloc(),
-                FEED,
-                (None, Some(count)),
-                FAULT,
-                len,
-                FEED_LINES
-            )?,
-            "at {count}"
-        );
-    }
-    let len = FEED_LINES.len();
-    assert!(rt;
-        is_played(
+            (count, None),
+            feed_of_front(len),
+            FEED_LINES,
+        )? && is_played(
             rt.alloc(),
             FEED,
-            (None, Some(92)),
-            Ok(true),
-            len,
-            FEED_LINES
-        )?
-    );
+            (None, count),
+            feed_of_written(len),
+            FEED_LINES,
+        )?;
+        assert!(rt; is_told, "behind {before}");
+    }
     Ok(())
 }

@@ -1,7 +1,7 @@
 //! That memory is there for requests, and what is left where it is not.
 use super::steps::{Call, Say, Step, made};
 use super::tried::Tried;
-use super::{INWARD, NEXT_INWARD, OUTWARD, ROOM, goes};
+use super::{Example, INWARD, NEXT_INWARD, OUTWARD, ROOM, goes};
 use ncp_bits::{BitStore, PackedStore, PlainStore};
 use ncp_conn::{CallFault, Heard, Pair};
 use ncp_model::{MAX_OWN, MAX_ROOM};
@@ -47,11 +47,14 @@ fn a_request_is_made_or_has_no_memory(rt: HostRuntime) -> Result<(), Fail> {
 
 #[test]
 fn has_memory_for_requests(rt: HostRuntime) -> Result<(), Fail> {
-    const STEPS: &[Step<'static>] = &[
-        Step::Makes(Call::AskSend(OUTWARD, 8, MAX_ROOM), Say::Str(OUTWARD, 8)),
-        Step::Makes(Call::AskReceive(INWARD, MAX_ROOM), Say::Rts(INWARD, 2)),
-    ];
-    goes(&rt, rt.alloc(), STEPS)
+    const REQUESTS: Example<'static> = (
+        "has_memory_for_requests",
+        &[
+            Step::Makes(Call::AskSend(OUTWARD, 8, MAX_ROOM), Say::Str(OUTWARD, 8)),
+            Step::Makes(Call::AskReceive(INWARD, MAX_ROOM), Say::Rts(INWARD, 2)),
+        ],
+    );
+    goes(&rt, rt.alloc(), REQUESTS)
 }
 
 // All own requests that there may be, each with the room of a test, of either kind in turn.
@@ -72,7 +75,11 @@ fn asks_64_times<S: BitStore>(rt: &impl Abort, alloc: Global) -> Result<(), Fail
         );
     }
     let beyond = Call::AskReceive(Pair::new(1000, 5), ROOM);
-    table.goes(rt, &[Step::Refuses(beyond, CallFault::TableFull)]);
+    table.goes(
+        rt,
+        "beyond all",
+        &[Step::Refuses(beyond, CallFault::TableFull)],
+    );
     Ok(())
 }
 
@@ -99,9 +106,9 @@ const A_TURN: &[Step<'static>] = &[
 fn asks_and_closes_in_turn<S: BitStore>(rt: &impl Abort, alloc: Global) -> Result<(), Fail> {
     let mut table = Tried::<S>::new(alloc)?;
     for _turn in 0..IN_TURN {
-        table.goes(rt, A_TURN);
+        table.goes(rt, "a turn", A_TURN);
     }
-    table.goes(rt, &[Step::HasPair(None)]);
+    table.goes(rt, "behind all", &[Step::HasPair(None)]);
     Ok(())
 }
 

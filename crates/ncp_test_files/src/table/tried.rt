@@ -33,9 +33,9 @@ impl<S: BitStore> Tried<S> {
     }
 
     /// Goes through all steps.
-    pub(super) fn goes(&mut self, rt: &impl Abort, steps: &[Step<'_>]) {
+    pub(super) fn goes(&mut self, rt: &impl Abort, name: &str, steps: &[Step<'_>]) {
         for (place, step) in steps.iter().enumerate() {
-            assert!(rt; self.does(rt, step), "at step {place}");
+            assert!(rt; self.does(rt, step), "{name} at step {place}");
         }
     }
 

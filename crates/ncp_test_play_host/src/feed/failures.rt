@@ -20,12 +20,26 @@ const STRAY: &[u8] = b"\x00\x20\x05\x02\x00\x00";
 // page.
 const MANY: u32 = 4000;
 
-// How many bytes the lines have of the messages that are whole in the first bytes of the file.
-fn lines_of_front(len: usize) -> usize {
+// What is answered, and how many bytes of lines are written.
+type Outcome = (Result<(), PlayFault>, usize);
+
+// What comes of the file where the read behind its first bytes fails.
+fn outcome_of_front(len: usize) -> Outcome {
+    const FAULT: Result<(), PlayFault> = Err(PlayFault::Feed(FileFault::ReadFailed));
     match len {
-        0..16 => 0,
-        16..22 => 15,
-        _ => 26,
+        0..16 => (FAULT, 0),
+        16..22 => (FAULT, 15),
+        22 => (FAULT, 26),
+        _ => (Ok(()), LINES.len()),
+    }
+}
+
+// What comes of it where the write behind the first bytes of its lines fails.
+fn outcome_of_written(len: usize) -> Outcome {
+    if len < LINES.len() {
+        (Err(PlayFault::WriteFailed), len)
+    } else {
+        (Ok(()), LINES.len())
     }
 }
 
@@ -48,12 +62,7 @@ fn a_feed_is_read_and_told_bytewise(rt: HostRuntime) -> Result<(), Fail> {
 }
 
 // Feeds from a source whose n-th read fails, and compares the answer and what was written.
-fn is_fed_until_read(
-    alloc: Global,
-    count: u32,
-    wanted: Result<(), PlayFault>,
-    len: usize,
-) -> Result<bool, Fail> {
+fn is_fed_until_read(alloc: Global, count: u32, (wanted, len): Outcome) -> Result<bool, Fail> {
     let mut source = Bytewise {
         source: MemorySource::new(FILE, Some(count)),
     };
@@ -67,27 +76,8 @@ fn is_fed_until_read(
     )
 }
 
-#[test]
-fn each_failed_read_is_told(rt: HostRuntime) -> Result<(), Fail> {
-    for count in 1..24u32 {
-        let fault = Err(PlayFault::Feed(FileFault::ReadFailed));
-        let len = lines_of_front((count as usize).saturating_sub(1));
-        assert!(rt;
-            is_fed_until_read(rt.alloc(), count, fault, len)?,
-            "at {count}"
-        );
-    }
-    assert!(rt; is_fed_until_read(rt.alloc(), 24, Ok(()), LINES.len())?);
-    Ok(())
-}
-
 // Feeds into a sink whose n-th write fails, and compares the answer and what was written.
-fn is_fed_until_write(
-    alloc: Global,
-    count: u32,
-    wanted: Result<(), PlayFault>,
-    len: usize,
-) -> Result<bool, Fail> {
+fn is_fed_until_write(alloc: Global, count: u32, (wanted, len): Outcome) -> Result<bool, Fail> {
     let mut source = MemorySource::new(FILE, None);
     let mut sink = Piecemeal {
         sink: MemorySink::new(alloc, ROOM, Some(count))?,
@@ -102,16 +92,14 @@ fn is_fed_until_write(
 }
 
 #[test]
-fn each_failed_write_is_told(rt: HostRuntime) -> Result<(), Fail> {
-    for count in 1..93u32 {
-        let fault = Err(PlayFault::WriteFailed);
-        let len = (count as usize).saturating_sub(1);
-        assert!(rt;
-            is_fed_until_write(rt.alloc(), count, fault, len)?,
-            "at {count}"
-        );
+fn each_failed_read_and_write_is_told(rt: HostRuntime) -> Result<(), Fail> {
+    for before in 0..93u32 {
+        let count = before + 1;
+        let len = before as usize;
+        let is_told = is_fed_until_read(rt.alloc(), count, outcome_of_front(len))?
+            && is_fed_until_write(rt.alloc(), count, outcome_of_written(len))?;
+        assert!(rt; is_told, "behind {before}");
     }
-    assert!(rt; is_fed_until_write(rt.alloc(), 93, Ok(()), LINES.len())?);
     Ok(())
 }
 

@@ -24,7 +24,7 @@ fn call_in(alloc: Global, line: &[u8], given: Option<u8>) -> Option<Call> {
     call(alloc, &mut Words::new(line), given).ok()?
 }
 
-// The call that a line is, of those that are wanted below.
+// The call that a line is, of those that are wanted below, another or none.
 fn told_call(alloc: Global, line: &[u8], given: Option<u8>) -> &'static str {
     match &call_in(alloc, line, given) {
         Some(Call::Reset { peer: 2 }) => "reset 2",
@@ -39,7 +39,8 @@ fn told_call(alloc: Global, line: &[u8], given: Option<u8>) -> &'static str {
             },
         ) => "allocate 2 16",
         Some(Call::Give { peer: 2, .. }) => "give 2",
-        _ => "another or none",
+        Some(_) => "another",
+        None => "none",
     }
 }
 
@@ -53,6 +54,14 @@ fn reads_calls(rt: HostRuntime) {
         (b"close 2 3 4", None, "close 2"),
         (b"allocate 2 3 2 16", Some(1), "allocate 2 16"),
         (b"give 3 2 24 616263", Some(2), "give 2"),
+        (b"reset 2 3", None, "none"),
+        (b"reset 2 ", None, "none"),
+        (b"reset", None, "none"),
+        (b"give 2 3 2 0 ", None, "none"),
+        (b"ignored 2", None, "none"),
+        (b"", None, "none"),
+        (b"echo 2 256", None, "none"),
+        (b"in 0", None, "none"),
     ];
     for (line, given, told) in ROWS {
         assert!(rt; told_call(rt.alloc(), line, *given) == *told);
@@ -76,36 +85,20 @@ fn reads_the_longest_text(rt: HostRuntime) -> Result<(), Fail> {
     Ok(())
 }
 
-#[test]
-fn refuses_what_is_no_call(rt: HostRuntime) {
-    const LINES: &[&[u8]] = &[
-        b"reset 2 3",
-        b"reset 2 ",
-        b"reset",
-        b"give 2 3 2 0 ",
-        b"ignored 2",
-        b"",
-        b"echo 2 256",
-        b"in 0",
-    ];
-    for line in LINES {
-        assert!(rt; call_in(rt.alloc(), line, None).is_none());
-    }
-}
-
 // What a line of a script of one host asks for, with memory.
 fn line_in(alloc: Global, line: &[u8]) -> Option<HostLine> {
     host_line(alloc, &mut Words::new(line)).ok()?
 }
 
-// What a line asks for, of what is wanted below.
+// What a line asks for, of what is wanted below, another thing or nothing.
 fn told_line(alloc: Global, line: &[u8]) -> &'static str {
     match &line_in(alloc, line) {
         Some(HostLine::Input(Input::Out)) => "out",
         Some(HostLine::Feed) => "feed",
         Some(HostLine::Input(Input::In(_))) => "in",
         Some(HostLine::Input(Input::Call(Call::Phase { peer: 2 }))) => "phase 2",
-        _ => "another or none",
+        Some(_) => "another",
+        None => "none",
     }
 }
 
@@ -116,17 +109,15 @@ fn reads_lines_of_one_host(rt: HostRuntime) {
         (b"feed", "feed"),
         (b"in 32 05020000", "in"),
         (b"phase 2", "phase 2"),
+        (b"out 2", "none"),
+        (b"feed ", "none"),
+        (b"in", "none"),
+        (b"in 32 0502", "none"),
+        (b"phase", "none"),
+        (b"", "none"),
     ];
     for (line, told) in ROWS {
         assert!(rt; told_line(rt.alloc(), line) == *told);
-    }
-}
-
-#[test]
-fn refuses_what_is_no_line_of_one_host(rt: HostRuntime) {
-    const LINES: &[&[u8]] = &[b"out 2", b"feed ", b"in", b"in 32 0502", b"phase", b""];
-    for line in LINES {
-        assert!(rt; line_in(rt.alloc(), line).is_none());
     }
 }
 

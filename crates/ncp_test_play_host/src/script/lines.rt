@@ -30,27 +30,18 @@ fn reads_lines(rt: HostRuntime) {
         (&[b"\n"], true, LineKind::Skipped, b""),
         (&[b"\r\n"], true, LineKind::Skipped, b""),
         (&[b"# a reset\n"], true, LineKind::Skipped, b"# a reset"),
+        // Byte by byte.
+        (
+            &[b"a", b" ", b"r", b"e", b"s", b"e", b"t", b"\r", b"\n"],
+            true,
+            LineKind::Played,
+            b"a reset",
+        ),
+        (&[b"#", b".", b".", b"\n"], true, LineKind::Skipped, b"#.."),
     ];
     for (pieces, ended, kind, text) in ROWS {
         assert!(rt; is_line(pieces, *ended, *kind, text));
     }
-}
-
-// Whether a line that comes one byte at a time is of a kind and says a text.
-fn is_line_of_bytes(bytes: &[u8], kind: LineKind, text: &[u8]) -> bool {
-    let mut line = LineBuffer::new();
-    for byte in bytes {
-        let _used = line.take(&[*byte]);
-    }
-    line.kind(true) == kind && line.text(true) == text
-}
-
-#[test]
-fn reads_lines_byte_by_byte(rt: HostRuntime) {
-    assert!(rt;
-        is_line_of_bytes(b"a reset\r\n", LineKind::Played, b"a reset")
-            && is_line_of_bytes(b"#..\n", LineKind::Skipped, b"#..")
-    );
 }
 
 #[test]

@@ -27,12 +27,15 @@ fn lines_of(script: &[u8], fails_at: Option<u32>) -> Option<(u32, bool)> {
 
 #[test]
 fn reads_lines_from_a_source(rt: HostRuntime) {
-    assert!(rt;
-        lines_of(b"", None) == Some((0, false))
-            && lines_of(b"\n", None) == Some((1, true))
-            && lines_of(b"host 1 2\r\n\nphase 2\nout", None) == Some((4, false))
-            && lines_of(b"host 1 2\nout\n", None) == Some((2, true))
-            && lines_of(b"host 1 2\nout\n", Some(1)).is_none()
-            && lines_of(b"host 1 2\nout\n", Some(2)).is_none()
-    );
+    const ROWS: &[(&[u8], Option<u32>, Option<(u32, bool)>)] = &[
+        (b"", None, Some((0, false))),
+        (b"\n", None, Some((1, true))),
+        (b"host 1 2\r\n\nphase 2\nout", None, Some((4, false))),
+        (b"host 1 2\nout\n", None, Some((2, true))),
+        (b"host 1 2\nout\n", Some(1), None),
+        (b"host 1 2\nout\n", Some(2), None),
+    ];
+    for &(script, fails_at, lines) in ROWS {
+        assert!(rt; lines_of(script, fails_at) == lines);
+    }
 }

@@ -9,31 +9,26 @@ use std::test::Fail;
 
 #[test]
 fn reads_numbers(rt: HostRuntime) {
-    assert!(rt;
-        Words::new(b"0").next_u32() == Some(0)
-            && Words::new(b"0000000007").next_u32() == Some(7)
-            && Words::new(b"4294967295").next_u32() == Some(4_294_967_295)
-            && Words::new(b"65535").next_u16() == Some(65535)
-            && Words::new(b"255").next_u8() == Some(255)
-    );
-}
-
-#[test]
-fn refuses_what_is_no_number(rt: HostRuntime) {
-    const WORDS: &[&[u8]] = &[
-        b"",
-        b"4294967296",
-        b"00000000007",
-        b"+7",
-        b"-7",
-        b"0x7",
-        b" 7",
+    const ROWS: &[(&[u8], Option<u32>)] = &[
+        (b"0", Some(0)),
+        (b"0000000007", Some(7)),
+        (b"4294967295", Some(4_294_967_295)),
+        (b"", None),
+        (b"4294967296", None),
+        (b"00000000007", None),
+        (b"+7", None),
+        (b"-7", None),
+        (b"0x7", None),
+        (b" 7", None),
     ];
-    for word in WORDS {
-        assert!(rt; Words::new(word).next_u32().is_none());
+    for (word, number) in ROWS {
+        assert!(rt; Words::new(word).next_u32() == *number);
     }
     assert!(rt;
-        Words::new(b"65536").next_u16().is_none() && Words::new(b"256").next_u8().is_none()
+        Words::new(b"65535").next_u16() == Some(65535)
+            && Words::new(b"65536").next_u16().is_none()
+            && Words::new(b"255").next_u8() == Some(255)
+            && Words::new(b"256").next_u8().is_none()
     );
 }
 
@@ -56,20 +51,19 @@ fn are_bits(line: &[u8], bytes: &[u8], len: usize) -> bool {
 
 #[test]
 fn reads_bits(rt: HostRuntime) {
-    assert!(rt;
-        are_bits(b"0", b"", 0)
-            && are_bits(b"24 616263", b"abc", 24)
-            && are_bits(b"032 05aBCd0f", b"\x05\xab\xcd\x0f", 32)
-            && are_bits(b"4 f0", b"\xf0", 4)
-    );
-}
-
-#[test]
-fn refuses_what_are_no_bits(rt: HostRuntime) {
-    const LINES: &[&[u8]] = &[
+    const ROWS: &[(&[u8], &[u8], usize)] = &[
+        (b"0", b"", 0),
+        (b"24 616263", b"abc", 24),
+        (b"032 05aBCd0f", b"\x05\xab\xcd\x0f", 32),
+        (b"4 f0", b"\xf0", 4),
+    ];
+    const REFUSED: &[&[u8]] = &[
         b"", b"8", b"8 ", b"8 6", b"8 6162", b"8 6g", b"16 61", b"4 f1", b"x 00",
     ];
-    for line in LINES {
+    for &(line, bytes, len) in ROWS {
+        assert!(rt; are_bits(line, bytes, len));
+    }
+    for line in REFUSED {
         assert!(rt; Words::new(line).next_bits().is_none());
     }
 }

@@ -161,32 +161,25 @@ fn expect(
     Ok(())
 }
 
-#[test]
-fn lines_of_one_host_are_read_so(rt: HostRuntime) -> Result<(), Fail> {
-    expect(&rt, rt.alloc(), Script::OneHost, &[], &["255"], CALLS)?;
-    expect(&rt, rt.alloc(), Script::OneHost, &[], &[], PLAIN)?;
-    expect(&rt, rt.alloc(), Script::OneHost, &[], &[], OF_ONE_HOST)
-}
+// Scripts, what stands in front of the words of a line and behind the first of them, and these words.
+const LINES: &[(Script, &[&str], &[&str], &[Row])] = &[
+    (Script::OneHost, &[], &["255"], CALLS),
+    (Script::OneHost, &[], &[], PLAIN),
+    (Script::OneHost, &[], &[], OF_ONE_HOST),
+    (Script::Sides, &["b"], &[], CALLS),
+    (Script::Sides, &["b"], &[], PLAIN),
+    (Script::Sides, &["a"], &[], OF_THE_SUBNET),
+    (Script::Numbers, &["3"], &["2"], CALLS),
+    (Script::Numbers, &["3"], &[], PLAIN),
+    (Script::Numbers, &["1"], &["3"], OF_THE_SUBNET),
+];
 
 #[test]
-fn lines_of_sides_are_read_so(rt: HostRuntime) -> Result<(), Fail> {
-    expect(&rt, rt.alloc(), Script::Sides, &["b"], &[], CALLS)?;
-    expect(&rt, rt.alloc(), Script::Sides, &["b"], &[], PLAIN)?;
-    expect(&rt, rt.alloc(), Script::Sides, &["a"], &[], OF_THE_SUBNET)
-}
-
-#[test]
-fn lines_of_numbers_are_read_so(rt: HostRuntime) -> Result<(), Fail> {
-    expect(&rt, rt.alloc(), Script::Numbers, &["3"], &["2"], CALLS)?;
-    expect(&rt, rt.alloc(), Script::Numbers, &["3"], &[], PLAIN)?;
-    expect(
-        &rt,
-        rt.alloc(),
-        Script::Numbers,
-        &["1"],
-        &["3"],
-        OF_THE_SUBNET,
-    )
+fn lines_are_read_so(rt: HostRuntime) -> Result<(), Fail> {
+    for (script, front, peer, rows) in LINES {
+        expect(&rt, rt.alloc(), *script, front, peer, rows)?;
+    }
+    Ok(())
 }
 
 /// The word of all hosts stands alone on its line, and is told so.
