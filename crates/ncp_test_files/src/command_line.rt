@@ -92,8 +92,9 @@ fn name_of(alloc: Global, words: &[&str]) -> Option<&'static str> {
         Ok(Order::Convert(_)) => Some("convert"),
         Ok(Order::Audit { part: false, .. }) => Some("audit"),
         Ok(Order::Audit { part: true, .. }) => Some("audit of a part"),
-        Ok(Order::Follow { part: false }) => Some("follow"),
-        Ok(Order::Follow { part: true }) => Some("follow a part"),
+        Ok(Order::Follow { bytes: Some(_), .. }) => Some("follow one"),
+        Ok(Order::Follow { part: false, .. }) => Some("follow"),
+        Ok(Order::Follow { part: true, .. }) => Some("follow a part"),
         Ok(Order::Host) => Some("host"),
         Ok(Order::World) => Some("world"),
         Ok(Order::Record) => Some("record"),
@@ -126,6 +127,12 @@ fn reads_orders(rt: HostRuntime) {
         ),
         (&["ncp", "follow"], "follow", None),
         (&["ncp", "follow", "--part"], "follow a part", None),
+        (&["ncp", "follow", "--bytes", "1"], "follow one", None),
+        (
+            &["ncp", "follow", "--bytes=4096", "--part"],
+            "follow one",
+            None,
+        ),
         (&["ncp", "host"], "host", None),
         (&["ncp", "world"], "world", None),
         (&["ncp", "record"], "record", None),
@@ -198,6 +205,19 @@ fn refuses_other_words(rt: HostRuntime) -> Result<(), Fail> {
         (
             &["ncp", "convert", "--at="],
             "error: invalid value '' for '--at <H>'",
+        ),
+        // No number of a connection, or another one than there can be.
+        (
+            &["ncp", "follow", "--bytes", "0"],
+            "error: invalid value '0' for '--bytes <N>'",
+        ),
+        (
+            &["ncp", "follow", "--bytes", "4097"],
+            "error: invalid value '4097' for '--bytes <N>'",
+        ),
+        (
+            &["ncp", "follow", "--bytes", "first.ncp"],
+            "error: invalid value 'first.ncp' for '--bytes <N>'",
         ),
         // A host twice, or elsewhere, and a word too many.
         (

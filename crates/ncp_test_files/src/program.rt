@@ -150,6 +150,12 @@ const FILES: &[Row<'static>] = &[
     (&["ncp", "follow"], LOOSE, LOOSE_FOUND),
     (&["ncp", "follow", "--part"], LOOSE, LOOSE_FOUND),
     (&["ncp", "follow"], SOUND, (2, b"", b"ncp: BadHeader\n")),
+    (&["ncp", "follow", "--bytes", "1"], LOOSE, (0, b"", b"")),
+    (
+        &["ncp", "follow", "--bytes", "1"],
+        SOUND,
+        (2, b"", b"ncp: BadHeader\n"),
+    ),
 ];
 
 #[test]
