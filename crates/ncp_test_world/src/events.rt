@@ -215,8 +215,12 @@ pub(super) fn allocated(alloc: Global) -> Result<Vec<Event>, AllocError> {
     Ok(events)
 }
 
-/// Three bytes are given, and two go out.
-pub(super) fn beginning(rt: &impl Abort, alloc: Global) -> Result<Vec<Event>, AllocError> {
+/// Three bytes are given, and two go out; and then these.
+pub(super) fn beginning(
+    rt: &impl Abort,
+    alloc: Global,
+    behind: &[Act],
+) -> Result<Vec<Event>, AllocError> {
     let text = Message::from_bits(alloc, &bits_of(rt, b"abc"))?;
     let mut events = allocated(alloc)?;
     let call = Call::Give {
@@ -227,7 +231,19 @@ pub(super) fn beginning(rt: &impl Abort, alloc: Global) -> Result<Vec<Event>, Al
     let side = Side::A;
     events.push(Event::Call { side, call })?;
     events.push(out(side))?;
+    push(&mut events, behind)?;
     Ok(events)
+}
+
+/// A script.
+#[derive(Clone, Copy, Drop)]
+pub(super) enum Script {
+    OneConnection,
+    LostTwice,
+    /// The text finds its destination dead, and is held until the user asks for it.
+    DeadAndWoken,
+    /// Half of what is allowed is called back, in place of a text that is given.
+    CalledBack,
 }
 
 /// What is behind the beginning: the text comes and is taken, and no more goes out.
@@ -254,16 +270,42 @@ const LOST_TWICE: &[Act] = &[
     Act::Take,
 ];
 
-/// All events of the first script.
-pub(super) fn one_connection(rt: &impl Abort, alloc: Global) -> Result<Vec<Event>, AllocError> {
-    let mut events = beginning(rt, alloc)?;
-    push(&mut events, ENDING)?;
-    Ok(events)
-}
+/// What is behind the beginning where the text finds its destination dead.
+const DEAD_AND_WOKEN: &[Act] = &[
+    Act::Dead(Side::A, LINK),
+    Act::Answer(Side::A, LINK),
+    Act::Out(Side::A),
+    Act::Wake,
+    Act::Out(Side::A),
+    Act::Deliver(Side::A, LINK),
+    Act::Answer(Side::A, LINK),
+];
 
-/// All events of the script in which the text is lost twice.
-pub(super) fn lost_twice(rt: &impl Abort, alloc: Global) -> Result<Vec<Event>, AllocError> {
-    let mut events = beginning(rt, alloc)?;
-    push(&mut events, LOST_TWICE)?;
-    Ok(events)
+/// What is behind the allocation where half of it is called back.
+const CALLED_BACK: &[Act] = &[
+    Act::CallBack,
+    Act::Out(Side::B),
+    Act::Deliver(Side::B, 0),
+    Act::Answer(Side::B, 0),
+    Act::Out(Side::A),
+    Act::Deliver(Side::A, 0),
+    Act::Answer(Side::A, 0),
+];
+
+/// All events of a script.
+pub(super) fn events_of(
+    rt: &impl Abort,
+    alloc: Global,
+    script: Script,
+) -> Result<Vec<Event>, AllocError> {
+    match script {
+        Script::OneConnection => beginning(rt, alloc, ENDING),
+        Script::LostTwice => beginning(rt, alloc, LOST_TWICE),
+        Script::DeadAndWoken => beginning(rt, alloc, DEAD_AND_WOKEN),
+        Script::CalledBack => {
+            let mut events = allocated(alloc)?;
+            push(&mut events, CALLED_BACK)?;
+            Ok(events)
+        }
+    }
 }

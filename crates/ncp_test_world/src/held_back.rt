@@ -1,9 +1,8 @@
 //! Each message of the first script, held back while the connection is closed, a host resets, or the
 //! connection is closed and asked for again.
-use crate::events;
 use crate::events::{
-    ASK_RECEIVE, ASK_SEND, CLOSE_A, CLOSE_B, LINK, RECEIVER, RESET_A, RESET_B, SENDER, TAKE,
-    answer, deliver, out,
+    ASK_RECEIVE, ASK_SEND, CLOSE_A, CLOSE_B, LINK, RECEIVER, RESET_A, RESET_B, SENDER, Script,
+    TAKE, answer, deliver, events_of, out,
 };
 use crate::tried::{A, B, Tried};
 use crate::wanted::{Wanted, says};
@@ -149,7 +148,7 @@ fn held_back<S: BitStore>(
     held: Held,
     past: Past,
 ) -> Result<Tried<S>, Fail> {
-    let events = events::one_connection(rt, alloc)?;
+    let events = events_of(rt, alloc, Script::OneConnection)?;
     let mut tried: Tried<S> = Tried::new(alloc)?;
     assert!(rt; held.after <= events.len());
     for event in &events[..held.after] {
@@ -279,21 +278,13 @@ fn text_held_back<S: BitStore>(rt: &impl Abort, alloc: Global) -> Result<(), Fai
 }
 
 #[test]
-fn control_held_back_over_plain_bits(rt: HostRuntime) -> Result<(), Fail> {
-    control_held_back::<PlainStore>(&rt, rt.alloc())
-}
-
-#[test]
-fn control_held_back_over_packed_bits(rt: HostRuntime) -> Result<(), Fail> {
+fn control_held_back_over_either_store(rt: HostRuntime) -> Result<(), Fail> {
+    control_held_back::<PlainStore>(&rt, rt.alloc())?;
     control_held_back::<PackedStore>(&rt, rt.alloc())
 }
 
 #[test]
-fn text_held_back_over_plain_bits(rt: HostRuntime) -> Result<(), Fail> {
-    text_held_back::<PlainStore>(&rt, rt.alloc())
-}
-
-#[test]
-fn text_held_back_over_packed_bits(rt: HostRuntime) -> Result<(), Fail> {
+fn text_held_back_over_either_store(rt: HostRuntime) -> Result<(), Fail> {
+    text_held_back::<PlainStore>(&rt, rt.alloc())?;
     text_held_back::<PackedStore>(&rt, rt.alloc())
 }

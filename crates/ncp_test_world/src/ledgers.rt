@@ -1,10 +1,9 @@
 //! The ledger after each event of a script.
-use crate::events;
-use crate::events::{Act, RECEIVER, SENDER, push};
+use crate::events::{RECEIVER, SENDER, Script, events_of};
 use crate::tried::Tried;
 use ncp_bits::{BitStore, PackedStore, PlainStore};
-use ncp_world::{Amount, Event, Ledger, Side};
-use std::alloc::{AllocError, Global};
+use ncp_world::{Amount, Ledger, Side};
+use std::alloc::Global;
 use std::process::Abort;
 use std::test::Fail;
 
@@ -37,118 +36,110 @@ const HALF: Amount = Amount {
     bits: 8,
 };
 
-/// A ledger with nothing underway.
-fn at_rest(amount: Amount) -> Ledger {
-    Ledger {
-        outstanding: amount,
-        counters: amount,
-        all: NONE,
-        text: NONE,
-        ret: NONE,
-    }
-}
+/// Nothing is underway, nor outstanding.
+const OPENED: Ledger = Ledger {
+    outstanding: NONE,
+    counters: NONE,
+    all: NONE,
+    text: NONE,
+    ret: NONE,
+};
 
-fn opened() -> Ledger {
-    at_rest(NONE)
-}
+const ALLOWING: Ledger = Ledger {
+    outstanding: ALLOWED,
+    counters: NONE,
+    all: ALLOWED,
+    text: NONE,
+    ret: NONE,
+};
 
-fn allowing() -> Ledger {
-    Ledger {
-        outstanding: ALLOWED,
-        all: ALLOWED,
-        ..at_rest(NONE)
-    }
-}
+/// What is allowed is at the sender.
+const COUNTED: Ledger = Ledger {
+    outstanding: ALLOWED,
+    counters: ALLOWED,
+    all: NONE,
+    text: NONE,
+    ret: NONE,
+};
 
-fn with_text() -> Ledger {
-    Ledger {
-        outstanding: ALLOWED,
-        counters: LEFT,
-        text: TEXT,
-        ..at_rest(NONE)
-    }
-}
+const WITH_TEXT: Ledger = Ledger {
+    outstanding: ALLOWED,
+    counters: LEFT,
+    all: NONE,
+    text: TEXT,
+    ret: NONE,
+};
 
-fn returning() -> Ledger {
-    Ledger {
-        outstanding: ALLOWED,
-        counters: HALF,
-        ret: HALF,
-        ..at_rest(NONE)
-    }
-}
+/// The text has come.
+const BEHIND_TEXT: Ledger = Ledger {
+    outstanding: LEFT,
+    counters: LEFT,
+    all: NONE,
+    text: NONE,
+    ret: NONE,
+};
 
-/// After so many events of the first script.
-fn of_one_connection(events: usize) -> Option<Ledger> {
-    match events {
-        0..=13 => None,
-        14..=15 => Some(opened()),
-        16..=17 => Some(allowing()),
-        18..=20 => Some(at_rest(ALLOWED)),
-        21 => Some(with_text()),
-        _ => Some(at_rest(LEFT)),
-    }
-}
+const RETURNING: Ledger = Ledger {
+    outstanding: ALLOWED,
+    counters: HALF,
+    all: NONE,
+    text: NONE,
+    ret: HALF,
+};
 
-/// After so many events of the script in which the text is lost twice.
-fn of_lost_twice(events: usize) -> Option<Ledger> {
-    match events {
-        0..=20 => of_one_connection(events),
-        21..=27 => Some(with_text()),
-        _ => Some(at_rest(LEFT)),
-    }
-}
+const RETURNED: Ledger = Ledger {
+    outstanding: HALF,
+    counters: HALF,
+    all: NONE,
+    text: NONE,
+    ret: NONE,
+};
 
-/// After so many events of the script in which half of what is allowed is called back.
-fn of_called_back(events: usize) -> Option<Ledger> {
-    match events {
-        0..=19 => of_one_connection(events),
-        20..=21 => Some(at_rest(ALLOWED)),
-        22..=24 => Some(returning()),
-        _ => Some(at_rest(HALF)),
-    }
-}
+/// The ledgers of a script, each with how many events there are when it is the ledger first. There is none before.
+type Ledgers = &'static [(usize, Ledger)];
 
-/// Half is called back.
-const CALLED_BACK: &[Act] = &[
-    Act::CallBack,
-    Act::Out(Side::B),
-    Act::Deliver(Side::B, 0),
-    Act::Answer(Side::B, 0),
-    Act::Out(Side::A),
-    Act::Deliver(Side::A, 0),
-    Act::Answer(Side::A, 0),
+const SCRIPTS: &[(Script, Ledgers)] = &[
+    (
+        Script::OneConnection,
+        &[
+            (14, OPENED),
+            (16, ALLOWING),
+            (18, COUNTED),
+            (21, WITH_TEXT),
+            (22, BEHIND_TEXT),
+        ],
+    ),
+    (
+        Script::LostTwice,
+        &[
+            (14, OPENED),
+            (16, ALLOWING),
+            (18, COUNTED),
+            (21, WITH_TEXT),
+            (28, BEHIND_TEXT),
+        ],
+    ),
+    (
+        Script::CalledBack,
+        &[
+            (14, OPENED),
+            (16, ALLOWING),
+            (18, COUNTED),
+            (22, RETURNING),
+            (25, RETURNED),
+        ],
+    ),
 ];
 
-/// Half is called back in place of a text that is given.
-fn called_back(alloc: Global) -> Result<Vec<Event>, AllocError> {
-    let mut events = events::allocated(alloc)?;
-    push(&mut events, CALLED_BACK)?;
-    Ok(events)
-}
-
-/// A script.
-#[derive(Clone, Copy, Drop)]
-enum Script {
-    OneConnection,
-    LostTwice,
-    CalledBack,
-}
-
-fn events_of(rt: &impl Abort, alloc: Global, script: Script) -> Result<Vec<Event>, AllocError> {
-    match script {
-        Script::OneConnection => events::one_connection(rt, alloc),
-        Script::LostTwice => events::lost_twice(rt, alloc),
-        Script::CalledBack => called_back(alloc),
+/// The ledger after so many events.
+fn wanted(ledgers: &[(usize, Ledger)], events: usize) -> Option<Ledger> {
+    let mut found = None;
+    for (first, ledger) in ledgers {
+        if *first <= events {
+            found = Some(*ledger);
+        }
     }
-}
-
-fn wanted(script: Script, events: usize) -> Option<Ledger> {
-    match script {
-        Script::OneConnection => of_one_connection(events),
-        Script::LostTwice => of_lost_twice(events),
-        Script::CalledBack => of_called_back(events),
-    }
+    found
 }
 
 /// Whether the ledger of the sender is what is wanted, and there is none elsewhere.
@@ -158,28 +149,20 @@ fn has_ledger<S: BitStore>(tried: &Tried<S>, wanted: Option<Ledger>) -> bool {
         && tried.ledger(Side::B, RECEIVER).is_none()
 }
 
-/// After each event the ledger of the sender is what is wanted, and there is none elsewhere.
-fn is_kept<S: BitStore>(rt: &impl Abort, alloc: Global, script: Script) -> Result<(), Fail> {
-    let mut tried: Tried<S> = Tried::new(alloc)?;
-    for event in &events_of(rt, alloc, script)? {
-        tried.does(rt, event);
-        assert!(rt; has_ledger(&tried, wanted(script, tried.notes().len())));
+/// After each event of each script the ledger of the sender is what is wanted, and there is none elsewhere.
+fn ledgers<S: BitStore>(rt: &impl Abort, alloc: Global) -> Result<(), Fail> {
+    for (script, ledgers) in SCRIPTS {
+        let mut tried: Tried<S> = Tried::new(alloc)?;
+        for event in &events_of(rt, alloc, *script)? {
+            tried.does(rt, event);
+            assert!(rt; has_ledger(&tried, wanted(ledgers, tried.notes().len())));
+        }
     }
     Ok(())
 }
 
-fn all_ledgers<S: BitStore>(rt: &impl Abort, alloc: Global) -> Result<(), Fail> {
-    is_kept::<S>(rt, alloc, Script::OneConnection)?;
-    is_kept::<S>(rt, alloc, Script::LostTwice)?;
-    is_kept::<S>(rt, alloc, Script::CalledBack)
-}
-
 #[test]
-fn ledgers_over_plain_bits(rt: HostRuntime) -> Result<(), Fail> {
-    all_ledgers::<PlainStore>(&rt, rt.alloc())
-}
-
-#[test]
-fn ledgers_over_packed_bits(rt: HostRuntime) -> Result<(), Fail> {
-    all_ledgers::<PackedStore>(&rt, rt.alloc())
+fn ledgers_over_either_store(rt: HostRuntime) -> Result<(), Fail> {
+    ledgers::<PlainStore>(&rt, rt.alloc())?;
+    ledgers::<PackedStore>(&rt, rt.alloc())
 }

@@ -5,9 +5,9 @@ use crate::many_tried::ManyTried;
 use crate::tried::{A, B, Tried};
 use crate::wanted::{Wanted, bits_of, says};
 use ncp_bits::{BitStore, PackedStore};
-use ncp_many::{Many, ManyEvent};
+use ncp_many::ManyEvent;
 use ncp_transcript::{Alone, Call, Input, Message};
-use ncp_world::{Event, Side, run};
+use ncp_world::{Event, Side};
 use std::alloc::{AllocError, Global};
 use std::process::Abort;
 use std::test::Fail;
@@ -70,7 +70,7 @@ fn steps_through<S: BitStore>(
 fn two_hosts(rt: HostRuntime) -> Result<(), Fail> {
     let events = rounds(&rt, rt.alloc())?;
     steps_through::<PackedStore>(&rt, rt.alloc(), &events)?;
-    assert!(rt; run::<PackedStore>(rt.alloc(), A, B, &events).is_ok());
+    assert!(rt; Tried::<PackedStore>::run_once(rt.alloc(), &events).is_ok());
     Ok(())
 }
 
@@ -132,7 +132,7 @@ fn three_hosts(rt: HostRuntime) -> Result<(), Fail> {
         assert!(rt; tried.steps(event));
     }
     assert!(rt; tried.notes().len() == events.len() && tried.is_up(1, 2) && tried.is_up(2, 1));
-    assert!(rt; Many::<PackedStore>::run(rt.alloc(), &THREE, &events).is_ok());
+    assert!(rt; ManyTried::<PackedStore>::run_once(rt.alloc(), &THREE, &events).is_ok());
     Ok(())
 }
 

@@ -4,7 +4,7 @@ use crate::refused::is_same;
 use crate::wanted::bits_of;
 use ncp_bits::{BitStore, PackedStore, PlainStore};
 use ncp_host::{CallFault, Flags, Pair, Received, Took};
-use ncp_many::{MAX_HOSTS, Many, ManyEvent, ManyFault, ManyNote};
+use ncp_many::{MAX_HOSTS, ManyEvent, ManyFault, ManyNote};
 use ncp_transcript::{Call, HostNote, Message};
 use std::alloc::Global;
 use std::process::Abort;
@@ -182,18 +182,14 @@ fn two_resets_over<S: BitStore>(rt: &impl Abort, alloc: Global) -> Result<(), Fa
 }
 
 #[test]
-fn two_resets_over_plain_bits(rt: HostRuntime) -> Result<(), Fail> {
-    two_resets_over::<PlainStore>(&rt, rt.alloc())
-}
-
-#[test]
-fn two_resets_over_packed_bits(rt: HostRuntime) -> Result<(), Fail> {
+fn two_resets_over_either_store(rt: HostRuntime) -> Result<(), Fail> {
+    two_resets_over::<PlainStore>(&rt, rt.alloc())?;
     two_resets_over::<PackedStore>(&rt, rt.alloc())
 }
 
-/// Whether it was refused for its numbers.
-fn is_bad(many: Result<Many<PackedStore>, ManyFault>) -> bool {
-    match many {
+/// Whether hosts were refused for their numbers.
+fn is_bad(made: Result<ManyTried<PackedStore>, ManyFault>) -> bool {
+    match made {
         Ok(_) => false,
         Err(fault) => fault == ManyFault::BadHosts,
     }
@@ -201,7 +197,7 @@ fn is_bad(many: Result<Many<PackedStore>, ManyFault>) -> bool {
 
 /// Whether there are no hosts of these numbers.
 fn are_bad(alloc: Global, hosts: &[u8]) -> bool {
-    is_bad(Many::new(alloc, hosts)) && is_bad(Many::run(alloc, hosts, &[]))
+    is_bad(ManyTried::once(alloc, hosts)) && is_bad(ManyTried::run_once(alloc, hosts, &[]))
 }
 
 /// Fewer than two, more than eight, and twice the same.

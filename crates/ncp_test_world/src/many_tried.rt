@@ -1,8 +1,9 @@
 //! Two to eight hosts whose calls tell the prover nothing.
+use crate::reading::{Reading, reading_of};
 use ncp_bits::BitStore;
 use ncp_host::Pair;
 use ncp_many::{Many, ManyEvent, ManyFault, ManyNote};
-use std::alloc::{AllocError, Global};
+use std::alloc::Global;
 use std::process::Abort;
 
 /// Hosts under test, as `Tried` has a world.
@@ -11,33 +12,40 @@ pub(super) struct ManyTried<S: BitStore> {
     many: Many<S>,
 }
 
-// Hosts that were made of good numbers.
-fn made<S: BitStore>(many: Result<Many<S>, ManyFault>) -> Result<ManyTried<S>, AllocError> {
-    match many {
-        Ok(many) => Ok(ManyTried { many }),
-        Err(_) => Err(AllocError),
-    }
-}
-
 impl<S: BitStore> ManyTried<S> {
-    pub(super) fn new(alloc: Global, hosts: &[u8]) -> Result<Self, AllocError> {
-        match made(Many::new(alloc, hosts)) {
+    /// New hosts, made by one call.
+    pub(super) fn once(alloc: Global, hosts: &[u8]) -> Result<Self, ManyFault> {
+        let many = Many::new(alloc, hosts)?;
+        Ok(ManyTried { many })
+    }
+
+    /// Hosts after these events, made by one call.
+    pub(super) fn run_once(
+        alloc: Global,
+        hosts: &[u8],
+        events: &[ManyEvent],
+    ) -> Result<Self, ManyFault> {
+        let many = Many::run(alloc, hosts, events)?;
+        Ok(ManyTried { many })
+    }
+
+    /// New hosts, made once more where memory is refused.
+    pub(super) fn new(alloc: Global, hosts: &[u8]) -> Result<Self, ManyFault> {
+        match ManyTried::once(alloc, hosts) {
             Ok(tried) => Ok(tried),
-            // Memory was refused once.
-            Err(_) => made(Many::new(alloc, hosts)),
+            Err(_) => ManyTried::once(alloc, hosts),
         }
     }
 
-    /// Hosts after these events, by one call.
+    /// Hosts after these events, made once more where memory is refused.
     pub(super) fn run(
         alloc: Global,
         hosts: &[u8],
         events: &[ManyEvent],
-    ) -> Result<Self, AllocError> {
-        match made(Many::run(alloc, hosts, events)) {
+    ) -> Result<Self, ManyFault> {
+        match ManyTried::run_once(alloc, hosts, events) {
             Ok(tried) => Ok(tried),
-            // Memory was refused once.
-            Err(_) => made(Many::run(alloc, hosts, events)),
+            Err(_) => ManyTried::run_once(alloc, hosts, events),
         }
     }
 
@@ -76,19 +84,29 @@ impl<S: BitStore> ManyTried<S> {
         self.many.step(event).is_ok()
     }
 
+    /// Whether settling is answered Ok.
+    pub(super) fn settles_once(&mut self) -> bool {
+        self.many.settle().is_ok()
+    }
+
+    /// What is read of a host, if it is there.
+    pub(super) fn reading(&self, host: u8, peer: u8) -> Option<Reading> {
+        match self.many.host(host) {
+            Some(host) => Some(reading_of(host, peer)),
+            None => None,
+        }
+    }
+
     /// Steps once. Where memory is refused nothing has happened, and the same event is given again.
     pub(super) fn does(&mut self, rt: &impl Abort, event: &ManyEvent) {
         let many = self.notes().len();
-        assert!(rt;
-            self.many.step(event).is_ok()
-                || (self.notes().len() == many && self.many.step(event).is_ok())
-        );
+        assert!(rt; self.steps(event) || (self.notes().len() == many && self.steps(event)));
     }
 
     /// Settles, and answers how many events that made. Where memory is refused once, the rest is asked for again.
     pub(super) fn settles(&mut self, rt: &impl Abort) -> usize {
         let many = self.notes().len();
-        assert!(rt; self.many.settle().is_ok() || self.many.settle().is_ok());
+        assert!(rt; self.settles_once() || self.settles_once());
         self.notes().len().saturating_sub(many)
     }
 }

@@ -5,10 +5,13 @@
 mod many;
 mod world;
 
+use crate::reading::Reading;
 use ncp_host::CallFault;
 use ncp_transcript::HostNote;
 use std::alloc::{AllocError, Global};
 use std::fmt::Debug;
+use std::process::Abort;
+use std::test::Fail;
 
 /// A note as text, which is made once more where memory is refused.
 fn text_of<T: Debug>(alloc: Global, note: &T) -> Result<String, AllocError> {
@@ -23,14 +26,6 @@ pub(super) fn is_same<T: Debug>(alloc: Global, one: &T, other: &T) -> Result<boo
     Ok(text_of(alloc, one)? == text_of(alloc, other)?)
 }
 
-/// Whether the last of two lists of notes say the same.
-fn end_alike<T: Debug>(alloc: Global, notes: &[T], others: &[T]) -> Result<bool, AllocError> {
-    match (notes.last(), others.last()) {
-        (Some(note), Some(again)) => is_same(alloc, note, again),
-        _ => Ok(false),
-    }
-}
-
 /// Whether a note says that a call was refused for want of memory.
 fn wants_memory(note: &HostNote) -> bool {
     matches!(
@@ -40,4 +35,171 @@ fn wants_memory(note: &HostNote) -> bool {
             ..
         }
     )
+}
+
+/// Hosts with their subnet: two, or more.
+trait Hosts: Drop + Sized {
+    type Event;
+
+    type Note: Debug;
+
+    type Fault: Drop;
+
+    /// New hosts.
+    fn of(alloc: Global) -> Result<Self, Self::Fault>;
+
+    /// Hosts after these events, by one call.
+    fn after(alloc: Global, events: &[Self::Event]) -> Result<Self, Self::Fault>;
+
+    /// Whether memory was refused.
+    fn is_of_memory(fault: &Self::Fault) -> bool;
+
+    /// Whether a step is answered Ok.
+    fn step(&mut self, event: &Self::Event) -> bool;
+
+    /// Whether settling is answered Ok.
+    fn settle(&mut self) -> bool;
+
+    fn transcript(&self) -> &[Self::Note];
+
+    /// Whether a note says that a call was refused for want of memory.
+    fn is_wanting(note: &Self::Note) -> bool;
+
+    /// What is read of the hosts.
+    fn readings(&self) -> [Option<Reading>; 4];
+}
+
+/// Hosts, and whether memory for them was refused once.
+fn made<H: Hosts>(rt: &impl Abort, alloc: Global) -> Result<(H, bool), Fail> {
+    match H::of(alloc) {
+        Ok(hosts) => Ok((hosts, false)),
+        Err(fault) => {
+            assert!(rt; H::is_of_memory(&fault));
+            match H::of(alloc) {
+                Ok(hosts) => Ok((hosts, true)),
+                Err(_) => Err("refused twice".into()),
+            }
+        }
+    }
+}
+
+/// Whether memory for hosts was refused once.
+fn is_made_again<H: Hosts>(rt: &impl Abort, alloc: Global) -> Result<bool, Fail> {
+    let (_hosts, refused) = made::<H>(rt, alloc)?;
+    Ok(refused)
+}
+
+/// Whether the last note says that a call was refused for want of memory.
+fn wants_at_last<H: Hosts>(hosts: &H) -> bool {
+    match hosts.transcript().last() {
+        Some(note) => H::is_wanting(note),
+        None => false,
+    }
+}
+
+/// Does an event, and once more where memory is refused: then nothing happened, but that the refusal of a call is
+/// noted. Whether it was.
+fn does<H: Hosts>(rt: &impl Abort, hosts: &mut H, event: &H::Event) -> bool {
+    let count = hosts.transcript().len();
+    let before = hosts.readings();
+    let is_answered = hosts.step(event);
+    let is_noted = is_answered && wants_at_last(hosts);
+    if is_answered && !is_noted {
+        return false;
+    }
+    let noted = if is_noted {
+        count.saturating_add(1)
+    } else {
+        count
+    };
+    assert!(rt;
+        hosts.transcript().len() == noted
+            && hosts.readings() == before
+            && hosts.step(event)
+            && !wants_at_last(hosts)
+    );
+    true
+}
+
+/// Whether the last of two lists of notes say the same.
+fn end_alike<H: Hosts>(alloc: Global, one: &H, other: &H) -> Result<bool, AllocError> {
+    match (one.transcript().last(), other.transcript().last()) {
+        (Some(note), Some(again)) => is_same(alloc, note, again),
+        _ => Ok(false),
+    }
+}
+
+/// Does all events twice, which note the same. Whether memory was refused.
+fn steps<H: Hosts>(rt: &impl Abort, alloc: Global, events: &[H::Event]) -> Result<bool, Fail> {
+    let (mut one, _refused) = made::<H>(rt, alloc)?;
+    let (mut other, _refused) = made::<H>(rt, alloc)?;
+    let mut refused = false;
+    for event in events {
+        let first = does(rt, &mut one, event);
+        let second = does(rt, &mut other, event);
+        refused = refused || first || second;
+        assert!(rt; end_alike(alloc, &one, &other)?);
+    }
+    assert!(rt; one.readings() == other.readings());
+    Ok(refused)
+}
+
+/// Compares the notes of two runs, of which each noted each event. Whether one of them notes a call that was refused:
+/// up to there both note the same.
+fn notes_refusal<H: Hosts>(
+    rt: &impl Abort,
+    alloc: Global,
+    count: usize,
+    one: &H,
+    other: &H,
+) -> Result<bool, AllocError> {
+    assert!(rt; one.transcript().len() == count && other.transcript().len() == count);
+    for (note, again) in one.transcript().iter().zip(other.transcript().iter()) {
+        if H::is_wanting(note) || H::is_wanting(again) {
+            return Ok(true);
+        }
+        assert!(rt; is_same(alloc, note, again)?);
+    }
+    Ok(false)
+}
+
+/// Runs all events twice, and compares. Whether one of the two was refused, or notes a call that was.
+fn runs<H: Hosts>(rt: &impl Abort, alloc: Global, events: &[H::Event]) -> Result<bool, Fail> {
+    let one = H::after(alloc, events);
+    let other = H::after(alloc, events);
+    match (&one, &other) {
+        (Ok(one), Ok(other)) => Ok(notes_refusal(rt, alloc, events.len(), one, other)?),
+        (Err(_), Err(_)) => Err("refused twice".into()),
+        (Err(fault), Ok(_)) | (Ok(_), Err(fault)) => {
+            assert!(rt; H::is_of_memory(fault));
+            Ok(true)
+        }
+    }
+}
+
+/// Settles behind an event, and once more where memory is refused: what happened before stands. Whether it was.
+fn settles_behind<H: Hosts>(rt: &impl Abort, hosts: &mut H, event: &H::Event) -> bool {
+    let _refused = does(rt, hosts, event);
+    let refused = !hosts.settle();
+    assert!(rt; !refused || hosts.settle());
+    refused
+}
+
+/// Settles behind a reset twice, and compares: both note the same seven notes. Whether memory was refused.
+fn settle_alike<H: Hosts>(rt: &impl Abort, alloc: Global, reset: &H::Event) -> Result<bool, Fail> {
+    let (mut one, _refused) = made::<H>(rt, alloc)?;
+    let (mut other, _refused) = made::<H>(rt, alloc)?;
+    let first = settles_behind(rt, &mut one, reset);
+    let second = settles_behind(rt, &mut other, reset);
+    let is_noted = notes_refusal(rt, alloc, 7, &one, &other)?;
+    assert!(rt; !is_noted);
+    Ok(first || second)
+}
+
+/// Prints what stood, if memory was refused.
+fn tell(rt: &HostRuntime, refused: bool, stood: &str) -> Result<(), Fail> {
+    if refused {
+        println!(rt; "refused: {stood}")?;
+    }
+    Ok(())
 }

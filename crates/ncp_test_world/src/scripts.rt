@@ -1,6 +1,5 @@
 //! Worked runs, each over either store: all events, and what each of their notes says.
-use crate::events;
-use crate::events::{Act, LINK, beginning, push};
+use crate::events::{LINK, Script, events_of};
 use crate::tried::{A, B, Tried};
 use crate::wanted::{Wanted, say};
 use ncp_bits::{BitStore, PackedStore, PlainStore};
@@ -100,17 +99,6 @@ const ONE_CONNECTION: &[Wanted<'static>] = &[
     Wanted::Quiet,
 ];
 
-fn one_connection<S: BitStore>(rt: &impl Abort, alloc: Global) -> Result<(), Fail> {
-    let events = events::one_connection(rt, alloc)?;
-    let mut tried: Tried<S> = Tried::new(alloc)?;
-    for event in &events {
-        tried.does(rt, event);
-    }
-    begins_and_says(rt, &tried, ONE_CONNECTION);
-    assert!(rt; tried.is_up(Side::A, B) && tried.is_up(Side::B, A));
-    Ok(())
-}
-
 const LOST_TWICE: &[Wanted<'static>] = &[
     Wanted::Lost,
     Wanted::Answered(Answer::Incomplete),
@@ -125,25 +113,7 @@ const LOST_TWICE: &[Wanted<'static>] = &[
     Wanted::Took(b""),
 ];
 
-fn lost_twice<S: BitStore>(rt: &impl Abort, alloc: Global) -> Result<(), Fail> {
-    let events = events::lost_twice(rt, alloc)?;
-    let tried: Tried<S> = Tried::run(alloc, &events)?;
-    begins_and_says(rt, &tried, LOST_TWICE);
-    Ok(())
-}
-
-/// What is behind the beginning where the text finds its destination dead.
-const DEAD_AND_WOKEN: &[Act] = &[
-    Act::Dead(Side::A, LINK),
-    Act::Answer(Side::A, LINK),
-    Act::Out(Side::A),
-    Act::Wake,
-    Act::Out(Side::A),
-    Act::Deliver(Side::A, LINK),
-    Act::Answer(Side::A, LINK),
-];
-
-const DEAD_AND_WOKEN_NOTES: &[Wanted<'static>] = &[
+const DEAD_AND_WOKEN: &[Wanted<'static>] = &[
     Wanted::FoundDead,
     Wanted::Answered(Answer::Dead),
     Wanted::Quiet,
@@ -153,41 +123,30 @@ const DEAD_AND_WOKEN_NOTES: &[Wanted<'static>] = &[
     Wanted::Answered(Answer::Rfnm),
 ];
 
-// The text finds its destination dead, and is held until the user asks for it.
-fn dead_and_woken<S: BitStore>(rt: &impl Abort, alloc: Global) -> Result<(), Fail> {
-    let mut events = beginning(rt, alloc)?;
-    push(&mut events, DEAD_AND_WOKEN)?;
-    let tried: Tried<S> = Tried::run(alloc, &events)?;
-    begins_and_says(rt, &tried, DEAD_AND_WOKEN_NOTES);
+/// The scripts, and what the notes behind their beginning say.
+const SCRIPTS: &[(Script, &[Wanted<'static>])] = &[
+    (Script::OneConnection, ONE_CONNECTION),
+    (Script::LostTwice, LOST_TWICE),
+    (Script::DeadAndWoken, DEAD_AND_WOKEN),
+];
+
+/// Each script by one call, and event by event. Behind each both hosts are up.
+fn scripts<S: BitStore>(rt: &impl Abort, alloc: Global) -> Result<(), Fail> {
+    for (script, wanted) in SCRIPTS {
+        let events = events_of(rt, alloc, *script)?;
+        begins_and_says(rt, &Tried::<S>::run(alloc, &events)?, wanted);
+        let mut tried: Tried<S> = Tried::new(alloc)?;
+        for event in &events {
+            tried.does(rt, event);
+        }
+        begins_and_says(rt, &tried, wanted);
+        assert!(rt; tried.is_up(Side::A, B) && tried.is_up(Side::B, A));
+    }
     Ok(())
 }
 
 #[test]
-fn one_connection_over_plain_bits(rt: HostRuntime) -> Result<(), Fail> {
-    one_connection::<PlainStore>(&rt, rt.alloc())
-}
-
-#[test]
-fn one_connection_over_packed_bits(rt: HostRuntime) -> Result<(), Fail> {
-    one_connection::<PackedStore>(&rt, rt.alloc())
-}
-
-#[test]
-fn lost_twice_over_plain_bits(rt: HostRuntime) -> Result<(), Fail> {
-    lost_twice::<PlainStore>(&rt, rt.alloc())
-}
-
-#[test]
-fn lost_twice_over_packed_bits(rt: HostRuntime) -> Result<(), Fail> {
-    lost_twice::<PackedStore>(&rt, rt.alloc())
-}
-
-#[test]
-fn dead_and_woken_over_plain_bits(rt: HostRuntime) -> Result<(), Fail> {
-    dead_and_woken::<PlainStore>(&rt, rt.alloc())
-}
-
-#[test]
-fn dead_and_woken_over_packed_bits(rt: HostRuntime) -> Result<(), Fail> {
-    dead_and_woken::<PackedStore>(&rt, rt.alloc())
+fn scripts_over_either_store(rt: HostRuntime) -> Result<(), Fail> {
+    scripts::<PlainStore>(&rt, rt.alloc())?;
+    scripts::<PackedStore>(&rt, rt.alloc())
 }

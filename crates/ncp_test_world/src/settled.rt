@@ -1,5 +1,5 @@
 //! Worlds that settle: what happens by itself behind calls, losses and deaths, and how many events it is.
-use crate::events::{ASK_RECEIVE, ASK_SEND, Act, LINK, RESET_A, beginning, push};
+use crate::events::{ASK_RECEIVE, ASK_SEND, Act, LINK, RESET_A, beginning};
 use crate::scripts::{
     ADMITTED, CONTROL, RRP, RRP_CAME, RST, RST_CAME, RTS, RTS_CAME, STR, STR_CAME, TEXT, TEXT_CAME,
 };
@@ -51,8 +51,7 @@ fn goes_on<S: BitStore>(
     acts: &[Act],
     wanted: &[Wanted<'_>],
 ) -> Result<(), Fail> {
-    let mut events = beginning(rt, alloc)?;
-    push(&mut events, acts)?;
+    let events = beginning(rt, alloc, acts)?;
     let mut tried: Tried<S> = Tried::run(alloc, &events)?;
     let before = tried.notes().len();
     assert!(rt; tried.settles(rt) == wanted.len() && tried.settles(rt) == 0);
@@ -92,21 +91,13 @@ fn texts_go_on<S: BitStore>(rt: &impl Abort, alloc: Global) -> Result<(), Fail> 
 }
 
 #[test]
-fn calls_open_over_plain_bits(rt: HostRuntime) -> Result<(), Fail> {
-    calls_open::<PlainStore>(&rt, rt.alloc())
-}
-
-#[test]
-fn calls_open_over_packed_bits(rt: HostRuntime) -> Result<(), Fail> {
+fn calls_open_over_either_store(rt: HostRuntime) -> Result<(), Fail> {
+    calls_open::<PlainStore>(&rt, rt.alloc())?;
     calls_open::<PackedStore>(&rt, rt.alloc())
 }
 
 #[test]
-fn texts_go_on_over_plain_bits(rt: HostRuntime) -> Result<(), Fail> {
-    texts_go_on::<PlainStore>(&rt, rt.alloc())
-}
-
-#[test]
-fn texts_go_on_over_packed_bits(rt: HostRuntime) -> Result<(), Fail> {
+fn texts_go_on_over_either_store(rt: HostRuntime) -> Result<(), Fail> {
+    texts_go_on::<PlainStore>(&rt, rt.alloc())?;
     texts_go_on::<PackedStore>(&rt, rt.alloc())
 }

@@ -22,19 +22,19 @@ fn event_of(wanted: Move) -> Event {
     }
 }
 
-/// A host wants to send a message.
-fn beginning<S: BitStore>(rt: &impl Abort, alloc: Global) -> Result<Tried<S>, Fail> {
+/// A host wants to send a message. If it goes out, it is on link 0, and these things happen to it.
+fn after<S: BitStore>(
+    rt: &impl Abort,
+    alloc: Global,
+    moves: Option<&[Move]>,
+) -> Result<Tried<S>, Fail> {
     let mut tried = Tried::new(alloc)?;
     tried.does(rt, &RESET_A);
-    Ok(tried)
-}
-
-/// It went out on link 0, and then this happened to it.
-fn after<S: BitStore>(rt: &impl Abort, alloc: Global, moves: &[Move]) -> Result<Tried<S>, Fail> {
-    let mut tried = beginning(rt, alloc)?;
-    tried.does(rt, &out(Side::A));
-    for one in moves {
-        tried.does(rt, &event_of(*one));
+    if let Some(moves) = moves {
+        tried.does(rt, &out(Side::A));
+        for one in moves {
+            tried.does(rt, &event_of(*one));
+        }
     }
     Ok(tried)
 }
@@ -66,7 +66,7 @@ fn happens<S: BitStore>(rt: &impl Abort, mut tried: Tried<S>, event: &Event, can
 fn can<S: BitStore>(
     rt: &impl Abort,
     alloc: Global,
-    moves: &[Move],
+    moves: Option<&[Move]>,
     possible: [bool; 4],
     goes: bool,
 ) -> Result<(), Fail> {
@@ -79,49 +79,34 @@ fn can<S: BitStore>(
     Ok(())
 }
 
-/// No message went out yet.
-fn before_any<S: BitStore>(rt: &impl Abort, alloc: Global) -> Result<(), Fail> {
-    for wanted in MOVES.iter() {
-        let tried: Tried<S> = beginning(rt, alloc)?;
-        happens(rt, tried, &event_of(*wanted), false);
-    }
-    let tried: Tried<S> = beginning(rt, alloc)?;
-    happens(rt, tried, &out(Side::A), true);
-    Ok(())
-}
-
 const OPEN: [bool; 4] = [true, true, true, false];
 
 const GONE: [bool; 4] = [false, false, false, true];
 
 const FREE: [bool; 4] = [false, false, false, false];
 
-/// What happened to a message that went out, which moves can then happen, and whether a message can go out.
-const STATES: [(&[Move], [bool; 4], bool); 7] = [
-    (&[], OPEN, false),
-    (&[Move::Deliver], GONE, false),
-    (&[Move::Lose], GONE, false),
-    (&[Move::Dead], GONE, false),
-    (&[Move::Deliver, Move::Answer], FREE, false),
+/// What happened to the message if it went out, which moves can then happen, and whether a message can go out.
+const STATES: [(Option<&[Move]>, [bool; 4], bool); 8] = [
+    (None, FREE, true),
+    (Some(&[]), OPEN, false),
+    (Some(&[Move::Deliver]), GONE, false),
+    (Some(&[Move::Lose]), GONE, false),
+    (Some(&[Move::Dead]), GONE, false),
+    (Some(&[Move::Deliver, Move::Answer]), FREE, false),
     // A message that was lost goes out again; one that found its destination dead is held.
-    (&[Move::Lose, Move::Answer], FREE, true),
-    (&[Move::Dead, Move::Answer], FREE, false),
+    (Some(&[Move::Lose, Move::Answer]), FREE, true),
+    (Some(&[Move::Dead, Move::Answer]), FREE, false),
 ];
 
 fn all_states<S: BitStore>(rt: &impl Abort, alloc: Global) -> Result<(), Fail> {
-    before_any::<S>(rt, alloc)?;
-    for (moves, possible, goes) in STATES.iter() {
-        can::<S>(rt, alloc, moves, *possible, *goes)?;
+    for (moves, possible, goes) in STATES {
+        can::<S>(rt, alloc, moves, possible, goes)?;
     }
     Ok(())
 }
 
 #[test]
-fn moves_in_each_state_over_plain_bits(rt: HostRuntime) -> Result<(), Fail> {
-    all_states::<PlainStore>(&rt, rt.alloc())
-}
-
-#[test]
-fn moves_in_each_state_over_packed_bits(rt: HostRuntime) -> Result<(), Fail> {
+fn moves_in_each_state_over_either_store(rt: HostRuntime) -> Result<(), Fail> {
+    all_states::<PlainStore>(&rt, rt.alloc())?;
     all_states::<PackedStore>(&rt, rt.alloc())
 }

@@ -1,4 +1,5 @@
 //! A world whose calls tell the prover nothing.
+use crate::reading::{Reading, reading_of};
 use ncp_bits::BitStore;
 use ncp_host::{Pair, Record};
 use ncp_world::{Event, Ledger, Note, Side, World, run};
@@ -18,23 +19,32 @@ pub(super) struct Tried<S: BitStore> {
 }
 
 impl<S: BitStore> Tried<S> {
-    pub(super) fn new(alloc: Global) -> Result<Self, AllocError> {
-        let world = match World::new(alloc, A, B) {
-            Ok(world) => world,
-            // Memory was refused once.
-            Err(_) => World::new(alloc, A, B)?,
-        };
+    /// A new world, made by one call.
+    pub(super) fn once(alloc: Global) -> Result<Self, AllocError> {
+        let world = World::new(alloc, A, B)?;
         Ok(Tried { world })
     }
 
-    /// A world after these events, by one call.
-    pub(super) fn run(alloc: Global, events: &[Event]) -> Result<Self, AllocError> {
-        let world = match run(alloc, A, B, events) {
-            Ok(world) => world,
-            // Memory was refused once.
-            Err(_) => run(alloc, A, B, events)?,
-        };
+    /// A world after these events, made by one call.
+    pub(super) fn run_once(alloc: Global, events: &[Event]) -> Result<Self, AllocError> {
+        let world = run(alloc, A, B, events)?;
         Ok(Tried { world })
+    }
+
+    /// A new world, made once more where memory is refused.
+    pub(super) fn new(alloc: Global) -> Result<Self, AllocError> {
+        match Tried::once(alloc) {
+            Ok(tried) => Ok(tried),
+            Err(_) => Tried::once(alloc),
+        }
+    }
+
+    /// A world after these events, made once more where memory is refused.
+    pub(super) fn run(alloc: Global, events: &[Event]) -> Result<Self, AllocError> {
+        match Tried::run_once(alloc, events) {
+            Ok(tried) => Ok(tried),
+            Err(_) => Tried::run_once(alloc, events),
+        }
     }
 
     pub(super) fn notes(&self) -> &[Note] {
@@ -71,19 +81,26 @@ impl<S: BitStore> Tried<S> {
         self.world.step(event).is_ok()
     }
 
+    /// Whether settling is answered Ok.
+    pub(super) fn settles_once(&mut self) -> bool {
+        self.world.settle().is_ok()
+    }
+
+    /// What is read of a host.
+    pub(super) fn reading(&self, side: Side, other: u8) -> Reading {
+        reading_of(self.world.host(side), other)
+    }
+
     /// Steps once. Where memory is refused nothing has happened, and the same event is given again.
     pub(super) fn does(&mut self, rt: &impl Abort, event: &Event) {
         let many = self.notes().len();
-        assert!(rt;
-            self.world.step(event).is_ok()
-                || (self.notes().len() == many && self.world.step(event).is_ok())
-        );
+        assert!(rt; self.steps(event) || (self.notes().len() == many && self.steps(event)));
     }
 
     /// Settles, and answers how many events that made. Where memory is refused once, the rest is asked for again.
     pub(super) fn settles(&mut self, rt: &impl Abort) -> usize {
         let many = self.notes().len();
-        assert!(rt; self.world.settle().is_ok() || self.world.settle().is_ok());
+        assert!(rt; self.settles_once() || self.settles_once());
         self.notes().len().saturating_sub(many)
     }
 }

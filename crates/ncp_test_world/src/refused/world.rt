@@ -1,218 +1,105 @@
 //! Two hosts with their subnet.
-use super::{end_alike, is_same, wants_memory};
-use crate::events::{RESET_A, one_connection};
-use crate::reading::{Reading, reading_of};
-use crate::tried::{A, B};
+use super::{Hosts, is_made_again, runs, settle_alike, steps, tell, wants_memory};
+use crate::events::{RESET_A, Script, events_of};
+use crate::reading::Reading;
+use crate::tried::{A, B, Tried};
 use ncp_bits::{BitStore, PackedStore, PlainStore};
-use ncp_world::{Event, Note, Side, World, run};
+use ncp_world::{Event, Note, Side};
 use std::alloc::{AllocError, Global};
 use std::process::Abort;
 use std::test::Fail;
 
+impl<S: BitStore> Hosts for Tried<S> {
+    type Event = Event;
+
+    type Note = Note;
+
+    type Fault = AllocError;
+
+    fn of(alloc: Global) -> Result<Self, AllocError> {
+        Tried::once(alloc)
+    }
+
+    fn after(alloc: Global, events: &[Event]) -> Result<Self, AllocError> {
+        Tried::run_once(alloc, events)
+    }
+
+    fn is_of_memory(_fault: &AllocError) -> bool {
+        true
+    }
+
+    fn step(&mut self, event: &Event) -> bool {
+        self.steps(event)
+    }
+
+    fn settle(&mut self) -> bool {
+        self.settles_once()
+    }
+
+    fn transcript(&self) -> &[Note] {
+        self.notes()
+    }
+
+    fn is_wanting(note: &Note) -> bool {
+        match note {
+            Note::Called { note, .. } => wants_memory(note),
+            _ => false,
+        }
+    }
+
+    fn readings(&self) -> [Option<Reading>; 4] {
+        let a = self.reading(Side::A, B);
+        let b = self.reading(Side::B, A);
+        [Some(a), Some(b), None, None]
+    }
+}
+
 /// The events of the first script, made once more where memory is refused.
 fn events(rt: &impl Abort, alloc: Global) -> Result<Vec<Event>, AllocError> {
-    match one_connection(rt, alloc) {
+    match events_of(rt, alloc, Script::OneConnection) {
         Ok(events) => Ok(events),
-        Err(_) => one_connection(rt, alloc),
+        Err(_) => events_of(rt, alloc, Script::OneConnection),
     }
-}
-
-/// A world, and whether memory for it was refused once.
-fn made<S: BitStore>(alloc: Global) -> Result<(World<S>, bool), AllocError> {
-    match World::new(alloc, A, B) {
-        Ok(world) => Ok((world, false)),
-        Err(_) => Ok((World::new(alloc, A, B)?, true)),
-    }
-}
-
-fn readings<S: BitStore>(world: &World<S>) -> [Reading; 2] {
-    [
-        reading_of(world.host(Side::A), B),
-        reading_of(world.host(Side::B), A),
-    ]
-}
-
-fn is_wanting(note: &Note) -> bool {
-    match note {
-        Note::Called { note, .. } => wants_memory(note),
-        _ => false,
-    }
-}
-
-/// Whether the last note says that a call was refused for want of memory.
-fn wants_at_last<S: BitStore>(world: &World<S>) -> bool {
-    match world.transcript().last() {
-        Some(note) => is_wanting(note),
-        None => false,
-    }
-}
-
-/// Does an event, and once more where memory is refused: then nothing happened, but that the refusal of a call is
-/// noted. Whether it was.
-fn does<S: BitStore>(rt: &impl Abort, world: &mut World<S>, event: &Event) -> bool {
-    let many = world.transcript().len();
-    let before = readings(world);
-    let noted = match world.step(event) {
-        Err(_) => many,
-        Ok(()) if wants_at_last(world) => many.saturating_add(1),
-        Ok(()) => return false,
-    };
-    assert!(rt;
-        world.transcript().len() == noted
-            && readings(world) == before
-            && world.step(event).is_ok()
-            && !wants_at_last(world)
-    );
-    true
-}
-
-/// Does all events in two worlds, which note the same. Whether memory was refused.
-fn go_alike<S: BitStore>(
-    rt: &impl Abort,
-    alloc: Global,
-    one: &mut World<S>,
-    other: &mut World<S>,
-    events: &[Event],
-) -> Result<bool, AllocError> {
-    let mut refused = false;
-    for event in events {
-        let first = does(rt, one, event);
-        let second = does(rt, other, event);
-        refused = refused || first || second;
-        assert!(rt; end_alike(alloc, one.transcript(), other.transcript())?);
-    }
-    assert!(rt; readings(one) == readings(other));
-    Ok(refused)
-}
-
-/// Does all events in two worlds of their own.
-fn step_alike<S: BitStore>(
-    rt: &impl Abort,
-    alloc: Global,
-    events: &[Event],
-) -> Result<bool, AllocError> {
-    let (mut one, _refused) = made::<S>(alloc)?;
-    let (mut other, _refused) = made::<S>(alloc)?;
-    go_alike(rt, alloc, &mut one, &mut other, events)
-}
-
-fn steps<S: BitStore>(rt: &impl Abort, alloc: Global) -> Result<bool, AllocError> {
-    let events = events(rt, alloc)?;
-    step_alike::<S>(rt, alloc, &events)
-}
-
-/// Compares the notes of two runs, of which each noted each event. Whether one of them notes a call that was refused:
-/// up to there both note the same.
-fn notes_refusal(
-    rt: &impl Abort,
-    alloc: Global,
-    events: &[Event],
-    notes: &[Note],
-    others: &[Note],
-) -> Result<bool, AllocError> {
-    assert!(rt; notes.len() == events.len() && others.len() == events.len());
-    for (note, again) in notes.iter().zip(others.iter()) {
-        if is_wanting(note) || is_wanting(again) {
-            return Ok(true);
-        }
-        assert!(rt; is_same(alloc, note, again)?);
-    }
-    Ok(false)
-}
-
-/// Whether one of two runs of these events was refused, or notes a call that was.
-fn are_alike<S: BitStore>(
-    rt: &impl Abort,
-    alloc: Global,
-    events: &[Event],
-    one: &Result<World<S>, AllocError>,
-    other: &Result<World<S>, AllocError>,
-) -> Result<bool, Fail> {
-    match (one, other) {
-        (Ok(one), Ok(other)) => Ok(notes_refusal(
-            rt,
-            alloc,
-            events,
-            one.transcript(),
-            other.transcript(),
-        )?),
-        (Err(_), Err(_)) => Err("refused twice".into()),
-        _ => Ok(true),
-    }
-}
-
-/// Runs all events twice, and compares.
-fn runs<S: BitStore>(rt: &impl Abort, alloc: Global) -> Result<bool, Fail> {
-    let events = events(rt, alloc)?;
-    let one = run::<S>(alloc, A, B, &events);
-    let other = run::<S>(alloc, A, B, &events);
-    are_alike(rt, alloc, &events, &one, &other)
-}
-
-/// Whether memory for a world was refused once.
-fn is_refused<S: BitStore>(alloc: Global) -> Result<bool, AllocError> {
-    let (_world, refused) = made::<S>(alloc)?;
-    Ok(refused)
-}
-
-/// Settles, and once more where memory is refused: what happened before stands. Whether it was.
-fn settles<S: BitStore>(rt: &impl Abort, world: &mut World<S>) -> bool {
-    let refused = world.settle().is_err();
-    assert!(rt; !refused || world.settle().is_ok());
-    refused
-}
-
-/// Two worlds settle behind the reset that the first of all events is, and note the same. Whether memory was refused.
-fn settle_alike<S: BitStore>(rt: &impl Abort, alloc: Global) -> Result<bool, AllocError> {
-    let (mut one, _refused) = made::<S>(alloc)?;
-    let (mut other, _refused) = made::<S>(alloc)?;
-    let _refused = does(rt, &mut one, &RESET_A);
-    let _refused = does(rt, &mut other, &RESET_A);
-    let first = settles(rt, &mut one);
-    let second = settles(rt, &mut other);
-    assert!(rt; one.transcript().len() == 7 && other.transcript().len() == 7);
-    for (note, again) in one.transcript().iter().zip(other.transcript().iter()) {
-        assert!(rt; is_same(alloc, note, again)?);
-    }
-    Ok(first || second)
 }
 
 #[test]
 fn world_settle(rt: HostRuntime) -> Result<(), Fail> {
-    let plain = settle_alike::<PlainStore>(&rt, rt.alloc())?;
-    let packed = settle_alike::<PackedStore>(&rt, rt.alloc())?;
-    if plain || packed {
-        println!(rt; "refused: what happened before stands, and the rest may be asked for again")?;
-    }
-    Ok(())
+    let plain = settle_alike::<Tried<PlainStore>>(&rt, rt.alloc(), &RESET_A)?;
+    let packed = settle_alike::<Tried<PackedStore>>(&rt, rt.alloc(), &RESET_A)?;
+    tell(
+        &rt,
+        plain || packed,
+        "what happened before stands, and the rest may be asked for again",
+    )
 }
 
 #[test]
 fn world_new(rt: HostRuntime) -> Result<(), Fail> {
-    let plain = is_refused::<PlainStore>(rt.alloc())?;
-    let packed = is_refused::<PackedStore>(rt.alloc())?;
-    if plain || packed {
-        println!(rt; "refused: AllocError, no world")?;
-    }
-    Ok(())
+    let plain = is_made_again::<Tried<PlainStore>>(&rt, rt.alloc())?;
+    let packed = is_made_again::<Tried<PackedStore>>(&rt, rt.alloc())?;
+    tell(&rt, plain || packed, "AllocError, no world")
 }
 
 #[test]
 fn world_step(rt: HostRuntime) -> Result<(), Fail> {
-    let plain = steps::<PlainStore>(&rt, rt.alloc())?;
-    let packed = steps::<PackedStore>(&rt, rt.alloc())?;
-    if plain || packed {
-        println!(rt; "refused: nothing happened but that a call's refusal is noted")?;
-    }
-    Ok(())
+    let events = events(&rt, rt.alloc())?;
+    let plain = steps::<Tried<PlainStore>>(&rt, rt.alloc(), &events)?;
+    let packed = steps::<Tried<PackedStore>>(&rt, rt.alloc(), &events)?;
+    tell(
+        &rt,
+        plain || packed,
+        "nothing happened but that a call's refusal is noted",
+    )
 }
 
 #[test]
 fn world_run(rt: HostRuntime) -> Result<(), Fail> {
-    let plain = runs::<PlainStore>(&rt, rt.alloc())?;
-    let packed = runs::<PackedStore>(&rt, rt.alloc())?;
-    if plain || packed {
-        println!(rt; "refused: AllocError, or a call's refusal is noted")?;
-    }
-    Ok(())
+    let events = events(&rt, rt.alloc())?;
+    let plain = runs::<Tried<PlainStore>>(&rt, rt.alloc(), &events)?;
+    let packed = runs::<Tried<PackedStore>>(&rt, rt.alloc(), &events)?;
+    tell(
+        &rt,
+        plain || packed,
+        "AllocError, or a call's refusal is noted",
+    )
 }
