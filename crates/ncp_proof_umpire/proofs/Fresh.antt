@@ -39,7 +39,7 @@ is_new p kept s n on peer bits h ready = go (placed p kept)
     one slot.Unknown m e = absurd e
     one slot.Empty m e = record { fresh = ap is_empty (sym e); kept = refl }
     one slot.Out m e = let nay : None ≡ Some bits = ap (λ (x : LinkSlot). output_by x n on peer) (sym e) ∙ ready in absurd (cc)
-    one slot.Came m e = absurd e
+    one slot.Came m e = let nay : None ≡ Some bits = ap (λ (x : LinkSlot). output_by x n on peer) (sym e) ∙ ready in absurd (cc)
     one slot.Again m (inl e) =
         let same = alike m (ap (λ (x : LinkSlot). output_by x n on peer) (sym e) ∙ ready) in
         record { fresh = ap not same ∙ ap is_empty (sym e); kept = ap not same }
@@ -151,7 +151,7 @@ shown_filled : (k : Slot) (m : List Bool) (s : LinkSlot) → empty_slot k ≡ fa
 shown_filled slot.Unknown m s e h = absurd h
 shown_filled slot.Empty m s e h = absurd (cc e)
 shown_filled slot.Out m s e h = ap is_empty h
-shown_filled slot.Came m s e h = absurd h
+shown_filled slot.Came m s e h = ap is_empty h
 shown_filled slot.Again m s e (inl h) = ap is_empty h
 shown_filled slot.Again m s e (inr h) = ap is_empty h
 
@@ -177,7 +177,7 @@ shown_empty me n l kept s z none h = go (filter (is_of me n l) kept) refl h
         by slot.Unknown f h = absurd h
         by slot.Empty f h = h
         by slot.Out f h = absurd (nay (ap empty_slot f))
-        by slot.Came f h = absurd h
+        by slot.Came f h = absurd (nay (ap empty_slot f))
         by slot.Again f h = absurd (nay (ap empty_slot f))
     go (k ∷ other ∷ more) e h = absurd h
 

@@ -18,3 +18,5 @@ pub mod PhaseSteps
 pub mod Fresh
 pub mod PhaseSeen
 pub mod PhaseWalk
+pub mod Others
+pub mod FileWalk

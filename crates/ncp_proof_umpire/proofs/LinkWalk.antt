@@ -109,7 +109,7 @@ walk ns me (inputs.Out ∷ given) (note ∷ noted) h umpire k a p f =
 
 -- at the beginning nothing is kept
 pub begins : (me : ℕ) (ns : List ℕ) → Follows me (new_host me ns) (new_umpire false)
-begins me ns full = record { agrees = λ n s e on. subst (λ (x : PeerState). Shows [] (slot_at x.slots on)) (sym (new ns n s e)) (slot_at-no_slots on); own = λ from to on e. refl }
+begins me ns full = record { agrees = λ n s e on. subst (λ (x : PeerState). Shows [] (slot_at x.slots on)) (sym (new ns n s e)) (slot_at-no_slots on) }
   where
     new : (ns : List ℕ) (n : ℕ) (s : PeerState) → state_of (new_host me ns) n ≡ Some s → s ≡ new_state
     new [] n s e = absurd (cc)

@@ -1,5 +1,5 @@
 -- What is kept of the links of a host shows its slots, through each input.
-use Rattle.std.proofs.Common.{◌≡◌, ◌≢◌, ◌⊎◌, inl, inr, ℕ, ◌==◌, Bool, true, false, not, ◌&&◌, if◌then◌else◌, List, [], ◌∷◌, Option, None, Some, Result, Ok, Err, filter, refl, sym, ap, ◌∙◌, subst}
+use Rattle.std.proofs.Common.{◌≡◌, ◌≢◌, ◌⊎◌, inl, inr, ℕ, ◌==◌, Bool, true, false, not, ◌&&◌, if◌then◌else◌, List, Option, None, Some, Result, Ok, Err, filter, refl, sym, ap, ◌∙◌, subst}
 use Rattle.std.proofs.lemmas.Bool.{and_parts, eqb-true}
 use Rattle.std.proofs.lemmas.Bool.Decides.{eqb_tells}
 use Rattle.ncp_leader.specs.declared.leader.Leader.{Leader}
@@ -29,17 +29,16 @@ use Rattle.ncp_umpire.proofs.Following.{Keeps, out_keeps, short_is, other_is, ow
 use Rattle.ncp_umpire.specs.Tables.{view_in, with_view}
 use Rattle.ncp_umpire.specs.Slots.{is_of, place_of, gone_out, has_room, with_out}
 use Rattle.ncp_umpire.specs.Judged.{sees, slot_of, same_of, view_after_out, after_out, with_answer, after_answer, judges_coming, with_coming, after_in, after_record}
-use Rattle.ncp_proof_umpire.proofs.KeptOne.{Placed, placed, taken, Apart}
-use Rattle.ncp_proof_umpire.proofs.Shown.{Shows, After, after_going, how_of, after_answering, after_waking}
+use Rattle.ncp_proof_umpire.proofs.KeptOne.{Apart}
+use Rattle.ncp_proof_umpire.proofs.Shown.{Shows, After, after_going, how_of, after_answering, after_coming, after_waking}
 use Rattle.ncp_proof_umpire.proofs.HostSlots.{is_of_call, call_leaves, bits_leave, answer_here, answer_there, was}
 use Rattle.ncp_proof_umpire.proofs.Leaders.{apart}
 
 -- ---- the invariant
 
--- each slot of the host is shown by what is kept of its link, and nothing is kept of another host's links
+-- each slot of the host is shown by what is kept of its link
 pub record Known (me : ℕ) (h : Host) (kept : List Kept) : Type 0 where
   pub agrees : (n : ℕ) (s : PeerState) → state_of h n ≡ Some s → (on : ℕ) → Shows (filter (is_of me n on) kept) (slot_at s.slots on)
-  pub own : (from to on : ℕ) → (from == me) ≡ false → filter (is_of from to on) kept ≡ []
 
 -- while all that is out is kept
 abbrev pub Follows : ℕ → Host → Umpire → Type 0
@@ -64,23 +63,14 @@ keys_apart f t l g u m nay k e = go (is_of g u m k) refl
     go false d = refl
 
 -- what is kept of one link becomes other, and so does the slot of it alone
-keyed : (me n on : ℕ) (h after : Host) (kept now : List Kept)
+pub keyed : (me n on : ℕ) (h after : Host) (kept now : List Kept)
     → ((q : Kept → Bool) → Apart (is_of me n on) q → filter q now ≡ filter q kept)
     → ((m : ℕ) (t : PeerState) → state_of after m ≡ Some t
     → (s : PeerState) × (state_of h m ≡ Some s) × ((at : ℕ) → ((m ≡ n) × (at ≡ on) → ⊥) → slot_at t.slots at ≡ slot_at s.slots at)
     × (m ≡ n → Shows (filter (is_of me n on) kept) (slot_at s.slots on) → Shows (filter (is_of me n on) now) (slot_at t.slots on)))
     → Known me h kept → Known me after now
-keyed me n on h after kept now others slots k = record { agrees = agrees; own = own }
+keyed me n on h after kept now others slots k = record { agrees = agrees }
   where
-    own : (from to at : ℕ) → (from == me) ≡ false → filter (is_of from to at) now ≡ []
-    own from to at e = others (is_of from to at) (keys_apart me n on from to at (λ same. let nay : true ≡ false = sym (ours from same.0) ∙ e in absurd (cc))) ∙ k.own from to at e
-      where
-        ours : (from : ℕ) → me ≡ from → (from == me) ≡ true
-        ours from same = elim (eqb_tells from me) [
-          | inl one_is ↦ one_is.0
-          | inr nay ↦ absurd (nay.1 (sym same))
-        ]
-
     agrees : (m : ℕ) (t : PeerState) → state_of after m ≡ Some t → (at : ℕ) → Shows (filter (is_of me m at) now) (slot_at t.slots at)
     agrees m t e at = by (eqb_tells m n) (eqb_tells at on)
       where
@@ -110,7 +100,7 @@ keyed me n on h after kept now others slots k = record { agrees = agrees; own = 
 stays : (ns : List ℕ) (me : ℕ) (note : HostNote) (h : Host) (kept : List Kept) → Holds ns h → IsSaid note h
     → ((s : PeerState) (on : ℕ) (of_link : List Kept) → Shows of_link (slot_at s.slots on) → Shows of_link (slot_at (note_for note s).slots on))
     → Known me h kept → Known me (after_note note h) kept
-stays ns me note h kept k p leaves known = record { agrees = agrees; own = known.own }
+stays ns me note h kept k p leaves known = record { agrees = agrees }
   where
     agrees : (m : ℕ) (t : PeerState) → state_of (after_note note h) m ≡ Some t → (on : ℕ) → Shows (filter (is_of me m on) kept) (slot_at t.slots on)
     agrees m t e on = let w = was ns note h m t k p e in subst (λ (x : PeerState). Shows (filter (is_of me m on) kept) (slot_at x.slots on)) (sym w.2) (by w.0 (names m note) (known.agrees m w.0 w.1 on))
@@ -211,21 +201,25 @@ in_leaves ns me h umpire bits k p f full =
     (λ s on of_link shown. subst (λ (x : LinkSlot). Shows of_link x) (sym (bits_leave (leader_in bits) bits s on)) shown)
     (f full)
 
+-- what is kept of the links of one host, where what is kept of another's changes
+pub apart_known : (me other to on : ℕ) (h : Host) (kept now : List Kept) → (other == me) ≡ false → ((q : Kept → Bool) → Apart (is_of other to on) q → filter q now ≡ filter q kept) → Known me h kept → Known me h now
+apart_known me other to on h kept now e others known = record {
+  agrees = λ m t there l.
+      subst (λ (xs : List Kept). Shows xs (slot_at t.slots l)) (sym (others (is_of me m l) (keys_apart other to on me m l (λ same. let nay : true ≡ false = sym (ours same.0) ∙ e in absurd (cc))))) (known.agrees m t there l);
+}
+  where
+    ours : other ≡ me → (other == me) ≡ true
+    ours same = elim (eqb_tells other me) [
+      | inl one_is ↦ one_is.0
+      | inr nay ↦ absurd (nay.1 same)
+    ]
+
 -- a message of another host
 pub coming_keeps : (me : ℕ) (h : Host) (umpire : Umpire) (peer link : ℕ) → (peer == me) ≡ false → Follows me h umpire → Follows me h (after_in umpire me peer link)
 coming_keeps me h umpire peer link e f = by (judges_coming umpire me peer)
   where
-    full_of : (kept : List Kept) → filter (is_of peer me link) kept ≡ [] → Placed (is_of peer me link) kept → ⊥
-    full_of kept nay r = let some : [] ≡ r.k ∷ filter (is_of peer me link) r.after = sym nay ∙ ap (filter (is_of peer me link)) r.form ∙ taken (is_of peer me link) r.before r.k r.after r.none r.hit in absurd (cc)
-
-    none : (kept : List Kept) → filter (is_of peer me link) kept ≡ [] → with_coming kept (place_of peer me link kept) ≡ kept
-    none kept nay = elim (placed (is_of peer me link) kept) [
-      | inl out ↦ ap (with_coming kept) out.0
-      | inr r ↦ absurd (full_of kept nay r)
-    ]
-
     by : (b : Bool) → Follows me h (if b then record umpire { kept = with_coming umpire.kept (place_of peer me link umpire.kept) } else umpire)
-    by true full = let known = f full in subst (λ (xs : List Kept). Known me h xs) (sym (none umpire.kept (known.own peer me link e))) known
+    by true full = apart_known me peer me link h umpire.kept (with_coming umpire.kept (place_of peer me link umpire.kept)) e (after_coming peer me link umpire.kept).0 (f full)
     by false full = f full
 
 -- an answer, of a peer and of another host

@@ -1,4 +1,5 @@
--- A walk over a run: by no rule is the host found to be wrong.
+-- What is seen of the phases of a host with all its peers, through what goes out and what comes: by no rule is the host
+-- found to be wrong.
 use Rattle.std.proofs.Common.{◌≡◌, ◌≢◌, ◌⊎◌, inl, inr, ℕ, ◌*◌, ◌≤◌, ◌<◌, ◌==◌, Bool, true, false, not, ◌&&◌, ◌||◌, if◌then◌else◌, List, [], ◌∷◌, ◌++◌, length, Option, None, Some, Result, Ok, Err, option_map, option_to_list, filter, refl, sym, ap, ◌∙◌, subst, arith}
 use Rattle.std.proofs.lemmas.Bool.{eqb-true}
 use Rattle.std.proofs.lemmas.List.{length-replicate}
@@ -37,23 +38,17 @@ use Rattle.ncp_host.specs.Hearing.{message_after, answer_of}
 use Rattle.ncp_host.specs.Output.{leader_to, message_to, links, control_message, text_message, output_by, after_by, after_output}
 use Rattle.ncp_host.specs.Host.{Host, state_of, is_one_of, new_host}
 use Rattle.ncp_host.specs.Arrivals.{received_in}
-use Rattle.ncp_host.specs.Turns.{next_output}
-use Rattle.ncp_transcript.specs.declared.input.Input.{Input}
-use Rattle.ncp_transcript.specs.declared.input.Input.TheVariants as inputs
 use Rattle.ncp_transcript.specs.declared.note.HostNote.{HostNote}
 use Rattle.ncp_transcript.specs.declared.note.HostNote.TheVariants as notes
 use Rattle.ncp_transcript.specs.After.{after_note}
-use Rattle.ncp_transcript.specs.Noting.{answer_in, answer_with, if_peer, note_as, note_of_bits, note_of_message}
-use Rattle.ncp_transcript.specs.Runs.{IsSaid, AreNotes}
-use Rattle.ncp_transcript.proofs.Saying.{noted_said}
-use Rattle.ncp_transcript_two.proofs.Fitting.{note-fits}
+use Rattle.ncp_transcript.specs.Noting.{answer_with, if_peer, note_as, note_of_bits}
+use Rattle.ncp_transcript.specs.Runs.{IsSaid}
 use Rattle.ncp_proof_runs.specs.Peers.{is_number, peer_of_leader, names, bits_for, out_for, note_for}
 use Rattle.ncp_proof_runs.proofs.Said.{IsOut}
 use Rattle.ncp_proof_runs.proofs.Ready.{link_small}
 use Rattle.ncp_proof_runs.proofs.States.{done, is_there}
 use Rattle.ncp_proof_runs.proofs.PeerRuns.{message-slots}
-use Rattle.ncp_proof_runs.proofs.HostRuns.{Holds, some_same, out-turn, out-is, note-state}
-use Rattle.ncp_proof_runs.proofs.EachPeer.{holds-after, new-holds}
+use Rattle.ncp_proof_runs.proofs.HostRuns.{Holds, some_same, note-state}
 use Rattle.ncp_umpire.specs.declared.finding.Finding.{Finding}
 use Rattle.ncp_umpire.specs.declared.finding.Rule.{Rule}
 use Rattle.ncp_umpire.specs.declared.finding.Thing.TheVariants as a
@@ -69,19 +64,16 @@ use Rattle.ncp_umpire.specs.Slots.{is_of, place_of, slot_at as kept_slot, same_a
 use Rattle.ncp_umpire.specs.Messages.{is_unused, reading_of}
 use Rattle.ncp_umpire.specs.Phases.{early_finding, item_findings, after_item, items_findings, after_items, missing_finding}
 use Rattle.ncp_umpire.specs.Judged.{new_umpire, sees, by_host, view_of, knows_zero, slot_of, same_of, is_fresh, out_rule, out_finding, fresh_out, view_after_out, after_out, with_answer, after_answer, judges_coming, with_coming, after_in, turn_at, is_roomy, control_findings, read_findings, after_read, said_findings, after_said, record_findings, after_record}
-use Rattle.ncp_umpire.proofs.Passing.{Pass, both, goes_said}
+use Rattle.ncp_umpire.proofs.Passing.{Pass, goes_said}
 use Rattle.ncp_umpire.proofs.Following.{Keeps, said_keeps, out_is, short_is, other_is, own_is, in_is, answer_is}
-use Rattle.ncp_proof_umpire.specs.Recordings.{gone_by, recording, findings_from, spares, begun, AreFit, any_rule, NobodyBlamed}
-use Rattle.ncp_proof_umpire.proofs.Spared.{spared}
-use Rattle.ncp_proof_umpire.proofs.Steps.{noted}
-use Rattle.ncp_proof_umpire.proofs.Leaders.{apart, peers_parts, peer_of_turn}
+use Rattle.ncp_proof_umpire.specs.Recordings.{spares, any_rule}
+use Rattle.ncp_proof_umpire.proofs.Leaders.{apart}
 use Rattle.ncp_proof_umpire.proofs.Shown.{Shows, allowed}
-use Rattle.ncp_proof_umpire.proofs.HostSlots.{is_of_call, call_noted, call_leaves, answer_here, answer_there, was}
-use Rattle.ncp_proof_umpire.proofs.Linked.{Known, Follows, after_call, after_out_of, after_in_of, coming_keeps, no_regular}
-use Rattle.ncp_proof_umpire.proofs.LinkWalk.{begins as follows_begins}
+use Rattle.ncp_proof_umpire.proofs.HostSlots.{is_of_call, call_leaves, answer_here, answer_there, was}
+use Rattle.ncp_proof_umpire.proofs.Linked.{Known, Follows, after_out_of, coming_keeps, no_regular}
 use Rattle.ncp_proof_umpire.proofs.Fine.{Fine}
 use Rattle.ncp_proof_umpire.proofs.Laid.{Whole, out_whole, weighs}
-use Rattle.ncp_proof_umpire.proofs.ReadyPeers.{AllReady, ready_after, fits_in, fits_out, begins as ready_begins}
+use Rattle.ncp_proof_umpire.proofs.ReadyPeers.{AllReady}
 use Rattle.ncp_proof_umpire.proofs.PhaseLists.{itself, replicated}
 use Rattle.ncp_proof_umpire.proofs.Fresh.{New, is_new, OnLinks, sees_busy}
 use Rattle.ncp_proof_umpire.proofs.Phased.{Sees}
@@ -134,7 +126,7 @@ out_used on m s u a l e = elim (eqb_tells l on) [
 
 -- ---- calls
 
-call_all : (ns : List ℕ) (me : ℕ) (note : HostNote) (h : Host) (umpire : Umpire) → Holds ns h → IsSaid note h → is_of_call note ≡ true → AllReady h → AllSeen me h umpire → AllSeen me (after_note note h) umpire
+pub call_all : (ns : List ℕ) (me : ℕ) (note : HostNote) (h : Host) (umpire : Umpire) → Holds ns h → IsSaid note h → is_of_call note ≡ true → AllReady h → AllSeen me h umpire → AllSeen me (after_note note h) umpire
 call_all ns me note h umpire k p c ready seen = record { long = seen.long; each = each }
   where
     each : umpire.full ≡ false → (n : ℕ) (t : PeerState) → state_of (after_note note h) n ≡ Some t → Seen t (view_in umpire.views me n)
@@ -312,7 +304,7 @@ answer_all ns me h umpire u bits leader note k p is v f seen = record { long = a
         by s true o = record { stands = answer_seen leader.link (answer_of leader.kind) s (view_in umpire.views me n) o.used o.stands; used = answer_used leader.link (answer_of leader.kind) s o.used }
         by s false o = o
 
-in_all : (ns : List ℕ) (me : ℕ) (h : Host) (umpire : Umpire) (bits : List Bool) (note : HostNote) → Holds ns h → is_one_of me ns ≡ false → me < 256 → IsSaid note h → note ≡ note_of_bits bits h
+pub in_all : (ns : List ℕ) (me : ℕ) (h : Host) (umpire : Umpire) (bits : List Bool) (note : HostNote) → Holds ns h → is_one_of me ns ≡ false → me < 256 → IsSaid note h → note ≡ note_of_bits bits h
     → Follows me h umpire → AllSeen me h umpire → AllSeen me (after_note note h) (after_record umpire FromImp me bits)
 in_all ns me h umpire bits note k away small p is follows seen = go (leader_in bits) refl
   where
@@ -567,7 +559,7 @@ goes_on ns me n h umpire message s is k small away p there follows ready seen ot
     went : Out A me n (is_empty (slot_at s.slots on)) (message_in message) (after_by (slot_at s.slots on) on s.peer) now
     went = link_out A me n on message s long small num is.a_link (ready n s there).fine is.ready busy k1 k2
 
-out_all : (ns : List ℕ) (me n : ℕ) (h : Host) (umpire : Umpire) (message : List Bool) (s : PeerState) (is : IsOut n message s) → Holds ns h → me < 256 → is_one_of me ns ≡ false → IsSaid (notes.Out message) h → state_of h n ≡ Some s
+pub out_all : (ns : List ℕ) (me n : ℕ) (h : Host) (umpire : Umpire) (message : List Bool) (s : PeerState) (is : IsOut n message s) → Holds ns h → me < 256 → is_one_of me ns ≡ false → IsSaid (notes.Out message) h → state_of h n ≡ Some s
     → Follows me h umpire → AllReady h → AllSeen me h umpire → (n == me) ≡ false → AllSeen me (after_note (notes.Out message) h) (after_record umpire ToImp me message)
 out_all ns me n h umpire message s is k small away p there follows ready seen other =
     subst (λ (u : Umpire). AllSeen me (after_note (notes.Out message) h) u) (sym (out_is umpire me n on message is.leader other))
@@ -706,7 +698,7 @@ free me n h umpire s message is there f = go umpire.full refl
         let none : rules ≡ None = allowed (is_of me n is.on) (view_in umpire.views me n).known umpire.kept (slot_at s.slots is.on) n is.on s.peer message ((f full).agrees n s there is.on) is.ready in
         subst (λ (o : Option Rule). Pass (spares any_rule me) (option_to_list (option_map (by_host me) o))) (sym none) refl
 
-out_spared : (ns : List ℕ) (me n : ℕ) (h : Host) (umpire : Umpire) (message : List Bool) (s : PeerState) (is : IsOut n message s) → Holds ns h → me < 256 → is_one_of me ns ≡ false → IsSaid (notes.Out message) h → state_of h n ≡ Some s
+pub out_spared : (ns : List ℕ) (me n : ℕ) (h : Host) (umpire : Umpire) (message : List Bool) (s : PeerState) (is : IsOut n message s) → Holds ns h → me < 256 → is_one_of me ns ≡ false → IsSaid (notes.Out message) h → state_of h n ≡ Some s
     → Follows me h umpire → AllReady h → AllSeen me h umpire → (n == me) ≡ false → Pass (spares any_rule me) (record_findings umpire ToImp me message)
 out_spared ns me n h umpire message s is k small away p there follows ready seen other =
     goes_said (spares any_rule me) umpire me n on message is.leader other
@@ -730,48 +722,6 @@ out_spared ns me n h umpire message s is k small away p there follows ready seen
     by true full = full_said A me n (fresh_out (sees umpire me) me n on message) (message_in message) full whole.1
     by false full = (goes_on ns me n h umpire message s is k small away p there follows ready seen other full).none
 
--- ---- the walk
-
-walk : (ns : List ℕ) (me : ℕ) (given : List Input) (noted : List HostNote) (h : Host) (umpire : Umpire) → me < 256 → is_one_of me ns ≡ false → Holds ns h → Follows me h umpire → AllReady h → AllSeen me h umpire → AreFit given → AreNotes given noted h
-    → Pass (spares any_rule me) (findings_from umpire me (recording given noted))
-walk ns me [] noted h umpire l a k follows ready seen f p = refl
-walk ns me (input ∷ given) [] h umpire l a k follows ready seen f p = refl
-walk ns me (inputs.Call call ∷ given) (note ∷ noted) h umpire l a k follows ready seen f p =
-    let said = noted_said (inputs.Call call) note h p.0 in
-    let c = call_noted call note h p.0 in
-    walk ns me given noted (after_note note h) umpire l a (holds-after ns note h k said) (after_call ns me note h umpire k said c follows) (ready_after ns note h k said (note-fits call note h p.0 f.0) ready)
-    (call_all ns me note h umpire k said c ready seen) f.1 p.1
-walk ns me (inputs.In bits ∷ given) (note ∷ noted) h umpire l a k follows ready seen f p =
-    let after = after_record umpire FromImp me bits in
-    let said = noted_said (inputs.In bits) note h p.0 in
-    both (spares any_rule me) (record_findings umpire FromImp me bits) (findings_from after me (recording given noted)) (spared any_rule me umpire bits)
-    (walk ns me given noted (after_note note h) after l a (holds-after ns note h k said) (after_in_of ns me h umpire bits note k a said p.0 follows) (ready_after ns note h k said (fits_in (answer_in bits h) bits h note p.0) ready)
-    (in_all ns me h umpire bits note k a l said p.0 follows seen) f p.1)
-walk ns me (inputs.Out ∷ given) (note ∷ noted) h umpire l a k follows ready seen f p =
-    let said = noted_said inputs.Out note h p.0 in
-    go (next_output h) refl p.0 said
-    (λ u x y. walk ns me given noted (after_note note h) u l a (holds-after ns note h k said) x (ready_after ns note h k said (fits_out (next_output h) note p.0) ready) y f p.1)
-  where
-    Rest : HostNote → Type 0
-    Rest x = (u : Umpire) → Follows me (after_note x h) u → AllSeen me (after_note x h) u → Pass (spares any_rule me) (findings_from u me (recording given noted))
-
-    Whole_run : HostNote → Type 0
-    Whole_run x = Pass (spares any_rule me) (findings_from umpire me (gone_by x ++ recording given noted))
-
-    out : (message : List Bool) → next_output h ≡ Some message → IsSaid (notes.Out message) h → Rest (notes.Out message) → Whole_run (notes.Out message)
-    out message q said rest =
-        let t = out-turn ns h message k q in
-        let is : IsOut t.n message t.s = out-is ns h message k t in
-        let other = peer_of_turn ns me h message k a t in
-        let after = after_record umpire ToImp me message in
-        both (spares any_rule me) (record_findings umpire ToImp me message) (findings_from after me (recording given noted))
-        (out_spared ns me t.n h umpire message t.s is k l a said t.found follows ready seen other)
-        (rest after (after_out_of ns me t.n is.on h umpire message t.s k said is.leader other t.found follows) (out_all ns me t.n h umpire message t.s is k l a said t.found follows ready seen other))
-
-    go : (o : Option (List Bool)) → next_output h ≡ o → note ≡ note_of_message o → IsSaid note h → Rest note → Whole_run note
-    go None q e said rest = subst Whole_run (sym e) ((subst Rest e rest) umpire follows seen)
-    go (Some message) q e said rest = subst Whole_run (sym e) (out message q (subst (λ (x : HostNote). IsSaid x h) e said) (subst Rest e rest))
-
 -- ---- the beginning
 
 new_seen : (v : View) → v ≡ new_view false → Seen new_state v
@@ -780,7 +730,7 @@ new_seen v e = subst (λ (x : View). Seen new_state x) (sym e) (record {
   used = λ on x. let nay : true ≡ false = sym (ap is_empty (slot_at-no_slots on)) ∙ x in absurd (cc);
 })
 
-seen_begins : (me : ℕ) (ns : List ℕ) → AllSeen me (new_host me ns) (new_umpire false)
+pub seen_begins : (me : ℕ) (ns : List ℕ) → AllSeen me (new_host me ns) (new_umpire false)
 seen_begins me ns = record { long = length-replicate VIEWS (new_view false); each = λ full n s e. by ns n s e (view_in (new_umpire false).views me n) (new_is n) }
   where
     new_is : (n : ℕ) → view_in (new_umpire false).views me n ≡ new_view false
@@ -793,10 +743,3 @@ seen_begins me ns = record { long = length-replicate VIEWS (new_view false); eac
         go : (b : Bool) → (state_of (new_host me ns) n ≡ Some s → (v : View) → v ≡ new_view false → Seen s v) → (if b then Some new_state else state_of (new_host me ns) n) ≡ Some s → Seen s v
         go true rest e = let is : new_state ≡ s = cc in subst (λ (x : PeerState). Seen x v) is (new_seen v q)
         go false rest e = rest e v q
-
-pub none_blamed : NobodyBlamed
-none_blamed me ns given now peers places small fit steps =
-    let w = noted given (begun me ns) now steps in
-    let parts = peers_parts me ns peers in
-    subst (λ (all : List HostNote). Pass (spares any_rule me) (findings_from (new_umpire false) me (recording given all))) (sym w.1)
-    (walk ns me given w.0 (new_host me ns) (new_umpire false) small parts.1 (new-holds me ns parts.0 places) (follows_begins me ns) (ready_begins me ns) (seen_begins me ns) fit w.2)

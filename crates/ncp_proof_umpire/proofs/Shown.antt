@@ -12,14 +12,14 @@ use Rattle.ncp_umpire.specs.declared.kept.Kept.{Kept}
 use Rattle.ncp_umpire.specs.declared.kept.Slot.{Slot}
 use Rattle.ncp_umpire.specs.declared.kept.Slot.TheVariants as slot
 use Rattle.ncp_umpire.specs.Slots.{is_of, same_bits, place_of, kept_at, slot_at, same_at, gone_out, has_room, with_out, with_slot, with_answered}
-use Rattle.ncp_umpire.specs.Judged.{out_rule, is_out, with_answer}
+use Rattle.ncp_umpire.specs.Judged.{out_rule, is_out, with_answer, with_coming}
 use Rattle.ncp_proof_umpire.proofs.KeptOne.{middle_set, middle_get, middle_remove, Placed, placed, taken, Apart, Became, replaced, forgotten, as_list, behind, put_out}
 
 abbrev pub ShowsOne : Slot → List Bool → LinkSlot → Type 0
 ShowsOne slot.Unknown message s = ⊥
 ShowsOne slot.Empty message s = s ≡ host.Empty
 ShowsOne slot.Out message s = s ≡ host.Travelling message
-ShowsOne slot.Came message s = ⊥
+ShowsOne slot.Came message s = s ≡ host.Travelling message
 ShowsOne slot.Again message s = (s ≡ host.Ready message) ⊎ (s ≡ host.Held message)
 
 abbrev pub Shows : List Kept → LinkSlot → Type 0
@@ -64,7 +64,7 @@ allowed p known kept s n on peer bits h ready = go (placed p kept)
     one slot.Unknown m e = absurd e
     one slot.Empty m e = refl
     one slot.Out m e = let nay : None ≡ Some bits = ap (λ (x : LinkSlot). output_by x n on peer) (sym e) ∙ ready in absurd (cc)
-    one slot.Came m e = absurd e
+    one slot.Came m e = let nay : None ≡ Some bits = ap (λ (x : LinkSlot). output_by x n on peer) (sym e) ∙ ready in absurd (cc)
     one slot.Again m (inl e) = ap (λ (b : Bool). out_rule slot.Again b on) (alike m (ap (λ (x : LinkSlot). output_by x n on peer) (sym e) ∙ ready))
     one slot.Again m (inr e) = let nay : None ≡ Some bits = ap (λ (x : LinkSlot). output_by x n on peer) (sym e) ∙ ready in absurd (cc)
 
@@ -142,7 +142,7 @@ after_answering me n on known kind kept = go (placed p kept)
     rests slot.Unknown m s o e = absurd e
     rests slot.Empty m s o e = ap (answered (how_of kind)) e ∙ empty_stays (how_of kind)
     rests slot.Out m s o e = absurd (cc)
-    rests slot.Came m s o e = absurd e
+    rests slot.Came m s o e = absurd (cc)
     rests slot.Again m s o (inl e) = inl (ap (answered (how_of kind)) e ∙ ready_stays (how_of kind) m)
     rests slot.Again m s o (inr e) = inr (ap (answered (how_of kind)) e ∙ held_stays (how_of kind) m)
 
@@ -151,7 +151,7 @@ after_answering me n on known kind kept = go (placed p kept)
     out_is slot.Unknown m s o e = absurd e
     out_is slot.Empty m s o e = absurd (cc)
     out_is slot.Out m s o e = e
-    out_is slot.Came m s o e = absurd e
+    out_is slot.Came m s o e = e
     out_is slot.Again m s o e = absurd (cc)
 
     freed : (m : List Bool) (s : LinkSlot) → (kind == 5) ≡ true → s ≡ host.Travelling m → answered (how_of kind) s ≡ host.Empty
@@ -226,6 +226,48 @@ after_answering me n on known kind kept = go (placed p kept)
         (subst (λ (k : Kept). Done (if not (is_out k.slot) then kept else if kind == 5 then with_answered known kept (length r.before) else with_slot kept (length r.before) slot.Again)) is
         (place_done r (is_out r.k.slot) (kind == 5) known refl refl))
 
+-- ---- what is out comes to the other host
+
+pub after_coming : (from to on : ℕ) (kept : List Kept)
+    → ((q : Kept → Bool) → Apart (is_of from to on) q → filter q (with_coming kept (place_of from to on kept)) ≡ filter q kept)
+    × ((s : LinkSlot) → Shows (filter (is_of from to on) kept) s → Shows (filter (is_of from to on) (with_coming kept (place_of from to on kept))) s)
+after_coming from to on kept = go (placed p kept)
+  where
+    p : Kept → Bool
+    p = is_of from to on
+
+    Done : List Kept → Type 0
+    Done now = ((q : Kept → Bool) → Apart p q → filter q now ≡ filter q kept) × ((s : LinkSlot) → Shows (filter p kept) s → Shows (filter p now) s)
+
+    came : (k : Slot) (m : List Bool) (s : LinkSlot) → is_out k ≡ true → ShowsOne k m s → ShowsOne slot.Came m s
+    came slot.Unknown m s o e = absurd e
+    came slot.Empty m s o e = absurd (cc)
+    came slot.Out m s o e = e
+    came slot.Came m s o e = e
+    came slot.Again m s o e = absurd (cc)
+
+    place_done : (r : Placed p kept) (out : Bool) → is_out r.k.slot ≡ out → Done (if out then with_slot kept (length r.before) slot.Came else kept)
+    place_done r false o = (λ q a. refl, λ s h. h)
+    place_done r true o =
+        let new : Kept = record r.k { slot = slot.Came } in
+        let marked : with_slot kept (length r.before) slot.Came ≡ r.before ++ new ∷ r.after =
+        ap (λ (xs : List Kept). slice_set xs (length r.before) (record (kept_at xs (length r.before)) { slot = slot.Came })) r.form
+        ∙ ap (λ (k : Kept). slice_set (r.before ++ r.k ∷ r.after) (length r.before) (record k { slot = slot.Came })) (middle_get r.before r.k r.after)
+        ∙ middle_set r.before r.k new r.after in
+        let b = as_list p kept (with_slot kept (length r.before) slot.Came) (r.before ++ new ∷ r.after) (new ∷ filter p r.after) marked (replaced p kept r new r.hit) in
+        let all : filter p kept ≡ r.k ∷ filter p r.after = ap (filter p) r.form ∙ taken p r.before r.k r.after r.none r.hit in (
+          b.others,
+          λ s h. let w = only r.k (filter p r.after) s (subst (λ (xs : List Kept). Shows xs s) all h) in
+              subst (λ (xs : List Kept). Shows xs s) (sym (b.own ∙ ap (λ (xs : List Kept). new ∷ xs) w.0)) (came r.k.slot r.k.message s o w.1),
+        )
+
+    go : ((position p kept ≡ None) × (filter p kept ≡ [])) ⊎ Placed p kept → Done (with_coming kept (position p kept))
+    go (inl none) = subst (λ (o : Option ℕ). Done (with_coming kept o)) (sym none.0) (λ q a. refl, λ s h. h)
+    go (inr r) =
+        let is : r.k ≡ kept_at kept (length r.before) = sym (ap (λ (xs : List Kept). kept_at xs (length r.before)) r.form ∙ middle_get r.before r.k r.after) in
+        subst (λ (o : Option ℕ). Done (with_coming kept o)) (sym r.at)
+        (subst (λ (k : Kept). Done (if is_out k.slot then with_slot kept (length r.before) slot.Came else kept)) is (place_done r (is_out r.k.slot) refl))
+
 -- ---- a wake
 
 pub after_waking : (kept : List Kept) (s : LinkSlot) → Shows kept s → Shows kept (woken s)
@@ -236,7 +278,7 @@ after_waking (k ∷ []) s e = one k.slot e
     one slot.Unknown e = absurd e
     one slot.Empty e = ap woken e
     one slot.Out e = ap woken e
-    one slot.Came e = absurd e
+    one slot.Came e = ap woken e
     one slot.Again (inl e) = inl (ap woken e)
     one slot.Again (inr e) = inl (ap woken e)
 after_waking (k ∷ other ∷ more) s e = absurd e

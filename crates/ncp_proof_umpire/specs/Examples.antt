@@ -1,5 +1,5 @@
 -- Recordings at the interface of host 1 by which the laws show that they speak of something.
-use Rattle.std.specs.Prelude.{Bool, true, false, List, [], ◌∷◌, ◌++◌, replicate}
+use Rattle.std.specs.Prelude.{ℕ, Bool, true, false, List, [], ◌∷◌, ◌++◌, replicate}
 use Rattle.ncp_terms.specs.declared.answer.Answer.TheVariants.{Incomplete}
 use Rattle.ncp_host.specs.declared.received.Received.TheVariants as received
 use Rattle.ncp_transcript.specs.declared.input.Input.{Input}
@@ -13,6 +13,10 @@ use Rattle.ncp_umpire.specs.declared.way.Way.TheVariants.{ToImp, FromImp}
 -- two bits are no leader
 abbrev pub too_short : List (Way × List Bool)
 too_short = (ToImp, true ∷ true ∷ []) ∷ []
+
+-- the same at the interface of host 2, and then at that of host 1
+abbrev pub both_short : List (ℕ × Way × List Bool)
+both_short = (2, ToImp, true ∷ true ∷ []) ∷ (1, ToImp, true ∷ true ∷ []) ∷ []
 
 -- a control message to host 2 of one byte, 14, which is no command
 abbrev pub no_command : List (Way × List Bool)

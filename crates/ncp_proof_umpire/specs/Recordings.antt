@@ -1,5 +1,5 @@
 -- What passes the interface of one host while it runs, and that an audit of it blames the host for nothing.
-use Rattle.std.specs.Prelude.{◌≡◌, ◌<◌, ℕ, ◌==◌, not, ◌&&◌, Bool, true, false, List, [], ◌∷◌, ◌++◌}
+use Rattle.std.specs.Prelude.{◌≡◌, ◌<◌, ℕ, ◌==◌, not, ◌&&◌, Bool, true, false, List, [], ◌∷◌, ◌++◌, if◌then◌else◌}
 use Rattle.std.specs.List.{list_all}
 use Rattle.ncp_host.specs.Host.{is_one_of, are_peers, new_host}
 use Rattle.ncp_transcript.specs.declared.input.Input.{Input}
@@ -97,10 +97,24 @@ is_of_link other = false
 abbrev pub any_rule : Rule → Bool
 any_rule rule = true
 
--- In the whole recording of a host, whatever it is asked for and whatever bits come, nothing is found against it: the
--- number of the host has a place in a leader, and those of all calls have theirs in commands.
+-- ---- in a file with records of other interfaces too, each with the number of its host
+
+-- the records at the interface of a host
+abbrev pub at_interface : ℕ → List (ℕ × Way × List Bool) → List (Way × List Bool)
+at_interface me [] = []
+at_interface me (one ∷ more) = if one.0 == me then (one.1, one.2) ∷ at_interface me more else at_interface me more
+
+-- what is found in them, where the umpire reads the whole file
+abbrev pub found_at : Umpire → ℕ → List (ℕ × Way × List Bool) → List Finding
+found_at umpire me [] = []
+found_at umpire me (one ∷ more) = (if one.0 == me then record_findings umpire one.1 one.0 one.2 else []) ++ found_at (after_record umpire one.1 one.0 one.2) me more
+
+-- Where the records at the interface of a host are its whole recording, whatever it is asked for and whatever bits come,
+-- nothing is found in them against it, whatever else the file has: the number of the host has a place in a leader, and
+-- those of all calls have theirs in commands.
 abbrev pub NobodyBlamed : Type 0
 NobodyBlamed =
-    (me : ℕ) (ns : List ℕ) (given : List Input) (now : Alone)
+    (me : ℕ) (ns : List ℕ) (given : List Input) (now : Alone) (file : List (ℕ × Way × List Bool))
     → are_peers me ns ≡ true → ((n : ℕ) → is_one_of n ns ≡ true → n < 256) → me < 256 → AreFit given → AreSteps given (begun me ns) now
-    → list_all (spares any_rule me) (findings_from (new_umpire false) me (recording given now.notes)) ≡ true
+    → at_interface me file ≡ recording given now.notes
+    → list_all (spares any_rule me) (found_at (new_umpire false) me file) ≡ true

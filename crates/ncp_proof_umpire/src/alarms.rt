@@ -4,8 +4,8 @@ ghost use Rattle.std.specs.List.{list_all};
 ghost use Rattle.ncp_umpire.specs.declared.finding.Rule.TheVariants as rule;
 ghost use Rattle.ncp_umpire.specs.declared.finding.Thing.TheVariants as thing;
 ghost use Rattle.ncp_umpire.specs.Judged.{new_umpire, by_host};
-ghost use Rattle.ncp_proof_umpire.specs.Recordings.{recording, findings_from, spares, NothingComingBlames, NoFalseAlarm, NobodyBlamed, any_rule, is_of_leader, is_of_link};
-ghost use Rattle.ncp_proof_umpire.specs.Examples.{too_short, no_command, wrong_resets, two_at_once, lost_given, lost_noted, lost_seen, once_more};
+ghost use Rattle.ncp_proof_umpire.specs.Recordings.{recording, findings_from, spares, at_interface, found_at, NothingComingBlames, NoFalseAlarm, NobodyBlamed, any_rule, is_of_leader, is_of_link};
+ghost use Rattle.ncp_proof_umpire.specs.Examples.{too_short, both_short, no_command, wrong_resets, two_at_once, lost_given, lost_noted, lost_seen, once_more};
 
 /// What comes to a host is never found against it, by no rule: not of a capture that begins in the middle either.
 pub fn nothing_that_comes_blames_the_host()
@@ -23,18 +23,22 @@ pub fn no_link_is_blamed()
     ensures { NoFalseAlarm is_of_link }
 {}
 
-/// No host is found to break any rule at its own interface: whatever calls are made and whatever bits come, an audit of the
-/// whole recording finds nothing against it, where its number and those of its calls have their places.
+/// No host is found to break any rule at its own interface: whatever calls are made, whatever bits come, and whatever is
+/// recorded at other interfaces, an audit finds nothing against it in its whole recording, where its number and those of its
+/// calls have their places.
 pub fn no_host_is_blamed()
     ensures { NobodyBlamed }
 {}
 
 /// That these laws speak of something: what goes out and what comes is recorded; a message that is no whole leader is found,
-/// and so are a byte that begins no command, a second RST, an RRP for which no RST asked and what is said before the reply,
-/// and a message that goes out before the answer to the last; one that was lost goes out once more, and nothing is found.
+/// also behind one of another interface; so are a byte that begins no command, a second RST, an RRP for which no RST asked
+/// and what is said before the reply, and a message that goes out before the answer to the last; one that was lost goes out
+/// once more, and nothing is found.
 pub fn wrong_hosts_are_blamed()
     ensures recorded { recording lost_given lost_noted ≡ lost_seen }
     ensures short { list_all (spares is_of_leader 1) (findings_from (new_umpire false) 1 too_short) ≡ false }
+    ensures here { at_interface 1 both_short ≡ too_short }
+    ensures there { found_at (new_umpire false) 1 both_short ≡ by_host 1 (rule.Short 2) ∷ [] }
     ensures bad { list_all (spares any_rule 1) (findings_from (new_umpire false) 1 no_command) ≡ false }
     ensures resets { findings_from (new_umpire false) 1 wrong_resets ≡ by_host 1 rule.RstAgain ∷ by_host 1 rule.RrpUnasked ∷ by_host 1 (rule.Early thing.Nop true true false) ∷ [] }
     ensures blamed { list_all (spares any_rule 1) (findings_from (new_umpire false) 1 wrong_resets) ≡ false }

@@ -1,4 +1,4 @@
-use Rattle.ncp_proof_umpire.proofs.PhaseWalk.{none_blamed}
+use Rattle.ncp_proof_umpire.proofs.FileWalk.{none_blamed}
 use Rattle.ncp_proof_umpire.proofs.alarms.no_host_is_blamed.Goals as goal
 
 pub returns : goal.returns

@@ -11,6 +11,13 @@ pub returns-clause-short : goal.returns-clause-short
 unfolding number_of
 returns-clause-short c = refl
 
+pub returns-clause-here : goal.returns-clause-here
+returns-clause-here c = refl
+
+pub returns-clause-there : goal.returns-clause-there
+unfolding number_of
+returns-clause-there c = refl
+
 pub returns-clause-bad : goal.returns-clause-bad
 unfolding number_of byte_of bytes_of command_at commands_within
 returns-clause-bad c = refl

@@ -1,0 +1,132 @@
+-- A walk over a run, in a file that has records of other interfaces too: by no rule is the host found to be wrong.
+use Rattle.std.proofs.Common.{◌≡◌, ℕ, ◌<◌, ◌==◌, Bool, true, false, if◌then◌else◌, List, [], ◌∷◌, ◌++◌, Option, None, Some, refl, sym, ap, ◌∙◌, subst}
+use Rattle.std.proofs.lemmas.Bool.{eqb-true}
+use Rattle.ncp_host.specs.PeerState.{PeerState}
+use Rattle.ncp_host.specs.Host.{Host, state_of, is_one_of, new_host}
+use Rattle.ncp_host.specs.Turns.{next_output}
+use Rattle.ncp_transcript.specs.declared.input.Input.{Input}
+use Rattle.ncp_transcript.specs.declared.input.Input.TheVariants as inputs
+use Rattle.ncp_transcript.specs.declared.note.HostNote.{HostNote}
+use Rattle.ncp_transcript.specs.declared.note.HostNote.TheVariants as notes
+use Rattle.ncp_transcript.specs.After.{after_note}
+use Rattle.ncp_transcript.specs.Noting.{answer_in, note_of_message}
+use Rattle.ncp_transcript.specs.Runs.{IsSaid, AreNotes}
+use Rattle.ncp_transcript.proofs.Saying.{noted_said}
+use Rattle.ncp_transcript_two.proofs.Fitting.{note-fits}
+use Rattle.ncp_proof_runs.proofs.Said.{IsOut}
+use Rattle.ncp_proof_runs.proofs.HostRuns.{Holds, out-turn, out-is}
+use Rattle.ncp_proof_runs.proofs.EachPeer.{holds-after, new-holds}
+use Rattle.ncp_umpire.specs.declared.finding.Finding.{Finding}
+use Rattle.ncp_umpire.specs.declared.umpire.Umpire.{Umpire}
+use Rattle.ncp_umpire.specs.declared.way.Way.{Way}
+use Rattle.ncp_umpire.specs.declared.way.Way.TheVariants.{ToImp, FromImp}
+use Rattle.ncp_umpire.specs.Judged.{new_umpire, record_findings, after_record}
+use Rattle.ncp_umpire.proofs.Passing.{Pass, both}
+use Rattle.ncp_proof_umpire.specs.Recordings.{gone_by, recording, spares, begun, AreFit, any_rule, at_interface, found_at, NobodyBlamed}
+use Rattle.ncp_proof_umpire.proofs.Spared.{spared}
+use Rattle.ncp_proof_umpire.proofs.Steps.{noted}
+use Rattle.ncp_proof_umpire.proofs.Leaders.{peers_parts, peer_of_turn}
+use Rattle.ncp_proof_umpire.proofs.HostSlots.{call_noted}
+use Rattle.ncp_proof_umpire.proofs.Linked.{after_call, after_out_of, after_in_of}
+use Rattle.ncp_proof_umpire.proofs.LinkWalk.{begins as follows_begins}
+use Rattle.ncp_proof_umpire.proofs.ReadyPeers.{AllReady, ready_after, fits_in, fits_out, begins as ready_begins}
+use Rattle.ncp_proof_umpire.proofs.PhaseWalk.{call_all, in_all, out_all, out_spared, seen_begins}
+use Rattle.ncp_proof_umpire.proofs.Others.{Watched, watched, other_leaves}
+
+-- ---- the records between
+
+-- what is found from a record of the host on
+abbrev From : ℕ → Umpire → Way × List Bool → List (ℕ × Way × List Bool) → Type 0
+From me umpire x file = Pass (spares any_rule me) (record_findings umpire x.0 me x.1 ++ found_at (after_record umpire x.0 me x.1) me file)
+
+-- up to the next record of the host
+skip : (me : ℕ) (h : Host) (file : List (ℕ × Way × List Bool)) (umpire : Umpire) (x : Way × List Bool) (rest : List (Way × List Bool)) → ((n : ℕ) (s : PeerState) → state_of h n ≡ Some s → n < 256) → Watched me h umpire → at_interface me file ≡ x ∷ rest
+    → ((u : Umpire) (more : List (ℕ × Way × List Bool)) → Watched me h u → at_interface me more ≡ rest → From me u x more) → Pass (spares any_rule me) (found_at umpire me file)
+skip me h [] umpire x rest small w e k = absurd (cc e)
+skip me h (one ∷ more) umpire x rest small w e k = go (one.0 == me) refl (λ u v f. skip me h more u x rest small v f k)
+  where
+    next : Bool → List (Way × List Bool)
+    next b = if b then (one.1, one.2) ∷ at_interface me more else at_interface me more
+
+    found : Bool → List Finding
+    found b = (if b then record_findings umpire one.1 one.0 one.2 else []) ++ found_at (after_record umpire one.1 one.0 one.2) me more
+
+    go : (b : Bool) → (one.0 == me) ≡ b → ((u : Umpire) → Watched me h u → at_interface me more ≡ x ∷ rest → Pass (spares any_rule me) (found_at u me more)) → Pass (spares any_rule me) (found_at umpire me (one ∷ more))
+    go true d later =
+        let both_same : (one.1, one.2) ∷ at_interface me more ≡ x ∷ rest = sym (ap next d) ∙ e in
+        let head : (one.1, one.2) ≡ x = cc both_same in
+        let tail : at_interface me more ≡ rest = cc both_same in
+        subst (λ (b : Bool). Pass (spares any_rule me) (found b)) (sym d)
+        (subst (λ (at : ℕ). Pass (spares any_rule me) (record_findings umpire one.1 at one.2 ++ found_at (after_record umpire one.1 at one.2) me more)) (sym (eqb-true one.0 me d))
+        (subst (λ (y : Way × List Bool). From me umpire y more) (sym head) (k umpire more w tail)))
+    go false d later =
+        subst (λ (b : Bool). Pass (spares any_rule me) (found b)) (sym d)
+        (later (after_record umpire one.1 one.0 one.2) (watched me h umpire (after_record umpire one.1 one.0 one.2) small (other_leaves me one.0 one.1 one.2 umpire d) w) (sym (ap next d) ∙ e))
+
+-- behind the last one
+no_more : (me : ℕ) (file : List (ℕ × Way × List Bool)) (umpire : Umpire) → at_interface me file ≡ [] → Pass (spares any_rule me) (found_at umpire me file)
+no_more me [] umpire e = refl
+no_more me (one ∷ more) umpire e = go (one.0 == me) refl (no_more me more (after_record umpire one.1 one.0 one.2))
+  where
+    next : Bool → List (Way × List Bool)
+    next b = if b then (one.1, one.2) ∷ at_interface me more else at_interface me more
+
+    found : Bool → List Finding
+    found b = (if b then record_findings umpire one.1 one.0 one.2 else []) ++ found_at (after_record umpire one.1 one.0 one.2) me more
+
+    go : (b : Bool) → (one.0 == me) ≡ b → (at_interface me more ≡ [] → Pass (spares any_rule me) (found_at (after_record umpire one.1 one.0 one.2) me more)) → Pass (spares any_rule me) (found_at umpire me (one ∷ more))
+    go true d later = let nay : (one.1, one.2) ∷ at_interface me more ≡ [] = sym (ap next d) ∙ e in absurd (cc nay)
+    go false d later = subst (λ (b : Bool). Pass (spares any_rule me) (found b)) (sym d) (later (sym (ap next d) ∙ e))
+
+-- ---- the walk
+
+walk : (ns : List ℕ) (me : ℕ) (given : List Input) (noted : List HostNote) (h : Host) (umpire : Umpire) (file : List (ℕ × Way × List Bool)) → me < 256 → is_one_of me ns ≡ false → Holds ns h → Watched me h umpire → AllReady h → AreFit given → AreNotes given noted h
+    → at_interface me file ≡ recording given noted → Pass (spares any_rule me) (found_at umpire me file)
+walk ns me [] noted h umpire file l a k w ready f p e = no_more me file umpire e
+walk ns me (input ∷ given) [] h umpire file l a k w ready f p e = no_more me file umpire e
+walk ns me (inputs.Call call ∷ given) (note ∷ noted) h umpire file l a k w ready f p e =
+    let said = noted_said (inputs.Call call) note h p.0 in
+    let c = call_noted call note h p.0 in
+    walk ns me given noted (after_note note h) umpire file l a (holds-after ns note h k said) (record { follows = after_call ns me note h umpire k said c w.follows; seen = call_all ns me note h umpire k said c ready w.seen })
+    (ready_after ns note h k said (note-fits call note h p.0 f.0) ready) f.1 p.1 e
+walk ns me (inputs.In bits ∷ given) (note ∷ noted) h umpire file l a k w ready f p e =
+    let said = noted_said (inputs.In bits) note h p.0 in
+    skip me h file umpire (FromImp, bits) (recording given noted) (λ n s there. (k.good n s there).0) w e
+    (λ u more v d.
+    both (spares any_rule me) (record_findings u FromImp me bits) (found_at (after_record u FromImp me bits) me more) (spared any_rule me u bits)
+    (walk ns me given noted (after_note note h) (after_record u FromImp me bits) more l a (holds-after ns note h k said)
+    (record { follows = after_in_of ns me h u bits note k a said p.0 v.follows; seen = in_all ns me h u bits note k a l said p.0 v.follows v.seen })
+    (ready_after ns note h k said (fits_in (answer_in bits h) bits h note p.0) ready) f p.1 d))
+walk ns me (inputs.Out ∷ given) (note ∷ noted) h umpire file l a k w ready f p e =
+    let said = noted_said inputs.Out note h p.0 in
+    go (next_output h) refl p.0 said e
+    (λ u more v d. walk ns me given noted (after_note note h) u more l a (holds-after ns note h k said) v (ready_after ns note h k said (fits_out (next_output h) note p.0) ready) f p.1 d)
+  where
+    Rest : HostNote → Type 0
+    Rest x = (u : Umpire) (more : List (ℕ × Way × List Bool)) → Watched me (after_note x h) u → at_interface me more ≡ recording given noted → Pass (spares any_rule me) (found_at u me more)
+
+    out : (message : List Bool) → next_output h ≡ Some message → IsSaid (notes.Out message) h → at_interface me file ≡ (ToImp, message) ∷ recording given noted → Rest (notes.Out message) → Pass (spares any_rule me) (found_at umpire me file)
+    out message q said e rest =
+        let t = out-turn ns h message k q in
+        let is : IsOut t.n message t.s = out-is ns h message k t in
+        let other = peer_of_turn ns me h message k a t in
+        skip me h file umpire (ToImp, message) (recording given noted) (λ n s there. (k.good n s there).0) w e
+        (λ u more v d.
+        both (spares any_rule me) (record_findings u ToImp me message) (found_at (after_record u ToImp me message) me more)
+        (out_spared ns me t.n h u message t.s is k l a said t.found v.follows ready v.seen other)
+        (rest (after_record u ToImp me message) more (record {
+          follows = after_out_of ns me t.n is.on h u message t.s k said is.leader other t.found v.follows;
+          seen = out_all ns me t.n h u message t.s is k l a said t.found v.follows ready v.seen other;
+        }) d))
+
+    go : (o : Option (List Bool)) → next_output h ≡ o → note ≡ note_of_message o → IsSaid note h → at_interface me file ≡ gone_by note ++ recording given noted → Rest note → Pass (spares any_rule me) (found_at umpire me file)
+    go None q is said e rest = (subst Rest is rest) umpire file w (subst (λ (x : HostNote). at_interface me file ≡ gone_by x ++ recording given noted) is e)
+    go (Some message) q is said e rest =
+        out message q (subst (λ (x : HostNote). IsSaid x h) is said) (subst (λ (x : HostNote). at_interface me file ≡ gone_by x ++ recording given noted) is e) (subst Rest is rest)
+
+pub none_blamed : NobodyBlamed
+none_blamed me ns given now file peers places small fit steps here =
+    let w = noted given (begun me ns) now steps in
+    let parts = peers_parts me ns peers in
+    walk ns me given w.0 (new_host me ns) (new_umpire false) file small parts.1 (new-holds me ns parts.0 places) (record { follows = follows_begins me ns; seen = seen_begins me ns }) (ready_begins me ns) fit w.2
+    (subst (λ (all : List HostNote). at_interface me file ≡ recording given all) w.1 here)
