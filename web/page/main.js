@@ -40,6 +40,11 @@ class Page {
     return this.sessions.now;
   }
 
+  /** What they hold. */
+  get panels() {
+    return new Panels(this.session, this.run);
+  }
+
   // ---- a script
 
   /** Plays a text from its beginning, and shows it at an event, or at the last one of a `line`. */
@@ -231,7 +236,7 @@ class Page {
       for (const id of ["hosts", "ledgers", "transit"]) $(id).innerHTML = "";
       return;
     }
-    const panels = new Panels(this.session, this.run), [one, other] = this.shownPair, { hosts } = this.run;
+    const { panels } = this, [one, other] = this.shownPair, { hosts } = this.run;
     const title = host => this.run.isMany ? `Host ${hosts[host].number}` : `Host ${hosts[host].name} (${hosts[host].number})`;
     $("hosts").innerHTML = hostHtml(`${title(one)}, of ${hosts[other].name}`, panels.of(one, other)) + hostHtml(`${title(other)}, of ${hosts[one].name}`, panels.of(other, one));
     const ledgers = [[one, other], [other, one]].flatMap(([host, peer]) => panels.ledgers(host, peer).map(it => ledgerHtml(title(host), it)));
