@@ -1,17 +1,43 @@
 //! What is wrong with the header of a message file.
+ghost use Rattle.std.specs.Prelude.{◌≡◌, IfOk};
+ghost use Rattle.std.specs.String.{string_bytes};
+ghost use Rattle.ncp_play_faults.specs.Bytes.{hex_byte};
+ghost use Rattle.ncp_play_faults.specs.Headers.{beginning, is_hexadecimal, header_told};
 
 use std::alloc::{AllocError, Global};
 
 // What a message file begins with.
 const WANTED: &str = "a message file begins with the letters NCPH, NCPI or NCPJ";
 
+/// A byte in two hexadecimal digits.
+pub(crate) fn in_hexadecimal(alloc: Global, byte: u8) -> Result<String, AllocError>
+    ensures { IfOk result (λ text. string_bytes text ≡ hex_byte byte) }
+{
+    format!(in alloc; "{byte:02x}")
+}
+
 // Whether bytes are the beginning of hexadecimal text, as a listing of a file has it.
-fn is_hexadecimal(head: &[u8]) -> bool {
+fn is_hexadecimal(head: &[u8]) -> bool
+    ensures { result ≡ is_hexadecimal head.now }
+{
     head.iter().all(|byte| byte.is_ascii_hexdigit() || byte.is_ascii_whitespace() || *byte == b'#')
 }
 
+// The first four bytes of a file that is none that is known.
+fn beginning(alloc: Global, one: u8, two: u8, three: u8, four: u8) -> Result<String, AllocError>
+    ensures { IfOk result (λ text. string_bytes text ≡ beginning one two three four) }
+{
+    let one = in_hexadecimal(alloc, one)?;
+    let two = in_hexadecimal(alloc, two)?;
+    let three = in_hexadecimal(alloc, three)?;
+    let four = in_hexadecimal(alloc, four)?;
+    format!(in alloc; "it begins with the bytes {one} {two} {three} {four}: {WANTED}")
+}
+
 /// What is wrong with the header of a message file that is `BadHeader`, of which these are the first bytes.
-pub fn wrong_header(alloc: Global, head: &[u8]) -> Result<String, AllocError> {
+pub fn wrong_header(alloc: Global, head: &[u8]) -> Result<String, AllocError>
+    ensures told { IfOk result (λ text. string_bytes text ≡ header_told head.now) }
+{
     if head.is_empty() {
         return format!(in alloc; "the file is empty: {WANTED}");
     }
@@ -27,11 +53,7 @@ pub fn wrong_header(alloc: Global, head: &[u8]) -> Result<String, AllocError> {
         );
     }
     match head {
-        [one, two, three, four, ..] => {
-            format!(in alloc;
-                "it begins with the bytes {one:02x} {two:02x} {three:02x} {four:02x}: {WANTED}"
-            )
-        }
+        [one, two, three, four, ..] => beginning(alloc, *one, *two, *three, *four),
         _ => {
             let count = head.len();
             format!(in alloc; "there are {count} bytes: {WANTED}")

@@ -2,13 +2,17 @@
 //! is found elsewhere; here it is only explained, so nothing rests on it.
 //!
 //! - *Use:* `meaning("BadLine")` is what `ncp explain BadLine` prints; `wrong_line` says what is wrong with a line.
-//! - *Proved:* that it returns. Its texts are only tested.
-//! - *Tests:* `ncp_test_faults`.
+//! - *Proved:* the word that is suggested is the first of the known ones that is near, and none is suggested only if
+//!   none is (`nearest`, clauses `found` and `none`); a name means the text beside it (`meaning`), and has one meaning
+//!   (`laws::each_name_has_one_meaning`); which words scripts have (`verbs`); what is told of a header (`wrong_header`).
+//!   That a text names a mistake in a line is only tested.
+//! - *Tests:* `ncp_test_faults`; words that are near, and words that are not, in `laws`.
 #![tactic(auto)]
 
 mod arguments;
 mod first_line;
 mod header;
+pub mod laws;
 mod line;
 mod names;
 mod near;

@@ -1,4 +1,6 @@
 //! What the names of faults and refusals mean.
+ghost use Rattle.std.specs.Prelude.{◌≢◌, ℕ, List, All, Contains, map, IfSome, IfNone};
+ghost use Rattle.ncp_play_faults.specs.Names.{table};
 
 /// A name, as the program prints it, and what it means.
 pub type Meaning = (&'static str, &'static str);
@@ -121,12 +123,23 @@ pub const NAMES: &[Meaning] = &[
     ),
 ];
 
-/// What a name means, if it is the name of a fault or a refusal.
-pub fn meaning(name: &str) -> Option<&'static str> {
-    for (known, text) in NAMES {
+// The text beside the first name of these that is this one.
+fn text_beside(names: &'static [Meaning], name: &str) -> Option<&'static str>
+    ensures known { IfSome result (λ text. Contains {X = List ℕ × List ℕ} (map (λ entry. (entry.0.now, entry.1.now)) names.now) (name.now, text.now)) }
+    ensures unknown { IfNone result (All {X = List ℕ × List ℕ} (λ entry. entry.0 ≢ name.now) (map (λ entry. (entry.0.now, entry.1.now)) names.now)) }
+{
+    for (known, text) in names {
         if *known == name {
             return Some(*text);
         }
     }
     None
+}
+
+/// What a name means, if it is the name of a fault or a refusal.
+pub fn meaning(name: &str) -> Option<&'static str>
+    ensures known { IfSome result (λ text. Contains table (name.now, text.now)) }
+    ensures unknown { IfNone result (All (λ entry. entry.0 ≢ name.now) table) }
+{
+    text_beside(NAMES, name)
 }

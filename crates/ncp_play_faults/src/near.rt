@@ -1,10 +1,15 @@
 //! Words that are nearly others.
+ghost use Rattle.std.specs.Prelude.{◌≡◌, ◌==◌, ◌↔◌, List, map, reverse, IsTrue, IfSome, IfNone};
+ghost use Rattle.std.specs.List.{common_prefix_len};
+ghost use Rattle.ncp_play_faults.specs.Near.{folded, IsNear, NoneIsNear, IsFirstNear};
 
 // How many letters may be wrong in one place.
 const WRONG: usize = 2;
 
 // How a letter is compared: capital letters and '_' are mistaken for others.
-fn folded(byte: u8) -> u8 {
+fn folded(byte: u8) -> u8
+    ensures { result ≡ folded byte }
+{
     if byte == b'_' {
         b'-'
     } else {
@@ -13,37 +18,48 @@ fn folded(byte: u8) -> u8 {
 }
 
 // How many bytes two words have in common at their beginnings.
-fn common_front(one: &str, other: &str) -> usize {
-    one.bytes()
-        .zip(other.bytes())
-        .take_while(|(a, b)| folded(*a) == folded(*b))
+fn common_front(one: &[u8], other: &[u8]) -> usize
+    ensures { result ≡ common_prefix_len (λ a b. folded a == folded b) one.now other.now }
+{
+    one.iter()
+        .zip(other.iter())
+        .take_while(|(a, b)| folded(**a) == folded(**b))
         .count()
 }
 
 // And at their ends.
-fn common_end(one: &str, other: &str) -> usize {
-    one.bytes()
+fn common_end(one: &[u8], other: &[u8]) -> usize
+    ensures { result ≡ common_prefix_len (λ a b. folded a == folded b) (reverse one.now) (reverse other.now) }
+{
+    one.iter()
         .rev()
-        .zip(other.bytes().rev())
-        .take_while(|(a, b)| folded(*a) == folded(*b))
+        .zip(other.iter().rev())
+        .take_while(|(a, b)| folded(**a) == folded(**b))
         .count()
 }
 
 // Whether two words differ in one place, by few letters, and have more in common.
-fn is_near(word: &str, known: &str) -> bool {
+fn is_near(word: &[u8], known: &[u8]) -> bool
+    ensures near { IsTrue result → IsNear word.now known.now }
+    ensures far { IsNear word.now known.now → IsTrue result }
+{
     let shorter = word.len().min(known.len());
     let longer = word.len().max(known.len());
     let front = common_front(word, known).min(shorter);
     let end = common_end(word, known).min(shorter - front);
-    let common = front.saturating_add(end);
-    longer.saturating_sub(common) <= WRONG && common >= WRONG
+    let common = front + end;
+    let few = longer - common <= WRONG;
+    few && common >= WRONG
 }
 
 /// The first of these words that is nearly this one: capital and small letters are the same, and so are `-` and `_`, and
 /// in one place up to two letters may be wrong, missing, or too many.
-pub fn nearest<'a>(word: &str, known: &[&'a str]) -> Option<&'a str> {
+pub fn nearest<'a>(word: &str, known: &[&'a str]) -> Option<&'a str>
+    ensures found { IfSome result (λ near. IsFirstNear word.now (map (λ one. one.now) known.now) near.now) }
+    ensures none { IfNone result (NoneIsNear word.now (map (λ one. one.now) known.now)) }
+{
     for candidate in known {
-        if is_near(word, candidate) {
+        if is_near(word.as_bytes(), candidate.as_bytes()) {
             return Some(*candidate);
         }
     }

@@ -1,4 +1,6 @@
 //! What the lines of scripts look like.
+ghost use Rattle.std.specs.Prelude.{◌≡◌, ◌++◌, map, IfOk, IsTrue, Contains, ◌↔◌};
+ghost use Rattle.ncp_play_faults.specs.Verbs.{all_verbs};
 
 use std::alloc::{AllocError, Global};
 
@@ -140,7 +142,9 @@ pub(crate) fn is_verb(word: &str) -> bool {
 }
 
 // Adds the words of these usages.
-fn add_words(words: &mut Vec<&'static str>, usages: &'static [Usage]) -> Result<(), AllocError> {
+fn add_words(words: &mut Vec<&'static str>, usages: &'static [Usage]) -> Result<(), AllocError>
+    ensures { IfOk result (λ _. words.new.items ≡ words.old.items ++ map (λ usage. usage.0) usages.now) }
+{
     for usage in usages {
         words.push(usage.0)?;
     }
@@ -148,7 +152,9 @@ fn add_words(words: &mut Vec<&'static str>, usages: &'static [Usage]) -> Result<
 }
 
 /// All words that name what is to be done, in any script.
-pub fn verbs(alloc: Global) -> Result<Vec<&'static str>, AllocError> {
+pub fn verbs(alloc: Global) -> Result<Vec<&'static str>, AllocError>
+    ensures { IfOk result (λ words. map (λ word. word.now) words.items ≡ all_verbs) }
+{
     let mut words = Vec::new(alloc);
     for usages in ALL {
         add_words(&mut words, *usages)?;

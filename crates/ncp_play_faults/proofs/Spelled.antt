@@ -1,0 +1,31 @@
+-- The first strange byte, byte by byte.
+use Rattle.std.proofs.Common.{◌≡◌, ◌==◌, ◌<◌, ◌≤◌, ◌+◌, ℕ, true, false, List, ◌∷◌, ◌++◌, length, drop, get_or, None, Some, refl, ap, ◌∙◌, add-one, drop-cons, codes, decimal, append_assoc}
+use Rattle.std.proofs.Math.ListN.{drop_of_length-le}
+use Rattle.ncp_play_faults.specs.Bytes.{hex_byte}
+use Rattle.ncp_play_faults.specs.Spelling.{is_sign, strange_from, byte_told}
+
+rest_from : (text : List ℕ) (i : ℕ) → i < length text → drop i text ≡ get_or text i 0 ∷ drop (i + 1) text
+rest_from text i h = rw (add-one, drop-cons text i 0) refl
+
+pub next_sign : (text : List ℕ) (i : ℕ) → i < length text → is_sign (get_or text i 0) ≡ true → strange_from (i + 1) (drop i text) ≡ strange_from (i + 1 + 1) (drop (i + 1) text)
+next_sign text i h t = ap (λ l. strange_from (i + 1) l) (rest_from text i h) ∙ rw t refl
+
+pub here_strange : (text : List ℕ) (i : ℕ) → i < length text → is_sign (get_or text i 0) ≡ false → strange_from (i + 1) (drop i text) ≡ Some (i + 1, get_or text i 0)
+here_strange text i h t = ap (λ l. strange_from (i + 1) l) (rest_from text i h) ∙ rw t refl
+
+pub none_strange : (text : List ℕ) (i : ℕ) → length text ≤ i → strange_from (i + 1) (drop i text) ≡ None
+none_strange text i h = ap (λ l. strange_from (i + 1) l) (drop_of_length-le text h)
+
+-- ---- what is told of a byte, with its pieces from behind
+pub told_tab : (place byte : ℕ) → byte ≡ 9 → byte_told place byte ≡ codes "a tab, at byte " ++ (decimal place ++ codes "; words stand one space apart")
+told_tab place byte e = ap (byte_told place) e ∙ append_assoc (codes "a tab, at byte ") (decimal place) (codes "; words stand one space apart")
+
+pub told_return : (place byte : ℕ) → byte ≡ 13 → byte_told place byte ≡ codes "a carriage return, at byte " ++ (decimal place ++ codes ", with no line feed behind it")
+told_return place byte e = ap (byte_told place) e ∙ append_assoc (codes "a carriage return, at byte ") (decimal place) (codes ", with no line feed behind it")
+
+pub told_other : (place byte : ℕ) → (byte == 9) ≡ false → (byte == 13) ≡ false →
+    byte_told place byte ≡ codes "byte " ++ (decimal place ++ (codes " is " ++ (hex_byte byte ++ codes ", which is no letter, digit or sign of ASCII")))
+told_other place byte a b =
+    rw (a, b) (append_assoc (codes "byte " ++ decimal place ++ codes " is ") (hex_byte byte) (codes ", which is no letter, digit or sign of ASCII")
+    ∙ append_assoc (codes "byte " ++ decimal place) (codes " is ") (hex_byte byte ++ codes ", which is no letter, digit or sign of ASCII")
+    ∙ append_assoc (codes "byte ") (decimal place) (codes " is " ++ (hex_byte byte ++ codes ", which is no letter, digit or sign of ASCII")))

@@ -1,0 +1,34 @@
+-- What is told of the header of a message file.
+use Rattle.std.specs.Prelude.{◌==◌, ◌||◌, Bool, ℕ, List, ◌++◌, length, slice_index, codes, decimal, nat_eq, nat_lt, if◌then◌else◌}
+use Rattle.std.specs.List.{starts_with, list_all}
+use Rattle.std.specs.Char.{is_ascii_hexdigit, is_ascii_whitespace}
+use Rattle.ncp_play_faults.specs.Bytes.{hex_byte}
+
+-- what a message file begins with
+abbrev pub wanted : List ℕ
+wanted = codes "a message file begins with the letters NCPH, NCPI or NCPJ"
+
+-- bytes that are a listing of a file in hexadecimal
+abbrev pub is_hexadecimal : List ℕ → Bool
+is_hexadecimal head = list_all (λ byte. is_ascii_hexdigit byte || is_ascii_whitespace byte || byte == 35) head
+
+-- the first four bytes of a file that is none that is known
+abbrev pub beginning : ℕ → ℕ → ℕ → ℕ → List ℕ
+beginning one two three four =
+    codes "it begins with the bytes " ++ hex_byte one ++ codes " " ++ hex_byte two ++ codes " " ++ hex_byte three ++ codes " "
+    ++ hex_byte four ++ codes ": " ++ wanted
+
+-- and how many bytes there are, if they are fewer
+abbrev pub unknown_header : List ℕ → List ℕ
+unknown_header head =
+    if nat_lt (length head) 4 then codes "there are " ++ decimal (length head) ++ codes " bytes: " ++ wanted
+    else beginning (slice_index head 0) (slice_index head 1) (slice_index head 2) (slice_index head 3)
+
+-- a header that is none
+abbrev pub header_told : List ℕ → List ℕ
+header_told head =
+    if length head == 0 then codes "the file is empty: " ++ wanted
+    else if starts_with nat_eq head (codes "host ") then codes "this is a script of one host: ncp host plays it"
+    else if starts_with nat_eq head (codes "hosts ") || starts_with nat_eq head (codes "many ") then codes "this is a script of several hosts: ncp world plays it"
+    else if is_hexadecimal head then codes "this is hexadecimal text, of which 'xxd -r -p' makes bytes: " ++ wanted
+    else unknown_header head

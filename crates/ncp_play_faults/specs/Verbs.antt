@@ -1,0 +1,29 @@
+-- The words of scripts that name what is to be done.
+use Rattle.std.specs.Prelude.{ℕ, List, [], ◌∷◌, ◌++◌, codes}
+
+-- the calls of a host
+abbrev pub calls : List (List ℕ)
+calls =
+    codes "reset" ∷ codes "wake" ∷ codes "phase" ∷ codes "echoed" ∷ codes "errors" ∷ codes "counts" ∷ codes "echo" ∷ codes "interrupt"
+    ∷ codes "close" ∷ codes "state" ∷ codes "ask-send" ∷ codes "ask-receive" ∷ codes "give" ∷ codes "take" ∷ codes "allocate"
+    ∷ codes "call-back" ∷ []
+
+-- what a host is asked for and names no peer
+abbrev pub plain : List (List ℕ)
+plain = codes "ignored" ∷ codes "out" ∷ []
+
+-- what else a script of one host has
+abbrev pub of_one_host : List (List ℕ)
+of_one_host = codes "in" ∷ codes "feed" ∷ []
+
+-- what the subnet does
+abbrev pub of_the_subnet : List (List ℕ)
+of_the_subnet = codes "deliver" ∷ codes "lose" ∷ codes "dead" ∷ codes "answer" ∷ []
+
+-- what several hosts do, and no host is named
+abbrev pub of_all_hosts : List (List ℕ)
+of_all_hosts = codes "settle" ∷ []
+
+-- all of them
+abbrev pub all_verbs : List (List ℕ)
+all_verbs = calls ++ plain ++ of_one_host ++ of_the_subnet ++ of_all_hosts
