@@ -37,10 +37,12 @@ fn sink_of(alloc: Global) -> Result<MemorySink, AllocError> {
 
 /// How many bytes two texts have in common at their front.
 fn same_front(one: &[u8], other: &[u8]) -> usize {
-    one.iter()
-        .zip(other.iter())
-        .take_while(|(byte, same)| **byte == **same)
-        .count()
+    for (place, (byte, same)) in one.iter().zip(other.iter()).enumerate() {
+        if *byte != *same {
+            return place;
+        }
+    }
+    one.len().min(other.len())
 }
 
 /// What a text has behind so many bytes.

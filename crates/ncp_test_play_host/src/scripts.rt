@@ -1,4 +1,5 @@
 //! Scripts of one host, whole: their lines, and the answer.
+use crate::long_line::{LongLine, MOST_DIGITS, with_long_line};
 use crate::streams::{is_played_whole, play};
 use ncp_bits::{PackedStore, PlainStore};
 use ncp_play_files::FileFault;
@@ -152,28 +153,6 @@ fn scripts_are_played(rt: HostRuntime) -> Result<(), Fail> {
     Ok(())
 }
 
-/// A script with a line of so many bytes, of which each is this one.
-#[derive(Clone, Copy, Drop)]
-struct LongLine<'a> {
-    front: &'a [u8],
-    byte: u8,
-    count: usize,
-    behind: &'a [u8],
-}
-
-fn with_long_line(alloc: Global, long: &LongLine<'_>) -> Result<Vec<u8>, Fail> {
-    let mut script = Vec::new(alloc);
-    script.extend_from_slice(long.front)?;
-    for _ in 0..long.count {
-        script.push(long.byte)?;
-    }
-    script.extend_from_slice(long.behind)?;
-    Ok(script)
-}
-
-/// How many hexadecimal digits the most bits of a line have.
-const MOST_DIGITS: usize = 2048;
-
 const LONG: &[(LongLine<'static>, Result<bool, PlayFault>, &[u8])] = &[
     (
         LongLine {
@@ -260,35 +239,38 @@ fn long_lines_are_played(rt: HostRuntime) -> Result<(), Fail> {
 // What is answered, and how many bytes of lines are written.
 type Outcome = (Result<bool, PlayFault>, usize);
 
-// What comes of the first script where the read behind its first bytes fails.
-fn first_of_front(len: usize) -> Outcome {
-    const FAULT: Result<bool, PlayFault> = Err(PlayFault::ReadFailed);
-    match len {
-        0..17 => (FAULT, 0),
-        17..32 => (FAULT, 18),
-        32..59 => (FAULT, 29),
-        59..67 => (FAULT, 44),
-        67..77 => (FAULT, 60),
-        77..87 => (FAULT, 72),
-        87..91 => (FAULT, 94),
-        91 => (FAULT, 159),
-        _ => (Ok(false), FIRST_LINES.len()),
+// What comes of the first script where a read fails behind so many of its bytes, or more.
+const FIRST_STAGES: &[(usize, Outcome)] = &[
+    (17, (Err(PlayFault::ReadFailed), 18)),
+    (32, (Err(PlayFault::ReadFailed), 29)),
+    (59, (Err(PlayFault::ReadFailed), 44)),
+    (67, (Err(PlayFault::ReadFailed), 60)),
+    (77, (Err(PlayFault::ReadFailed), 72)),
+    (87, (Err(PlayFault::ReadFailed), 94)),
+    (91, (Err(PlayFault::ReadFailed), 159)),
+    (92, (Ok(false), 159)),
+];
+
+// So of the script with a feed.
+const FEED_STAGES: &[(usize, Outcome)] = &[
+    (14, (Err(PlayFault::Feed(FileFault::ReadFailed)), 0)),
+    (30, (Err(PlayFault::Feed(FileFault::ReadFailed)), 15)),
+    (36, (Err(PlayFault::Feed(FileFault::ReadFailed)), 26)),
+    (37, (Ok(true), 91)),
+];
+
+// What comes of a script where a read fails behind so many of its bytes: no line is read before the first stage.
+fn of_front(stages: &[(usize, Outcome)], len: usize) -> Outcome {
+    let mut found = (Err(PlayFault::ReadFailed), 0);
+    for &(from, outcome) in stages {
+        if from <= len {
+            found = outcome;
+        }
     }
+    found
 }
 
-// What comes of the script with a feed so.
-fn feed_of_front(len: usize) -> Outcome {
-    const FAULT: Result<bool, PlayFault> = Err(PlayFault::Feed(FileFault::ReadFailed));
-    match len {
-        0..14 => (Err(PlayFault::ReadFailed), 0),
-        14..30 => (FAULT, 0),
-        30..36 => (FAULT, 15),
-        36 => (FAULT, 26),
-        _ => (Ok(true), FEED_LINES.len()),
-    }
-}
-
-// What comes of it where the write behind the first bytes of its lines fails.
+// What comes of the script with a feed where the write behind the first bytes of its lines fails.
 fn feed_of_written(len: usize) -> Outcome {
     if len < FEED_LINES.len() {
         (Err(PlayFault::WriteFailed), len)
@@ -317,13 +299,13 @@ fn each_failed_read_and_write_is_told(rt: HostRuntime) -> Result<(), Fail> {
             rt.alloc(),
             FIRST,
             (count, None),
-            first_of_front(len),
+            of_front(FIRST_STAGES, len),
             FIRST_LINES,
         )? && is_played(
             rt.alloc(),
             FEED,
             (count, None),
-            feed_of_front(len),
+            of_front(FEED_STAGES, len),
             FEED_LINES,
         )? && is_played(
             rt.alloc(),

@@ -1,4 +1,5 @@
 //! Calls, and the other lines of scripts.
+use crate::long_line::{LongLine, MOST_DIGITS, with_long_line};
 use ncp_play_script::{
     HostLine, Verb, Words, call, host_line, host_named, hosts_first, verb_named,
 };
@@ -68,16 +69,16 @@ fn reads_calls(rt: HostRuntime) {
     }
 }
 
-// How many hexadecimal digits the most bits have.
-const MOST_DIGITS: usize = 2048;
-
 // A text of as many bits as a message can have.
 #[test]
 fn reads_the_longest_text(rt: HostRuntime) -> Result<(), Fail> {
-    let mut line = Vec::from_slice(rt.alloc(), b"give 2 3 2 8192 ")?;
-    for _ in 0..MOST_DIGITS {
-        line.push(b'5')?;
-    }
+    const LINE: LongLine<'static> = LongLine {
+        front: b"give 2 3 2 8192 ",
+        byte: b'5',
+        count: MOST_DIGITS,
+        behind: b"",
+    };
+    let line = with_long_line(rt.alloc(), &LINE)?;
     match call_in(rt.alloc(), &line, None) {
         Some(Call::Give { text, .. }) => assert!(rt; text.len() == 8192),
         _ => assert!(rt; false),

@@ -1,9 +1,9 @@
 //! Words, numbers, bits and arguments.
 
+use crate::long_line::{LongLine, MOST_DIGITS, with_long_line};
 use ncp_bits::Bits;
 use ncp_model::Pair;
 use ncp_play_script::Words;
-use std::alloc::Global;
 use std::process::Abort;
 use std::test::Fail;
 
@@ -46,7 +46,10 @@ fn are_bits(line: &[u8], bytes: &[u8], len: usize) -> bool {
     let Some(read) = words.next_bits() else {
         return false;
     };
-    words.is_empty() && Bits::from_bytes(bytes, len).is_ok_and(|wanted| read == wanted)
+    match Bits::from_bytes(bytes, len) {
+        Ok(wanted) => words.is_empty() && read == wanted,
+        Err(_) => false,
+    }
 }
 
 #[test]
@@ -68,21 +71,25 @@ fn reads_bits(rt: HostRuntime) {
     }
 }
 
-// A number of bits, and so many digits behind it that are all zero.
-fn with_zeros(alloc: Global, number: &[u8], digits: usize) -> Result<Vec<u8>, Fail> {
-    let mut line = Vec::new(alloc);
-    line.extend_from_slice(number)?;
-    for _ in 0..digits {
-        line.push(b'0')?;
-    }
-    Ok(line)
-}
+// The most bits, all zero, and more than these.
+const MOST: LongLine<'static> = LongLine {
+    front: b"8192 ",
+    byte: b'0',
+    count: MOST_DIGITS,
+    behind: b"",
+};
+
+const MORE: LongLine<'static> = LongLine {
+    front: b"8193 ",
+    count: 2050,
+    ..MOST
+};
 
 #[test]
 fn bits_are_8192_at_most(rt: HostRuntime) -> Result<(), Fail> {
-    let most = with_zeros(rt.alloc(), b"8192 ", 2048)?;
+    let most = with_long_line(rt.alloc(), &MOST)?;
     assert!(rt; are_bits(&most, &[0; 1024], 8192));
-    let more = with_zeros(rt.alloc(), b"8193 ", 2050)?;
+    let more = with_long_line(rt.alloc(), &MORE)?;
     assert!(rt; Words::new(&more).next_bits().is_none());
     Ok(())
 }
