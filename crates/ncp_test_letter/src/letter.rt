@@ -74,11 +74,59 @@ const TAKE: Event = Event::Call {
     },
 };
 
-// The next message of a side goes out, comes on this link, and is answered.
+/// What happens: a call of a user, or a message that goes all its way.
+#[derive(Drop)]
+enum Happens {
+    Call(Event),
+    /// The next message of a side goes out, comes on this link, and is answered.
+    Passes(Side, u8),
+}
+
+/// The hosts come up, a connection opens, and two bytes are allowed.
+const BEFORE: [Happens; 9] = [
+    Happens::Call(RESET),
+    Happens::Passes(Side::A, CONTROL_LINK),
+    Happens::Passes(Side::B, CONTROL_LINK),
+    Happens::Call(ASK_RECEIVE),
+    Happens::Call(ASK_SEND),
+    Happens::Passes(Side::B, CONTROL_LINK),
+    Happens::Passes(Side::A, CONTROL_LINK),
+    Happens::Call(ALLOCATE),
+    Happens::Passes(Side::B, CONTROL_LINK),
+];
+
 fn pass(world: &mut World<PackedStore>, side: Side, link: u8) -> Result<(), AllocError> {
-    world.step(&Event::Out { side })?;
-    world.step(&Event::Deliver { side, link })?;
-    world.step(&Event::Answer { side, link })
+    for event in &[
+        Event::Out { side },
+        Event::Deliver { side, link },
+        Event::Answer { side, link },
+    ] {
+        world.step(event)?;
+    }
+    Ok(())
+}
+
+fn all_happen(world: &mut World<PackedStore>, all: &[Happens]) -> Result<(), AllocError> {
+    for one in all {
+        match one {
+            Happens::Call(event) => world.step(event)?,
+            Happens::Passes(side, link) => pass(world, *side, *link)?,
+        }
+    }
+    Ok(())
+}
+
+/// The text is given.
+fn give(alloc: Global, world: &mut World<PackedStore>, text: &Bits) -> Result<(), AllocError> {
+    let text = Message::from_bits(alloc, text)?;
+    world.step(&Event::Call {
+        side: Side::A,
+        call: Call::Give {
+            peer: B,
+            pair: SENDER,
+            text,
+        },
+    })
 }
 
 /// A new world, in which the hosts come up, a connection opens, a text is given at host 1, and what came of it is taken
@@ -89,24 +137,8 @@ pub(crate) fn carry(alloc: Global, text: &Bits) -> Result<World<PackedStore>, Al
     ensures within { IfOk result (λ world. WithinAllowance world.notes) }
 {
     let mut world = World::new(alloc, A, B)?;
-    world.step(&RESET)?;
-    pass(&mut world, Side::A, CONTROL_LINK)?;
-    pass(&mut world, Side::B, CONTROL_LINK)?;
-    world.step(&ASK_RECEIVE)?;
-    world.step(&ASK_SEND)?;
-    pass(&mut world, Side::B, CONTROL_LINK)?;
-    pass(&mut world, Side::A, CONTROL_LINK)?;
-    world.step(&ALLOCATE)?;
-    pass(&mut world, Side::B, CONTROL_LINK)?;
-    let give = Event::Call {
-        side: Side::A,
-        call: Call::Give {
-            peer: B,
-            pair: SENDER,
-            text: Message::from_bits(alloc, text)?,
-        },
-    };
-    world.step(&give)?;
+    all_happen(&mut world, &BEFORE)?;
+    give(alloc, &mut world, text)?;
     pass(&mut world, Side::A, LINK)?;
     world.step(&TAKE)?;
     Ok(world)
