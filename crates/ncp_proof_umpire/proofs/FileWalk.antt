@@ -2,7 +2,7 @@
 use Rattle.std.proofs.Common.{◌≡◌, ℕ, ◌<◌, ◌==◌, Bool, true, false, if◌then◌else◌, List, [], ◌∷◌, ◌++◌, Option, None, Some, refl, sym, ap, ◌∙◌, subst}
 use Rattle.std.proofs.lemmas.Bool.{eqb-true}
 use Rattle.ncp_host.specs.PeerState.{PeerState}
-use Rattle.ncp_host.specs.Host.{Host, state_of, is_one_of, new_host}
+use Rattle.ncp_host.specs.Host.{Host, state_of, is_one_of, are_distinct, new_host}
 use Rattle.ncp_host.specs.Turns.{next_output}
 use Rattle.ncp_transcript.specs.declared.input.Input.{Input}
 use Rattle.ncp_transcript.specs.declared.input.Input.TheVariants as inputs
@@ -124,9 +124,14 @@ walk ns me (inputs.Out ∷ given) (note ∷ noted) h umpire file l a k w ready f
     go (Some message) q is said e rest =
         out message q (subst (λ (x : HostNote). IsSaid x h) is said) (subst (λ (x : HostNote). at_interface me file ≡ gone_by x ++ recording given noted) is e) (subst Rest is rest)
 
+-- from the beginning
+pub run_spared : (ns : List ℕ) (me : ℕ) (given : List Input) (noted : List HostNote) (file : List (ℕ × Way × List Bool)) → are_distinct ns ≡ true → is_one_of me ns ≡ false → ((n : ℕ) → is_one_of n ns ≡ true → n < 256) → me < 256 → AreFit given → AreNotes given noted (new_host me ns)
+    → at_interface me file ≡ recording given noted → Pass (spares any_rule me) (found_at (new_umpire false) me file)
+run_spared ns me given noted file distinct away places small fit p here =
+    walk ns me given noted (new_host me ns) (new_umpire false) file small away (new-holds me ns distinct places) (record { follows = follows_begins me ns; seen = seen_begins me ns }) (ready_begins me ns) fit p here
+
 pub none_blamed : NobodyBlamed
 none_blamed me ns given now file peers places small fit steps here =
     let w = noted given (begun me ns) now steps in
     let parts = peers_parts me ns peers in
-    walk ns me given w.0 (new_host me ns) (new_umpire false) file small parts.1 (new-holds me ns parts.0 places) (record { follows = follows_begins me ns; seen = seen_begins me ns }) (ready_begins me ns) fit w.2
-    (subst (λ (all : List HostNote). at_interface me file ≡ recording given all) w.1 here)
+    run_spared ns me given w.0 file parts.0 parts.1 places small fit w.2 (subst (λ (all : List HostNote). at_interface me file ≡ recording given all) w.1 here)

@@ -20,3 +20,4 @@ pub mod PhaseSeen
 pub mod PhaseWalk
 pub mod Others
 pub mod FileWalk
+pub mod TwoHosts

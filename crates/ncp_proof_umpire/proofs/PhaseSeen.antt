@@ -1,5 +1,5 @@
 -- What is seen at a host of its phase with a peer, through what goes out and what comes.
-use Rattle.std.proofs.Common.{◌≡◌, ◌≢◌, inl, inr, ℕ, ◌+◌, ◌≤◌, ◌<◌, ◌==◌, Bool, true, false, if◌then◌else◌, List, [], ◌∷◌, ◌++◌, length, drop, take, All, Option, None, Some, Result, Ok, Err, option_to_list, get_or-set_same, get_or-set_other, length-set, refl, sym, ap, ◌∙◌, subst, arith}
+use Rattle.std.proofs.Common.{◌≡◌, ◌≢◌, ◌⊎◌, inl, inr, ℕ, ◌+◌, ◌*◌, ◌≤◌, ◌<◌, ◌==◌, Bool, true, false, not, ◌&&◌, ◌||◌, if◌then◌else◌, List, [], ◌∷◌, ◌++◌, length, drop, take, All, Option, None, Some, Result, Ok, Err, is_some, option_to_list, get_or-set_same, get_or-set_other, length-set, refl, sym, ap, ◌∙◌, subst, arith}
 use Rattle.std.proofs.lemmas.Bool.Decides.{eqb_tells}
 use Rattle.ncp_numbers.specs.Bytes.{bytes_of, bits_of_bytes}
 use Rattle.ncp_numbers.proofs.Packing.{bytes_of-bits_of_bytes}
@@ -16,7 +16,7 @@ use Rattle.ncp_control.specs.Reading.{commands_in, fault_in}
 use Rattle.ncp_control.proofs.Reading.{spellings_small, spelled_alone}
 use Rattle.ncp_slot.specs.declared.slot.Slot.TheVariants as host
 use Rattle.ncp_slot.specs.Slot.{is_empty, is_travelling, answered, woken}
-use Rattle.ncp_slot.specs.Slots.{LinkSlot, LinkSlots, slot_at, with_slot, all_woken, is_quiet}
+use Rattle.ncp_slot.specs.Slots.{LinkSlot, LinkSlots, slot_at, with_slot, all_woken, is_quiet, IsQuiet}
 use Rattle.ncp_slot.proofs.Places.{slot_at-with_slot_same, slot_at-with_slot_other, is_quiet-tells, same_test}
 use Rattle.ncp_slot.proofs.Waking.{slot_at-all_woken}
 use Rattle.ncp_model.specs.declared.pair.Pair.{Pair}
@@ -26,6 +26,7 @@ use Rattle.ncp_model.specs.Ends.{Ends, hears_link, sender_on, pair_of, cut_at, c
 use Rattle.ncp_model.specs.Texts.{Rfnm as Taken}
 use Rattle.ncp_model.specs.declared.limits.TheConstants.{MAX_CONTROL}
 use Rattle.ncp_model.specs.Phase.{Phase, up, settles}
+use Rattle.ncp_model.specs.Phase as phases
 use Rattle.ncp_model.specs.Sending.{next_commands}
 use Rattle.ncp_model.specs.Peers.{Peer, Ask_to_send, Ask_to_receive, Close, Give, Take, Allocate, Call_back, Interrupt}
 use Rattle.ncp_model.specs.Peers as peers
@@ -33,9 +34,9 @@ use Rattle.ncp_model.proofs.LinksLead.{led}
 use Rattle.ncp_model.proofs.ResetLists.{rrps, rrps-append}
 use Rattle.ncp_proof_machine.proofs.EndsGood.{Good}
 use Rattle.ncp_host.specs.Counting.{one_more}
-use Rattle.ncp_host.specs.PeerState.{PeerState, control_link, is_answered, answer_taken, answer_comes}
-use Rattle.ncp_host.specs.Hearing.{hears, hears_text, message_after}
-use Rattle.ncp_host.specs.Output.{leader_to, links}
+use Rattle.ncp_host.specs.PeerState.{PeerState, control_link, frees_on, is_answered, answer_taken, answer_comes}
+use Rattle.ncp_host.specs.Hearing.{hears, hears_text, is_wrong_link, control_after, text_after, message_after}
+use Rattle.ncp_host.specs.Output.{leader_to, links, text_message}
 use Rattle.ncp_host.specs.Host.{is_one_of}
 use Rattle.ncp_host.specs.Calls.{sockets}
 use Rattle.ncp_transcript.specs.declared.call.Call.{Call}
@@ -60,7 +61,7 @@ use Rattle.ncp_proof_umpire.proofs.Goes.{used}
 use Rattle.ncp_proof_umpire.proofs.Laid.{fitting_all}
 use Rattle.ncp_proof_umpire.proofs.PhaseLists.{none_of}
 use Rattle.ncp_proof_umpire.proofs.Fresh.{OnLinks, not_quiet}
-use Rattle.ncp_proof_umpire.proofs.Phased.{Phased, Sees, unquieted, up_settled, quieted, text_goes}
+use Rattle.ncp_proof_umpire.proofs.Phased.{Phased, Settled, Sees, unquieted, up_settled, quieted, text_goes}
 use Rattle.ncp_proof_umpire.proofs.PhaseGoes.{rests_more, AllWent, all_went, roomy_left, none_missing}
 use Rattle.ncp_proof_umpire.proofs.PhaseSteps.{Stands, Unheard, none_heard, stands_if, no_reply, settling, calls_stand, echo_stands, reset_stands, command_stands, fault_stands, text_stands, makes_stand}
 

@@ -1,12 +1,14 @@
 -- What a host keeps for a peer, beside what is seen of its phase with it: through each call, and all that comes.
-use Rattle.std.proofs.Common.{◌≡◌, ◌⊎◌, inl, inr, ℕ, ◌<◌, Bool, true, false, ◌&&◌, ◌||◌, if◌then◌else◌, List, [], ◌∷◌, ◌++◌, Option, Ok, Err, refl, sym, ap, ◌∙◌, subst, arith}
+use Rattle.std.proofs.Common.{◌≡◌, ◌≢◌, ◌⊎◌, inl, inr, ℕ, ◌+◌, ◌≤◌, ◌<◌, ◌==◌, Bool, true, false, not, ◌&&◌, ◌||◌, if◌then◌else◌, List, [], ◌∷◌, ◌++◌, Option, None, Some, Result, Ok, Err, is_some, refl, sym, ap, ◌∙◌, subst, arith}
 use Rattle.std.specs.List.{list_any}
 use Rattle.std.specs.FinMap.{get, get-empty}
 use Rattle.ncp_terms.specs.declared.command.Command.{Command}
 use Rattle.ncp_terms.specs.declared.command.Command.TheVariants as commands
 use Rattle.ncp_terms.specs.declared.fault.CommandFault.{CommandFault}
+use Rattle.ncp_control.specs.Texts.{items_of}
 use Rattle.ncp_model.specs.declared.pair.Pair.{Pair}
 use Rattle.ncp_model.specs.Pairs.{pair_cmp}
+use Rattle.ncp_model.specs.End.{End}
 use Rattle.ncp_model.specs.Act.{answer, made_by_call}
 use Rattle.ncp_model.specs.Echo.{Echoes, echo_answer, echo_asked}
 use Rattle.ncp_model.specs.Ends.{Ends, hears_link, put, receiver_on, pair_of, leads_to, hear, text_in, map_after_at, no_ends}
@@ -18,13 +20,14 @@ use Rattle.ncp_model.specs.Sending.{is_full}
 use Rattle.ncp_model.specs.Texts.{made_by_text}
 use Rattle.ncp_model.specs.Peers.{Peer, Call, Ask_to_send, Ask_to_receive, Close, Give, Take, Allocate, Call_back, Interrupt, happened_at, standing}
 use Rattle.ncp_model.specs.Peers as peers
-use Rattle.ncp_model.proofs.ResetLists.{rrps, rrps-append, rrps-purged}
+use Rattle.ncp_model.proofs.ResetLists.{rsts, rrps, rrps-append, rrps-purged}
 use Rattle.ncp_proof_machine.proofs.EndsGood.{Good, same_or, put-changes}
 use Rattle.ncp_proof_watch.proofs.LinksStay.{brings_link, heard-by}
 use Rattle.ncp_umpire.specs.declared.finding.Thing.{Thing}
 use Rattle.ncp_umpire.specs.declared.finding.Thing.TheVariants as a
 use Rattle.ncp_umpire.specs.declared.view.View.{View}
-use Rattle.ncp_umpire.specs.Phases.{after_thing, after_item, after_reset, after_reply}
+use Rattle.ncp_umpire.specs.Views.{is_waiting}
+use Rattle.ncp_umpire.specs.Phases.{after_thing, after_item, after_items, after_reset, after_reply}
 use Rattle.ncp_proof_umpire.proofs.Phased.{Phased, Settled, Sees, falling, queueing, wanting, answering, asking, rst_comes, rrp_comes, rrp_ends_rest, other_comes}
 
 -- ---- the commands that are made

@@ -1,6 +1,6 @@
 -- What is seen of the phases of a host with all its peers, through what goes out and what comes: by no rule is the host
 -- found to be wrong.
-use Rattle.std.proofs.Common.{◌≡◌, ◌≢◌, ◌⊎◌, inl, inr, ℕ, ◌*◌, ◌≤◌, ◌<◌, ◌==◌, Bool, true, false, not, ◌&&◌, ◌||◌, if◌then◌else◌, List, [], ◌∷◌, ◌++◌, length, Option, None, Some, Result, Ok, Err, option_map, option_to_list, filter, refl, sym, ap, ◌∙◌, subst, arith}
+use Rattle.std.proofs.Common.{◌≡◌, ◌≢◌, ◌⊎◌, inl, inr, ℕ, ◌+◌, ◌*◌, ◌≤◌, ◌<◌, ◌==◌, Bool, true, false, not, ◌&&◌, ◌||◌, if◌then◌else◌, List, [], ◌∷◌, ◌++◌, length, take, All, Option, None, Some, Result, Ok, Err, option_map, option_to_list, is_some, filter, refl, sym, ap, ◌∙◌, subst, arith}
 use Rattle.std.proofs.lemmas.Bool.{eqb-true}
 use Rattle.std.proofs.lemmas.List.{length-replicate}
 use Rattle.std.proofs.lemmas.Bool.Decides.{eqb_tells}
@@ -9,6 +9,7 @@ use Rattle.ncp_numbers.proofs.Bytes.{length-bits_of_bytes}
 use Rattle.ncp_leader.specs.declared.fault.MessageFault.{MessageFault}
 use Rattle.ncp_leader.specs.declared.leader.Leader.{Leader}
 use Rattle.ncp_leader.specs.declared.leader.Short.{Short}
+use Rattle.ncp_leader.specs.declared.regular.TheConstants.{FRONT_BITS}
 use Rattle.ncp_leader.specs.Leader.{leader_in}
 use Rattle.ncp_leader.specs.Message.{Message, message_in, message_with}
 use Rattle.ncp_leader.proofs.Messages.{message_leader}
@@ -23,9 +24,10 @@ use Rattle.ncp_control.specs.Reading.{commands_in, fault_in}
 use Rattle.ncp_slot.specs.declared.slot.Slot.TheVariants as host
 use Rattle.ncp_slot.specs.Slot.{is_empty, answered, woken}
 use Rattle.ncp_slot.specs.Slots.{LinkSlot, LinkSlots, slot_at, with_slot, is_quiet}
-use Rattle.ncp_slot.proofs.Places.{slot_at-with_slot_other, slot_at-no_slots}
+use Rattle.ncp_slot.proofs.Places.{slot_at-with_slot_same, slot_at-with_slot_other, slot_at-no_slots}
 use Rattle.ncp_model.specs.Act.{answer}
 use Rattle.ncp_model.specs.Ends.{cut_in}
+use Rattle.ncp_model.specs.Phase.{Phase}
 use Rattle.ncp_model.specs.Sending.{next_commands}
 use Rattle.ncp_model.specs.declared.limits.TheConstants.{MAX_CONTROL}
 use Rattle.ncp_model.specs.Peers.{Peer}
@@ -33,47 +35,60 @@ use Rattle.ncp_model.specs.Peers as peers
 use Rattle.ncp_transcript_two.specs.Tie.{IsText}
 use Rattle.ncp_transcript_two.proofs.Well.{cut-written}
 use Rattle.ncp_transcript_two.proofs.Written.{read}
+use Rattle.ncp_host.specs.Counting.{one_more}
 use Rattle.ncp_host.specs.PeerState.{PeerState, new_state, control_link, answer_comes}
 use Rattle.ncp_host.specs.Hearing.{message_after, answer_of}
 use Rattle.ncp_host.specs.Output.{leader_to, message_to, links, control_message, text_message, output_by, after_by, after_output}
 use Rattle.ncp_host.specs.Host.{Host, state_of, is_one_of, new_host}
 use Rattle.ncp_host.specs.Arrivals.{received_in}
+use Rattle.ncp_host.specs.Turns.{next_output}
+use Rattle.ncp_transcript.specs.declared.input.Input.{Input}
+use Rattle.ncp_transcript.specs.declared.input.Input.TheVariants as inputs
 use Rattle.ncp_transcript.specs.declared.note.HostNote.{HostNote}
 use Rattle.ncp_transcript.specs.declared.note.HostNote.TheVariants as notes
 use Rattle.ncp_transcript.specs.After.{after_note}
-use Rattle.ncp_transcript.specs.Noting.{answer_with, if_peer, note_as, note_of_bits}
-use Rattle.ncp_transcript.specs.Runs.{IsSaid}
+use Rattle.ncp_transcript.specs.Noting.{answer_in, answer_with, if_peer, note_as, note_of_bits, note_of_message}
+use Rattle.ncp_transcript.specs.Runs.{IsSaid, AreNotes}
+use Rattle.ncp_transcript.proofs.Saying.{noted_said}
+use Rattle.ncp_transcript_two.specs.Seen.{told_call, Fits}
+use Rattle.ncp_transcript_two.proofs.Fitting.{note-fits}
 use Rattle.ncp_proof_runs.specs.Peers.{is_number, peer_of_leader, names, bits_for, out_for, note_for}
-use Rattle.ncp_proof_runs.proofs.Said.{IsOut}
+use Rattle.ncp_proof_runs.proofs.Said.{IsOut, IsSaidOf}
 use Rattle.ncp_proof_runs.proofs.Ready.{link_small}
 use Rattle.ncp_proof_runs.proofs.States.{done, is_there}
 use Rattle.ncp_proof_runs.proofs.PeerRuns.{message-slots}
-use Rattle.ncp_proof_runs.proofs.HostRuns.{Holds, some_same, note-state}
+use Rattle.ncp_proof_runs.proofs.HostRuns.{Holds, some_same, out-turn, out-is, note-state}
+use Rattle.ncp_proof_runs.proofs.EachPeer.{holds-after, new-holds}
 use Rattle.ncp_umpire.specs.declared.finding.Finding.{Finding}
 use Rattle.ncp_umpire.specs.declared.finding.Rule.{Rule}
+use Rattle.ncp_umpire.specs.declared.finding.Thing.{Thing}
 use Rattle.ncp_umpire.specs.declared.finding.Thing.TheVariants as a
 use Rattle.ncp_umpire.specs.declared.kept.Kept.{Kept}
 use Rattle.ncp_umpire.specs.declared.umpire.Umpire.{Umpire}
 use Rattle.ncp_umpire.specs.declared.view.View.{View}
 use Rattle.ncp_umpire.specs.declared.views.TheConstants.{VIEWS}
+use Rattle.ncp_umpire.specs.declared.way.Way.{Way}
 use Rattle.ncp_umpire.specs.declared.way.Way.TheVariants.{ToImp, FromImp}
 use Rattle.ncp_umpire.specs.Events.{is_answer}
 use Rattle.ncp_umpire.specs.Tables.{index_of, view_in, with_view}
 use Rattle.ncp_umpire.specs.Views.{new_view}
 use Rattle.ncp_umpire.specs.Slots.{is_of, place_of, slot_at as kept_slot, same_at, gone_out, has_room, with_out, busy_link}
-use Rattle.ncp_umpire.specs.Messages.{is_unused, reading_of}
-use Rattle.ncp_umpire.specs.Phases.{early_finding, item_findings, after_item, items_findings, after_items, missing_finding}
-use Rattle.ncp_umpire.specs.Judged.{new_umpire, sees, by_host, view_of, knows_zero, slot_of, same_of, is_fresh, out_rule, out_finding, fresh_out, view_after_out, after_out, with_answer, after_answer, judges_coming, with_coming, after_in, turn_at, is_roomy, control_findings, read_findings, after_read, said_findings, after_said, record_findings, after_record}
-use Rattle.ncp_umpire.proofs.Passing.{Pass, goes_said}
+use Rattle.ncp_umpire.specs.Messages.{is_unused, reading_of, rule_of_message}
+use Rattle.ncp_umpire.specs.Phases.{early_finding, after_thing, item_findings, after_item, items_findings, after_items, missing_finding}
+use Rattle.ncp_umpire.specs.Judged.{new_umpire, sees, by_host, view_of, knows_zero, slot_of, same_of, is_fresh, changes, out_rule, out_finding, fresh_out, view_after_out, after_out, with_answer, after_answer, judges_coming, with_coming, after_in, turn_at, is_roomy, items_said, control_findings, read_findings, after_read, said_findings, after_said, record_findings, after_record}
+use Rattle.ncp_umpire.proofs.Passing.{Pass, both, goes_said}
 use Rattle.ncp_umpire.proofs.Following.{Keeps, said_keeps, out_is, short_is, other_is, own_is, in_is, answer_is}
 use Rattle.ncp_proof_umpire.specs.Recordings.{spares, any_rule}
-use Rattle.ncp_proof_umpire.proofs.Leaders.{apart}
+use Rattle.ncp_proof_umpire.proofs.Spared.{spared}
+use Rattle.ncp_proof_umpire.proofs.Steps.{noted}
+use Rattle.ncp_proof_umpire.proofs.Leaders.{apart, peers_parts, peer_of_turn}
 use Rattle.ncp_proof_umpire.proofs.Shown.{Shows, allowed}
-use Rattle.ncp_proof_umpire.proofs.HostSlots.{is_of_call, call_leaves, answer_here, answer_there, was}
-use Rattle.ncp_proof_umpire.proofs.Linked.{Known, Follows, after_out_of, coming_keeps, no_regular}
+use Rattle.ncp_proof_umpire.proofs.HostSlots.{is_of_call, call_noted, call_leaves, bits_leave, answer_here, answer_there, was}
+use Rattle.ncp_proof_umpire.proofs.Linked.{Known, Follows, after_call, after_out_of, after_in_of, coming_keeps, no_regular}
+use Rattle.ncp_proof_umpire.proofs.LinkWalk.{begins as follows_begins}
 use Rattle.ncp_proof_umpire.proofs.Fine.{Fine}
 use Rattle.ncp_proof_umpire.proofs.Laid.{Whole, out_whole, weighs}
-use Rattle.ncp_proof_umpire.proofs.ReadyPeers.{AllReady}
+use Rattle.ncp_proof_umpire.proofs.ReadyPeers.{Ready, AllReady, ready_after, fits_in, fits_out, begins as ready_begins}
 use Rattle.ncp_proof_umpire.proofs.PhaseLists.{itself, replicated}
 use Rattle.ncp_proof_umpire.proofs.Fresh.{New, is_new, OnLinks, sees_busy}
 use Rattle.ncp_proof_umpire.proofs.Phased.{Sees}

@@ -6,6 +6,11 @@ use Rattle.ncp_transcript.specs.declared.input.Input.{Input}
 use Rattle.ncp_transcript.specs.declared.input.Input.TheVariants as inputs
 use Rattle.ncp_transcript.specs.declared.note.HostNote.{HostNote}
 use Rattle.ncp_transcript.specs.declared.note.HostNote.TheVariants as notes
+use Rattle.ncp_transcript_two.specs.declared.side.Side.TheVariants.{A}
+use Rattle.ncp_transcript_two.specs.declared.event.Event.{Event}
+use Rattle.ncp_transcript_two.specs.declared.event.Event.TheVariants as events
+use Rattle.ncp_transcript_two.specs.declared.note.Note.{Note}
+use Rattle.ncp_transcript_two.specs.declared.note.Note.TheVariants as two
 use Rattle.ncp_proof_runs.specs.Examples.{byte_of_two, message_on_0}
 use Rattle.ncp_umpire.specs.declared.way.Way.{Way}
 use Rattle.ncp_umpire.specs.declared.way.Way.TheVariants.{ToImp, FromImp}
@@ -52,3 +57,13 @@ lost_seen = (ToImp, message_on_0) ∷ (FromImp, incomplete) ∷ []
 -- and it goes out once more
 abbrev pub once_more : List (Way × List Bool)
 once_more = lost_seen ++ (ToImp, message_on_0) ∷ []
+
+-- of hosts 1 and 2, that message goes out of host 1
+abbrev pub goes_of_two : List Event
+goes_of_two = events.Out A ∷ []
+
+abbrev pub noted_of_two : List Note
+noted_of_two = two.Out A (notes.Out message_on_0) ∷ []
+
+abbrev pub file_of_two : List (ℕ × Way × List Bool)
+file_of_two = (1, ToImp, message_on_0) ∷ []

@@ -1,11 +1,15 @@
 //! The rules that no host is found to break at its own interface.
-ghost use Rattle.std.specs.Prelude.{◌≡◌, ◌∷◌, [], true, false};
+ghost use Rattle.std.specs.Prelude.{◌≡◌, ◌∷◌, [], true, false, Some};
 ghost use Rattle.std.specs.List.{list_all};
+ghost use Rattle.ncp_transcript_two.specs.Between.{new_hosts};
+ghost use Rattle.ncp_proof_runs.specs.Examples.{message_on_0};
+ghost use Rattle.ncp_umpire.specs.declared.way.Way.TheVariants.{FromImp};
 ghost use Rattle.ncp_umpire.specs.declared.finding.Rule.TheVariants as rule;
 ghost use Rattle.ncp_umpire.specs.declared.finding.Thing.TheVariants as thing;
 ghost use Rattle.ncp_umpire.specs.Judged.{new_umpire, by_host};
 ghost use Rattle.ncp_proof_umpire.specs.Recordings.{recording, findings_from, spares, at_interface, found_at, NothingComingBlames, NoFalseAlarm, NobodyBlamed, any_rule, is_of_leader, is_of_link};
-ghost use Rattle.ncp_proof_umpire.specs.Examples.{too_short, both_short, no_command, wrong_resets, two_at_once, lost_given, lost_noted, lost_seen, once_more};
+ghost use Rattle.ncp_proof_umpire.specs.Worlds.{comes_to, world_file, NeitherBlamed};
+ghost use Rattle.ncp_proof_umpire.specs.Examples.{too_short, both_short, no_command, wrong_resets, two_at_once, lost_given, lost_noted, lost_seen, once_more, goes_of_two, noted_of_two, file_of_two};
 
 /// What comes to a host is never found against it, by no rule: not of a capture that begins in the middle either.
 pub fn nothing_that_comes_blames_the_host()
@@ -30,6 +34,12 @@ pub fn no_host_is_blamed()
     ensures { NobodyBlamed }
 {}
 
+/// Neither of two hosts with the subnet between them is found to break any rule at its own interface, in a file of what passes
+/// both, whatever calls are made and whatever the subnet does, in whatever order.
+pub fn neither_of_two_is_blamed()
+    ensures { NeitherBlamed }
+{}
+
 /// That these laws speak of something: what goes out and what comes is recorded; a message that is no whole leader is found,
 /// also behind one of another interface; so are a byte that begins no command, a second RST, an RRP for which no RST asked
 /// and what is said before the reply, and a message that goes out before the answer to the last; one that was lost goes out
@@ -43,5 +53,7 @@ pub fn wrong_hosts_are_blamed()
     ensures resets { findings_from (new_umpire false) 1 wrong_resets ≡ by_host 1 rule.RstAgain ∷ by_host 1 rule.RrpUnasked ∷ by_host 1 (rule.Early thing.Nop true true false) ∷ [] }
     ensures blamed { list_all (spares any_rule 1) (findings_from (new_umpire false) 1 wrong_resets) ≡ false }
     ensures twice { list_all (spares is_of_link 1) (findings_from (new_umpire false) 1 two_at_once) ≡ false }
+    ensures passing { world_file goes_of_two noted_of_two (new_hosts 1 2) ≡ file_of_two }
+    ensures coming { at_interface 2 (comes_to 2 (Some message_on_0)) ≡ (FromImp, message_on_0) ∷ [] }
     ensures again { list_all (spares is_of_link 1) (findings_from (new_umpire false) 1 once_more) ≡ true }
 {}

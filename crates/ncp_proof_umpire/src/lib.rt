@@ -2,8 +2,8 @@
 //! blame it. Each law is the contract of a function that does nothing.
 //!
 //! - *Use:* what `ncp audit` says against a host rests on it.
-//! - *Proved:* the laws of `alarms`: by all rules, in any file; and by those of leaders and of links whatever numbers calls
-//!   have.
+//! - *Proved:* the laws of `alarms`: by all rules, in any file, and in that of two hosts with the subnet; and by the rules of
+//!   leaders and of links whatever numbers calls have.
 //! - *Tests:* what is found of wrong hosts is in `ncp_test_audit`.
 #![tactic(auto)]
 

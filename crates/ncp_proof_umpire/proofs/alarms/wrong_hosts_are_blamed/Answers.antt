@@ -37,3 +37,9 @@ returns-clause-twice c = refl
 pub returns-clause-again : goal.returns-clause-again
 unfolding number_of
 returns-clause-again c = refl
+
+pub returns-clause-passing : goal.returns-clause-passing
+returns-clause-passing c = refl
+
+pub returns-clause-coming : goal.returns-clause-coming
+returns-clause-coming c = refl

@@ -1,0 +1,55 @@
+-- What passes the interfaces of two hosts with the subnet between them, in one file, as `ncp record` writes it; and that an
+-- audit of it blames neither at its own interface.
+use Rattle.std.specs.Prelude.{◌≡◌, ◌≢◌, ◌<◌, ℕ, Bool, true, false, List, [], ◌∷◌, ◌++◌, Option, None, Some}
+use Rattle.std.specs.List.{list_all}
+use Rattle.ncp_subnet.specs.Messages.{arriving, answer_about}
+use Rattle.ncp_transcript.specs.declared.note.HostNote.{HostNote}
+use Rattle.ncp_transcript.specs.declared.note.HostNote.TheVariants as host_notes
+use Rattle.ncp_transcript_two.specs.declared.side.Side.{Side}
+use Rattle.ncp_transcript_two.specs.declared.event.Event.{Event}
+use Rattle.ncp_transcript_two.specs.declared.event.Event.TheVariants as events
+use Rattle.ncp_transcript_two.specs.declared.note.Note.{Note}
+use Rattle.ncp_transcript_two.specs.declared.note.Note.TheVariants as notes
+use Rattle.ncp_transcript_two.specs.Between.{Hosts, new_hosts, other, number_of, transit_of, after_note}
+use Rattle.ncp_transcript_two.specs.Transcript.{Noted_world, new_world, AreSteps}
+use Rattle.ncp_umpire.specs.declared.way.Way.{Way}
+use Rattle.ncp_umpire.specs.declared.way.Way.TheVariants.{ToImp, FromImp}
+use Rattle.ncp_umpire.specs.Judged.{new_umpire}
+use Rattle.ncp_proof_umpire.specs.Recordings.{spares, any_rule, found_at}
+
+-- bits that come to a host, if any do
+abbrev pub comes_to : ℕ → Option (List Bool) → List (ℕ × Way × List Bool)
+comes_to host None = []
+comes_to host (Some bits) = (host, FromImp, bits) ∷ []
+
+-- a message that goes out from a host is in its note
+abbrev pub goes_from : ℕ → HostNote → List (ℕ × Way × List Bool)
+goes_from host (host_notes.Out message) = (host, ToImp, message) ∷ []
+goes_from host note = []
+
+abbrev pub goes_out : Note → Hosts → List (ℕ × Way × List Bool)
+goes_out (notes.Out side note) w = goes_from (number_of side w) note
+goes_out note w = []
+
+-- what passes with an event: a message that goes out, one that the subnet delivers, or an answer of the subnet
+abbrev pub passes_between : Event → Note → Hosts → List (ℕ × Way × List Bool)
+passes_between (events.Call side call) note w = []
+passes_between (events.Out side) note w = goes_out note w
+passes_between (events.Deliver side link) note w = comes_to (number_of (other side) w) (arriving (number_of side w) (transit_of side link w))
+passes_between (events.Lose side link) note w = []
+passes_between (events.Dead side link) note w = []
+passes_between (events.Answer side link) note w = comes_to (number_of side w) (answer_about (number_of (other side) w) link (transit_of side link w))
+
+-- with all events and their notes, the first one first
+abbrev pub world_file : List Event → List Note → Hosts → List (ℕ × Way × List Bool)
+world_file [] noted w = []
+world_file (event ∷ more) [] w = []
+world_file (event ∷ more) (note ∷ noted) w = passes_between event note w ++ world_file more noted (after_note note w)
+
+-- Of two hosts with the subnet between them, whatever calls and whatever the subnet does in whatever order, nothing is found
+-- against a host at its own interface.
+abbrev pub NeitherBlamed : Type 0
+NeitherBlamed =
+    (a b : ℕ) (given : List Event) (now : Noted_world) (side : Side)
+    → a ≢ b → a < 256 → b < 256 → AreSteps given (new_world a b) now
+    → list_all (spares any_rule (number_of side (new_hosts a b))) (found_at (new_umpire false) (number_of side (new_hosts a b)) (world_file given now.notes (new_hosts a b))) ≡ true
