@@ -6,7 +6,7 @@
 //!   none is (`nearest`, clauses `found` and `none`); a name means the text beside it (`meaning`), and has one meaning
 //!   (`laws::each_name_has_one_meaning`); which words scripts have (`verbs`); what is told of a header (`wrong_header`).
 //!   That a text names a mistake in a line is only tested.
-//! - *Tests:* `ncp_test_faults`; words that are near, and words that are not, in `laws`.
+//! - *Tests:* `mistakes` of `ncp_test_play_host`; words that are near, and words that are not, in `laws`.
 #![tactic(auto)]
 
 mod arguments;
