@@ -13,8 +13,9 @@ returns-in-Ok-follow_text-clause-does g c = inr (
   refl,
   record { read_failed = c.in-Ok-follow_text.ensures.read_failed; write_failed = c.in-Ok-follow_text.ensures.write_failed; blamed = c.in-Ok-follow_text.ensures.blamed },
   λ bytes was left written.
-      subst (λ (f : Follower). FollowsText c.args.wanted f bytes was (g.S.Source.left c.follow_text.new.source) (g.W.Sink.written c.follow_text.new.sink) (Ok tt)) c.in-Ok.ensures
-      (c.in-Ok-follow_text.ensures.told bytes was left written),
+      subst (λ (n : ℕ). FollowsText n (new_follower c.args.part) bytes was (g.S.Source.left c.follow_text.new.source) (g.W.Sink.written c.follow_text.new.sink) (Ok tt)) c.from.ensures
+      (subst (λ (f : Follower). FollowsText c.from.result f bytes was (g.S.Source.left c.follow_text.new.source) (g.W.Sink.written c.follow_text.new.sink) (Ok tt)) c.in-Ok.ensures
+      (c.in-Ok-follow_text.ensures.told bytes was left written)),
 )
 
 pub returns-clause-does : goal.returns-clause-does
@@ -23,6 +24,7 @@ returns-clause-does g c = inr (
   refl,
   record { read_failed = c.in-Err.ensures.read_failed; write_failed = c.in-Err.ensures.write_failed; blamed = c.in-Err.ensures.blamed },
   λ bytes was left written.
-      subst (λ (f : Follower). FollowsText c.args.wanted f bytes was (g.S.Source.left c.follow_text.new.source) (g.W.Sink.written c.follow_text.new.sink) (Err c.in-Err.fault)) c.in-Ok.ensures
-      (c.in-Err.ensures.told bytes was left written),
+      subst (λ (n : ℕ). FollowsText n (new_follower c.args.part) bytes was (g.S.Source.left c.follow_text.new.source) (g.W.Sink.written c.follow_text.new.sink) (Err c.in-Err.fault)) c.from.ensures
+      (subst (λ (f : Follower). FollowsText c.from.result f bytes was (g.S.Source.left c.follow_text.new.source) (g.W.Sink.written c.follow_text.new.sink) (Err c.in-Err.fault)) c.in-Ok.ensures
+      (c.in-Err.ensures.told bytes was left written)),
 )
