@@ -1,10 +1,11 @@
-//! A source and a sink that move a byte at a time.
+//! A source and a sink that move a byte at a time, if they are to.
 use ncp_play_stream::{Failed, MemorySink, MemorySource, Sink, Source};
 
-/// Reads a byte at a time.
+/// Reads a byte at a time, if it is slow.
 #[derive(Drop)]
 pub(crate) struct Bytewise<'a> {
     pub(crate) source: MemorySource<'a>,
+    pub(crate) is_slow: bool,
 }
 
 impl Source for Bytewise<'_> {
@@ -17,6 +18,9 @@ impl Source for Bytewise<'_> {
     ghost has_failed = { λ slow. slow.source.failed };
 
     fn read(&mut self, piece: &mut [u8]) -> Result<usize, Failed> {
+        if !self.is_slow {
+            return self.source.read(piece);
+        }
         let end = piece.len().min(1);
         self.source.read(&mut piece[..end])
     }
@@ -26,10 +30,11 @@ impl Source for Bytewise<'_> {
     }
 }
 
-/// Writes a byte at a time.
+/// Writes a byte at a time, if it is slow.
 #[derive(Drop)]
 pub(crate) struct Piecemeal {
     pub(crate) sink: MemorySink,
+    pub(crate) is_slow: bool,
 }
 
 impl Sink for Piecemeal {
@@ -40,6 +45,9 @@ impl Sink for Piecemeal {
     ghost has_failed = { λ slow. slow.sink.failed };
 
     fn write(&mut self, piece: &[u8]) -> Result<usize, Failed> {
+        if !self.is_slow {
+            return self.sink.write(piece);
+        }
         self.sink.write(&piece[..piece.len().min(1)])
     }
 

@@ -1,17 +1,11 @@
 //! Scripts with a ledger that is watched, line by line.
 use crate::opening::{COMING_UP, GIVING, SENDING};
-use crate::played::{expect, joined};
-use std::alloc::Global;
-use std::process::Abort;
+use crate::played::{Doing, Row, expect_rows};
+use crate::scripts::{LOST_TWICE, ONE_CONNECTION};
 use std::test::Fail;
 
 /// The first line by which the sender of the opening is watched.
-const WATCHING: &[u8] = b"hosts 1 2 watch a 3 2
-";
-
-/// The first line of the opening, in whose place it stands.
-const NOT_WATCHING: &[u8] = b"hosts 1 2
-";
+const WATCHING: &[u8] = b"hosts 1 2 watch a 3 2\n";
 
 /// The lines of the opening up to the allocation, each event's with the ledger behind it.
 const ALLOCATED_LINES: &[u8] = b"1 a reset ok
@@ -154,104 +148,6 @@ const EXCHANGED_LINES: &[u8] = b"1 b reset ok
   ledger out=2/16 counters=1/0 all=0/0 text=1/16 ret=0/0
 ";
 
-// Compares the lines of a script behind the opening, where the sender is watched.
-fn expect_watched(rt: &impl Abort, alloc: Global, script: &[u8], lines: &[u8]) -> Result<(), Fail> {
-    let coming_up = COMING_UP.strip_prefix(NOT_WATCHING).unwrap_or(COMING_UP);
-    let script = joined(alloc, &[WATCHING, coming_up, GIVING, SENDING, script])?;
-    let lines = joined(alloc, &[ALLOCATED_LINES, GIVEN_LINES, lines])?;
-    expect(rt, alloc, &script, Ok(true), &lines)
-}
-
-#[test]
-fn a_sender_of_the_other_side_is_watched(rt: HostRuntime) -> Result<(), Fail> {
-    expect(&rt, rt.alloc(), EXCHANGED, Ok(true), EXCHANGED_LINES)
-}
-
-#[test]
-fn one_connection_is_watched(rt: HostRuntime) -> Result<(), Fail> {
-    expect_watched(
-        &rt,
-        rt.alloc(),
-        b"a deliver 2
-a answer 2
-b take 2 3 100
-a state 3 2
-a out
-",
-        b"22 a deliver 2 text admitted
-  ledger out=1/0 counters=1/0 all=0/0 text=0/0 ret=0/0
-23 a answer 2 rfnm
-  ledger out=1/0 counters=1/0 all=0/0 text=0/0 ret=0/0
-24 b take ok bits=16 6162
-  ledger out=1/0 counters=1/0 all=0/0 text=0/0 ret=0/0
-25 a state ok end=send asked=1 heard=1 opened=1 leaving=0 left=0 cls=0 link=2 size=8 messages=1 bits=0 stored=8 interrupts=0
-  ledger out=1/0 counters=1/0 all=0/0 text=0/0 ret=0/0
-26 a out nothing
-  ledger out=1/0 counters=1/0 all=0/0 text=0/0 ret=0/0
-",
-    )
-}
-
-#[test]
-fn a_text_that_is_lost_twice_is_watched(rt: HostRuntime) -> Result<(), Fail> {
-    expect_watched(
-        &rt,
-        rt.alloc(),
-        b"a lose 2
-a answer 2
-a out
-a lose 2
-a answer 2
-a out
-a deliver 2
-a answer 2
-a deliver 2
-b take 2 3 100
-b take 2 3 100
-",
-        b"22 a lose 2 ok
-  ledger out=2/16 counters=1/0 all=0/0 text=1/16 ret=0/0
-23 a answer 2 incomplete
-  ledger out=2/16 counters=1/0 all=0/0 text=1/16 ret=0/0
-24 a out host=2 link=2 bits=88
-  size=8 count=2
-  text bits=16 6162
-  ledger out=2/16 counters=1/0 all=0/0 text=1/16 ret=0/0
-25 a lose 2 ok
-  ledger out=2/16 counters=1/0 all=0/0 text=1/16 ret=0/0
-26 a answer 2 incomplete
-  ledger out=2/16 counters=1/0 all=0/0 text=1/16 ret=0/0
-27 a out host=2 link=2 bits=88
-  size=8 count=2
-  text bits=16 6162
-  ledger out=2/16 counters=1/0 all=0/0 text=1/16 ret=0/0
-28 a deliver 2 text admitted
-  ledger out=1/0 counters=1/0 all=0/0 text=0/0 ret=0/0
-29 a answer 2 rfnm
-  ledger out=1/0 counters=1/0 all=0/0 text=0/0 ret=0/0
-30 a deliver 2 nothing
-  ledger out=1/0 counters=1/0 all=0/0 text=0/0 ret=0/0
-31 b take ok bits=16 6162
-  ledger out=1/0 counters=1/0 all=0/0 text=0/0 ret=0/0
-32 b take ok bits=0
-  ledger out=1/0 counters=1/0 all=0/0 text=0/0 ret=0/0
-",
-    )
-}
-
-#[test]
-fn what_has_no_ledger_is_watched(rt: HostRuntime) -> Result<(), Fail> {
-    let alloc = rt.alloc();
-    expect(&rt, alloc, b"hosts 1 2 watch b 3 2", Ok(true), b"")?;
-    expect(
-        &rt,
-        alloc,
-        b"#\nhosts 0 255 watch b 4294967295 4294967294\r\na state 3 2\na deliver 2\nb out",
-        Ok(false),
-        b"1 a state refused NoEntry\n  ledger none\n2 a deliver 2 nothing\n  ledger none\n3 b out nothing\n  ledger none\n",
-    )
-}
-
 /// The connection opens and has an allocation, and the receiver calls half of it back.
 const CALLING_BACK: &[u8] = b"b ask-receive 2 3 1024
 a ask-send 3 2 8 1024
@@ -295,11 +191,94 @@ const CALLED_BACK_LINES: &[u8] = b"20 b call-back ok
   ledger out=1/8 counters=1/8 all=0/0 text=0/0 ret=0/0
 ";
 
+const ROWS: &[Row] = &[
+    Row {
+        name: "a_sender_of_the_other_side_is_watched",
+        script: &[EXCHANGED],
+        answer: Ok(true),
+        written: &[EXCHANGED_LINES],
+    },
+    Row {
+        name: "one_connection_is_watched",
+        script: &[WATCHING, COMING_UP, GIVING, SENDING, ONE_CONNECTION],
+        answer: Ok(true),
+        written: &[
+            ALLOCATED_LINES,
+            GIVEN_LINES,
+            b"22 a deliver 2 text admitted
+  ledger out=1/0 counters=1/0 all=0/0 text=0/0 ret=0/0
+23 a answer 2 rfnm
+  ledger out=1/0 counters=1/0 all=0/0 text=0/0 ret=0/0
+24 b take ok bits=16 6162
+  ledger out=1/0 counters=1/0 all=0/0 text=0/0 ret=0/0
+25 a state ok end=send asked=1 heard=1 opened=1 leaving=0 left=0 cls=0 link=2 size=8 messages=1 bits=0 stored=8 interrupts=0
+  ledger out=1/0 counters=1/0 all=0/0 text=0/0 ret=0/0
+26 a out nothing
+  ledger out=1/0 counters=1/0 all=0/0 text=0/0 ret=0/0
+",
+        ],
+    },
+    Row {
+        name: "a_text_that_is_lost_twice_is_watched",
+        script: &[WATCHING, COMING_UP, GIVING, SENDING, LOST_TWICE],
+        answer: Ok(true),
+        written: &[
+            ALLOCATED_LINES,
+            GIVEN_LINES,
+            b"22 a lose 2 ok
+  ledger out=2/16 counters=1/0 all=0/0 text=1/16 ret=0/0
+23 a answer 2 incomplete
+  ledger out=2/16 counters=1/0 all=0/0 text=1/16 ret=0/0
+24 a out host=2 link=2 bits=88
+  size=8 count=2
+  text bits=16 6162
+  ledger out=2/16 counters=1/0 all=0/0 text=1/16 ret=0/0
+25 a lose 2 ok
+  ledger out=2/16 counters=1/0 all=0/0 text=1/16 ret=0/0
+26 a answer 2 incomplete
+  ledger out=2/16 counters=1/0 all=0/0 text=1/16 ret=0/0
+27 a out host=2 link=2 bits=88
+  size=8 count=2
+  text bits=16 6162
+  ledger out=2/16 counters=1/0 all=0/0 text=1/16 ret=0/0
+28 a deliver 2 text admitted
+  ledger out=1/0 counters=1/0 all=0/0 text=0/0 ret=0/0
+29 a answer 2 rfnm
+  ledger out=1/0 counters=1/0 all=0/0 text=0/0 ret=0/0
+30 a deliver 2 nothing
+  ledger out=1/0 counters=1/0 all=0/0 text=0/0 ret=0/0
+31 b take ok bits=16 6162
+  ledger out=1/0 counters=1/0 all=0/0 text=0/0 ret=0/0
+32 b take ok bits=0
+  ledger out=1/0 counters=1/0 all=0/0 text=0/0 ret=0/0
+",
+        ],
+    },
+    Row {
+        name: "what_has_no_ledger_is_watched",
+        script: &[b"hosts 1 2 watch b 3 2"],
+        answer: Ok(true),
+        written: &[],
+    },
+    Row {
+        name: "what_has_no_ledger_is_watched at numbers at the limits",
+        script: &[
+            b"#\nhosts 0 255 watch b 4294967295 4294967294\r\na state 3 2\na deliver 2\nb out",
+        ],
+        answer: Ok(false),
+        written: &[
+            b"1 a state refused NoEntry\n  ledger none\n2 a deliver 2 nothing\n  ledger none\n3 b out nothing\n  ledger none\n",
+        ],
+    },
+    Row {
+        name: "what_is_called_back_is_watched",
+        script: &[WATCHING, COMING_UP, CALLING_BACK],
+        answer: Ok(true),
+        written: &[ALLOCATED_LINES, CALLED_BACK_LINES],
+    },
+];
+
 #[test]
-fn what_is_called_back_is_watched(rt: HostRuntime) -> Result<(), Fail> {
-    let alloc = rt.alloc();
-    let coming_up = COMING_UP.strip_prefix(NOT_WATCHING).unwrap_or(COMING_UP);
-    let script = joined(alloc, &[WATCHING, coming_up, CALLING_BACK])?;
-    let lines = joined(alloc, &[ALLOCATED_LINES, CALLED_BACK_LINES])?;
-    expect(&rt, alloc, &script, Ok(true), &lines)
+fn ledgers_are_watched(rt: HostRuntime) -> Result<(), Fail> {
+    expect_rows(&rt, rt.alloc(), Doing::Plays, ROWS)
 }

@@ -1,10 +1,8 @@
 //! Scripts of two hosts, and of two to eight, at the limits: more lines than any other script has, and the longest lines.
-use crate::played::{expect, expect_up, joined};
-use ncp_bits::PackedStore;
+use crate::opening::{COMING_UP, COMING_UP_LINES, HEADER, HOSTS};
+use crate::played::{Doing, Row, Run, Store, expect_rows, joined, numbered, play, repeated, whole};
 use ncp_play_notes::PlayFault;
-use ncp_play_stream::{MemorySink, MemorySource};
-use ncp_play_world::{play_world, record_world};
-use std::alloc::Global;
+use std::alloc::{AllocError, Global};
 use std::process::Abort;
 use std::test::Fail;
 
@@ -13,100 +11,72 @@ const LAST: u32 = 5000;
 
 const ROOM: usize = 131_072;
 
-// A script whose lines behind the first are all this one.
-fn long_script(alloc: Global, first: &[u8], line: &[u8]) -> Result<Vec<u8>, Fail> {
-    let mut script = Vec::from_slice(alloc, first)?;
-    for _ in 0..LAST {
-        script.extend_from_slice(line)?;
-    }
-    Ok(script)
+/// A script whose lines behind the first are all one, and what is printed of that.
+struct Long {
+    first: &'static [u8],
+    line: &'static [u8],
+    said: &'static [u8],
 }
 
-// What is printed of it: the number of each, and what stands behind it.
-fn long_lines(alloc: Global, behind: &[u8]) -> Result<Vec<u8>, Fail> {
-    let mut lines = Vec::new(alloc);
-    for number in 1..LAST + 1 {
-        lines.extend_from_slice(format!(in alloc; "{number}")?.as_bytes())?;
-        lines.extend_from_slice(behind)?;
-    }
-    Ok(lines)
-}
-
-// Whether a script is good, and these lines are printed of it.
-fn is_played(alloc: Global, script: &[u8], lines: &[u8]) -> Result<bool, Fail> {
-    let mut source = MemorySource::new(script, None);
-    let mut sink = MemorySink::new(alloc, ROOM, None)?;
-    let answer = play_world::<PackedStore, _, _>(alloc, &mut source, &mut sink);
-    Ok(answer == Ok(true) && sink.bytes() == lines)
-}
-
-/// The first lines, a line behind them, and what is printed of it.
-const LONG: &[(&[u8], &[u8], &[u8])] = &[
-    (b"hosts 1 2\n", b"a phase\n", b" a phase ok down\n"),
-    (b"many 1 2 3\n", b"3 phase 1\n", b" 3 phase 1 ok down\n"),
+const LONG: &[Long] = &[
+    Long {
+        first: b"hosts 1 2\n",
+        line: b"a phase\n",
+        said: b" a phase ok down\n",
+    },
+    Long {
+        first: b"many 1 2 3\n",
+        line: b"3 phase 1\n",
+        said: b" 3 phase 1 ok down\n",
+    },
 ];
 
-#[test]
-fn five_thousand_lines_are_played(rt: HostRuntime) -> Result<(), Fail> {
-    for (first, line, behind) in LONG {
-        let script = long_script(rt.alloc(), first, line)?;
-        let lines = long_lines(rt.alloc(), behind)?;
-        assert!(rt; is_played(rt.alloc(), &script, &lines)?);
-    }
+/// The script.
+fn script_of(alloc: Global, long: &Long) -> Result<Vec<u8>, AllocError> {
+    joined(alloc, &[long.first, &repeated(alloc, long.line, LAST)?])
+}
+
+/// Compares what is written of a long script.
+fn expect_long(
+    rt: &impl Abort,
+    alloc: Global,
+    doing: Doing,
+    script: &[u8],
+    written: &[u8],
+) -> Result<(), Fail> {
+    let how = Run {
+        room: ROOM,
+        ..whole(doing, Store::Packed, script)
+    };
+    let played = play(rt, alloc, &how)?;
+    assert!(rt; played.answer == Ok(true) && played.written() == written);
     Ok(())
 }
 
-// Whether a script is good, and only the header of its recording is written.
-fn has_no_record(alloc: Global, script: &[u8]) -> Result<bool, Fail> {
-    let mut source = MemorySource::new(script, None);
-    let mut sink = MemorySink::new(alloc, ROOM, None)?;
-    let answer = record_world::<PackedStore, _, _>(alloc, &mut source, &mut sink);
-    Ok(answer == Ok(true) && sink.bytes() == b"NCPJ".as_slice())
+#[test]
+fn five_thousand_lines_are_played(rt: HostRuntime) -> Result<(), Fail> {
+    for long in LONG {
+        let script = script_of(rt.alloc(), long)?;
+        let lines = numbered(rt.alloc(), 1, LAST, long.said)?;
+        expect_long(&rt, rt.alloc(), Doing::Plays, &script, &lines)?;
+    }
+    Ok(())
 }
 
 #[test]
 fn five_thousand_lines_are_recorded(rt: HostRuntime) -> Result<(), Fail> {
-    for (first, line, _) in LONG {
-        let script = long_script(rt.alloc(), first, line)?;
-        assert!(rt; has_no_record(rt.alloc(), &script)?);
+    for long in LONG {
+        let script = script_of(rt.alloc(), long)?;
+        expect_long(&rt, rt.alloc(), Doing::Records, &script, HEADER)?;
     }
     Ok(())
 }
 
-// So many of one byte.
-fn run_of(alloc: Global, byte: u8, count: usize) -> Result<Vec<u8>, Fail> {
-    let mut bytes = Vec::new(alloc);
-    for _ in 0..count {
-        bytes.push(byte)?;
-    }
-    Ok(bytes)
-}
+/// As many bytes as a line may have.
+const LONGEST_LINE: &[u8] = &[b'a'; 4096];
 
-/// A script whose third line has as many bytes as a line may have, which are judged by what they say.
-fn longest_line_is_played(
-    rt: &impl Abort,
-    alloc: Global,
-    first: &[u8],
-    lines: &[u8],
-) -> Result<(), Fail> {
-    let line = run_of(alloc, b'a', 4096)?;
-    let script = joined(alloc, &[first, &line, b"\na out\n"])?;
-    expect(rt, alloc, &script, Err(PlayFault::BadLine(3)), lines)
-}
-
-#[test]
-fn lines_of_4096_bytes_are_played(rt: HostRuntime) -> Result<(), Fail> {
-    longest_line_is_played(&rt, rt.alloc(), b"hosts 1 2\na out\n", b"1 a out nothing\n")?;
-    longest_line_is_played(
-        &rt,
-        rt.alloc(),
-        b"many 1 2 3\n3 out\n",
-        b"1 3 out nothing\n",
-    )
-}
-
-/// How many hexadecimal digits the longest text has.
-const MOST_DIGITS: usize = 2048;
+/// The hexadecimal digits of the longest text.
+const LONGEST_TEXT: &[u8] = &[b'5'; 2048];
 
 /// A connection opens, with room for the longest text.
 const OPENING: &[u8] = b"b ask-receive 2 3 8192
@@ -135,22 +105,35 @@ const OPENING_LINES: &[u8] = b"8 b ask-receive ok
 17 a state ok end=send asked=1 heard=1 opened=1 leaving=0 left=0 cls=0 link=2 size=8 messages=0 bits=0 stored=8192 interrupts=0
 ";
 
-#[test]
-fn the_longest_text_is_given(rt: HostRuntime) -> Result<(), Fail> {
-    let digits = run_of(rt.alloc(), b'5', MOST_DIGITS)?;
-    let script = joined(rt.alloc(), &[OPENING, &digits, b"\na state 3 2\n"])?;
-    expect_up(&rt, rt.alloc(), &script, true, OPENING_LINES)
-}
+const ROWS: &[Row] = &[
+    // The longest line is judged by what it says.
+    Row {
+        name: "lines_of_4096_bytes_are_played",
+        script: &[b"hosts 1 2\na out\n", LONGEST_LINE, b"\na out\n"],
+        answer: Err(PlayFault::BadLine(3)),
+        written: &[b"1 a out nothing\n"],
+    },
+    Row {
+        name: "lines_of_4096_bytes_are_played among many",
+        script: &[b"many 1 2 3\n3 out\n", LONGEST_LINE, b"\na out\n"],
+        answer: Err(PlayFault::BadLine(3)),
+        written: &[b"1 3 out nothing\n"],
+    },
+    Row {
+        name: "the_longest_text_is_given",
+        script: &[HOSTS, COMING_UP, OPENING, LONGEST_TEXT, b"\na state 3 2\n"],
+        answer: Ok(true),
+        written: &[COMING_UP_LINES, OPENING_LINES],
+    },
+    Row {
+        name: "the_longest_text_is_given_among_many",
+        script: &[b"many 1 2 3\n1 give 3 3 2 8192 ", LONGEST_TEXT],
+        answer: Ok(false),
+        written: &[b"1 1 give 3 refused NotUp\n"],
+    },
+];
 
 #[test]
-fn the_longest_text_is_given_among_many(rt: HostRuntime) -> Result<(), Fail> {
-    let digits = run_of(rt.alloc(), b'5', MOST_DIGITS)?;
-    let script = joined(rt.alloc(), &[b"many 1 2 3\n1 give 3 3 2 8192 ", &digits])?;
-    expect(
-        &rt,
-        rt.alloc(),
-        &script,
-        Ok(false),
-        b"1 1 give 3 refused NotUp\n",
-    )
+fn the_longest_lines(rt: HostRuntime) -> Result<(), Fail> {
+    expect_rows(&rt, rt.alloc(), Doing::Plays, ROWS)
 }

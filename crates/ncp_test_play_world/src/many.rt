@@ -1,6 +1,5 @@
 //! Scripts of two to eight hosts.
-use crate::played::{expect, joined};
-use ncp_play_notes::PlayFault;
+use crate::played::{Case, Doing, Row, expect, expect_rows, joined, numbered, repeated};
 use std::alloc::Global;
 use std::process::Abort;
 use std::test::Fail;
@@ -31,74 +30,29 @@ const TWO_RESETS_LINES: &[u8] = b"1 1 reset 2 ok
 8 2 phase 1 ok down
 ";
 
-#[test]
-fn resets_of_two_others(rt: HostRuntime) -> Result<(), Fail> {
-    expect(&rt, rt.alloc(), TWO_RESETS, Ok(true), TWO_RESETS_LINES)
-}
-
-#[test]
-fn bad_hosts(rt: HostRuntime) -> Result<(), Fail> {
-    let alloc = rt.alloc();
-    for script in [
-        b"many\n".as_slice(),
-        b"many 1\n1 out\n",
-        b"many 1 1\n",
-        b"many 1 2 3 2\n",
-        b"many 1 256\n",
-        b"many 1 2 3 4 5 6 7 8 9\n",
-        b"many 1 2 watch 1 3 2\n",
-        b"many  1 2\n",
-        b"many 1 2 \n",
-        b"1 out\nmany 1 2\n",
-    ] {
-        expect(&rt, alloc, script, Err(PlayFault::BadHosts), b"")?;
-    }
-    Ok(())
-}
-
-#[test]
-fn bad_lines(rt: HostRuntime) -> Result<(), Fail> {
-    let alloc = rt.alloc();
-    for script in [
-        b"#\n\nmany 0 255 7\n255 out\r\n8 out\n255 out\n".as_slice(),
-        b"#\n\nmany 0 255 7\n255 out\na out\n",
-        b"#\n\nmany 0 255 7\n255 out\nout\n",
-        b"#\n\nmany 0 255 7\n255 out\n255 reset 8\n",
-        b"#\n\nmany 0 255 7\n255 out\n255 reset\n",
-        b"#\n\nmany 0 255 7\n255 out\n255 deliver 8 0\n",
-        b"#\n\nmany 0 255 7\n255 out\n255 deliver 0\n",
-        b"#\n\nmany 0 255 7\n255 out\n255 lose 0 0 0",
-    ] {
-        expect(
-            &rt,
-            alloc,
-            script,
-            Err(PlayFault::BadLine(5)),
-            b"1 255 out nothing\n",
-        )?;
-    }
-    Ok(())
-}
-
-#[test]
-fn a_host_is_no_peer_of_itself(rt: HostRuntime) -> Result<(), Fail> {
-    expect(
-        &rt,
-        rt.alloc(),
-        b"many 4 5\n4 phase 4\n4 deliver 4 0\n5 dead 4 255",
-        Ok(false),
-        b"1 4 phase 4 refused UnknownPeer\n2 4 deliver 4 0 nothing\n3 5 dead 4 255 nothing\n",
-    )
-}
-
-#[test]
-fn eight_hosts(rt: HostRuntime) -> Result<(), Fail> {
-    expect(
-        &rt,
-        rt.alloc(),
-        b"many 8 7 6 5 4 3 2 1\n8 reset 1\n8 out\n8 lose 1 0\n8 answer 1 0\n8 out\n8 dead 1 0\n8 answer 1 0\n",
-        Ok(true),
-        b"1 8 reset 1 ok
+const ROWS: &[Row] = &[
+    Row {
+        name: "resets_of_two_others",
+        script: &[TWO_RESETS],
+        answer: Ok(true),
+        written: &[TWO_RESETS_LINES],
+    },
+    Row {
+        name: "a_host_is_no_peer_of_itself",
+        script: &[b"many 4 5\n4 phase 4\n4 deliver 4 0\n5 dead 4 255"],
+        answer: Ok(false),
+        written: &[
+            b"1 4 phase 4 refused UnknownPeer\n2 4 deliver 4 0 nothing\n3 5 dead 4 255 nothing\n",
+        ],
+    },
+    Row {
+        name: "eight_hosts",
+        script: &[
+            b"many 8 7 6 5 4 3 2 1\n8 reset 1\n8 out\n8 lose 1 0\n8 answer 1 0\n8 out\n8 dead 1 0\n8 answer 1 0\n",
+        ],
+        answer: Ok(true),
+        written: &[
+            b"1 8 reset 1 ok
 2 8 out host=1 link=0 bits=80
   size=8 count=1
   RST
@@ -110,8 +64,17 @@ fn eight_hosts(rt: HostRuntime) -> Result<(), Fail> {
 6 8 dead 1 0 ok
 7 8 answer 1 0 dead
 ",
-    )
+        ],
+    },
+];
+
+#[test]
+fn scripts_of_many_hosts(rt: HostRuntime) -> Result<(), Fail> {
+    expect_rows(&rt, rt.alloc(), Doing::Plays, ROWS)
 }
+
+/// The number of the first line behind the opening.
+const FIRST: u32 = 16;
 
 // Hosts 1 and 3 come up, and a connection opens from 1 to 3.
 const OPENING: &[u8] = b"many 1 2 3
@@ -157,70 +120,56 @@ const OPENING_LINES: &[u8] = b"1 1 reset 3 ok
 15 1 answer 3 0 rfnm
 ";
 
-// What hosts 1 and 2 do for each other, and their lines without numbers.
-const EACH_OTHER: [(&[u8], &[u8]); 9] = [
-    (b"1 reset 2\n", b" 1 reset 2 ok\n"),
-    (
-        b"1 out\n",
-        b" 1 out host=2 link=0 bits=80\n  size=8 count=1\n  RST\n",
-    ),
-    (b"1 deliver 2 0\n", b" 1 deliver 2 0 control 1\n"),
-    (b"1 answer 2 0\n", b" 1 answer 2 0 rfnm\n"),
-    (
-        b"2 out\n",
-        b" 2 out host=1 link=0 bits=80\n  size=8 count=1\n  RRP\n",
-    ),
-    (b"2 deliver 1 0\n", b" 2 deliver 1 0 control 1\n"),
-    (b"2 answer 1 0\n", b" 2 answer 1 0 rfnm\n"),
-    (b"1 phase 2\n", b" 1 phase 2 ok up\n"),
-    (b"2 state 1 2 3\n", b" 2 state 1 refused NoEntry\n"),
+/// An interrupt of host 3. 256 of them wait.
+const INTERRUPT: &[u8] = b"3 interrupt 1 2 3\n";
+
+const WAITS: &[u8] = b" 3 interrupt 1 ok\n";
+
+const IS_REFUSED: &[u8] = b" 3 interrupt 1 refused QueueFull\n";
+
+/// What hosts 1 and 2 do for each other, and its lines without numbers.
+const EACH_OTHER: &[u8] = b"1 reset 2
+1 out
+1 deliver 2 0
+1 answer 2 0
+2 out
+2 deliver 1 0
+2 answer 1 0
+1 phase 2
+2 state 1 2 3
+";
+
+const EACH_OTHER_LINES: [&[u8]; 9] = [
+    b" 1 reset 2 ok\n",
+    b" 1 out host=2 link=0 bits=80\n  size=8 count=1\n  RST\n",
+    b" 1 deliver 2 0 control 1\n",
+    b" 1 answer 2 0 rfnm\n",
+    b" 2 out host=1 link=0 bits=80\n  size=8 count=1\n  RRP\n",
+    b" 2 deliver 1 0 control 1\n",
+    b" 2 answer 1 0 rfnm\n",
+    b" 1 phase 2 ok up\n",
+    b" 2 state 1 refused NoEntry\n",
 ];
 
-// Appends a number that is less than a thousand.
-fn push_number(text: &mut Vec<u8>, number: u32) -> Result<(), Fail> {
-    let digits = [
-        b'0' + (number / 100 % 10) as u8,
-        b'0' + (number / 10 % 10) as u8,
-        b'0' + (number % 10) as u8,
-    ];
-    let zeros = if number < 10 {
-        2
-    } else if number < 100 {
-        1
-    } else {
-        0
-    };
-    text.extend_from_slice(&digits[zeros..])?;
-    Ok(())
-}
-
-// Appends so many interrupts of host 3, which all wait, and one more, if any.
-fn push_interrupts(script: &mut Vec<u8>, lines: &mut Vec<u8>, count: u16) -> Result<(), Fail> {
-    for number in 0..count {
-        script.extend_from_slice(b"3 interrupt 1 2 3\n")?;
-        push_number(lines, 16 + u32::from(number))?;
-        if number < 256 {
-            lines.extend_from_slice(b" 3 interrupt 1 ok\n")?;
-        } else {
-            lines.extend_from_slice(b" 3 interrupt 1 refused QueueFull\n")?;
-        }
-    }
-    Ok(())
-}
-
-// What hosts 1 and 2 do for each other behind so many interrupts of host 3.
-fn expect_behind(rt: &impl Abort, alloc: Global, count: u16) -> Result<(), Fail> {
-    let mut script = joined(alloc, &[OPENING])?;
-    let mut lines = joined(alloc, &[OPENING_LINES])?;
-    push_interrupts(&mut script, &mut lines, count)?;
-    let mut number = 16 + u32::from(count);
-    for (line, said) in EACH_OTHER {
-        script.extend_from_slice(line)?;
-        push_number(&mut lines, number)?;
-        lines.extend_from_slice(said)?;
+/// What hosts 1 and 2 do for each other behind so many interrupts of host 3.
+fn expect_behind(rt: &impl Abort, alloc: Global, count: u32) -> Result<(), Fail> {
+    let interrupts = repeated(alloc, INTERRUPT, count)?;
+    let script = joined(alloc, &[OPENING, &interrupts, EACH_OTHER])?;
+    let waiting = numbered(alloc, FIRST, count.min(256), WAITS)?;
+    let refused = numbered(alloc, FIRST + 256, count.saturating_sub(256), IS_REFUSED)?;
+    let mut lines = joined(alloc, &[OPENING_LINES, &waiting, &refused])?;
+    let mut number = FIRST.saturating_add(count);
+    for said in EACH_OTHER_LINES {
+        lines.extend_from_slice(&numbered(alloc, number, 1, said)?)?;
         number = number.saturating_add(1);
     }
-    expect(rt, alloc, &script, Ok(false), &lines)
+    let case = Case {
+        name: "interrupts_of_a_third_change_nothing_of_two",
+        script: &script,
+        answer: Ok(false),
+        written: &lines,
+    };
+    expect(rt, alloc, Doing::Plays, &case)
 }
 
 #[test]

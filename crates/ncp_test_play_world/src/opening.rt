@@ -1,9 +1,16 @@
-//! The beginning that most scripts have: both hosts come up, a connection opens, three bytes are given,
-//! and the first message with two of them goes out.
+//! The beginning that most scripts have: both hosts come up, a connection opens, three bytes are given, and the first
+//! message with two of them goes out. Each of its parts has the lines that are printed of it, and the records.
+//!
+//! A record is a direction, a host, a number of bits, and then a leader and what follows it.
+
+/// The hosts.
+pub(crate) const HOSTS: &[u8] = b"hosts 1 2\n";
+
+/// What stands at the front of a recording.
+pub(crate) const HEADER: &[u8] = b"NCPJ";
 
 /// Both hosts come up.
-pub(crate) const COMING_UP: &[u8] = b"hosts 1 2
-a reset
+pub(crate) const COMING_UP: &[u8] = b"a reset
 a out
 a deliver 0
 a answer 0
@@ -24,6 +31,14 @@ pub(crate) const COMING_UP_LINES: &[u8] = b"1 a reset ok
 6 b deliver 0 control 1
 7 b answer 0 rfnm
 ";
+
+/// RST of host 1 and RRP of host 2: each as it goes out and as it comes, with its RFNM.
+pub(crate) const COMING_UP_RECORDS: &[u8] = b"H\x01\x00\x50\x00\x02\x00\x00\x00\x08\x00\x01\x00\x0c\
+    I\x02\x00\x50\x00\x01\x00\x00\x00\x08\x00\x01\x00\x0c\
+    I\x01\x00\x20\x05\x02\x00\x00\
+    H\x02\x00\x50\x00\x01\x00\x00\x00\x08\x00\x01\x00\x0d\
+    I\x01\x00\x50\x00\x02\x00\x00\x00\x08\x00\x01\x00\x0d\
+    I\x02\x00\x20\x05\x01\x00\x00";
 
 /// The connection opens, with room for two messages of 16 bits, and three bytes are given.
 pub(crate) const GIVING: &[u8] = b"b ask-receive 2 3 1024
@@ -62,6 +77,18 @@ pub(crate) const GIVING_LINES: &[u8] = b"8 b ask-receive ok
 20 a give ok
 ";
 
+/// RTS of host 2, STR of host 1, and ALL of host 2.
+pub(crate) const GIVING_RECORDS: &[u8] =
+    b"H\x02\x00\x98\x00\x01\x00\x00\x00\x08\x00\x0a\x00\x01\x00\x00\x00\x02\x00\x00\x00\x03\x02\
+    I\x01\x00\x98\x00\x02\x00\x00\x00\x08\x00\x0a\x00\x01\x00\x00\x00\x02\x00\x00\x00\x03\x02\
+    I\x02\x00\x20\x05\x01\x00\x00\
+    H\x01\x00\x98\x00\x02\x00\x00\x00\x08\x00\x0a\x00\x02\x00\x00\x00\x03\x00\x00\x00\x02\x08\
+    I\x02\x00\x98\x00\x01\x00\x00\x00\x08\x00\x0a\x00\x02\x00\x00\x00\x03\x00\x00\x00\x02\x08\
+    I\x01\x00\x20\x05\x02\x00\x00\
+    H\x02\x00\x88\x00\x01\x00\x00\x00\x08\x00\x08\x00\x04\x02\x00\x02\x00\x00\x00\x10\
+    I\x01\x00\x88\x00\x02\x00\x00\x00\x08\x00\x08\x00\x04\x02\x00\x02\x00\x00\x00\x10\
+    I\x02\x00\x20\x05\x01\x00\x00";
+
 /// The first message goes out.
 pub(crate) const SENDING: &[u8] = b"a out
 ";
@@ -70,3 +97,45 @@ pub(crate) const SENDING_LINES: &[u8] = b"21 a out host=2 link=2 bits=88
   size=8 count=2
   text bits=16 6162
 ";
+
+/// Two bytes of text on link 2.
+pub(crate) const SENDING_RECORDS: &[u8] =
+    b"H\x01\x00\x58\x00\x02\x02\x00\x00\x08\x00\x02\x00\x61\x62";
+
+/// How far the beginning goes.
+#[derive(Clone, Copy, Drop)]
+pub(crate) enum Beginning {
+    /// Both hosts are up.
+    Up,
+    /// Three bytes are given.
+    Given,
+    /// Two of them go out.
+    Sent,
+}
+
+impl Beginning {
+    /// The script, its lines, and its records, in parts.
+    pub(crate) fn script(self) -> &'static [&'static [u8]] {
+        match self {
+            Beginning::Up => &[HOSTS, COMING_UP],
+            Beginning::Given => &[HOSTS, COMING_UP, GIVING],
+            Beginning::Sent => &[HOSTS, COMING_UP, GIVING, SENDING],
+        }
+    }
+
+    pub(crate) fn lines(self) -> &'static [&'static [u8]] {
+        match self {
+            Beginning::Up => &[COMING_UP_LINES],
+            Beginning::Given => &[COMING_UP_LINES, GIVING_LINES],
+            Beginning::Sent => &[COMING_UP_LINES, GIVING_LINES, SENDING_LINES],
+        }
+    }
+
+    pub(crate) fn records(self) -> &'static [&'static [u8]] {
+        match self {
+            Beginning::Up => &[HEADER, COMING_UP_RECORDS],
+            Beginning::Given => &[HEADER, COMING_UP_RECORDS, GIVING_RECORDS],
+            Beginning::Sent => &[HEADER, COMING_UP_RECORDS, GIVING_RECORDS, SENDING_RECORDS],
+        }
+    }
+}

@@ -1,16 +1,117 @@
-//! Plays scripts. Nothing is promised of it, so that the prover does not follow a page through a long
+//! Plays and records scripts. Nothing is promised of it, so that the prover does not follow a page through a long
 //! test.
-use crate::opening::{COMING_UP, COMING_UP_LINES, GIVING, GIVING_LINES, SENDING, SENDING_LINES};
-use ncp_bits::{BitStore, PackedStore, PlainStore};
+use crate::bytewise::{Bytewise, Piecemeal};
+use ncp_bits::{PackedStore, PlainStore};
 use ncp_play_notes::PlayFault;
-use ncp_play_stream::{MemorySink, MemorySource};
-use ncp_play_world::play_world;
+use ncp_play_stream::{MemorySink, MemorySource, Sink, Source};
+use ncp_play_world::{play_world, record_world};
 use std::alloc::{AllocError, Global};
 use std::process::Abort;
 use std::test::Fail;
 
 /// Room for the lines of a script, or for its recording.
-pub(crate) const ROOM: usize = 16384;
+const ROOM: usize = 16384;
+
+/// What is done with a script.
+#[derive(Clone, Copy, Drop)]
+pub(crate) enum Doing {
+    Plays,
+    Records,
+}
+
+/// Which store the bits of the hosts are in.
+#[derive(Clone, Copy, Drop)]
+pub(crate) enum Store {
+    Plain,
+    Packed,
+}
+
+const STORES: [Store; 2] = [Store::Packed, Store::Plain];
+
+/// A script, and how it is read and written.
+#[derive(Drop)]
+pub(crate) struct Run<'a> {
+    pub(crate) script: &'a [u8],
+    pub(crate) doing: Doing,
+    pub(crate) store: Store,
+    /// The read and the write that fail, each by its number.
+    pub(crate) read: Option<u32>,
+    pub(crate) write: Option<u32>,
+    /// Whether one byte is read and written at a time.
+    pub(crate) is_slow: bool,
+    /// How many bytes can be written.
+    pub(crate) room: usize,
+}
+
+/// What came of a script.
+#[derive(Drop)]
+pub(crate) struct Played {
+    pub(crate) answer: Result<bool, PlayFault>,
+    sink: MemorySink,
+}
+
+impl Played {
+    pub(crate) fn written(&self) -> &[u8] {
+        self.sink.bytes()
+    }
+}
+
+/// A script over a store, of which no read and no write fails.
+pub(crate) fn whole(doing: Doing, store: Store, script: &[u8]) -> Run<'_> {
+    Run {
+        script,
+        doing,
+        store,
+        read: None,
+        write: None,
+        is_slow: false,
+        room: ROOM,
+    }
+}
+
+/// A sink, made once more where memory is refused.
+fn sink_of(alloc: Global, how: &Run<'_>) -> Result<MemorySink, AllocError> {
+    match MemorySink::new(alloc, how.room, how.write) {
+        Ok(sink) => Ok(sink),
+        Err(_) => MemorySink::new(alloc, how.room, how.write),
+    }
+}
+
+/// What is answered.
+fn answer_of(
+    rt: &impl Abort,
+    alloc: Global,
+    doing: Doing,
+    store: Store,
+    source: &mut Bytewise<'_>,
+    sink: &mut Piecemeal,
+) -> Result<bool, PlayFault> {
+    assert!(rt; !source.failed() && !sink.failed());
+    match (doing, store) {
+        (Doing::Plays, Store::Plain) => play_world::<PlainStore, _, _>(alloc, source, sink),
+        (Doing::Plays, Store::Packed) => play_world::<PackedStore, _, _>(alloc, source, sink),
+        (Doing::Records, Store::Plain) => record_world::<PlainStore, _, _>(alloc, source, sink),
+        (Doing::Records, Store::Packed) => record_world::<PackedStore, _, _>(alloc, source, sink),
+    }
+}
+
+/// Plays a script, or records it.
+pub(crate) fn play(rt: &impl Abort, alloc: Global, how: &Run<'_>) -> Result<Played, AllocError> {
+    let is_slow = how.is_slow;
+    let mut source = Bytewise {
+        source: MemorySource::new(how.script, how.read),
+        is_slow,
+    };
+    let mut sink = Piecemeal {
+        sink: sink_of(alloc, how)?,
+        is_slow,
+    };
+    let answer = answer_of(rt, alloc, how.doing, how.store, &mut source, &mut sink);
+    Ok(Played {
+        answer,
+        sink: sink.sink,
+    })
+}
 
 /// These texts, one behind the other.
 pub(crate) fn joined(alloc: Global, texts: &[&[u8]]) -> Result<Vec<u8>, AllocError> {
@@ -21,69 +122,103 @@ pub(crate) fn joined(alloc: Global, texts: &[&[u8]]) -> Result<Vec<u8>, AllocErr
     Ok(all)
 }
 
-// Compares what a script answers, and its lines.
-fn expect_with<S: BitStore>(
-    rt: &impl Abort,
+/// These texts, and others behind them.
+pub(crate) fn joined_behind(
     alloc: Global,
-    script: &[u8],
-    answer: Result<bool, PlayFault>,
-    lines: &[u8],
-) -> Result<(), Fail> {
-    let mut source = MemorySource::new(script, None);
-    let mut sink = MemorySink::new(alloc, ROOM, None)?;
-    let played = play_world::<S, _, _>(alloc, &mut source, &mut sink);
-    assert!(rt; played == answer);
-    assert!(rt; sink.bytes() == lines);
-    Ok(())
+    texts: &[&[u8]],
+    behind: &[&[u8]],
+) -> Result<Vec<u8>, AllocError> {
+    let mut all = joined(alloc, texts)?;
+    for text in behind {
+        all.extend_from_slice(text)?;
+    }
+    Ok(all)
 }
 
-/// Compares what a script answers, and its lines, over either store.
+/// So many times the same line.
+pub(crate) fn repeated(alloc: Global, line: &[u8], count: u32) -> Result<Vec<u8>, AllocError> {
+    let mut lines = Vec::new(alloc);
+    for _ in 0..count {
+        lines.extend_from_slice(line)?;
+    }
+    Ok(lines)
+}
+
+/// So many lines from a number on: the number of each, and what stands behind it.
+pub(crate) fn numbered(
+    alloc: Global,
+    first: u32,
+    count: u32,
+    behind: &[u8],
+) -> Result<Vec<u8>, AllocError> {
+    let mut lines = Vec::new(alloc);
+    for number in first..first.saturating_add(count) {
+        lines.extend_from_slice(format!(in alloc; "{number}")?.as_bytes())?;
+        lines.extend_from_slice(behind)?;
+    }
+    Ok(lines)
+}
+
+/// A script, what it answers, and what is written of it.
+#[derive(Drop)]
+pub(crate) struct Case<'a> {
+    pub(crate) name: &'a str,
+    pub(crate) script: &'a [u8],
+    pub(crate) answer: Result<bool, PlayFault>,
+    pub(crate) written: &'a [u8],
+}
+
+/// Compares a case, over either store.
 pub(crate) fn expect(
     rt: &impl Abort,
     alloc: Global,
-    script: &[u8],
-    answer: Result<bool, PlayFault>,
-    lines: &[u8],
+    doing: Doing,
+    case: &Case<'_>,
 ) -> Result<(), Fail> {
-    expect_with::<PackedStore>(rt, alloc, script, answer, lines)?;
-    expect_with::<PlainStore>(rt, alloc, script, answer, lines)
+    let name = case.name;
+    for store in STORES {
+        let played = play(rt, alloc, &whole(doing, store, case.script))?;
+        assert!(rt; played.answer == case.answer, "{name}");
+        assert!(rt; played.written() == case.written, "{name}");
+    }
+    Ok(())
 }
 
-/// The same of a script behind the one by which both hosts come up.
-pub(crate) fn expect_up(
-    rt: &impl Abort,
-    alloc: Global,
-    script: &[u8],
-    good: bool,
-    lines: &[u8],
-) -> Result<(), Fail> {
-    let script = joined(alloc, &[COMING_UP, script])?;
-    let lines = joined(alloc, &[COMING_UP_LINES, lines])?;
-    expect(rt, alloc, &script, Ok(good), &lines)
+/// A case whose texts are in parts.
+pub(crate) struct Row {
+    pub(crate) name: &'static str,
+    pub(crate) script: &'static [&'static [u8]],
+    pub(crate) answer: Result<bool, PlayFault>,
+    pub(crate) written: &'static [&'static [u8]],
 }
 
-/// The same of a script behind the one by which three bytes are given.
-pub(crate) fn expect_given(
+/// Compares a row.
+pub(crate) fn expect_row(
     rt: &impl Abort,
     alloc: Global,
-    script: &[u8],
-    good: bool,
-    lines: &[u8],
+    doing: Doing,
+    row: &Row,
 ) -> Result<(), Fail> {
-    let script = joined(alloc, &[GIVING, script])?;
-    let lines = joined(alloc, &[GIVING_LINES, lines])?;
-    expect_up(rt, alloc, &script, good, &lines)
+    let script = joined(alloc, row.script)?;
+    let written = joined(alloc, row.written)?;
+    let case = Case {
+        name: row.name,
+        script: &script,
+        answer: row.answer,
+        written: &written,
+    };
+    expect(rt, alloc, doing, &case)
 }
 
-/// The same of a script behind the one by which the first message goes out.
-pub(crate) fn expect_sent(
+/// Compares each row.
+pub(crate) fn expect_rows(
     rt: &impl Abort,
     alloc: Global,
-    script: &[u8],
-    good: bool,
-    lines: &[u8],
+    doing: Doing,
+    rows: &[Row],
 ) -> Result<(), Fail> {
-    let script = joined(alloc, &[SENDING, script])?;
-    let lines = joined(alloc, &[SENDING_LINES, lines])?;
-    expect_given(rt, alloc, &script, good, &lines)
+    for row in rows {
+        expect_row(rt, alloc, doing, row)?;
+    }
+    Ok(())
 }

@@ -1,134 +1,104 @@
-//! Records scripts. Nothing is promised of it, so that the prover does not follow a page through a long
-//! test.
-mod faults;
-mod opening;
+//! Recordings: the worked row, scripts at fault, and what stands where the recorder is refused memory.
 mod refused;
-mod scripts;
 
-use crate::opening::{COMING_UP, GIVING, SENDING};
-use crate::played::{ROOM, joined};
-use ncp_bits::{BitStore, PackedStore, PlainStore};
+use crate::faults::TOO_LONG;
+use crate::opening::{COMING_UP_RECORDS, HEADER};
+use crate::played::{Doing, Row, expect_rows};
 use ncp_play_notes::PlayFault;
-use ncp_play_stream::{MemorySink, MemorySource};
-use ncp_play_world::record_world;
-use opening::{COMING_UP_RECORDS, GIVING_RECORDS, SENDING_RECORDS};
-use std::alloc::{AllocError, Global};
-use std::process::Abort;
 use std::test::Fail;
 
-// The header of a recording.
-const HEADER: &[u8] = b"NCPJ";
+/// RST of host 1 goes out, comes and is answered.
+pub(crate) const RESET: &[u8] = b"hosts 1 2\na reset\na out\na deliver 0\na answer 0\n";
 
-// Appends these texts.
-fn append(all: &mut Vec<u8>, texts: &[&[u8]]) -> Result<(), AllocError> {
-    for text in texts {
-        all.extend_from_slice(text)?;
-    }
-    Ok(())
-}
+pub(crate) const RECORDING: &[u8] =
+    b"NCPJH\x01\x00\x50\x00\x02\x00\x00\x00\x08\x00\x01\x00\x0cI\x02\x00\x50\x00\x01\x00\x00\x00\x08\x00\x01\x00\x0cI\x01\x00\x20\x05\x02\x00\x00";
 
-// Compares what a script answers, and its recording.
-fn expect_with<S: BitStore>(
-    rt: &impl Abort,
-    alloc: Global,
-    script: &[u8],
-    answer: Result<bool, PlayFault>,
-    recording: &[u8],
-) -> Result<(), Fail> {
-    let mut source = MemorySource::new(script, None);
-    let mut sink = MemorySink::new(alloc, ROOM, None)?;
-    let played = record_world::<S, _, _>(alloc, &mut source, &mut sink);
-    assert!(rt; played == answer);
-    assert!(rt; sink.bytes() == recording);
-    Ok(())
-}
+/// The header, and RST as it goes out.
+const FRONT: &[u8] = b"NCPJH\x01\x00\x50\x00\x02\x00\x00\x00\x08\x00\x01\x00\x0c";
 
-/// Compares what a script answers, and its recording, over either store.
-fn expect(
-    rt: &impl Abort,
-    alloc: Global,
-    script: &[u8],
-    answer: Result<bool, PlayFault>,
-    recording: &[u8],
-) -> Result<(), Fail> {
-    expect_with::<PackedStore>(rt, alloc, script, answer, recording)?;
-    expect_with::<PlainStore>(rt, alloc, script, answer, recording)
-}
+const BAD_HOSTS: Result<bool, PlayFault> = Err(PlayFault::BadHosts);
 
-// The same of a script behind a beginning in parts, and of its records behind those of the parts.
-fn expect_behind(
-    rt: &impl Abort,
-    alloc: Global,
-    beginning: &[&[u8]],
-    before: &[&[&[u8]]],
-    script: &[u8],
-    good: bool,
-    records: &[&[u8]],
-) -> Result<(), Fail> {
-    let mut all = joined(alloc, beginning)?;
-    all.extend_from_slice(script)?;
-    let mut recording = Vec::new(alloc);
-    recording.extend_from_slice(HEADER)?;
-    for part in before {
-        append(&mut recording, part)?;
-    }
-    append(&mut recording, records)?;
-    expect(rt, alloc, &all, Ok(good), &recording)
-}
+const ROWS: &[Row] = &[
+    Row {
+        name: "a_reset",
+        script: &[RESET],
+        answer: Ok(true),
+        written: &[RECORDING],
+    },
+    Row {
+        name: "a_watched_reset",
+        script: &[b"hosts 1 2 watch a 3 2\na reset\na out\na deliver 0\na answer 0\n"],
+        answer: Ok(true),
+        written: &[RECORDING],
+    },
+    Row {
+        name: "a_reset_among_three",
+        script: &[
+            b"many 1 2 3\n1 reset 3\n1 out\n1 deliver 3 0\n1 answer 3 0\n1 out\n1 lose 2 0\n",
+        ],
+        answer: Ok(true),
+        written: &[
+            b"NCPJH\x01\x00\x50\x00\x03\x00\x00\x00\x08\x00\x01\x00\x0cI\x03\x00\x50\x00\x01\x00\x00\x00\x08\x00\x01\x00\x0cI\x01\x00\x20\x05\x03\x00\x00",
+        ],
+    },
+    // The word `settle` records the messages of its events, and nothing of its line.
+    Row {
+        name: "both_come_up_by_themselves",
+        script: &[b"hosts 1 2\nsettle\na reset\nsettle\nsettle\n"],
+        answer: Ok(true),
+        written: &[HEADER, COMING_UP_RECORDS],
+    },
+    Row {
+        name: "nothing_is_recorded_without_hosts",
+        script: &[],
+        answer: BAD_HOSTS,
+        written: &[],
+    },
+    Row {
+        name: "nothing_is_recorded_without_hosts, with one twice",
+        script: &[b"hosts 1 1\na out\n"],
+        answer: BAD_HOSTS,
+        written: &[],
+    },
+    Row {
+        name: "nothing_is_recorded_without_hosts, with one of many twice",
+        script: &[b"many 1 1\n1 out\n"],
+        answer: BAD_HOSTS,
+        written: &[],
+    },
+    Row {
+        name: "nothing_is_recorded_without_hosts, with another line first",
+        script: &[b"a out\nhosts 1 2\n"],
+        answer: BAD_HOSTS,
+        written: &[],
+    },
+    Row {
+        name: "nothing_is_recorded_without_hosts, with a long line",
+        script: &[TOO_LONG],
+        answer: Err(PlayFault::LineTooLong(1)),
+        written: &[],
+    },
+    Row {
+        name: "no_message_is_a_header",
+        script: &[b"hosts 1 2"],
+        answer: Ok(true),
+        written: &[HEADER],
+    },
+    Row {
+        name: "no_message_is_a_header, behind calls",
+        script: &[b"hosts 1 2\na out\na deliver 0\na lose 0\na answer 0\na state 2 3\n"],
+        answer: Ok(false),
+        written: &[HEADER],
+    },
+    Row {
+        name: "a_bad_line_stops",
+        script: &[b"hosts 1 2\na reset\na out\nout\na deliver 0\n"],
+        answer: Err(PlayFault::BadLine(4)),
+        written: &[FRONT],
+    },
+];
 
-/// The same of a script behind the one by which both hosts come up.
-fn expect_up(
-    rt: &impl Abort,
-    alloc: Global,
-    script: &[u8],
-    good: bool,
-    records: &[&[u8]],
-) -> Result<(), Fail> {
-    expect_behind(
-        rt,
-        alloc,
-        &[COMING_UP],
-        &[COMING_UP_RECORDS],
-        script,
-        good,
-        records,
-    )
-}
-
-/// The same of a script behind the one by which three bytes are given.
-fn expect_given(
-    rt: &impl Abort,
-    alloc: Global,
-    script: &[u8],
-    good: bool,
-    records: &[&[u8]],
-) -> Result<(), Fail> {
-    expect_behind(
-        rt,
-        alloc,
-        &[COMING_UP, GIVING],
-        &[COMING_UP_RECORDS, GIVING_RECORDS],
-        script,
-        good,
-        records,
-    )
-}
-
-/// The same of a script behind the one by which the first message goes out.
-fn expect_sent(
-    rt: &impl Abort,
-    alloc: Global,
-    script: &[u8],
-    good: bool,
-    records: &[&[u8]],
-) -> Result<(), Fail> {
-    expect_behind(
-        rt,
-        alloc,
-        &[COMING_UP, GIVING, SENDING],
-        &[COMING_UP_RECORDS, GIVING_RECORDS, SENDING_RECORDS],
-        script,
-        good,
-        records,
-    )
+#[test]
+fn scripts_are_recorded(rt: HostRuntime) -> Result<(), Fail> {
+    expect_rows(&rt, rt.alloc(), Doing::Records, ROWS)
 }

@@ -1,11 +1,10 @@
 //! What stands where the player of scripts is refused memory. Here each test has ample memory. `bench/refuse.py` runs
 //! each test again and again, refuses it one request after the other, and reads what is printed of the request.
-use crate::opening::{COMING_UP, COMING_UP_LINES, GIVING, GIVING_LINES, SENDING, SENDING_LINES};
-use crate::played::{ROOM, joined};
-use ncp_bits::{BitStore, PackedStore, PlainStore};
+use crate::opening::{
+    COMING_UP, COMING_UP_LINES, GIVING, GIVING_LINES, HOSTS, SENDING, SENDING_LINES,
+};
+use crate::played::{Doing, Store, joined, play, whole};
 use ncp_play_notes::PlayFault;
-use ncp_play_stream::{MemorySink, MemorySource, Sink};
-use ncp_play_world::play_world;
 use std::alloc::{AllocError, Global};
 use std::process::Abort;
 use std::test::Fail;
@@ -48,20 +47,14 @@ pub(crate) fn text_of(alloc: Global, texts: &[&[u8]]) -> Result<Vec<u8>, AllocEr
     }
 }
 
-/// A sink, made once more where memory is refused.
-pub(crate) fn sink_of(alloc: Global) -> Result<MemorySink, AllocError> {
-    match MemorySink::new(alloc, ROOM, None) {
-        Ok(sink) => Ok(sink),
-        Err(_) => MemorySink::new(alloc, ROOM, None),
-    }
-}
-
 /// How many bytes two texts have in common at their front.
 fn same_front(one: &[u8], other: &[u8]) -> usize {
-    one.iter()
-        .zip(other.iter())
-        .take_while(|(byte, same)| **byte == **same)
-        .count()
+    for place in 0..one.len() {
+        if one.get(place) != other.get(place) {
+            return place;
+        }
+    }
+    one.len()
 }
 
 /// What a text has behind so many bytes.
@@ -85,17 +78,16 @@ fn is_noted(written: &[u8], lines: &[u8]) -> bool {
 
 /// Plays a script. Whether it was refused memory: then the player says so behind the lines of what happened before,
 /// or the line of a call does.
-fn is_refused<S: BitStore>(
+fn is_refused(
     rt: &impl Abort,
     alloc: Global,
+    store: Store,
     script: &[u8],
     lines: &[u8],
 ) -> Result<bool, Fail> {
-    let mut source = MemorySource::new(script, None);
-    let mut sink = sink_of(alloc)?;
-    assert!(rt; !sink.failed());
-    let answer = play_world::<S, _, _>(alloc, &mut source, &mut sink);
-    let written = sink.bytes();
+    let played = play(rt, alloc, &whole(Doing::Plays, store, script))?;
+    let answer = played.answer;
+    let written = played.written();
     if answer == Ok(true) && written == lines {
         return Ok(false);
     }
@@ -109,26 +101,39 @@ fn is_refused<S: BitStore>(
     Ok(true)
 }
 
-#[test]
-fn playing_two_hosts(rt: HostRuntime) -> Result<(), Fail> {
-    let alloc = rt.alloc();
-    let script = text_of(alloc, &[COMING_UP, GIVING, SENDING])?;
-    let lines = text_of(alloc, &[COMING_UP_LINES, GIVING_LINES, SENDING_LINES])?;
-    let plain = is_refused::<PlainStore>(&rt, alloc, &script, &lines)?;
-    let packed = is_refused::<PackedStore>(&rt, alloc, &script, &lines)?;
-    if plain || packed {
-        println!(rt; "refused: PlayFault 7 behind whole lines, or the line of a call")?;
+/// Whether a script was refused memory over one of the stores.
+fn is_refused_once(
+    rt: &impl Abort,
+    alloc: Global,
+    script: &[u8],
+    lines: &[u8],
+) -> Result<bool, Fail> {
+    let plain = is_refused(rt, alloc, Store::Plain, script, lines)?;
+    let packed = is_refused(rt, alloc, Store::Packed, script, lines)?;
+    Ok(plain || packed)
+}
+
+/// Prints what stood, if memory was refused.
+pub(crate) fn tell(rt: &HostRuntime, refused: bool, stood: &str) -> Result<(), Fail> {
+    if refused {
+        println!(rt; "refused: {stood}")?;
     }
     Ok(())
 }
 
+/// What stood where the player was refused memory.
+const STOOD: &str = "PlayFault 7 behind whole lines, or the line of a call";
+
+#[test]
+fn playing_two_hosts(rt: HostRuntime) -> Result<(), Fail> {
+    let script = text_of(rt.alloc(), &[HOSTS, COMING_UP, GIVING, SENDING])?;
+    let lines = text_of(rt.alloc(), &[COMING_UP_LINES, GIVING_LINES, SENDING_LINES])?;
+    let refused = is_refused_once(&rt, rt.alloc(), &script, &lines)?;
+    tell(&rt, refused, STOOD)
+}
+
 #[test]
 fn playing_many_hosts(rt: HostRuntime) -> Result<(), Fail> {
-    let alloc = rt.alloc();
-    let plain = is_refused::<PlainStore>(&rt, alloc, MANY, MANY_LINES)?;
-    let packed = is_refused::<PackedStore>(&rt, alloc, MANY, MANY_LINES)?;
-    if plain || packed {
-        println!(rt; "refused: PlayFault 7 behind whole lines, or the line of a call")?;
-    }
-    Ok(())
+    let refused = is_refused_once(&rt, rt.alloc(), MANY, MANY_LINES)?;
+    tell(&rt, refused, STOOD)
 }

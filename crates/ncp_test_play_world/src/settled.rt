@@ -1,16 +1,14 @@
 //! The word `settle`: the lines of what happens without a call, and how many events it is.
-use crate::played::expect;
-use ncp_play_notes::PlayFault;
+use crate::played::{Doing, Row, expect_rows};
 use std::test::Fail;
 
-#[test]
-fn two_hosts_settle(rt: HostRuntime) -> Result<(), Fail> {
-    expect(
-        &rt,
-        rt.alloc(),
-        b"hosts 1 2\nsettle\na reset\nsettle\r\nsettle\nb out",
-        Ok(true),
-        b"1 settle 0
+const ROWS: &[Row] = &[
+    Row {
+        name: "two_hosts_settle",
+        script: &[b"hosts 1 2\nsettle\na reset\nsettle\r\nsettle\nb out"],
+        answer: Ok(true),
+        written: &[
+            b"1 settle 0
 2 a reset ok
 3 a out host=2 link=0 bits=80
   size=8 count=1
@@ -26,17 +24,14 @@ fn two_hosts_settle(rt: HostRuntime) -> Result<(), Fail> {
 10 settle 0
 11 b out nothing
 ",
-    )
-}
-
-#[test]
-fn three_hosts_settle(rt: HostRuntime) -> Result<(), Fail> {
-    expect(
-        &rt,
-        rt.alloc(),
-        b"many 3 1 2\n1 reset 2\nsettle",
-        Ok(true),
-        b"1 1 reset 2 ok
+        ],
+    },
+    Row {
+        name: "three_hosts_settle",
+        script: &[b"many 3 1 2\n1 reset 2\nsettle"],
+        answer: Ok(true),
+        written: &[
+            b"1 1 reset 2 ok
 2 1 out host=2 link=0 bits=80
   size=8 count=1
   RST
@@ -49,18 +44,15 @@ fn three_hosts_settle(rt: HostRuntime) -> Result<(), Fail> {
 7 2 answer 1 0 rfnm
 8 settle 6
 ",
-    )
-}
-
-/// Behind each event stands the ledger that is watched, and behind the line of the word none.
-#[test]
-fn a_watched_world_settles(rt: HostRuntime) -> Result<(), Fail> {
-    expect(
-        &rt,
-        rt.alloc(),
-        b"hosts 1 2 watch a 3 2\na reset\na out\na deliver 0\nsettle\nsettle\n",
-        Ok(true),
-        b"1 a reset ok
+        ],
+    },
+    // Behind each event stands the ledger that is watched, and behind the line of the word none.
+    Row {
+        name: "a_watched_world_settles",
+        script: &[b"hosts 1 2 watch a 3 2\na reset\na out\na deliver 0\nsettle\nsettle\n"],
+        answer: Ok(true),
+        written: &[
+            b"1 a reset ok
   ledger none
 2 a out host=2 link=0 bits=80
   size=8 count=1
@@ -81,21 +73,11 @@ fn a_watched_world_settles(rt: HostRuntime) -> Result<(), Fail> {
 8 settle 4
 9 settle 0
 ",
-    )
-}
+        ],
+    },
+];
 
 #[test]
-fn the_word_stands_alone(rt: HostRuntime) -> Result<(), Fail> {
-    for script in [
-        b"hosts 1 2\na settle\n".as_slice(),
-        b"hosts 1 2\nsettle a\n",
-        b"hosts 1 2\nsettle \n",
-        b"hosts 1 2\n settle\n",
-        b"hosts 1 2\nSettle\n",
-        b"many 1 2\n1 settle\n",
-        b"many 1 2\nsettle 1\n",
-    ] {
-        expect(&rt, rt.alloc(), script, Err(PlayFault::BadLine(2)), b"")?;
-    }
-    Ok(())
+fn hosts_settle(rt: HostRuntime) -> Result<(), Fail> {
+    expect_rows(&rt, rt.alloc(), Doing::Plays, ROWS)
 }

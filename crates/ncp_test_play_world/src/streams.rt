@@ -1,77 +1,117 @@
-//! Each read and each write of a script that fails in turn.
-use crate::bytewise::{Bytewise, Piecemeal};
-use crate::opening::{COMING_UP, COMING_UP_LINES};
-use ncp_bits::PackedStore;
+//! Each read and each write of a script that fails in turn, where a byte is read and written at a time.
+use crate::opening::{COMING_UP, COMING_UP_LINES, HOSTS};
+use crate::played::{Doing, Run, Store, joined, play, whole};
+use crate::recorded::{RECORDING, RESET};
 use ncp_play_notes::PlayFault;
-use ncp_play_stream::{MemorySink, MemorySource, Sink, Source};
-use ncp_play_world::play_world;
 use std::alloc::Global;
+use std::process::Abort;
 use std::test::Fail;
 
-/// Room for the lines.
-const ROOM: usize = 1024;
-
-// Whether this is answered where the n-th read or the n-th write fails, and these first bytes of the lines
-// are written.
-fn is_played(
-    alloc: Global,
-    read: Option<u32>,
-    write: Option<u32>,
-    answer: Result<bool, PlayFault>,
-    len: usize,
-) -> Result<bool, Fail> {
-    let mut source = Bytewise {
-        source: MemorySource::new(COMING_UP, read),
-    };
-    let mut sink = Piecemeal {
-        sink: MemorySink::new(alloc, ROOM, write)?,
-    };
-    if source.failed() || sink.failed() {
-        return Ok(false);
-    }
-    let played = play_world::<PackedStore, _, _>(alloc, &mut source, &mut sink);
-    let written = sink.sink.bytes();
-    Ok(played == answer && written.len() == len && COMING_UP_LINES.starts_with(written))
+/// A script in parts, how many bytes it has, what is written of it, and how many bytes that has.
+struct Stream {
+    doing: Doing,
+    script: &'static [&'static [u8]],
+    len: u32,
+    written: &'static [u8],
+    written_len: u32,
 }
 
-// How many bytes the lines have of those of the script that are whole in its first bytes.
-fn lines_of_front(len: u32) -> usize {
-    match len {
-        0..18 => 0,
-        18..24 => 13,
-        24..36 => 66,
-        36..47 => 90,
-        47..53 => 108,
-        53..65 => 161,
-        65..76 => 185,
-        _ => 203,
+const STREAMS: &[Stream] = &[
+    Stream {
+        doing: Doing::Plays,
+        script: &[HOSTS, COMING_UP],
+        len: 77,
+        written: COMING_UP_LINES,
+        written_len: 203,
+    },
+    Stream {
+        doing: Doing::Records,
+        script: &[RESET],
+        len: 48,
+        written: RECORDING,
+        written_len: 40,
+    },
+];
+
+/// How many bytes are written of the lines of a script that are whole in its first bytes.
+fn written_of_front(doing: Doing, len: u32) -> u32 {
+    match doing {
+        Doing::Plays => match len {
+            0..18 => 0,
+            18..24 => 13,
+            24..36 => 66,
+            36..47 => 90,
+            47..53 => 108,
+            53..65 => 161,
+            65..76 => 185,
+            _ => 203,
+        },
+        Doing::Records => match len {
+            0..10 => 0,
+            10..24 => 4,
+            24..36 => 18,
+            36..47 => 32,
+            _ => 40,
+        },
     }
+}
+
+/// Whether this is answered where a read or a write fails, by its number, and so many first bytes are written.
+fn is_so(
+    rt: &impl Abort,
+    alloc: Global,
+    stream: &Stream,
+    (read, write): (Option<u32>, Option<u32>),
+    answer: Result<bool, PlayFault>,
+    len: u32,
+) -> Result<bool, Fail> {
+    let script = joined(alloc, stream.script)?;
+    let how = Run {
+        read,
+        write,
+        is_slow: true,
+        ..whole(stream.doing, Store::Packed, &script)
+    };
+    let played = play(rt, alloc, &how)?;
+    let written = played.written();
+    Ok(
+        played.answer == answer
+            && written.len() == len as usize
+            && stream.written.starts_with(written),
+    )
 }
 
 #[test]
 fn each_failed_read_is_told(rt: HostRuntime) -> Result<(), Fail> {
-    let alloc = rt.alloc();
-    for count in 1..78u32 {
-        let len = lines_of_front(count.saturating_sub(1));
-        assert!(rt;
-            is_played(alloc, Some(count), None, Err(PlayFault::ReadFailed), len)?,
-            "at {count}"
-        );
+    let fault = Err(PlayFault::ReadFailed);
+    for stream in STREAMS {
+        for count in 0..stream.len {
+            let fails = (Some(count.saturating_add(1)), None);
+            let len = written_of_front(stream.doing, count);
+            assert!(rt;
+                is_so(&rt, rt.alloc(), stream, fails, fault, len)?,
+                "behind {count}"
+            );
+        }
+        let fails = (Some(stream.len.saturating_add(1)), None);
+        assert!(rt; is_so(&rt, rt.alloc(), stream, fails, Ok(true), stream.written_len)?);
     }
-    assert!(rt; is_played(alloc, Some(78), None, Ok(true), COMING_UP_LINES.len())?);
     Ok(())
 }
 
 #[test]
 fn each_failed_write_is_told(rt: HostRuntime) -> Result<(), Fail> {
-    let alloc = rt.alloc();
-    for count in 1..204u32 {
-        let len = count.saturating_sub(1) as usize;
-        assert!(rt;
-            is_played(alloc, None, Some(count), Err(PlayFault::WriteFailed), len)?,
-            "at {count}"
-        );
+    let fault = Err(PlayFault::WriteFailed);
+    for stream in STREAMS {
+        for count in 0..stream.written_len {
+            let fails = (None, Some(count.saturating_add(1)));
+            assert!(rt;
+                is_so(&rt, rt.alloc(), stream, fails, fault, count)?,
+                "behind {count}"
+            );
+        }
+        let fails = (None, Some(stream.written_len.saturating_add(1)));
+        assert!(rt; is_so(&rt, rt.alloc(), stream, fails, Ok(true), stream.written_len)?);
     }
-    assert!(rt; is_played(alloc, None, Some(204), Ok(true), COMING_UP_LINES.len())?);
     Ok(())
 }
