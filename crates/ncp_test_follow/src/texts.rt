@@ -11,6 +11,14 @@ use std::test::Fail;
 // Room for the texts below.
 const ROOM: usize = 4096;
 
+// A capture, by its place in the table.
+fn capture(place: usize) -> Result<&'static [u8], Fail> {
+    match ROWS.get(place) {
+        Some((file, _)) => Ok(*file),
+        None => Err("there is no such capture".into()),
+    }
+}
+
 // What `follow_text` answers, where neither mark is set. Without its clauses the prover need not follow it through a test.
 fn written<R: Source, W: Sink>(
     follower: &mut Follower,
@@ -60,7 +68,7 @@ fn texts_are_written(rt: HostRuntime) -> Result<(), Fail> {
         (4, 1, b"abab"),
     ];
     for (row, wanted, text) in TEXTS {
-        let (file, _) = ROWS[*row];
+        let file = capture(*row)?;
         assert!(rt;
             writes(rt.alloc(), false, file, *wanted, text, Ok(()))?,
             "{row} {wanted}"
@@ -97,7 +105,7 @@ fn bits_are_joined(rt: HostRuntime) -> Result<(), Fail> {
 
 #[test]
 fn a_fault_stands_behind_the_text(rt: HostRuntime) -> Result<(), Fail> {
-    let (file, _) = ROWS[0];
+    let file = capture(0)?;
     let cut = joined(rt.alloc(), file, b"I", 1, b"")?;
     let plain = b"NCPH\x00\x20\x05\x02\x00\x00";
     assert!(rt;
