@@ -1,4 +1,4 @@
-"""Message files: `show`, `check` and `convert` of both versions, beside `xxd -p` and `cat`, which also read each byte."""
+"""Message files: `show`, `check` and `convert` of both versions, `audit` and `follow`, beside `xxd -p` and `cat`, which also read each byte."""
 import os
 
 from measuring import NCP, Row, best_of, build_ncp, generated, instructions, kept, once
@@ -12,6 +12,8 @@ WORK = [
     ("ncp check", [NCP, "check"], 1),
     ("ncp check, version 2", [NCP, "check"], 2),
     ("ncp convert", [NCP, "convert", "--at", "1"], 1),
+    ("ncp audit", [NCP, "audit"], 2),
+    ("ncp follow", [NCP, "follow"], 2),
     (XXD, ["xxd", "-p"], 1),
     (CAT, ["cat"], 1),
 ]
@@ -28,7 +30,8 @@ def rows(_room):
         runs = {what: [] for what, _, _ in WORK}
         for _ in range(ROUNDS):
             for what, command, version in WORK:
-                runs[what].append(once(command, made(size, version)))
+                # (an audit that finds something ends with 1)
+                runs[what].append(once(command, made(size, version), {0, 1} if "audit" in command else {0}))
         for what, _, version in WORK:
             seconds, peak = best_of(runs[what])
             yield Row(what, f"{size} MiB", os.path.getsize(made(size, version)), "bytes", seconds, peak)

@@ -52,7 +52,7 @@ def processor():
     return used.ru_utime + used.ru_stime
 
 
-def once(command, path):
+def once(command, path, statuses=frozenset({0})):
     """The processor's time of a run on a file, and how many KiB of memory it had at most, as far as that was seen."""
     with open(path, "rb") as source:
         begin = processor()
@@ -61,7 +61,7 @@ def once(command, path):
         while child.poll() is None:
             peak = max(peak, peak_of(child.pid))
             time.sleep(0.002)
-    if child.returncode:
+    if child.returncode not in statuses:
         sys.exit(f"{command}: status {child.returncode}")
     return processor() - begin, peak
 
