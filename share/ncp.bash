@@ -10,7 +10,7 @@ _ncp() {
     help) COMPREPLY=($(compgen -W "show check convert audit follow host world record explain" -- "$word")) ;;
     convert) COMPREPLY=($(compgen -W "--at --help" -- "$word") $(compgen -f -- "$word")) ;;
     audit) COMPREPLY=($(compgen -W "--part --standard --help" -- "$word") $(compgen -f -- "$word")) ;;
-    follow) COMPREPLY=($(compgen -W "--part --help" -- "$word") $(compgen -f -- "$word")) ;;
+    follow) COMPREPLY=($(compgen -W "--part --bytes --help" -- "$word") $(compgen -f -- "$word")) ;;
     *) COMPREPLY=($(compgen -W "--help" -- "$word") $(compgen -f -- "$word")) ;;
     esac
 }

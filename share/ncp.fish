@@ -11,6 +11,7 @@ complete -c ncp -n __fish_use_subcommand -f -a explain -d 'Says what the name of
 complete -c ncp -n __fish_use_subcommand -f -a help -d 'Says more of a command'
 complete -c ncp -n '__fish_seen_subcommand_from convert' -l at -x -d 'The number of a host'
 complete -c ncp -n '__fish_seen_subcommand_from audit follow' -l part -d 'The capture may begin in the middle'
+complete -c ncp -n '__fish_seen_subcommand_from follow' -l bytes -x -d 'The number of a connection'
 complete -c ncp -n '__fish_seen_subcommand_from audit' -l standard -d 'Leave out what only this program asks for'
 complete -c ncp -n '__fish_seen_subcommand_from explain' -f -a 'BadHeader Truncated TooLong SpareNotZero ReadFailed WriteFailed BadDirection Mixed BadLine LineTooLong BadHosts OutOfMemory UnknownPeer NotUp BadSex BadSize BadRoom NoEntry AlreadyAsked Closing NotOpen WrongEnd NotWhole Busy NoRoom TooMuch TableFull QueueFull ShortPrefix M1NotZero SizeZero M2NotZero TextMissing short own-host kind fault wrong-link wrong-size extras occupied changed stray unsent false-answer bad early rst-again rrp-unasked unquiet rrp-first missing cls cls-sent cls-came rst-sent rst-came rrp-came end'
 complete -c ncp -n '__fish_seen_subcommand_from help' -f -a 'show check convert audit follow host world record explain'
