@@ -114,7 +114,7 @@ fn is_refused_once(
 }
 
 /// Prints what stood, if memory was refused.
-pub(crate) fn tell(rt: &HostRuntime, refused: bool, stood: &str) -> Result<(), Fail> {
+pub(crate) fn print_refusal(rt: &HostRuntime, refused: bool, stood: &str) -> Result<(), Fail> {
     if refused {
         println!(rt; "refused: {stood}")?;
     }
@@ -129,11 +129,11 @@ fn playing_two_hosts(rt: HostRuntime) -> Result<(), Fail> {
     let script = text_of(rt.alloc(), &[HOSTS, COMING_UP, GIVING, SENDING])?;
     let lines = text_of(rt.alloc(), &[COMING_UP_LINES, GIVING_LINES, SENDING_LINES])?;
     let refused = is_refused_once(&rt, rt.alloc(), &script, &lines)?;
-    tell(&rt, refused, STOOD)
+    print_refusal(&rt, refused, STOOD)
 }
 
 #[test]
 fn playing_many_hosts(rt: HostRuntime) -> Result<(), Fail> {
     let refused = is_refused_once(&rt, rt.alloc(), MANY, MANY_LINES)?;
-    tell(&rt, refused, STOOD)
+    print_refusal(&rt, refused, STOOD)
 }

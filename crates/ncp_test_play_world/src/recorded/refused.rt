@@ -4,7 +4,7 @@ use crate::opening::{
     COMING_UP, COMING_UP_RECORDS, GIVING, GIVING_RECORDS, HEADER, HOSTS, SENDING, SENDING_RECORDS,
 };
 use crate::played::{Doing, Store, play, whole};
-use crate::refused::{tell, text_of};
+use crate::refused::{print_refusal, text_of};
 use ncp_play_notes::PlayFault;
 use std::alloc::Global;
 use std::process::Abort;
@@ -50,5 +50,5 @@ fn recording(rt: HostRuntime) -> Result<(), Fail> {
     )?;
     let plain = is_refused(&rt, alloc, Store::Plain, &script, &before, &all)?;
     let packed = is_refused(&rt, alloc, Store::Packed, &script, &before, &all)?;
-    tell(&rt, plain || packed, STOOD)
+    print_refusal(&rt, plain || packed, STOOD)
 }
