@@ -101,8 +101,14 @@ fn fault_of_both(one: usize, byte: u8, other: usize, another: u8) -> Option<Mess
     read_regular(&bits).err()
 }
 
+// What the text of the RTS is written as.
+fn rts_written(rt: &impl Abort) -> Bits {
+    let text = first_bits(rt, &RTS[9..], 80);
+    put_regular(&RTS_LEADER, 8, text.whole()).expect(rt, "a message")
+}
+
 #[test]
-fn reads_the_rts(rt: HostRuntime) {
+fn reads_and_writes_the_rts(rt: HostRuntime) {
     let bits = first_bits(&rt, &RTS, 152);
     let message = message_in(&rt, &bits);
     assert!(rt;
@@ -114,67 +120,11 @@ fn reads_the_rts(rt: HostRuntime) {
             && has_byte(&message, 8, 0x03)
             && has_byte(&message, 9, 0x02)
     );
-    assert!(rt; is_leader_written(&RTS_LEADER, &[0x00, 0x02, 0x00, 0x00]));
-}
-
-// Bytes, and how many bits of them are meant.
-type Cut<'a> = (&'a [u8], usize);
-
-// A leader, the bits a byte, a text, how many bytes it has, and the message.
-type Row<'a> = (Leader, u8, Cut<'a>, u16, Cut<'a>);
-
-const ROWS: &[Row<'static>] = &[
-    (
-        RTS_LEADER,
-        8,
-        (
-            &[0x01, 0x00, 0x00, 0x00, 0x02, 0x00, 0x00, 0x00, 0x03, 0x02],
-            80,
-        ),
-        10,
-        (&RTS, 152),
-    ),
-    (
-        DATA_LEADER,
-        36,
-        (&[0x12, 0x34, 0x56, 0x78, 0x90], 36),
-        1,
-        (&LONG_BYTE, 108),
-    ),
-    // A text of no bytes.
-    (
-        DATA_LEADER,
-        8,
-        (&[], 0),
-        0,
-        (&[0x00, 0x02, 0x02, 0x00, 0x00, 0x08, 0x00, 0x00, 0x00], 72),
-    ),
-];
-
-// Whether a text is written as the message.
-fn is_put(rt: &impl Abort, (leader, size, (text, bits), _, (message, len)): Row<'_>) -> bool {
-    match put_regular(&leader, size, first_bits(rt, text, bits).whole()) {
-        Ok(written) => is_written(&written.whole(), len, message),
-        Err(_) => false,
-    }
-}
-
-// Whether the message is read as the text.
-fn is_read(rt: &impl Abort, (leader, size, (text, bits), count, (message, len)): Row<'_>) -> bool {
-    let whole = first_bits(rt, message, len);
-    let read = message_in(rt, &whole);
-    read.leader() == leader
-        && read.size() == size
-        && read.count() == count
-        && read.text().is_empty() == (count == 0)
-        && has_text(&read, &first_bits(rt, text, bits))
-}
-
-#[test]
-fn writes_and_reads_messages(rt: HostRuntime) {
-    for &row in ROWS {
-        assert!(rt; is_put(&rt, row) && is_read(&rt, row));
-    }
+    let written = rts_written(&rt);
+    assert!(rt;
+        is_written(&written.whole(), 152, &RTS)
+            && is_leader_written(&RTS_LEADER, &[0x00, 0x02, 0x00, 0x00])
+    );
 }
 
 // Three bits, a part and one bit.
@@ -198,6 +148,26 @@ fn reads_the_rts_where_it_stands(rt: HostRuntime) {
             && read_leader_in(&run(&rt, &bits, 3, 31)) == Err(Short)
             && fault == Some(MessageFault::TextMissing)
     );
+}
+
+#[test]
+fn reads_and_writes_a_long_byte(rt: HostRuntime) {
+    let bits = first_bits(&rt, &LONG_BYTE, 108);
+    let text = first_bits(&rt, &LONG_BYTE[9..], 36);
+    let message = message_in(&rt, &bits);
+    assert!(rt;
+        message.leader() == DATA_LEADER
+            && message.size() == 36
+            && message.count() == 1
+            && has_text(&message, &text)
+    );
+}
+
+#[test]
+fn writes_a_long_byte(rt: HostRuntime) {
+    let text = first_bits(&rt, &[0x12, 0x34, 0x56, 0x78, 0x90], 36);
+    let written = put(36, text.whole()).expect(&rt, "a message");
+    assert!(rt; is_written(&written.whole(), 108, &LONG_BYTE));
 }
 
 #[test]
@@ -355,6 +325,19 @@ fn writes_the_largest_bytes(rt: HostRuntime) {
     let ones = bits_of_one(&rt, 0xff, 8000);
     let written = put(255, run(&rt, &ones, 0, 7905)).expect(&rt, "a message");
     assert!(rt; written.len() == 7977 && has_largest_bytes(&rt, &message_in(&rt, &written), &ones));
+}
+
+#[test]
+fn writes_and_reads_an_empty_text(rt: HostRuntime) {
+    const EMPTY: [u8; 9] = [0x00, 0x02, 0x02, 0x00, 0x00, 0x08, 0x00, 0x00, 0x00];
+    let written = put(8, Bits::new().whole()).expect(&rt, "a message");
+    let message = message_in(&rt, &written);
+    assert!(rt;
+        is_written(&written.whole(), 72, &EMPTY)
+            && message.size() == 8
+            && message.count() == 0
+            && message.text().is_empty()
+    );
 }
 
 fn number_of(fault: MessageFault) -> u8 {
