@@ -1,5 +1,7 @@
 pub mod Apart
+pub mod FirstWords
 pub mod HeaderTexts
 pub mod Nearness
+pub mod Pieces
 pub mod Places
 pub mod Spelled

@@ -1,5 +1,8 @@
 -- The first strange byte, byte by byte.
-use Rattle.std.proofs.Common.{◌≡◌, ◌==◌, ◌<◌, ◌≤◌, ◌+◌, ℕ, true, false, List, ◌∷◌, ◌++◌, length, drop, get_or, None, Some, refl, ap, ◌∙◌, add-one, drop-cons, codes, decimal, append_assoc}
+use Rattle.std.proofs.Common.{◌≡◌, ◌==◌, ◌<◌, ◌≤◌, ◌+◌, ℕ, Bool, true, false, if◌then◌else◌, List, [], ◌∷◌, ◌++◌, length, drop, get_or, None, Some, refl, ap, ◌∙◌, add-one, drop-cons, codes, decimal, append_assoc, arith}
+use Rattle.std.proofs.lemmas.Bool.Decides.{nat_tests}
+use Rattle.std.specs.Str.{IsAscii}
+use Rattle.std.proofs.lemmas.Str.Ascii.{IsAscii-nil, IsAscii-cons}
 use Rattle.std.proofs.Math.ListN.{drop_of_length-le}
 use Rattle.ncp_play_faults.specs.Bytes.{hex_byte}
 use Rattle.ncp_play_faults.specs.Spelling.{is_sign, strange_from, byte_told}
@@ -29,3 +32,15 @@ told_other place byte a b =
     rw (a, b) (append_assoc (codes "byte " ++ decimal place ++ codes " is ") (hex_byte byte) (codes ", which is no letter, digit or sign of ASCII")
     ∙ append_assoc (codes "byte " ++ decimal place) (codes " is ") (hex_byte byte ++ codes ", which is no letter, digit or sign of ASCII")
     ∙ append_assoc (codes "byte ") (decimal place) (codes " is " ++ (hex_byte byte ++ codes ", which is no letter, digit or sign of ASCII")))
+
+-- ---- a line of signs is ASCII
+sign_is_ascii : (byte : ℕ) → is_sign byte ≡ true → byte < 128
+sign_is_ascii byte t = grind (arith, nat_tests)
+
+pub signs_are_ascii : (place : ℕ) (line : List ℕ) → strange_from place line ≡ None → IsAscii line
+signs_are_ascii place [] h = IsAscii-nil
+signs_are_ascii place (byte ∷ rest) h = go (is_sign byte) refl h (signs_are_ascii (place + 1) rest)
+  where
+    go : (t : Bool) → is_sign byte ≡ t → (if t then strange_from (place + 1) rest else Some (place, byte)) ≡ None → (strange_from (place + 1) rest ≡ None → IsAscii rest) → IsAscii (byte ∷ rest)
+    go true e h more = IsAscii-cons byte rest (sign_is_ascii byte e) (more h)
+    go false e h more = absurd cc

@@ -4,4 +4,5 @@ pub mod Headers
 pub mod Names
 pub mod Near
 pub mod Spelling
+pub mod Telling
 pub mod Verbs

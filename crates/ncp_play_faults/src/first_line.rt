@@ -1,9 +1,14 @@
 //! What is wrong with the first line of a script.
+ghost use Rattle.std.specs.Prelude.{◌≡◌, ◌≢◌, ◌++◌, [], false, Contains, IfOk, IfSome, IsNone, IsSomeAnd, IsTrue, codes};
+ghost use Rattle.std.specs.String.{string_bytes};
+ghost use Rattle.ncp_play_faults.specs.Spelling.{strange_byte, byte_told, IsWellSpelled};
+ghost use Rattle.ncp_play_faults.specs.Telling.{first_word, heads, first_line_wanted, is_message_file, has_mark, message_file_told, mark_told, TellsNoHead};
 
 use crate::arguments::{number_in, wrong_number};
 use crate::near::nearest;
 use crate::spelling::misspelled;
 use crate::usage::{BYTE, Player};
+use crate::words::{first_of, is_among, words_of};
 use std::alloc::{AllocError, Global};
 
 // The words that first lines begin with.
@@ -21,14 +26,33 @@ const MORE: &str = "many N1 N2 ..";
 
 const WATCHED: &str = "hosts A B watch SIDE LOCAL REMOTE";
 
+// Whether bytes begin as a message file.
+fn is_message_file(first: &[u8]) -> bool
+    ensures { result ≡ is_message_file first.now }
+{
+    first.starts_with(b"NCPH") || first.starts_with(b"NCPI") || first.starts_with(b"NCPJ")
+}
+
+// Whether bytes begin with a byte order mark.
+fn has_mark(first: &[u8]) -> bool
+    ensures { result ≡ has_mark first.now }
+{
+    first.starts_with(&[0xEF, 0xBB, 0xBF])
+}
+
 // What the bytes are that are no script, if it can be seen.
-fn other_file(alloc: Global, first: &[u8]) -> Result<Option<String>, AllocError> {
-    if first.starts_with(b"NCPH") || first.starts_with(b"NCPI") || first.starts_with(b"NCPJ") {
+fn other_file(alloc: Global, first: &[u8]) -> Result<Option<String>, AllocError>
+    ensures file { IsTrue (is_message_file first.now) → IfOk result (λ other. IsSomeAnd other (λ told. string_bytes told ≡ message_file_told)) }
+    ensures mark { is_message_file first.now ≡ false → IsTrue (has_mark first.now) →
+        IfOk result (λ other. IsSomeAnd other (λ told. string_bytes told ≡ mark_told)) }
+    ensures none { is_message_file first.now ≡ false → has_mark first.now ≡ false → IfOk result (λ other. IsNone other) }
+{
+    if is_message_file(first) {
         return Ok(Some(format!(in alloc;
             "this is a message file and no script: ncp show shows it"
         )?));
     }
-    if first.starts_with(&[0xEF, 0xBB, 0xBF]) {
+    if has_mark(first) {
         return Ok(Some(format!(in alloc;
             "a byte order mark (ef bb bf) stands in front of the first line"
         )?));
@@ -116,7 +140,9 @@ fn wrong_one(alloc: Global, words: &[&str]) -> Result<String, AllocError> {
 }
 
 // How the first line has to be written.
-fn wanted(player: Player) -> &'static str {
+fn wanted(player: Player) -> &'static str
+    ensures { result.now ≡ first_line_wanted player }
+{
     match player {
         Player::Host => "the first line names the host and its peers, as 'host 1 2'",
         Player::World => "the first line names the hosts, as 'hosts 1 2' or 'many 1 2 3'",
@@ -124,7 +150,9 @@ fn wanted(player: Player) -> &'static str {
 }
 
 // What is wrong with a first line that begins with another word.
-fn wrong_head(alloc: Global, player: Player, head: &str) -> Result<String, AllocError> {
+fn wrong_head(alloc: Global, player: Player, head: &str) -> Result<String, AllocError>
+    ensures { IfOk result (λ told. TellsNoHead player head.now (string_bytes told)) }
+{
     let wanted = wanted(player);
     match nearest(head, HEADS) {
         Some(near) => format!(in alloc;
@@ -134,8 +162,52 @@ fn wrong_head(alloc: Global, player: Player, head: &str) -> Result<String, Alloc
     }
 }
 
+// What is wrong with the hosts behind a word that first lines begin with.
+fn wrong_hosts(
+    alloc: Global,
+    player: Player,
+    head: &str,
+    hosts: &[&str],
+) -> Result<String, AllocError> {
+    match (player, head) {
+        (Player::Host, "host") => wrong_one(alloc, hosts),
+        (Player::World, "hosts") => wrong_two(alloc, hosts),
+        (Player::World, "many") => wrong_many(alloc, hosts),
+        (Player::World, _) => {
+            format!(in alloc; "this is a script of one host: ncp host plays it")
+        }
+        (Player::Host, _) => {
+            format!(in alloc; "this is a script of several hosts: ncp world plays it")
+        }
+    }
+}
+
+// What is wrong with the words of a first line.
+fn wrong_words(alloc: Global, player: Player, text: &str) -> Result<String, AllocError>
+    ensures { ¬ (Contains heads (first_word text.now)) →
+        IfOk result (λ told. TellsNoHead player (first_word text.now) (string_bytes told)) }
+{
+    let words = words_of(alloc, text)?;
+    let head = first_of(words.as_slice());
+    if is_among(head, HEADS) {
+        let hosts = words.as_slice().get(1..).unwrap_or(&[]);
+        wrong_hosts(alloc, player, head, hosts)
+    } else {
+        wrong_head(alloc, player, head)
+    }
+}
+
 /// What is wrong with the first line of a script that is `BadHosts`. Where there is none, it is empty.
-pub fn wrong_first_line(alloc: Global, player: Player, first: &[u8]) -> Result<String, AllocError> {
+pub fn wrong_first_line(alloc: Global, player: Player, first: &[u8]) -> Result<String, AllocError>
+    ensures empty { first.now ≡ [] → IfOk result (λ text. string_bytes text ≡
+        codes "the script has no line that is played: " ++ first_line_wanted player) }
+    ensures file { IsTrue (is_message_file first.now) → IfOk result (λ text. string_bytes text ≡ message_file_told) }
+    ensures mark { IsTrue (has_mark first.now) → IfOk result (λ text. string_bytes text ≡ mark_told) }
+    ensures byte { is_message_file first.now ≡ false → has_mark first.now ≡ false →
+        IfSome (strange_byte first.now) (λ at. IfOk result (λ text. string_bytes text ≡ byte_told at.0 at.1)) }
+    ensures head { first.now ≢ [] → is_message_file first.now ≡ false → IsWellSpelled first.now → ¬ (Contains heads (first_word first.now)) →
+        IfOk result (λ text. TellsNoHead player (first_word first.now) (string_bytes text)) }
+{
     if first.is_empty() {
         let wanted = wanted(player);
         return format!(in alloc; "the script has no line that is played: {wanted}");
@@ -146,22 +218,8 @@ pub fn wrong_first_line(alloc: Global, player: Player, first: &[u8]) -> Result<S
     if let Some(wrong) = misspelled(alloc, first)? {
         return Ok(wrong);
     }
-    let Ok(text) = str::from_utf8(first) else {
-        return format!(in alloc; "it is no text");
-    };
-    let words: Vec<&str> = text.split(' ').collect(alloc)?;
-    let head = words.first().copied().unwrap_or("");
-    let hosts = words.as_slice().get(1..).unwrap_or(&[]);
-    match (player, head) {
-        (Player::Host, "host") => wrong_one(alloc, hosts),
-        (Player::World, "hosts") => wrong_two(alloc, hosts),
-        (Player::World, "many") => wrong_many(alloc, hosts),
-        (Player::World, "host") => {
-            format!(in alloc; "this is a script of one host: ncp host plays it")
-        }
-        (Player::Host, "hosts") | (Player::Host, "many") => {
-            format!(in alloc; "this is a script of several hosts: ncp world plays it")
-        }
-        _ => wrong_head(alloc, player, head),
+    match str::from_utf8(first) {
+        Ok(text) => wrong_words(alloc, player, text),
+        Err(_) => format!(in alloc; "it is no text"),
     }
 }

@@ -4,8 +4,9 @@
 //! - *Use:* `meaning("BadLine")` is what `ncp explain BadLine` prints; `wrong_line` says what is wrong with a line.
 //! - *Proved:* the word that is suggested is the first of the known ones that is near, and none is suggested only if
 //!   none is (`nearest`, clauses `found` and `none`); a name means the text beside it (`meaning`), and has one meaning
-//!   (`laws::each_name_has_one_meaning`); which words scripts have (`verbs`); what is told of a header (`wrong_header`).
-//!   That a text names a mistake in a line is only tested.
+//!   (`laws::each_name_has_one_meaning`); which words scripts have (`verbs`); what is told of a header (`wrong_header`),
+//!   of a strange byte, of a word that is no verb, and of a first line that begins with no word of its own (`wrong_line`,
+//!   `wrong_first_line`). That a text names a mistake in an argument is only tested.
 //! - *Tests:* `mistakes` of `ncp_test_play_host`; words that are near, and words that are not, in `laws`.
 #![tactic(auto)]
 
@@ -18,6 +19,7 @@ mod names;
 mod near;
 mod spelling;
 mod usage;
+mod words;
 
 pub use first_line::wrong_first_line;
 pub use header::wrong_header;

@@ -1,4 +1,9 @@
 //! What is wrong with a line of a script behind the first.
+ghost use Rattle.std.specs.Prelude.{◌≡◌, ℕ, List, map, Some, Contains, IfOk, IfSome, slice_get};
+ghost use Rattle.std.specs.String.{string_bytes};
+ghost use Rattle.ncp_play_faults.specs.Spelling.{strange_byte, byte_told, IsWellSpelled};
+ghost use Rattle.ncp_play_faults.specs.Telling.{first_word, TellsNoVerb};
+ghost use Rattle.ncp_play_faults.specs.Verbs.{all_verbs};
 
 use crate::arguments::{written, wrong_arguments};
 use crate::near::nearest;
@@ -7,6 +12,7 @@ use crate::usage::{
     Argument, CALLS, OF_ONE_HOST, OF_THE_SUBNET, PEER, PLAIN, Player, SETTLE, Scene, TO, Usage,
     is_verb, usage_in, verbs,
 };
+use crate::words::words_of;
 use std::alloc::{AllocError, Global};
 
 // What stands in front of the other arguments of what is to be done, and how it is written.
@@ -48,21 +54,23 @@ fn form_of(scene: Scene, verb: &str) -> Option<Form> {
     Some(Form { leading, usage })
 }
 
-// A word that is none of those that name what is to be done.
-fn unknown_verb(alloc: Global, scene: Scene, verb: &str) -> Result<String, AllocError> {
+// A word of scripts that is none of this script's, or stands alone on its line.
+fn other_verb(alloc: Global, scene: Scene, verb: &str) -> Result<String, AllocError> {
     if verb == SETTLE && scene != Scene::Host {
         return wrong_at_settle(alloc);
     }
-    if is_verb(verb) {
-        return match scene {
-            Scene::Host => format!(in alloc;
-                "'{verb}' is a word of scripts of several hosts, which 'ncp world' plays"
-            ),
-            _ => format!(in alloc;
-                "'{verb}' is a word of scripts of one host, which 'ncp host' plays"
-            ),
-        };
+    match scene {
+        Scene::Host => format!(in alloc;
+            "'{verb}' is a word of scripts of several hosts, which 'ncp world' plays"
+        ),
+        _ => format!(in alloc; "'{verb}' is a word of scripts of one host, which 'ncp host' plays"),
     }
+}
+
+// A word that names nothing that is to be done.
+fn no_verb(alloc: Global, verb: &str) -> Result<String, AllocError>
+    ensures { IfOk result (λ told. TellsNoVerb verb.now (string_bytes told)) }
+{
     let known = verbs(alloc)?;
     match nearest(verb, known.as_slice()) {
         Some(near) => format!(in alloc; "'{verb}' is no verb; did you mean '{near}'?"),
@@ -70,24 +78,42 @@ fn unknown_verb(alloc: Global, scene: Scene, verb: &str) -> Result<String, Alloc
     }
 }
 
-// What is wrong with what is to be done, behind the side or the host.
-fn wrong_deed(alloc: Global, scene: Scene, words: &[&str]) -> Result<String, AllocError> {
-    let Some(verb) = words.first() else {
-        return format!(in alloc; "there is no verb behind the side or the host");
-    };
+// What is wrong with what is to be done, and with its arguments.
+fn wrong_form(
+    alloc: Global,
+    scene: Scene,
+    verb: &str,
+    arguments: &[&str],
+) -> Result<String, AllocError> {
     let Some(form) = form_of(scene, verb) else {
-        return unknown_verb(alloc, scene, verb);
+        return other_verb(alloc, scene, verb);
     };
-    let arguments = words.get(1..).unwrap_or(&[]);
     match wrong_arguments(alloc, form.leading, form.usage, arguments)? {
         Some(wrong) => {
             let usage = written(alloc, form.leading, form.usage)?;
             format!(in alloc; "{wrong}: {usage}")
         }
-        None if *verb == "feed" => {
+        None if verb == "feed" => {
             format!(in alloc; "behind 'feed' a line feed has to stand, and then a message file")
         }
         None => format!(in alloc; "a host that it names is none of the first line's"),
+    }
+}
+
+// What is wrong with what is to be done, behind the side or the host.
+fn wrong_deed(alloc: Global, scene: Scene, words: &[&str]) -> Result<String, AllocError>
+    ensures { (verb : List ℕ) → slice_get (map (λ word. word.now) words.now) 0 ≡ Some verb → ¬ (Contains all_verbs verb) →
+        IfOk result (λ told. TellsNoVerb verb (string_bytes told)) }
+{
+    match words {
+        [] => format!(in alloc; "there is no verb behind the side or the host"),
+        [verb, ..] => {
+            if is_verb(alloc, verb)? {
+                wrong_form(alloc, scene, verb, words.get(1..).unwrap_or(&[]))
+            } else {
+                no_verb(alloc, verb)
+            }
+        }
     }
 }
 
@@ -103,7 +129,7 @@ fn wrong_at_side(alloc: Global, words: &[&str]) -> Result<String, AllocError> {
         Some(side) if *side == "a" || *side == "b" => {
             wrong_deed(alloc, Scene::Sides, words.get(1..).unwrap_or(&[]))
         }
-        Some(word) if is_verb(word) => {
+        Some(word) if is_verb(alloc, word)? => {
             format!(in alloc; "the side is missing: a line begins with a or b, as in 'a {word}'")
         }
         Some(word) => format!(in alloc; "'{word}' is no side: a line begins with a or b"),
@@ -136,27 +162,52 @@ fn wrong_at_host(alloc: Global, hosts: &[&str], words: &[&str]) -> Result<String
     }
 }
 
+// What is wrong with the words of a line of several hosts.
+fn wrong_in_world(alloc: Global, first: &[u8], words: &[&str]) -> Result<String, AllocError> {
+    let Ok(first) = str::from_utf8(first) else {
+        return format!(in alloc; "it is no text");
+    };
+    if !first.starts_with("many ") {
+        return wrong_at_side(alloc, words);
+    }
+    let named = words_of(alloc, first)?;
+    let hosts = named.as_slice().get(1..).unwrap_or(&[]);
+    wrong_at_host(alloc, hosts, words)
+}
+
+// What is wrong with the words of a line.
+fn wrong_words(
+    alloc: Global,
+    player: Player,
+    first: &[u8],
+    line: &str,
+) -> Result<String, AllocError>
+    ensures { player ≡ Player.Host → ¬ (Contains all_verbs (first_word line.now)) →
+        IfOk result (λ told. TellsNoVerb (first_word line.now) (string_bytes told)) }
+{
+    let words = words_of(alloc, line)?;
+    match player {
+        Player::Host => wrong_deed(alloc, Scene::Host, words.as_slice()),
+        Player::World => wrong_in_world(alloc, first, words.as_slice()),
+    }
+}
+
 /// What is wrong with a line that is `BadLine`, of a script whose first line is `first`.
 pub fn wrong_line(
     alloc: Global,
     player: Player,
     first: &[u8],
     text: &[u8],
-) -> Result<String, AllocError> {
+) -> Result<String, AllocError>
+    ensures byte { IfSome (strange_byte text.now) (λ at. IfOk result (λ told. string_bytes told ≡ byte_told at.0 at.1)) }
+    ensures verb { player ≡ Player.Host → IsWellSpelled text.now → ¬ (Contains all_verbs (first_word text.now)) →
+        IfOk result (λ told. TellsNoVerb (first_word text.now) (string_bytes told)) }
+{
     if let Some(wrong) = misspelled(alloc, text)? {
         return Ok(wrong);
     }
-    let (Ok(first), Ok(text)) = (str::from_utf8(first), str::from_utf8(text)) else {
-        return format!(in alloc; "it is no text");
-    };
-    let words: Vec<&str> = text.split(' ').collect(alloc)?;
-    let named: Vec<&str> = first.split(' ').collect(alloc)?;
-    if player == Player::Host {
-        return wrong_deed(alloc, Scene::Host, words.as_slice());
+    match str::from_utf8(text) {
+        Ok(line) => wrong_words(alloc, player, first, line),
+        Err(_) => format!(in alloc; "it is no text"),
     }
-    if first.starts_with("many ") {
-        let hosts = named.as_slice().get(1..).unwrap_or(&[]);
-        return wrong_at_host(alloc, hosts, words.as_slice());
-    }
-    wrong_at_side(alloc, words.as_slice())
 }

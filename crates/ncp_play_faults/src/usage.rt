@@ -1,7 +1,8 @@
 //! What the lines of scripts look like.
-ghost use Rattle.std.specs.Prelude.{◌≡◌, ◌++◌, map, IfOk, IsTrue, Contains, ◌↔◌};
+ghost use Rattle.std.specs.Prelude.{◌≡◌, ◌++◌, ℕ, List, map, IfOk, IsTrue, Contains};
 ghost use Rattle.ncp_play_faults.specs.Verbs.{all_verbs};
 
+use crate::words::is_among;
 use std::alloc::{AllocError, Global};
 
 /// Which scripts are played.
@@ -131,16 +132,6 @@ pub(crate) fn usage_in(usages: &'static [Usage], verb: &str) -> Option<&'static 
     usages.iter().find(|usage| usage.0 == verb)
 }
 
-/// Whether a word names what is to be done, in any script.
-pub(crate) fn is_verb(word: &str) -> bool {
-    for usages in ALL {
-        if usage_in(*usages, word).is_some() {
-            return true;
-        }
-    }
-    false
-}
-
 // Adds the words of these usages.
 fn add_words(words: &mut Vec<&'static str>, usages: &'static [Usage]) -> Result<(), AllocError>
     ensures { IfOk result (λ _. words.new.items ≡ words.old.items ++ map (λ usage. usage.0) usages.now) }
@@ -160,4 +151,12 @@ pub fn verbs(alloc: Global) -> Result<Vec<&'static str>, AllocError>
         add_words(&mut words, *usages)?;
     }
     Ok(words)
+}
+
+/// Whether a word names what is to be done, in any script.
+pub(crate) fn is_verb(alloc: Global, word: &str) -> Result<bool, AllocError>
+    ensures { IfOk result (λ found. IsTrue found → Contains all_verbs word.now) }
+{
+    let known = verbs(alloc)?;
+    Ok(is_among(word, known.as_slice()))
 }

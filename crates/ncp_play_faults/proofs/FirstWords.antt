@@ -1,0 +1,29 @@
+-- The first word of a line.
+use Rattle.std.proofs.Common.{◌≡◌, ◌+◌, ℕ, Bool, true, false, not, cond, List, [], ◌∷◌, take, Some, unwrap_or, refl, sym, ap, ◌∙◌}
+use Rattle.std.specs.List.{slice_get, slice_split, onto_first, before_first, prefix_len}
+use Rattle.std.specs.Option.{option_map}
+use Rattle.std.proofs.Math.Numerals.{one-add}
+
+longer_first : (x : ℕ) (parts : List (List ℕ)) (w : List ℕ) → slice_get parts 0 ≡ Some w → slice_get (onto_first x parts) 0 ≡ Some (x ∷ w)
+longer_first x [] w h = absurd cc
+longer_first x (part ∷ parts) w h = ap (λ o. option_map (λ l. x ∷ l) o) h
+
+split_step : (p : ℕ → Bool) (x : ℕ) (xs : List ℕ) (parts : List (List ℕ)) (n : ℕ) → slice_get parts 0 ≡ Some (take n xs) → (t : Bool) →
+    slice_get (cond t ([] ∷ parts) (onto_first x parts)) 0 ≡ Some (take (cond (not t) (1 + n) 0) (x ∷ xs))
+split_step p x xs parts n h true = refl
+split_step p x xs parts n h false = longer_first x parts (take n xs) h ∙ ap (λ m. Some (take m (x ∷ xs))) (sym (one-add n))
+
+-- the first part that a list is cut in is what stands before the first cut
+pub first_split : (p : ℕ → Bool) (xs : List ℕ) → slice_get (slice_split p xs) 0 ≡ Some (before_first p xs)
+first_split p [] = refl
+first_split p (x ∷ xs) = split_step p x xs (slice_split p xs) (prefix_len (λ y. not (p y)) xs) (first_split p xs) (p x)
+
+-- the first of these words is the first word of the line that they are the words of
+pub first_is : (p : ℕ → Bool) (words : List (List ℕ)) (line : List ℕ) (head : List ℕ) → words ≡ slice_split p line → slice_get words 0 ≡ Some head → head ≡ before_first p line
+first_is p words line head e h =
+    let same : Some head ≡ Some (before_first p line) = sym h ∙ ap (λ ws. slice_get ws 0) e ∙ first_split p line in
+    ap (λ o. unwrap_or o head) same
+
+pub some_first : (p : ℕ → Bool) (words : List (List ℕ)) (line : List ℕ) → words ≡ slice_split p line → words ≡ [] → ⊥
+some_first p words line e none =
+    let same : slice_get {X = List ℕ} [] 0 ≡ Some (before_first p line) = ap (λ ws. slice_get ws 0) (sym none ∙ e) ∙ first_split p line in absurd cc
