@@ -24,11 +24,13 @@ use std::alloc::AllocError;
 
 impl<S: BitStore> Many<S> {
     // Does what an event says, and notes it, unless its note says nothing.
-    fn attempt(&mut self, event: &ManyEvent) -> Result<bool, AllocError>
-        ensures tried { IfOk result (λ done. IsManyTried event.now done self.old self.new) }
+    fn attempt(&mut self, event: ManyEvent) -> Result<bool, AllocError>
+        ensures tried { IfOk result (λ done. IsManyTried event done self.old self.new) }
         ensures err { OnErr result (self.new ≡ self.old) }
     {
-        self.notes.attempt(&mut self.crowd, event)
+        let tried = self.notes.attempt(&mut self.crowd, &event);
+        drop(event);
+        tried
     }
 
     // Goes on at a host of which no link is ready, with another: the message of the lowest link that keeps one comes or
@@ -50,14 +52,14 @@ impl<S: BitStore> Many<S> {
         let Some(link) = first_kept(host, to) else {
             return Ok(false);
         };
-        if self.attempt(&ManyEvent::Deliver { from, to, link })? {
+        if self.attempt(ManyEvent::Deliver { from, to, link })? {
             return Ok(true);
         }
-        if self.attempt(&ManyEvent::Answer { from, to, link })? {
+        if self.attempt(ManyEvent::Answer { from, to, link })? {
             return Ok(true);
         }
         let call = Call::Wake { peer: to };
-        self.attempt(&ManyEvent::Call { host: from, call })
+        self.attempt(ManyEvent::Call { host: from, call })
     }
 
     // Goes on at a host of which no link is ready, with the others in their order.
@@ -82,7 +84,7 @@ impl<S: BitStore> Many<S> {
         ensures on { IfOk result (λ more. GoOrRestAt from more self.old self.new) }
         ensures err { OnErr result (self.new ≡ self.old) }
     {
-        if self.attempt(&ManyEvent::Out { host: from })? {
+        if self.attempt(ManyEvent::Out { host: from })? {
             return Ok(true);
         }
         self.go_on_to_others(from)

@@ -37,6 +37,7 @@ impl Transcript {
         self.notes.reserve(1)?;
         let note = crowd.happen(self.alloc, event)?;
         if says_nothing(&note) {
+            drop(note);
             return Ok(false);
         }
         self.notes.push_reserved(note);

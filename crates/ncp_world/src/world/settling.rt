@@ -20,11 +20,13 @@ use std::alloc::AllocError;
 
 impl<S: BitStore> World<S> {
     // Does what an event says, and notes it, unless its note says nothing.
-    fn attempt(&mut self, event: &Event) -> Result<bool, AllocError>
-        ensures tried { IfOk result (λ done. IsTried event.now done self.old self.new) }
+    fn attempt(&mut self, event: Event) -> Result<bool, AllocError>
+        ensures tried { IfOk result (λ done. IsTried event done self.old self.new) }
         ensures err { OnErr result (self.new ≡ self.old) }
     {
-        self.notes.attempt(&mut self.hosts, event)
+        let tried = self.notes.attempt(&mut self.hosts, &event);
+        drop(event);
+        tried
     }
 
     // Goes on at a side: its next message goes out; else that of its lowest link comes or is answered; else it is
@@ -33,21 +35,21 @@ impl<S: BitStore> World<S> {
         ensures on { IfOk result (λ more. GoesOrRestsAt side more self.old self.new) }
         ensures err { OnErr result (self.new ≡ self.old) }
     {
-        if self.attempt(&Event::Out { side })? {
+        if self.attempt(Event::Out { side })? {
             return Ok(true);
         }
         let peer = self.hosts.number(other(side));
         let Some(link) = first_kept(self.hosts.host(side), peer) else {
             return Ok(false);
         };
-        if self.attempt(&Event::Deliver { side, link })? {
+        if self.attempt(Event::Deliver { side, link })? {
             return Ok(true);
         }
-        if self.attempt(&Event::Answer { side, link })? {
+        if self.attempt(Event::Answer { side, link })? {
             return Ok(true);
         }
         let call = Call::Wake { peer };
-        self.attempt(&Event::Call { side, call })
+        self.attempt(Event::Call { side, call })
     }
 
     // Goes on by one event, of side A if there is one.
