@@ -1,0 +1,9 @@
+pub mod Walk
+pub mod Tells
+pub mod Near
+pub mod Crowd
+pub mod OneWay
+pub mod Ways
+pub mod Between
+pub mod Sides
+pub mod Subnet

@@ -1,0 +1,9 @@
+//! No false alarm in the file of two hosts: an audit of all that passes the interfaces of both, with the subnet between
+//! them, finds nothing. Each law is the contract of a function that does nothing.
+//!
+//! - *Use:* what `ncp audit` says of a file that `ncp record` wrote rests on it.
+//! - *Proved:* the laws of `two`: the subnet breaks no rule.
+//! - *Tests:* what is found of wrong hosts and of a wrong subnet is in `ncp_test_audit`.
+#![tactic(auto)]
+
+pub mod two;
