@@ -4,7 +4,7 @@ import os
 import subprocess
 import sys
 
-from measuring import HERE, TOP, Row, instructions, least, resident
+from measuring import HERE, TOP, Row, instructions, least, prebuilt, resident
 
 COUNT, FEW = 100_000, 8_000
 MANY = ((125, 8), (1_000, 1))  # hosts, and the peers of each
@@ -16,8 +16,8 @@ WRAPPED = "-Wl," + ",".join(f"--wrap={name}" for name in ("malloc", "realloc", "
 @functools.cache
 def library(room):
     """The archive of these sources: that of prebuilt/, or else it is proved and built."""
-    if subprocess.run([os.path.join(TOP, "tools", "prebuild"), "--has", "libncp.a"]).returncode == 0:
-        return os.path.join(TOP, "prebuilt", "libncp.a")
+    if archive := prebuilt("libncp.a"):
+        return archive
     if subprocess.run([os.path.join(TOP, "include", "library"), room], stdout=subprocess.DEVNULL).returncode:
         sys.exit("the library for C was not built")
     return os.path.join(room, "libncp.a")

@@ -23,6 +23,7 @@ COUNTS = [
     ("instructions a message of a host", messages.counts),
     ("instructions a text of the library for C", handles.counts),
     ("instructions a call of a table", table.counts),
+    ("notes of a run", feed.counts),
     ("bytes of memory a note", notes.counts),
     ("memory a peer of the library for C", handles.weights),
 ]
@@ -64,6 +65,9 @@ def times(room, last):
     for row in itertools.chain(beside, *(part(room) for part in others)):
         print(line(row, rates, last), flush=True)
         found[named(row)] = short(ratio(row, rates, files.XXD))
+    for name, before in last.items():
+        if before and name not in (*found, *history.LANDING):
+            print(f"not measured, at the last landing {before}: {name}")
     return found
 
 
