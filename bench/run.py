@@ -25,6 +25,7 @@ COUNTS = [
     ("instructions a call of a table", table.counts),
     ("notes of a run", feed.counts),
     ("bytes of memory a note", notes.counts),
+    ("bytes of memory of ncp_new", handles.rooms),
     ("memory a peer of the library for C", handles.weights),
 ]
 HEAD = f"{'':28} {'':32} {'seconds':>8} {'a second':>16} {'memory':>9} {'to xxd -p':>11} {'last':>11} {'to cat':>9} {'to ncp show':>11}"

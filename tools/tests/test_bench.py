@@ -204,7 +204,7 @@ class TestHandles(unittest.TestCase):
             made, opened = (list(map(int, printed(f"{word} 2 3 0\n").split())) for word in ("make", "open"))
             # Two ends of 8,192 bytes with each of six peers.
             self.assertGreaterEqual(opened[0] - made[0], 6 * 2 * 8192)
-            self.assertEqual(opened[1] - made[1], 6 * 2)
+            self.assertEqual(opened[2] - made[2], 6 * 2)
 
 
 if __name__ == "__main__":
