@@ -1,14 +1,17 @@
 /* Many hosts of the library for C in one process. A line of standard input says what they do:
  *
  *     make HOSTS PEERS 0        they are made, each with so many peers
+ *     list HOSTS PEERS 0        the same, and each block that is asked of malloc for it is listed
  *     open HOSTS PEERS 0        each comes up with its peers too, and opens a connection each way with each
  *     pass HOSTS PEERS COUNT    so many texts pass then
  *
  * A text that passes comes from a peer, is taken, is given on the connection back to that peer, goes out, and is answered;
- * the next is of the next peer. `pass` prints how many passed as they should, the others print the bytes and the blocks that
- * the library has of malloc. All stays as it is then until standard input ends. To be linked with
+ * the next is of the next peer. `pass` prints how many passed as they should, the others print the bytes that the library
+ * asked of malloc and has, what the GNU C library takes for them, and their blocks; `list` prints the bytes of each block
+ * before. All stays as it is then until standard input ends. To be linked with
  * -Wl,--wrap=malloc,--wrap=realloc,--wrap=free. */
 #include "ncp.h"
+#include <malloc.h>
 #include <stdio.h>
 #include <stdlib.h>
 #include <string.h>
@@ -26,13 +29,20 @@ struct place {
 
 static struct ncp_host all[MOST_HOSTS]; /* of zeros, so each is NCP_EMPTY */
 static struct place places[MOST_HOSTS * MOST_PEERS];
-static size_t bytes_had, blocks_had;
+static size_t bytes_had, taken_had, blocks_had;
+static bool is_listed;
 
 /* In front of each block that the library has: its size, as aligned as the block has to be. */
 union head {
     size_t size;
     long double aligned;
 };
+
+/* What the block takes, without this head: all that may be used of it, and the size that malloc keeps in front. */
+static size_t taken_for(union head *head)
+{
+    return malloc_usable_size(head) + sizeof(size_t) - sizeof(union head);
+}
 
 void *__real_malloc(size_t bytes);
 void *__real_realloc(void *block, size_t bytes);
@@ -46,7 +56,9 @@ static void *had(union head *head, size_t bytes)
     if (head == NULL) return NULL;
     head->size = bytes;
     bytes_had += bytes;
+    taken_had += taken_for(head);
     blocks_had++;
+    if (is_listed) printf("%lu ", (unsigned long)bytes);
     return head + 1;
 }
 
@@ -59,6 +71,7 @@ static union head *let_go(void *block)
 {
     union head *head = (union head *)block - 1;
     bytes_had -= head->size;
+    taken_had -= taken_for(head);
     blocks_had--;
     return head;
 }
@@ -149,22 +162,23 @@ int main(void)
     unsigned hosts, peers, count, passed = 0;
     uint8_t numbers[MOST_PEERS];
     if (scanf("%4s %u %u %u", word, &hosts, &peers, &count) != 4 || hosts - 1 >= MOST_HOSTS || peers - 1 >= MOST_PEERS) {
-        fputs("usage: make | open | pass HOSTS PEERS COUNT\n", stderr);
+        fputs("usage: make | list | open | pass HOSTS PEERS COUNT\n", stderr);
         return 2;
     }
     for (unsigned place = 0; place < peers; place++) numbers[place] = (uint8_t)(FIRST + place);
+    is_listed = strcmp(word, "list") == 0;
     for (unsigned host = 0; host < hosts; host++) want(ncp_new(&all[host], ME, numbers, peers) == NCP_DONE, "new");
     for (unsigned place = 0; place < hosts * peers; place++) {
         places[place].host = &all[place / peers];
         places[place].peer = numbers[place % peers];
-        if (strcmp(word, "make") != 0) open_with(&places[place]);
+        if (strcmp(word, "open") == 0 || strcmp(word, "pass") == 0) open_with(&places[place]);
     }
     for (unsigned text = 0; text < count; text++) passed += passes(&places[text % (hosts * peers)]);
     if (strcmp(word, "pass") == 0) printf("%u\n", passed);
-    else printf("%lu %lu\n", (unsigned long)bytes_had, (unsigned long)blocks_had);
+    else printf("%lu %lu %lu\n", (unsigned long)bytes_had, (unsigned long)taken_had, (unsigned long)blocks_had);
     fflush(stdout);
     while (getchar() != EOF) continue;
     for (unsigned host = 0; host < hosts; host++) ncp_free(&all[host]);
-    want(bytes_had == 0 && blocks_had == 0, "what is left");
+    want(bytes_had == 0 && taken_had == 0 && blocks_had == 0, "what is left");
     return 0;
 }

@@ -4,20 +4,30 @@ import os
 import subprocess
 import sys
 
-from measuring import HERE, TOP, Row, instructions, least, resident
+from measuring import HERE, TOP, Row, instructions, least, prebuilt, resident
 
 COUNT, FEW = 100_000, 8_000
 MANY = ((125, 8), (1_000, 1))  # hosts, and the peers of each
 SHAPES = ((1, 1), (1, 8), *MANY)
 STATES = [("make", "made"), ("open", "open")]
+MOST_PEERS = 8
+# The blocks of a host that is made, in bytes: its own, and for each peer these. What a peer has in itself stands with
+# those of the other peers in one block.
+HOST, PEER = 64, 2_560
+ROOMS = [
+    ("slots, 71 with room for a message", 71 * 1_048),
+    ("entries, room for 128", 128 * 96),
+    ("commands that wait, room for 512", 512 * 16),
+    ("errors, room for 16", 16 * 11),
+]
 WRAPPED = "-Wl," + ",".join(f"--wrap={name}" for name in ("malloc", "realloc", "free"))
 
 
 @functools.cache
 def library(room):
     """The archive of these sources: that of prebuilt/, or else it is proved and built."""
-    if subprocess.run([os.path.join(TOP, "tools", "prebuild"), "--has", "libncp.a"]).returncode == 0:
-        return os.path.join(TOP, "prebuilt", "libncp.a")
+    if archive := prebuilt("libncp.a"):
+        return archive
     if subprocess.run([os.path.join(TOP, "include", "library"), room], stdout=subprocess.DEVNULL).returncode:
         sys.exit("the library for C was not built")
     return os.path.join(room, "libncp.a")
@@ -60,7 +70,31 @@ def counts(room):
 def memory(program, word, hosts, peers):
     """The bytes that are resident, those that the library has of malloc, and their blocks."""
     line, resides = resident(program, f"{word} {hosts} {peers} 0\n")
-    return resides, *map(int, line.split())
+    asked, _, blocks = map(int, line.split())
+    return resides, asked, blocks
+
+
+def of_new(program, peers):
+    """The blocks that `ncp_new` asks of malloc, their bytes together, and what malloc takes for them."""
+    *blocks, asked, taken, count = map(int, resident(program, f"list 1 {peers} 0\n")[0].split())
+    if sum(blocks) != asked or len(blocks) != count:
+        sys.exit(f"list 1 {peers}: some blocks were given back")
+    return blocks, asked, taken
+
+
+def rooms(room):
+    """What `ncp_new` takes by the number of peers. It stops where that is not what is counted of each peer."""
+    program = linked(library(room), room)
+    yield "the host", HOST
+    yield "a peer: in itself", PEER
+    for what, size in ROOMS:
+        yield f"a peer: {what}", size
+    for peers in range(1, MOST_PEERS + 1):
+        blocks, asked, taken = of_new(program, peers)
+        if sorted(blocks) != sorted([HOST, peers * PEER] + peers * [size for _, size in ROOMS]):
+            sys.exit(f"a host of {peers} peers has other blocks: {blocks}")
+        yield f"asked of malloc, {of_hosts(1, peers)}", asked
+        yield f"taken by malloc, {of_hosts(1, peers)}", taken
 
 
 def weights(room):

@@ -7,6 +7,8 @@ import sys
 from measuring import HERE, TOP
 
 PATH = os.path.join(HERE, "history.csv")
+# The columns in front of the ratios.
+LANDING = ("commit", "kit")
 
 
 def said_by(*words):

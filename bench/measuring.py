@@ -15,19 +15,28 @@ sys.path.insert(0, os.path.join(TOP, "tools"))
 from build import below, uses_of_crates  # noqa: E402
 
 DATA = os.path.join(HERE, "data")
-PROVE = os.path.join(TOP, "tools", "prove")
-NCP = os.path.join(TOP, "crates", "ncp", "out", "ncp")
 RUNS = 5
 
 # What ran, on what, how much of a unit that was, the seconds that it took, and KiB of memory (None: not looked at).
 Row = namedtuple("Row", "what of amount unit seconds peak")
 
 
-@functools.cache
-def build_ncp():
-    """Builds the program where it is not built. It is measured without its launcher."""
-    if subprocess.run([PROVE, "--unless-built", "ncp"]).returncode:
+def prebuilt(name):
+    """The path of a file of prebuilt/ that is of these sources, or None."""
+    is_there = subprocess.run([os.path.join(TOP, "tools", "prebuild"), "--has", name]).returncode == 0
+    return os.path.join(TOP, "prebuilt", name) if is_there else None
+
+
+def built_ncp():
+    if subprocess.run([os.path.join(TOP, "tools", "prove"), "--unless-built", "ncp"]).returncode:
         sys.exit("the program was not built")
+    return os.path.join(TOP, "crates", "ncp", "out", "ncp")
+
+
+@functools.cache
+def ncp():
+    """The program of these sources, without its launcher: that of prebuilt/, or else it is proved and built."""
+    return prebuilt("ncp") or built_ncp()
 
 
 def kept(name, write):

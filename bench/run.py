@@ -23,7 +23,9 @@ COUNTS = [
     ("instructions a message of a host", messages.counts),
     ("instructions a text of the library for C", handles.counts),
     ("instructions a call of a table", table.counts),
+    ("notes of a run", feed.counts),
     ("bytes of memory a note", notes.counts),
+    ("bytes of memory of ncp_new", handles.rooms),
     ("memory a peer of the library for C", handles.weights),
 ]
 HEAD = f"{'':28} {'':32} {'seconds':>8} {'a second':>16} {'memory':>9} {'to xxd -p':>11} {'last':>11} {'to cat':>9} {'to ncp show':>11}"
@@ -64,6 +66,9 @@ def times(room, last):
     for row in itertools.chain(beside, *(part(room) for part in others)):
         print(line(row, rates, last), flush=True)
         found[named(row)] = short(ratio(row, rates, files.XXD))
+    for name, before in last.items():
+        if before and name not in (*found, *history.LANDING):
+            print(f"not measured, at the last landing {before}: {name}")
     return found
 
 

@@ -3,7 +3,7 @@ import os
 import subprocess
 import sys
 
-from measuring import NCP, Row, best, build_ncp, built, least
+from measuring import Row, best, built, least, ncp
 
 NAMES = ("ncp_bits", "ncp_host", "ncp_transcript", "ncp_world", "anyhow")
 CONNECTIONS = (1, 64)
@@ -47,14 +47,13 @@ def scripted(room, connections, texts):
 def is_played(path, events, texts):
     """Stops where not all texts of a script are taken."""
     with open(path, encoding="ascii") as source:
-        lines = subprocess.run([NCP, "world"], stdin=source, text=True, capture_output=True, check=True).stdout
+        lines = subprocess.run([ncp(), "world"], stdin=source, text=True, capture_output=True, check=True).stdout
     last = lines[lines.rindex("\n", 0, -1) + 1:].split()[0]
     if int(last) != events or lines.count(" take ok bits=64 ") != texts:
         sys.exit(f"{path}: {last} events, not all as they should be")
 
 
 def rows(room):
-    build_ncp()
     program = built("events.txt", "many_events", NAMES, room)
     for connections in CONNECTIONS:
         for wanted in EVENTS:
@@ -62,7 +61,7 @@ def rows(room):
             of = f"{connections} connection{'s' if connections > 1 else ''}, {events:,} events"
             path = scripted(room, connections, texts)
             is_played(path, events, texts)
-            seconds, peak = best([NCP, "world"], path)
+            seconds, peak = best([ncp(), "world"], path)
             yield Row("ncp world", of, events, "events", seconds, peak)
             whole = least(program, f"run {connections} {texts}\n", f"{events} {texts}\n")
             making = least(program, f"make {connections} {texts}\n", f"{events} 0\n")

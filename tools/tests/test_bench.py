@@ -1,4 +1,5 @@
 """bench/run.py over rows that are made up: the table, the ratios of the last landing beside the new ones, and the history."""
+import collections
 import contextlib
 import io
 import os
@@ -38,18 +39,57 @@ ncp show                     64 MiB                              0.080         8
 xxd -p                       64 MiB                              0.800          80.0 MB   1,316 K        1.00        1.00     0.016       0.100
 cat                          64 MiB                              0.013       5,000.0 MB   1,924 K       62.50                  1.00        6.25
 run                          1 connection, 1,000,000 events      0.500        2,000,000                 25000       21000       400        2500
+not measured, at the last landing 7: dropped
 """
 OLD = """\
-commit,kit,"ncp show, 64 MiB","xxd -p, 64 MiB","run, 1 connection, 1,000,000 events",gone
-ba9876543210,kit 0,8.43,1.00,20000,7
-0123456789ab,kit 1,8.73,1.00,21000,
+commit,kit,"ncp show, 64 MiB","xxd -p, 64 MiB","run, 1 connection, 1,000,000 events",dropped,gone
+ba9876543210,kit 0,8.43,1.00,20000,6,5
+0123456789ab,kit 1,8.73,1.00,21000,7,
 """
 NEW = """\
-commit,kit,"ncp show, 64 MiB","xxd -p, 64 MiB","run, 1 connection, 1,000,000 events",gone,"ncp show, 32 MiB","xxd -p, 32 MiB","cat, 32 MiB","cat, 64 MiB"
-ba9876543210,kit 0,8.43,1.00,20000,7,,,,
-0123456789ab,kit 1,8.73,1.00,21000,,,,,
-fedcba987654,kit 2,10.00,1.00,25000,,6.25,0.800,25.00,62.50
+commit,kit,"ncp show, 64 MiB","xxd -p, 64 MiB","run, 1 connection, 1,000,000 events",dropped,gone,"ncp show, 32 MiB","xxd -p, 32 MiB","cat, 32 MiB","cat, 64 MiB"
+ba9876543210,kit 0,8.43,1.00,20000,6,5,,,,
+0123456789ab,kit 1,8.73,1.00,21000,7,,,,,
+fedcba987654,kit 2,10.00,1.00,25000,,,6.25,0.800,25.00,62.50
 """
+# What has a ratio, and on how many files, feeds, scripts or hosts. With the next landing each is a column of the history.
+MEASURED = {
+    "ncp show": 2,
+    "ncp show, version 2": 2,
+    "ncp check": 2,
+    "ncp check, version 2": 2,
+    "ncp convert": 2,
+    "ncp audit": 2,
+    "ncp follow": 2,
+    "xxd -p": 2,
+    "cat": 2,
+    "ncp host": 3,
+    "ncp world": 6,
+    "run": 6,
+    "text of 8 bytes in": 2,
+    "text of 991 bytes in": 2,
+    "text of 8 bytes out": 2,
+    "text of 991 bytes out": 2,
+    "control of 1 command in": 2,
+    "control of 15 commands in": 2,
+    "control of 1 command out": 2,
+    "control of 15 commands out": 2,
+    "C: text in and out": 4,
+}
+# In place of what builds and runs programs.
+NOTHING_RUNS = {
+    "ncp": lambda: "ncp",
+    "kept": lambda *_: __file__,
+    "once": lambda *_: (2.0, 1),
+    "best": lambda *_: (2.0, 1),
+    "least": lambda *_: 2.0,
+    "resident": lambda *_: ("", 1024),
+    "built": lambda *_: "",
+    "scripted": lambda *_: "",
+    "is_played": lambda *_: None,
+    "library": lambda _: "",
+    "linked": lambda *_: "",
+}
 
 
 class TestBench(unittest.TestCase):
@@ -91,6 +131,17 @@ class TestBench(unittest.TestCase):
         names, rows = history.read(self.path)
         self.assertEqual(names[:3], ["commit", "kit", "ncp show, 32 MiB"])
         self.assertEqual([row["run, 1 connection, 1,000,000 events"] for row in rows], ["25000"])
+
+    def test_each_of_these_has_a_ratio(self):
+        """Of all that the table had, nothing is left out."""
+        with contextlib.ExitStack() as runs:
+            for part in run.TIMES:
+                module = sys.modules[part.__module__]
+                runs.enter_context(mock.patch.multiple(module, **{name: it for name, it in NOTHING_RUNS.items() if hasattr(module, name)}))
+            runs.enter_context(mock.patch.object(run, "named", lambda row: (row.what, row.of)))
+            runs.enter_context(contextlib.redirect_stdout(io.StringIO()))
+            found = run.times(self.room, {})
+        self.assertEqual(dict(collections.Counter(what for what, _ in found)), MEASURED)
 
     def test_a_landing_that_is_noted_again_has_one_row(self):
         self.wrote(OLD)
@@ -153,7 +204,7 @@ class TestHandles(unittest.TestCase):
             made, opened = (list(map(int, printed(f"{word} 2 3 0\n").split())) for word in ("make", "open"))
             # Two ends of 8,192 bytes with each of six peers.
             self.assertGreaterEqual(opened[0] - made[0], 6 * 2 * 8192)
-            self.assertEqual(opened[1] - made[1], 6 * 2)
+            self.assertEqual(opened[2] - made[2], 6 * 2)
 
 
 if __name__ == "__main__":
