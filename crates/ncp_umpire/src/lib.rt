@@ -3,8 +3,8 @@
 //!
 //! - *Use:* `ncp_play_audit` judges a message file with it, record by record.
 //! - *Proved:* the findings of a record, and the umpire after it, are those of the definitions (`Umpire::judge`,
-//!   clauses `found` and `after`). That it finds no rule of messages and links broken by a host at its own interface:
-//!   `ncp_proof_umpire`. For commands and phases that is only tested.
+//!   clauses `found` and `after`). That it finds no rule broken by a host at its own interface: `ncp_proof_umpire`; and
+//!   nothing at all in the file of two hosts: `ncp_proof_umpire_two`.
 //! - *Tests:* worked cases in `laws`; captures in `ncp_test_audit`.
 #![tactic(auto)]
 
