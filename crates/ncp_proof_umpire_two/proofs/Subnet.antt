@@ -1,46 +1,42 @@
 -- In the file of two hosts the subnet is found to break no rule.
-use Rattle.std.proofs.Common.{◌≡◌, ◌≢◌, ℕ, ◌<◌, ◌==◌, Bool, true, false, if◌then◌else◌, List, [], ◌∷◌, ◌++◌, Option, None, Some, option_to_list, Result, Ok, replicate, filter, refl, sym, ap, ◌∙◌, subst}
+use Rattle.std.proofs.Common.{◌≡◌, ℕ, ◌==◌, Bool, true, false, if◌then◌else◌, List, [], ◌∷◌, ◌++◌, Option, None, Some, option_to_list, Ok, refl, sym, ap, ◌∙◌, subst}
 use Rattle.std.proofs.lemmas.Bool.{ne_eqb}
 use Rattle.std.proofs.lemmas.List.{length-replicate, append-nil}
 use Rattle.ncp_leader.specs.Leader.{leader_in}
-use Rattle.ncp_leader.specs.Message.{message_in}
 use Rattle.ncp_subnet.specs.Messages.{arriving, answering}
 use Rattle.ncp_subnet.specs.Transit.{is_free, is_accepted, answer_kind}
 use Rattle.ncp_subnet.specs.Ways.{OnLink}
-use Rattle.ncp_subnet.specs.Subnet.{Subnet, transit_at, with_transit, new_subnet}
+use Rattle.ncp_subnet.specs.Subnet.{Subnet, new_subnet}
 use Rattle.ncp_subnet.proofs.NewRows.{transit-new}
 use Rattle.ncp_host.specs.Output.{leader_to}
 use Rattle.ncp_host.specs.Turns.{next_output}
 use Rattle.ncp_transcript.specs.declared.call.Call.{Call}
-use Rattle.ncp_transcript.specs.declared.note.HostNote.TheVariants as of_host
-use Rattle.ncp_transcript.specs.Noting.{note_of_message, note_of_output, note_of_bits}
+use Rattle.ncp_transcript.specs.Noting.{note_of_message, note_of_output}
 use Rattle.ncp_transcript_two.specs.Subnet.{Free, Accepted, Delivered, Lost, Dead, from_host, answer_bits}
 use Rattle.ncp_transcript_two.specs.declared.side.Side.TheVariants.{A}
 use Rattle.ncp_transcript_two.specs.declared.event.Event.TheVariants as events
 use Rattle.ncp_transcript_two.specs.declared.note.Move.TheVariants as moves
 use Rattle.ncp_transcript_two.specs.declared.note.Note.{Note}
 use Rattle.ncp_transcript_two.specs.declared.note.Note.TheVariants as notes
-use Rattle.ncp_transcript_two.specs.Between.{Hosts, new_hosts, transit_of, after_note}
+use Rattle.ncp_transcript_two.specs.Between.{Hosts, transit_of, after_note}
 use Rattle.ncp_transcript_two.specs.Happening.{IsCalled, came, answered, note_of_out, note_of_delivery, note_of_loss, note_of_death, note_of_answer}
 use Rattle.ncp_transcript_two.proofs.SeenRuns.{turned}
 use Rattle.ncp_umpire.specs.declared.finding.Finding.{Finding}
-use Rattle.ncp_umpire.specs.declared.finding.Rule.{Rule}
 use Rattle.ncp_umpire.specs.declared.umpire.Umpire.{Umpire}
 use Rattle.ncp_umpire.specs.declared.views.TheConstants.{VIEWS}
 use Rattle.ncp_umpire.specs.declared.way.Way.TheVariants.{ToImp, FromImp}
 use Rattle.ncp_umpire.specs.declared.view.View.{View}
 use Rattle.ncp_umpire.specs.Tables.{index_of}
 use Rattle.ncp_umpire.specs.Views.{new_view}
-use Rattle.ncp_umpire.specs.Judged.{new_umpire, by_host, sees, slot_of, same_of, out_rule, out_finding, unsent_finding, after_in, turn_at, message_findings, record_findings, after_record}
-use Rattle.ncp_umpire.specs.Slots.{is_of}
-use Rattle.ncp_umpire.proofs.Passing.{Pass, both, mapped_unless, message, goes}
+use Rattle.ncp_umpire.specs.Judged.{new_umpire, by_host, sees, slot_of, same_of, out_rule, unsent_finding, after_in, turn_at, message_findings, record_findings, after_record}
+use Rattle.ncp_umpire.proofs.Passing.{Pass, mapped_unless, message, goes}
 use Rattle.ncp_proof_umpire.specs.Worlds.{comes_to, goes_from}
 use Rattle.ncp_proof_umpire.proofs.PhaseLists.{replicated}
-use Rattle.ncp_proof_umpire_two.specs.Files.{spares_imp, found_in, AllPass}
-use Rattle.ncp_proof_umpire_two.proofs.Walk.{after_file, Shows, all_pass}
+use Rattle.ncp_proof_umpire_two.specs.Files.{spares_imp, AllPass}
+use Rattle.ncp_proof_umpire_two.proofs.Walk.{Shows, all_pass}
 use Rattle.ncp_proof_umpire_two.proofs.Sides.{OfA, both_sides}
-use Rattle.ncp_proof_umpire_two.proofs.OneWay.{Sound, OneWay}
-use Rattle.ncp_proof_umpire_two.proofs.Ways.{Ways, turned_ways, ways_out, in_found, Comes_in, ways_in, Told, ways_answer, ways_lost, ways_dead}
+use Rattle.ncp_proof_umpire_two.proofs.OneWay.{OneWay}
+use Rattle.ncp_proof_umpire_two.proofs.Ways.{Ways, turned_ways, ways_out, in_found, ways_in, ways_answer, ways_lost, ways_dead}
 use Rattle.ncp_proof_umpire_two.proofs.Between.{Joined, turned_joined, joined_after, Leaves, leaves, Written, written, comes_led, comes_near, AnswerLed, answer_leads, new_joined}
 
 pub record Known (w : Hosts) (umpire : Umpire) : Type 0 where

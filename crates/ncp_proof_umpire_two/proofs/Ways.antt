@@ -1,5 +1,5 @@
 -- What an umpire knows of the messages both ways between two hosts, through a record of one of them.
-use Rattle.std.proofs.Common.{◌≡◌, ◌≢◌, ℕ, ◌<◌, ◌==◌, Bool, true, false, not, ◌&&◌, if◌then◌else◌, List, [], ◌∷◌, ◌++◌, Option, None, Some, filter, option_to_list, Result, Ok, Err, refl, sym, ap, ◌∙◌, subst}
+use Rattle.std.proofs.Common.{◌≡◌, ◌≢◌, ℕ, ◌<◌, ◌==◌, Bool, true, false, List, [], ◌∷◌, ◌++◌, None, Some, filter, option_to_list, Result, Ok, refl, sym, ap, ◌∙◌, subst}
 use Rattle.std.proofs.lemmas.Bool.{ne_eqb}
 use Rattle.ncp_leader.specs.declared.leader.Leader.{Leader}
 use Rattle.ncp_leader.specs.declared.leader.Short.{Short}
@@ -12,13 +12,12 @@ use Rattle.ncp_subnet.specs.Subnet.{Subnet, transit_at, with_transit}
 use Rattle.ncp_subnet.proofs.Places.{transit_at-same, transit_at-others}
 use Rattle.ncp_host.specs.Output.{leader_to}
 use Rattle.ncp_transcript_two.proofs.Written.{answer_leader}
-use Rattle.ncp_umpire.specs.declared.finding.Finding.{Finding}
 use Rattle.ncp_umpire.specs.declared.kept.Kept.{Kept}
 use Rattle.ncp_umpire.specs.declared.umpire.Umpire.{Umpire}
 use Rattle.ncp_umpire.specs.declared.way.Way.TheVariants.{ToImp, FromImp}
 use Rattle.ncp_umpire.specs.Events.{is_answer, event_behind}
 use Rattle.ncp_umpire.specs.Slots.{is_of, same_but_host}
-use Rattle.ncp_umpire.specs.Judged.{has_seen, sees, fresh_out, after_out, answer_findings, after_answer, unsent_finding, after_in, turn_at, message_findings, after_said, event_findings, record_findings, after_record}
+use Rattle.ncp_umpire.specs.Judged.{sees, fresh_out, after_out, answer_findings, after_answer, unsent_finding, after_in, turn_at, message_findings, event_findings, record_findings, after_record}
 use Rattle.ncp_umpire.proofs.Following.{out_is, in_is, answer_is}
 use Rattle.ncp_proof_umpire_two.proofs.Tells.{Tells}
 use Rattle.ncp_proof_umpire_two.proofs.OneWay.{Sound, OneWay, But, seen_now, seen_stays, sound_sees, sees_way, sound_out, out_way, out_far, sound_said, said_way, sound_in, unsent_none, in_way, in_far, sound_answer, answer_none, answer_way, answer_far, lost_way}

@@ -1,5 +1,5 @@
 -- Files of the interfaces of hosts 1 and 2 by which the laws show that they speak of something.
-use Rattle.std.specs.Prelude.{ℕ, Bool, true, List, [], ◌∷◌}
+use Rattle.std.specs.Prelude.{ℕ, Bool, List, [], ◌∷◌}
 use Rattle.ncp_umpire.specs.declared.way.Way.{Way}
 use Rattle.ncp_umpire.specs.declared.way.Way.TheVariants.{FromImp}
 use Rattle.ncp_proof_umpire.specs.Examples.{incomplete}
