@@ -1,5 +1,5 @@
 -- Two hosts with the subnet between them, as the model has them, through each event; and what passes with it.
-use Rattle.std.proofs.Common.{◌≡◌, ◌≢◌, ℕ, ◌<◌, ◌==◌, ◌^◌, Bool, true, false, ◌&&◌, nat_le, if◌then◌else◌, List, [], ◌∷◌, length, Option, None, Some, Result, Ok, refl, sym, ap, ◌∙◌, subst, arith}
+use Rattle.std.proofs.Common.{◌≡◌, ◌≢◌, ℕ, ◌<◌, ◌==◌, Bool, true, false, nat_le, if◌then◌else◌, List, [], ◌∷◌, length, Option, None, Some, Ok, refl, sym, ap, ◌∙◌, subst, arith}
 use Rattle.std.proofs.lemmas.Bool.{eq-eqb, eqb-true, ne_eqb}
 use Rattle.ncp_numbers.specs.Bytes.{bits_of_bytes}
 use Rattle.ncp_leader.specs.declared.kinds.TheConstants.{REGULAR}
@@ -12,7 +12,7 @@ use Rattle.ncp_slot.specs.Slots.{LinkSlot, slot_at}
 use Rattle.ncp_subnet.specs.Messages.{host_in, link_in}
 use Rattle.ncp_subnet.specs.Transit.{is_free, answer_kind}
 use Rattle.ncp_subnet.specs.Ways.{OnLink}
-use Rattle.ncp_subnet.specs.Subnet.{Subnet, has_way, transit_at, with_transit, new_subnet}
+use Rattle.ncp_subnet.specs.Subnet.{has_way, transit_at, with_transit, new_subnet}
 use Rattle.ncp_subnet.proofs.NewRows.{has_way-new, transit-new}
 use Rattle.ncp_proof_resets.specs.Delivery.{Link}
 use Rattle.ncp_proof_machine.specs.Hosts.{TextOut}

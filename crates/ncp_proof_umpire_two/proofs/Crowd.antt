@@ -1,5 +1,5 @@
 -- What a message says does not change whether two messages were out at once on one link.
-use Rattle.std.proofs.Common.{◌≡◌, ◌⊎◌, inl, inr, ℕ, ◌+◌, ◌*◌, ◌<◌, ◌==◌, Bool, true, false, not, ◌&&◌, if◌then◌else◌, List, [], ◌∷◌, length, Option, Result, Ok, Err, get_or-set_same, get_or-set_other, get_or, slice_set, refl, sym, ap, ◌∙◌, subst, arith}
+use Rattle.std.proofs.Common.{◌≡◌, ◌⊎◌, inl, inr, ℕ, ◌<◌, ◌==◌, Bool, true, false, not, ◌&&◌, if◌then◌else◌, List, [], ◌∷◌, length, Option, Result, Ok, Err, get_or-set_same, get_or-set_other, get_or, slice_set, refl, sym, ap, ◌∙◌, arith}
 use Rattle.std.proofs.lemmas.Bool.Decides.{eqb_tells}
 use Rattle.ncp_leader.specs.Message.{Message}
 use Rattle.ncp_terms.specs.declared.command.Command.{Command}
@@ -11,7 +11,7 @@ use Rattle.ncp_umpire.specs.Messages.{is_unused, reading_of}
 use Rattle.ncp_umpire.specs.declared.view.Wait.TheVariants.{Answered}
 use Rattle.ncp_umpire.specs.Tables.{index_of, view_in, with_view}
 use Rattle.ncp_umpire.specs.Views.{new_view}
-use Rattle.ncp_umpire.specs.Phases.{hears_reset, after_thing, after_reset, after_reset_of_host, after_reset_of_peer, after_reply, after_reply_of_host, after_reply_of_peer, after_untold_reply, after_item, after_items, after_room}
+use Rattle.ncp_umpire.specs.Phases.{hears_reset, after_reset, after_reset_of_host, after_reset_of_peer, after_reply, after_reply_of_host, after_reply_of_peer, after_untold_reply, after_item, after_items, after_room}
 use Rattle.ncp_umpire.specs.Judged.{is_roomy, items_said, after_read}
 
 either : (b : Bool) (x y : View) (c : Bool) → x.crowded ≡ c → y.crowded ≡ c → (if b then x else y).crowded ≡ c

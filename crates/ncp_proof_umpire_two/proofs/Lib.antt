@@ -6,4 +6,15 @@ pub mod OneWay
 pub mod Ways
 pub mod Between
 pub mod Sides
-pub mod Subnet
+pub mod PeerSeen
+pub mod Counts
+pub mod Bare
+pub mod Toward
+pub mod AsRead
+pub mod OwnOut
+pub mod OwnSide
+pub mod Moves
+pub mod Arrivals
+pub mod Meets
+pub mod Coming
+pub mod Both

@@ -1,5 +1,5 @@
 -- What an umpire that reads the records of both interfaces knows of the messages from one host to the other.
-use Rattle.std.proofs.Common.{◌≡◌, ◌≢◌, ◌⊎◌, inl, inr, ℕ, ◌<◌, ◌==◌, Bool, true, false, not, ◌&&◌, ◌||◌, if◌then◌else◌, List, [], ◌∷◌, ◌++◌, length, Option, None, Some, option_map, option_to_list, filter, position, get_or, get_or-set_same, get_or-set_other, length-set, Result, Ok, Err, refl, sym, ap, ◌∙◌, subst, arith}
+use Rattle.std.proofs.Common.{◌≡◌, ◌≢◌, ◌⊎◌, inl, inr, ℕ, ◌<◌, ◌==◌, Bool, true, false, not, ◌&&◌, ◌||◌, if◌then◌else◌, List, [], ◌++◌, length, Option, None, Some, option_map, option_to_list, filter, get_or-set_same, get_or-set_other, length-set, Result, Ok, Err, refl, sym, ap, ◌∙◌, subst, arith}
 use Rattle.std.proofs.lemmas.Bool.{and_parts}
 use Rattle.std.proofs.lemmas.Bool.Decides.{eqb_tells}
 use Rattle.ncp_leader.specs.declared.fault.MessageFault.{MessageFault}
@@ -18,7 +18,7 @@ use Rattle.ncp_umpire.specs.declared.views.TheConstants.{VIEWS}
 use Rattle.ncp_umpire.specs.Slots.{is_of, same_but_host, place_of, gone_out, has_room, with_out, busy_link}
 use Rattle.ncp_umpire.specs.Tables.{view_in, with_view}
 use Rattle.ncp_umpire.specs.Messages.{reading_of}
-use Rattle.ncp_umpire.specs.Judged.{by_imp, has_seen, view_of, knows_zero, slot_of, same_of, view_after_out, after_out, sees_both, is_crowded, false_rule, stray_rule, false_finding, stray_finding, answer_findings, with_answer, after_answer, judges_coming, unsent_at, unsent_finding, with_coming, after_in, turn_at, after_read, after_said, sees}
+use Rattle.ncp_umpire.specs.Judged.{by_imp, has_seen, view_of, knows_zero, slot_of, same_of, view_after_out, after_out, sees_both, is_crowded, false_rule, false_finding, stray_finding, answer_findings, with_answer, after_answer, judges_coming, unsent_at, unsent_finding, with_coming, after_in, turn_at, after_read, after_said, sees}
 use Rattle.ncp_proof_umpire.proofs.KeptOne.{Apart}
 use Rattle.ncp_proof_umpire.proofs.PhaseSeen.{view_length}
 use Rattle.ncp_proof_umpire.proofs.Shown.{after_answering, after_coming}

@@ -1,17 +1,16 @@
 -- What is shown of the events of side A is so of those of side B.
-use Rattle.std.proofs.Common.{◌≡◌, ℕ, Bool, true, false, if◌then◌else◌, List, Option, None, Some, refl, sym, ap, ◌∙◌, subst}
+use Rattle.std.proofs.Common.{◌≡◌, ℕ, Bool, true, false, if◌then◌else◌, List, Option, None, Some, refl, sym, subst}
 use Rattle.ncp_subnet.specs.Messages.{arriving, answer_about}
 use Rattle.ncp_subnet.specs.Transit.{is_accepted}
 use Rattle.ncp_transcript.specs.declared.call.Call.{Call}
 use Rattle.ncp_transcript.specs.Noting.{note_of_output}
 use Rattle.ncp_transcript_two.specs.declared.side.Side.TheVariants.{A, B}
-use Rattle.ncp_transcript_two.specs.declared.event.Event.{Event}
 use Rattle.ncp_transcript_two.specs.declared.event.Event.TheVariants as events
 use Rattle.ncp_transcript_two.specs.declared.note.Move.TheVariants as moves
 use Rattle.ncp_transcript_two.specs.declared.note.Note.{Note}
 use Rattle.ncp_transcript_two.specs.declared.note.Note.TheVariants as notes
 use Rattle.ncp_transcript_two.specs.Between.{Hosts, transit_of, after_note}
-use Rattle.ncp_transcript_two.specs.Happening.{IsCalled, came, answered, note_of_out, note_of_delivery, note_of_loss, note_of_death, note_of_answer, Noted}
+use Rattle.ncp_transcript_two.specs.Happening.{IsCalled, came, answered, note_of_out, note_of_delivery, note_of_loss, note_of_death, note_of_answer}
 use Rattle.ncp_transcript_two.proofs.SeenRuns.{turned}
 use Rattle.ncp_umpire.specs.declared.finding.Finding.{Finding}
 use Rattle.ncp_umpire.specs.declared.umpire.Umpire.{Umpire}

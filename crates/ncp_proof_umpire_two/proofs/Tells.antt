@@ -9,8 +9,8 @@ use Rattle.ncp_umpire.specs.declared.kept.Slot.{Slot}
 use Rattle.ncp_umpire.specs.declared.kept.Slot.TheVariants as slot
 use Rattle.ncp_umpire.specs.Slots.{is_of, same_but_host, same_but_host_at, place_of, kept_at, slot_at, gone_out, has_room, with_out, with_slot, with_answered}
 use Rattle.ncp_umpire.specs.Judged.{is_out, false_rule, stray_rule, unsent_why, with_answer, with_coming}
-use Rattle.ncp_proof_umpire.proofs.KeptOne.{middle_set, middle_get, middle_remove, Placed, placed, taken, Apart, Became, replaced, forgotten, as_list, behind, put_out}
-use Rattle.ncp_proof_umpire.proofs.Shown.{of_itself, after_answering, after_coming}
+use Rattle.ncp_proof_umpire.proofs.KeptOne.{middle_set, middle_get, middle_remove, Placed, placed, taken, Apart, replaced, forgotten, as_list, behind, put_out}
+use Rattle.ncp_proof_umpire.proofs.Shown.{of_itself}
 
 -- of the one message that is kept
 abbrev pub TellsOne : OnLink → Slot → List Bool → Type 0

@@ -13,7 +13,7 @@ use Rattle.ncp_umpire.specs.declared.way.Way.{Way}
 use Rattle.ncp_umpire.specs.Judged.{new_umpire, record_findings, after_record}
 use Rattle.ncp_umpire.proofs.Passing.{Pass, both}
 use Rattle.ncp_proof_umpire.specs.Worlds.{passes_between, world_file}
-use Rattle.ncp_proof_umpire_two.specs.Files.{found_in, AllPass}
+use Rattle.ncp_proof_umpire_two.specs.Files.{found_in}
 
 -- what is known behind all records
 abbrev pub after_file : Umpire → List (ℕ × Way × List Bool) → Umpire
@@ -56,6 +56,13 @@ steps_noted (event ∷ happened) before now s =
       rest.1 ∙ ap (λ (xs : List Note). xs ++ rest.0) s.1.2 ∙ append_assoc before.notes (note ∷ []) rest.0,
       (s.1.1, subst (AreNotes happened rest.0) s.1.3 rest.2),
     )
+
+-- of a whole file of two hosts
+abbrev pub AllPass : (Finding → Bool) → Type 0
+AllPass passes =
+    (a b : ℕ) (given : List Event) (now : Noted_world)
+    → a ≢ b → a < 256 → b < 256 → AreSteps given (new_world a b) now
+    → Pass passes (found_in (new_umpire false) (world_file given now.notes (new_hosts a b)))
 
 pub all_pass : (passes : Finding → Bool) (I : Hosts → Umpire → Type 0) → Steps passes I → ((a b : ℕ) → a ≢ b → a < 256 → b < 256 → I (new_hosts a b) (new_umpire false)) → AllPass passes
 all_pass passes I steps begins a b happened now differ k l did =

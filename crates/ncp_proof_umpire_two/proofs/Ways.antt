@@ -1,6 +1,7 @@
 -- What an umpire knows of the messages both ways between two hosts, through a record of one of them.
-use Rattle.std.proofs.Common.{◌≡◌, ◌≢◌, ℕ, ◌<◌, ◌==◌, Bool, true, false, not, ◌&&◌, if◌then◌else◌, List, [], ◌∷◌, ◌++◌, Option, None, Some, filter, option_to_list, Result, Ok, Err, refl, sym, ap, ◌∙◌, subst}
+use Rattle.std.proofs.Common.{◌≡◌, ◌≢◌, ℕ, ◌<◌, ◌==◌, Bool, true, false, if◌then◌else◌, List, [], ◌∷◌, ◌++◌, None, Some, filter, option_to_list, Result, Ok, refl, sym, ap, ◌∙◌, subst}
 use Rattle.std.proofs.lemmas.Bool.{ne_eqb}
+use Rattle.std.proofs.lemmas.List.{length-replicate}
 use Rattle.ncp_leader.specs.declared.leader.Leader.{Leader}
 use Rattle.ncp_leader.specs.declared.leader.Short.{Short}
 use Rattle.ncp_leader.specs.Leader.{leader_in}
@@ -8,18 +9,23 @@ use Rattle.ncp_leader.specs.Message.{message_in}
 use Rattle.ncp_subnet.specs.declared.transit.Transit.TheVariants.{Free, Accepted, Delivered, Lost, Dead}
 use Rattle.ncp_subnet.specs.Transit.{is_free, answer_kind}
 use Rattle.ncp_subnet.specs.Ways.{OnLink}
-use Rattle.ncp_subnet.specs.Subnet.{Subnet, transit_at, with_transit}
+use Rattle.ncp_subnet.specs.Subnet.{Subnet, transit_at, with_transit, new_subnet}
 use Rattle.ncp_subnet.proofs.Places.{transit_at-same, transit_at-others}
+use Rattle.ncp_subnet.proofs.NewRows.{transit-new}
 use Rattle.ncp_host.specs.Output.{leader_to}
 use Rattle.ncp_transcript_two.proofs.Written.{answer_leader}
-use Rattle.ncp_umpire.specs.declared.finding.Finding.{Finding}
 use Rattle.ncp_umpire.specs.declared.kept.Kept.{Kept}
 use Rattle.ncp_umpire.specs.declared.umpire.Umpire.{Umpire}
 use Rattle.ncp_umpire.specs.declared.way.Way.TheVariants.{ToImp, FromImp}
 use Rattle.ncp_umpire.specs.Events.{is_answer, event_behind}
-use Rattle.ncp_umpire.specs.Slots.{is_of, same_but_host}
-use Rattle.ncp_umpire.specs.Judged.{has_seen, sees, fresh_out, after_out, answer_findings, after_answer, unsent_finding, after_in, turn_at, message_findings, after_said, event_findings, record_findings, after_record}
+use Rattle.ncp_umpire.specs.Slots.{is_of, same_but_host, place_of}
+use Rattle.ncp_umpire.specs.declared.view.View.{View}
+use Rattle.ncp_umpire.specs.Tables.{index_of, view_in}
+use Rattle.ncp_umpire.specs.Views.{new_view}
+use Rattle.ncp_umpire.specs.declared.views.TheConstants.{VIEWS}
+use Rattle.ncp_umpire.specs.Judged.{new_umpire, sees, fresh_out, after_out, answer_findings, with_answer, after_answer, unsent_finding, after_in, turn_at, message_findings, event_findings, record_findings, after_record}
 use Rattle.ncp_umpire.proofs.Following.{out_is, in_is, answer_is}
+use Rattle.ncp_proof_umpire.proofs.PhaseLists.{replicated}
 use Rattle.ncp_proof_umpire_two.proofs.Tells.{Tells}
 use Rattle.ncp_proof_umpire_two.proofs.OneWay.{Sound, OneWay, But, seen_now, seen_stays, sound_sees, sees_way, sound_out, out_way, out_far, sound_said, said_way, sound_in, unsent_none, in_way, in_far, sound_answer, answer_none, answer_way, answer_far, lost_way}
 
@@ -126,6 +132,7 @@ ways_in a b on m bits s umpire differ k l led taken same w = record {
 pub record Told (a b on : ℕ) (bits : List Bool) (s : Subnet) (umpire : Umpire) : Type 0 where
   pub none : record_findings umpire FromImp a bits ≡ []
   pub ways : Ways a b (with_transit s a b on Free) (after_record umpire FromImp a bits)
+  pub views : (at peer : ℕ) → view_in (after_record umpire FromImp a bits).views at peer ≡ view_in umpire.views at peer
 
 answer_found : (umpire : Umpire) (at peer on kind : ℕ) (bits : List Bool) → leader_in bits ≡ Ok (answer_leader kind peer on) → (kind == 0) ≡ false → is_answer kind ≡ true → (peer == at) ≡ false
     → record_findings umpire FromImp at bits ≡ answer_findings (sees umpire at) kind at peer on
@@ -133,6 +140,13 @@ answer_found umpire at peer on kind bits led zero answer apart =
     let u = sees umpire at in
     ap (λ (r : Result Leader Short). event_findings u FromImp at bits (event_behind FromImp at r)) led
     ∙ (rw (zero, answer, apart) refl)
+
+answer_views : (u : Umpire) (kind at peer on : ℕ) → (after_answer u kind at peer on).views ≡ u.views
+answer_views u kind at peer on = go u.full
+  where
+    go : (b : Bool) → (if b then u else record u { kept = with_answer (view_in u.views at peer).known kind u.kept (place_of at peer on u.kept) }).views ≡ u.views
+    go true = refl
+    go false = refl
 
 busy_link : (t : OnLink) (kind : ℕ) → answer_kind t ≡ Some kind → is_free t ≡ false
 busy_link Free kind e = absurd (cc)
@@ -152,6 +166,7 @@ ways_answer a b on kind bits s umpire differ k led zero answer is w = record {
         going = answer_way a b on kind (λ on. transit_at s a b on) _ u is (but_now s a b on Free) (seen_stays umpire a a w.sound k (w.going.seen on (busy_link (transit_at s a b on) kind is))) going_u;
         coming = back_stays s a b on Free (after_answer u kind a b on) differ (answer_far a b on kind (λ on. transit_at s b a on) u differ (sees_way b a _ umpire a w.sound k w.coming));
       });
+  views = λ at peer. ap (λ (y : Umpire). view_in y.views at peer) (answer_is umpire a bits (answer_leader kind b on) led apart zero answer) ∙ ap (λ (xs : List View). view_in xs at peer) (answer_views u kind a b on);
 }
   where
     apart : (b == a) ≡ false
@@ -190,4 +205,20 @@ ways_dead a b on m s umpire differ taken w = record {
   sound = w.sound;
   going = lost_way a b on m Dead (λ on. transit_at s a b on) _ umpire taken (as_dead m) (but_now s a b on Dead) w.going;
   coming = back_stays s a b on Dead umpire differ w.coming;
+}
+
+-- ---- the beginning
+
+new_way : (a b : ℕ) (t : ℕ → OnLink) → ((on : ℕ) → t on ≡ Free) → OneWay a b t (new_umpire false)
+new_way a b t f = record {
+  clear = ap (λ (v : View). v.crowded) (replicated VIEWS (index_of a b) (new_view false));
+  seen = λ on e. let nay : true ≡ false = sym (ap (λ (h : OnLink). is_free h) (f on)) ∙ e in absurd (cc);
+  tells = λ e on. ap (λ (h : OnLink). is_free h) (f on);
+}
+
+pub new_ways : (a b : ℕ) → Ways a b (new_subnet (a ∷ b ∷ [])) (new_umpire false)
+new_ways a b = record {
+  sound = record { part = refl; seen_long = length-replicate 256 false; long = length-replicate VIEWS (new_view false) };
+  going = new_way a b _ (λ on. transit-new (a ∷ b ∷ []) a b on);
+  coming = new_way b a _ (λ on. transit-new (a ∷ b ∷ []) b a on);
 }

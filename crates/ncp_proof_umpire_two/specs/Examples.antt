@@ -1,9 +1,23 @@
--- Files of the interfaces of hosts 1 and 2 by which the laws show that they speak of something.
-use Rattle.std.specs.Prelude.{ℕ, Bool, true, List, [], ◌∷◌}
+-- Files of the interfaces of hosts 1 and 2 by which the law shows that it speaks of something.
+use Rattle.std.specs.Prelude.{ℕ, Bool, List, [], ◌∷◌}
+use Rattle.ncp_proof_runs.specs.Examples.{message_on_0}
 use Rattle.ncp_umpire.specs.declared.way.Way.{Way}
-use Rattle.ncp_umpire.specs.declared.way.Way.TheVariants.{FromImp}
-use Rattle.ncp_proof_umpire.specs.Examples.{incomplete}
+use Rattle.ncp_umpire.specs.declared.way.Way.TheVariants.{ToImp, FromImp}
+use Rattle.ncp_proof_umpire.specs.Examples.{incomplete, wrong_resets}
 
--- an answer comes to host 1 before any message went out
+-- the bits of records, as they come to host 1
+abbrev pub as_come : List (Way × List Bool) → List (ℕ × Way × List Bool)
+as_come [] = []
+as_come (one ∷ more) = (1, FromImp, one.1) ∷ as_come more
+
+-- an answer comes before any message went out
 abbrev pub stray_answer : List (ℕ × Way × List Bool)
 stray_answer = (1, FromImp, incomplete) ∷ []
+
+-- a message to host 2 goes out, which is no more than its leader, and is answered
+abbrev pub answered : List (ℕ × Way × List Bool)
+answered = (1, ToImp, message_on_0) ∷ (1, FromImp, incomplete) ∷ []
+
+-- RST, RST, RRP and NOP come in one message of host 2
+abbrev pub resets_come : List (ℕ × Way × List Bool)
+resets_come = as_come wrong_resets

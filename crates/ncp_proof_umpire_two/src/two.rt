@@ -1,23 +1,24 @@
-//! The rules that the subnet between two hosts is not found to break.
-ghost use Rattle.std.specs.Prelude.{◌≡◌, ◌∷◌, [], false};
-ghost use Rattle.std.specs.List.{list_all};
+//! Nothing is found in the file of two hosts.
+ghost use Rattle.std.specs.Prelude.{◌≡◌, ◌∷◌, [], true, false};
+ghost use Rattle.ncp_leader.specs.declared.fault.MessageFault.TheVariants as fault;
 ghost use Rattle.ncp_umpire.specs.declared.finding.Rule.TheVariants as rule;
+ghost use Rattle.ncp_umpire.specs.declared.finding.Thing.TheVariants as thing;
 ghost use Rattle.ncp_umpire.specs.Judged.{new_umpire, by_host, by_imp};
 ghost use Rattle.ncp_proof_umpire.specs.Examples.{both_short};
-ghost use Rattle.ncp_proof_umpire_two.specs.Files.{found_in, spares_imp, AllPass};
-ghost use Rattle.ncp_proof_umpire_two.specs.Examples.{stray_answer};
+ghost use Rattle.ncp_proof_umpire_two.specs.Files.{found_in, NothingFound};
+ghost use Rattle.ncp_proof_umpire_two.specs.Examples.{stray_answer, answered, resets_come};
 
-/// The subnet between two hosts is found to break no rule in the file of what passes both interfaces: it delivers what went
-/// out, once and as it was but for the host in the leader, and answers for what is out (`unsent`, `stray`, `false-answer`),
-/// whatever calls are made and whatever it loses, in whatever order.
-pub fn the_subnet_is_not_blamed()
-    ensures { AllPass spares_imp }
+/// An audit of the file of two hosts with the subnet between them finds nothing: by no rule, at neither interface, against
+/// neither host and not against the subnet, whatever calls are made and whatever the subnet does, in whatever order.
+pub fn nothing_is_found()
+    ensures { NothingFound }
 {}
 
-/// That this law speaks of something: findings at all interfaces are findings of a file, in order; and an answer that comes
-/// before any message went out is one against the subnet.
-pub fn wrong_files_are_blamed()
+/// That this law speaks of something: what is found at any interface is found in a file, in order; an answer that comes before
+/// any message went out is the subnet's fault, and one behind it is none; and what a host sends is judged where it comes too.
+pub fn wrong_files_are_found()
     ensures everywhere { found_in (new_umpire false) both_short ≡ by_host 2 (rule.Short 2) ∷ by_host 1 (rule.Short 2) ∷ [] }
     ensures stray { found_in (new_umpire false) stray_answer ≡ by_imp (rule.Stray 9 0) ∷ [] }
-    ensures blamed { list_all spares_imp (found_in (new_umpire false) stray_answer) ≡ false }
+    ensures answered { found_in (new_umpire false) answered ≡ by_host 1 (rule.Fault fault.ShortPrefix 0) ∷ [] }
+    ensures come { found_in (new_umpire false) resets_come ≡ by_host 2 rule.RstAgain ∷ by_host 2 rule.RrpUnasked ∷ by_host 2 (rule.Early thing.Nop true true false) ∷ [] }
 {}

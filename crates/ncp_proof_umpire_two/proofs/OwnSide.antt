@@ -1,0 +1,141 @@
+-- What is known of each of two hosts at its own interface, through each record of a file of both.
+use Rattle.std.proofs.Common.{◌≡◌, ℕ, ◌<◌, ◌==◌, Bool, true, false, not, ◌&&◌, ◌||◌, List, [], ◌∷◌, Option, Some, refl, ap, subst, arith}
+use Rattle.std.proofs.lemmas.Bool.{eqb-true, and_parts}
+use Rattle.std.specs.List.{list_all}
+use Rattle.ncp_host.specs.Host.{Host, is_one_of, new_host}
+use Rattle.ncp_host.specs.Turns.{next_output}
+use Rattle.ncp_transcript.specs.declared.input.Input.TheVariants as inputs
+use Rattle.ncp_transcript.specs.declared.call.Call.{Call}
+use Rattle.ncp_transcript.specs.declared.note.HostNote.{HostNote}
+use Rattle.ncp_transcript.specs.declared.note.HostNote.TheVariants as notes
+use Rattle.ncp_transcript.specs.After.{after_note}
+use Rattle.ncp_transcript.specs.Noting.{CallNoted, answer_in, note_of_bits, note_of_message, note_of_output}
+use Rattle.ncp_transcript.specs.Runs.{IsSaid}
+use Rattle.ncp_transcript.proofs.Saying.{noted_said}
+use Rattle.ncp_transcript_two.specs.Seen.{CallFits}
+use Rattle.ncp_transcript_two.proofs.Fitting.{note-fits}
+use Rattle.ncp_proof_runs.proofs.Said.{IsOut}
+use Rattle.ncp_proof_runs.proofs.States.{Turn}
+use Rattle.ncp_proof_runs.proofs.HostRuns.{Holds, out-turn, out-is}
+use Rattle.ncp_proof_runs.proofs.EachPeer.{holds-after, new-holds}
+use Rattle.ncp_umpire.specs.declared.finding.Finding.{Finding}
+use Rattle.ncp_umpire.specs.declared.umpire.Umpire.{Umpire}
+use Rattle.ncp_umpire.specs.declared.way.Way.{Way}
+use Rattle.ncp_umpire.specs.declared.way.Way.TheVariants.{ToImp, FromImp}
+use Rattle.ncp_umpire.specs.Judged.{new_umpire, by_host, sees, slot_of, same_of, out_rule, record_findings, after_record}
+use Rattle.ncp_umpire.proofs.Passing.{Pass, mapped_unless, goes}
+use Rattle.ncp_proof_umpire.specs.Recordings.{is_host, spares, any_rule}
+use Rattle.ncp_proof_umpire.proofs.Leaders.{peer_of_turn}
+use Rattle.ncp_proof_umpire.proofs.HostSlots.{call_noted}
+use Rattle.ncp_proof_umpire.proofs.Linked.{after_call, after_out_of, after_in_of}
+use Rattle.ncp_proof_umpire.proofs.LinkWalk.{begins as follows_begins}
+use Rattle.ncp_proof_umpire.proofs.ReadyPeers.{AllReady, ready_after, fits_in, begins as ready_begins}
+use Rattle.ncp_proof_umpire.proofs.PhaseWalk.{call_all, in_all, out_all, out_spared, seen_begins}
+use Rattle.ncp_proof_umpire.proofs.PhaseLists.{itself}
+use Rattle.ncp_proof_umpire.proofs.Others.{Watched, watched, other_leaves}
+
+pub record At (me n : ℕ) (h : Host) (umpire : Umpire) : Type 0 where
+  pub holds : Holds (n ∷ []) h
+  pub watched : Watched me h umpire
+  pub ready : AllReady h
+
+one_peer : (me n : ℕ) → (n == me) ≡ false → is_one_of me (n ∷ []) ≡ false
+one_peer me n d = ap (λ (b : Bool). b || false) d
+
+-- ---- a call
+
+pub called : (me n : ℕ) (h : Host) (umpire : Umpire) (call : Call) (note : HostNote) → CallNoted call note h → CallFits call → At me n h umpire → At me n (after_note note h) umpire
+called me n h umpire call note p f k =
+    let said = noted_said (inputs.Call call) note h p in
+    let c = call_noted call note h p in
+    record {
+      holds = holds-after (n ∷ []) note h k.holds said;
+      watched = record { follows = after_call (n ∷ []) me note h umpire k.holds said c k.watched.follows; seen = call_all (n ∷ []) me note h umpire k.holds said c k.ready k.watched.seen };
+      ready = ready_after (n ∷ []) note h k.holds said (note-fits call note h p f) k.ready;
+    }
+
+-- ---- what comes
+
+pub came : (me n : ℕ) (h : Host) (umpire : Umpire) (bits : List Bool) → (n == me) ≡ false → me < 256 → At me n h umpire → At me n (after_note (note_of_bits bits h) h) (after_record umpire FromImp me bits)
+came me n h umpire bits d l k =
+    let note = note_of_bits bits h in
+    let said = noted_said (inputs.In bits) note h refl in
+    record {
+      holds = holds-after (n ∷ []) note h k.holds said;
+      watched = record {
+        follows = after_in_of (n ∷ []) me h umpire bits note k.holds (one_peer me n d) said refl k.watched.follows;
+        seen = in_all (n ∷ []) me h umpire bits note k.holds (one_peer me n d) l said refl k.watched.follows k.watched.seen;
+      };
+      ready = ready_after (n ∷ []) note h k.holds said (fits_in (answer_in bits h) bits h note refl) k.ready;
+    }
+
+-- ---- what goes out
+
+said_out : (h : Host) (m : List Bool) → next_output h ≡ Some m → IsSaid (notes.Out m) h
+said_out h m q = subst (λ (o : Option (List Bool)). IsSaid (note_of_message o) h) q (noted_said inputs.Out (note_of_output h) h refl)
+
+pub record Went (me n : ℕ) (h : Host) (m : List Bool) (umpire : Umpire) : Type 0 where
+  pub none : record_findings umpire ToImp me m ≡ []
+  pub at : At me n (after_note (notes.Out m) h) (after_record umpire ToImp me m)
+
+-- all is said of the host itself, and nothing is said against it
+nothing_left : (me : ℕ) (found : List Finding) → Pass (spares any_rule me) found → Pass (λ (f : Finding). is_host me f.who) found → found ≡ []
+nothing_left me [] p q = refl
+nothing_left me (f ∷ found) p q =
+    let mine = (and_parts (is_host me f.who) (list_all (λ (g : Finding). is_host me g.who) found) q).0 in
+    let other = (and_parts (not (is_host me f.who && true)) (list_all (spares any_rule me) found) p).0 in
+    absurd (clash (is_host me f.who) mine other)
+  where
+    clash : (b : Bool) → b ≡ true → not (b && true) ≡ true → ⊥
+    clash true e g = absurd (cc g)
+    clash false e g = absurd (cc e)
+
+pub went : (me n : ℕ) (h : Host) (umpire : Umpire) (m : List Bool) → (n == me) ≡ false → me < 256 → next_output h ≡ Some m → At me n h umpire → Went me n h m umpire
+went me n h umpire m d l q k = record {
+  none = nothing_left me (record_findings umpire ToImp me m)
+      (out_spared (n ∷ []) me t.n h umpire m t.s is k.holds l (one_peer me n d) said t.found k.watched.follows k.ready k.watched.seen other)
+      (goes (λ (f : Finding). is_host me f.who) umpire me t.n is.on m is.leader other (λ r s. itself me)
+      (let u = sees umpire me in mapped_unless (λ (f : Finding). is_host me f.who) u.full (by_host me) (out_rule (slot_of u me t.n is.on) (same_of u me t.n is.on m) is.on) (λ r e. itself me))
+      (λ r e. itself me));
+  at = record {
+    holds = holds-after (n ∷ []) (notes.Out m) h k.holds said;
+    watched = record {
+      follows = after_out_of (n ∷ []) me t.n is.on h umpire m t.s k.holds said is.leader other t.found k.watched.follows;
+      seen = out_all (n ∷ []) me t.n h umpire m t.s is k.holds l (one_peer me n d) said t.found k.watched.follows k.ready k.watched.seen other;
+    };
+    ready = ready_after (n ∷ []) (notes.Out m) h k.holds said tt k.ready;
+  };
+}
+  where
+    said : IsSaid (notes.Out m) h
+    said = said_out h m q
+
+    t : Turn h.peers m
+    t = out-turn (n ∷ []) h m k.holds q
+
+    is : IsOut t.n m t.s
+    is = out-is (n ∷ []) h m k.holds t
+
+    other : (t.n == me) ≡ false
+    other = peer_of_turn (n ∷ []) me h m k.holds (one_peer me n d) t
+
+-- ---- a record at the other interface
+
+pub elsewhere : (me n at : ℕ) (way : Way) (bits : List Bool) (h : Host) (umpire : Umpire) → (at == me) ≡ false → At me n h umpire → At me n h (after_record umpire way at bits)
+elsewhere me n at way bits h umpire d k = record {
+  holds = k.holds;
+  watched = watched me h umpire (after_record umpire way at bits) (λ m s there. (k.holds.good m s there).0) (other_leaves me at way bits umpire d) k.watched;
+  ready = k.ready;
+}
+
+-- ---- the beginning
+
+small_peer : (n : ℕ) → n < 256 → (m : ℕ) → is_one_of m (n ∷ []) ≡ true → m < 256
+small_peer n l m e = go (n == m) refl e
+  where
+    go : (b : Bool) → (n == m) ≡ b → (b || false) ≡ true → m < 256
+    go true f e = let same : n ≡ m = eqb-true n m f in omega (arith, same, l)
+    go false f e = absurd (cc)
+
+pub begins : (me n : ℕ) → n < 256 → At me n (new_host me (n ∷ [])) (new_umpire false)
+begins me n l = record { holds = new-holds me (n ∷ []) refl (small_peer n l); watched = record { follows = follows_begins me (n ∷ []); seen = seen_begins me (n ∷ []) }; ready = ready_begins me (n ∷ []) }
