@@ -33,9 +33,9 @@ CALLS = [
     ("Many::step", "ncp_test_world", ["refused::many::many_step"]),
     ("Many::settle", "ncp_test_world", ["refused::many::many_settle"]),
     ("Many::run", "ncp_test_world", ["refused::many::many_run"]),
-    ("play_host", "ncp_test_play_host", ["refused::playing_one_host"]),
-    ("play_world", "ncp_test_play_world", ["refused::playing_two_hosts", "refused::playing_many_hosts"]),
-    ("record_world", "ncp_test_play_world", ["recorded::refused::recording"]),
+    ("play_host", "ncp_test_play", ["refused::playing_one_host"]),
+    ("play_world", "ncp_test_play", ["world::refused::playing_two_hosts", "world::refused::playing_many_hosts"]),
+    ("record_world", "ncp_test_play", ["world::recorded::refused::recording"]),
 ]
 TOLD = "refused: "  # in front of what a test prints
 PASSED = "test result: ok"

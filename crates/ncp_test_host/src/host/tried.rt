@@ -3,8 +3,9 @@ use super::steps::{Call, Step};
 use super::{CONTROL, INWARD, REGULAR, RFNM, ROOM, RTS, STR};
 use crate::known::{OUTWARD, UP, bits_of};
 use ncp_bits::{BitStore, Bits};
-use ncp_host::{CallFault, Error, Host, HostFault, Pair, Received};
+use ncp_host::{CallFault, Counts, Error, Flags, Host, HostFault, Pair, Received, Record};
 use ncp_leader::MessageFault;
+use ncp_terms::Command;
 use std::alloc::Global;
 use std::process::Abort;
 
@@ -146,13 +147,13 @@ impl<S: BitStore> Tried<S> {
 
     fn tells(&self, rt: &impl Abort, step: &Step<'_>) -> bool {
         match step {
-            Step::Knows(pair, want) => self.host.state(self.peer, *pair) == Ok(*want),
-            Step::HasFlags(want) => self.host.phase(self.peer) == Ok(*want),
-            Step::HasEchoed(want) => self.host.echoed(self.peer) == Ok(*want),
-            Step::HasCounts(want) => self.host.counts(self.peer) == Ok(*want),
+            Step::Knows(pair, want) => self.knows(*pair, want),
+            Step::HasFlags(want) => self.has_flags(want),
+            Step::HasEchoed(want) => self.has_echoed(*want),
+            Step::HasCounts(want) => self.has_counts(want),
             Step::HasIgnored(want) => self.host.ignored() == *want,
             Step::HasErrors(first, last) => self.has_errors(*first, *last),
-            Step::Waits(place, want) => self.host.waiting(self.peer, *place) == Some(*want),
+            Step::Waits(place, want) => self.waits(*place, want),
             Step::Wait(count) => self.wait(*count),
             Step::Keeps(link, text) => self.keeps(rt, *link, text),
             Step::KeepsNone(link) => self.host.kept(self.peer, *link).is_none(),
@@ -160,11 +161,44 @@ impl<S: BitStore> Tried<S> {
         }
     }
 
+    fn knows(&self, pair: Pair, want: &Record) -> bool {
+        match self.host.state(self.peer, pair) {
+            Ok(record) => record == *want,
+            Err(_) => false,
+        }
+    }
+
+    fn has_flags(&self, want: &Flags) -> bool {
+        match self.host.phase(self.peer) {
+            Ok(flags) => flags == *want,
+            Err(_) => false,
+        }
+    }
+
+    fn has_echoed(&self, want: Option<u8>) -> bool {
+        match self.host.echoed(self.peer) {
+            Ok(byte) => byte == want,
+            Err(_) => false,
+        }
+    }
+
+    fn has_counts(&self, want: &Counts) -> bool {
+        match self.host.counts(self.peer) {
+            Ok(counts) => counts == *want,
+            Err(_) => false,
+        }
+    }
+
+    fn waits(&self, place: u32, want: &Command) -> bool {
+        match self.host.waiting(self.peer, place) {
+            Some(command) => command == *want,
+            None => false,
+        }
+    }
+
     fn lists(&self, step: &Step<'_>) -> bool {
         match step {
-            Step::ConnectionAt(place, pair, want) => {
-                self.host.connection_at(self.peer, *place) == Ok(Some((*pair, *want)))
-            }
+            Step::ConnectionAt(place, pair, want) => self.has_at(*place, *pair, want),
             Step::NoneAt(place) => self.host.connection_at(self.peer, *place) == Ok(None),
             Step::HasRoom(pair, want) => self.host.room(self.peer, *pair) == Ok(*want),
             Step::LeadsTo(end, link, want) => {
@@ -174,6 +208,13 @@ impl<S: BitStore> Tried<S> {
                 self.host.pair_on(self.peer, *end, *link) == Ok(None)
             }
             Step::IsHeld(link, want) => self.host.is_held(self.peer, *link) == Ok(*want),
+            _ => false,
+        }
+    }
+
+    fn has_at(&self, place: u32, pair: Pair, want: &Record) -> bool {
+        match self.host.connection_at(self.peer, place) {
+            Ok(Some((found, record))) => found == pair && record == *want,
             _ => false,
         }
     }

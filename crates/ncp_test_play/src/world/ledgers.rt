@@ -1,7 +1,7 @@
 //! Scripts with a ledger that is watched, line by line.
-use crate::opening::{COMING_UP, GIVING, SENDING};
-use crate::played::{Doing, Row, expect_rows};
-use crate::scripts::{LOST_TWICE, ONE_CONNECTION};
+use crate::world::opening::{COMING_UP, GIVING, SENDING};
+use crate::world::played::{Doing, Row, expect_rows};
+use crate::world::scripts::{LOST_TWICE, ONE_CONNECTION};
 use std::test::Fail;
 
 /// The first line by which the sender of the opening is watched.

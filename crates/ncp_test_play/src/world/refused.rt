@@ -1,9 +1,9 @@
 //! What stands where the player of scripts is refused memory. Here each test has ample memory. `bench/refuse.py` runs
 //! each test again and again, refuses it one request after the other, and reads what is printed of the request.
-use crate::opening::{
+use crate::world::opening::{
     COMING_UP, COMING_UP_LINES, GIVING, GIVING_LINES, HOSTS, SENDING, SENDING_LINES,
 };
-use crate::played::{Doing, Store, joined, play, whole};
+use crate::world::played::{Doing, Store, joined, play, whole};
 use ncp_play_notes::PlayFault;
 use std::alloc::{AllocError, Global};
 use std::process::Abort;

@@ -52,9 +52,11 @@ fn are_first(bytes: &[u8], count: usize) -> bool {
 fn a_feed_is_read_and_told_bytewise(rt: HostRuntime) -> Result<(), Fail> {
     let mut source = Bytewise {
         source: MemorySource::new(FILE, None),
+        is_slow: true,
     };
     let mut sink = Piecemeal {
         sink: MemorySink::new(rt.alloc(), ROOM, None)?,
+        is_slow: true,
     };
     let answer = fed(rt.alloc(), &mut source, &mut sink)?;
     assert!(rt; answer == Ok(()) && sink.sink.bytes() == LINES);
@@ -65,6 +67,7 @@ fn a_feed_is_read_and_told_bytewise(rt: HostRuntime) -> Result<(), Fail> {
 fn is_fed_until_read(alloc: Global, count: u32, (wanted, len): Outcome) -> Result<bool, Fail> {
     let mut source = Bytewise {
         source: MemorySource::new(FILE, Some(count)),
+        is_slow: true,
     };
     let mut sink = MemorySink::new(alloc, ROOM, None)?;
     let answer = fed(alloc, &mut source, &mut sink)?;
@@ -81,6 +84,7 @@ fn is_fed_until_write(alloc: Global, count: u32, (wanted, len): Outcome) -> Resu
     let mut source = MemorySource::new(FILE, None);
     let mut sink = Piecemeal {
         sink: MemorySink::new(alloc, ROOM, Some(count))?,
+        is_slow: true,
     };
     let answer = fed(alloc, &mut source, &mut sink)?;
     Ok(

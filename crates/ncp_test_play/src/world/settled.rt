@@ -1,5 +1,5 @@
 //! The word `settle`: the lines of what happens without a call, and how many events it is.
-use crate::played::{Doing, Row, expect_rows};
+use crate::world::played::{Doing, Row, expect_rows};
 use std::test::Fail;
 
 const ROWS: &[Row] = &[

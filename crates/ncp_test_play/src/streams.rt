@@ -34,9 +34,11 @@ pub(crate) fn play(
 ) -> Result<Played, Fail> {
     let mut source = Bytewise {
         source: MemorySource::new(script, failing_read),
+        is_slow: true,
     };
     let mut sink = Piecemeal {
         sink: MemorySink::new(alloc, ROOM, failing_write)?,
+        is_slow: true,
     };
     let answer = if source.failed() || sink.failed() {
         None

@@ -1,10 +1,10 @@
 //! What stands where the recorder is refused memory. Here each test has ample memory. `bench/refuse.py` runs each test
 //! again and again, refuses it one request after the other, and reads what is printed of the request.
-use crate::opening::{
+use crate::world::opening::{
     COMING_UP, COMING_UP_RECORDS, GIVING, GIVING_RECORDS, HEADER, HOSTS, SENDING, SENDING_RECORDS,
 };
-use crate::played::{Doing, Store, play, whole};
-use crate::refused::{print_refusal, text_of};
+use crate::world::played::{Doing, Store, play, whole};
+use crate::world::refused::{print_refusal, text_of};
 use ncp_play_notes::PlayFault;
 use std::alloc::Global;
 use std::process::Abort;

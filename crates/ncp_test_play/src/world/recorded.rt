@@ -1,9 +1,9 @@
 //! Recordings: the worked row, scripts at fault, and what stands where the recorder is refused memory.
 mod refused;
 
-use crate::faults::TOO_LONG;
-use crate::opening::{COMING_UP_RECORDS, HEADER};
-use crate::played::{Doing, Row, expect_rows};
+use crate::world::faults::TOO_LONG;
+use crate::world::opening::{COMING_UP_RECORDS, HEADER};
+use crate::world::played::{Doing, Row, expect_rows};
 use ncp_play_notes::PlayFault;
 use std::test::Fail;
 

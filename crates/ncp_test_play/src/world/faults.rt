@@ -1,5 +1,5 @@
 //! Scripts at fault, and reads and writes that fail.
-use crate::played::{Case, Doing, Row, Run, Store, expect, expect_rows, play, whole};
+use crate::world::played::{Case, Doing, Row, Run, Store, expect, expect_rows, play, whole};
 use ncp_play_notes::PlayFault;
 use std::test::Fail;
 

@@ -1,0 +1,13 @@
+//! Scripts of two hosts, and of two to eight: their lines, and their recordings, byte for byte.
+
+mod faults;
+mod ledgers;
+mod limits;
+mod many;
+mod opening;
+mod played;
+mod recorded;
+mod refused;
+mod scripts;
+mod settled;
+mod streams;
