@@ -7,7 +7,7 @@
 //!   (`laws::each_name_has_one_meaning`); which words scripts have (`verbs`); what is told of a header (`wrong_header`),
 //!   of a strange byte, of a word that is no verb, and of a first line that begins with no word of its own (`wrong_line`,
 //!   `wrong_first_line`). That a text names a mistake in an argument is only tested.
-//! - *Tests:* `mistakes` of `ncp_test_play_host`; words that are near, and words that are not, in `laws`.
+//! - *Tests:* `mistakes` of `ncp_test_play`; words that are near, and words that are not, in `laws`.
 #![tactic(auto)]
 
 mod arguments;

@@ -3,7 +3,7 @@
 //! - *Use:* the line `feed` of a script of one host: what follows is a message file.
 //! - *Proved:* each message comes, up to the first fault, and without a fault the host is asked for output until it has
 //!   none (`feed`, clause `events`); bytes are a feed in one way (`laws::feeds_have_one_reading`).
-//! - *Tests:* `feed` of `ncp_test_play_host`.
+//! - *Tests:* `feed` of `ncp_test_play`.
 #![tactic(auto)]
 
 mod feeding;

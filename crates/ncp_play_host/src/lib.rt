@@ -6,7 +6,7 @@
 //!
 //! - *Proved:* what is written is the lines of the notes of a host to which the script was done (`play_host`, clause
 //!   `told`), and no failed read or write is hidden.
-//! - *Tests:* `scripts`, `runs`, `limits` and `refused` of `ncp_test_play_host`.
+//! - *Tests:* `scripts`, `runs`, `limits` and `refused` of `ncp_test_play`.
 #![tactic(auto)]
 
 mod asking;

@@ -8,7 +8,7 @@
 //!   hosts by `say_note`.
 //! - *Proved:* the lines are `NoteLines.antt` of the note (`say_note`, clause `told`); a fault has its number and its
 //!   name (`PlayFault::tell`).
-//! - *Tests:* `lines`, `said` and `faults` of `ncp_test_play_host`; worked lines in `laws`.
+//! - *Tests:* `lines`, `said` and `faults` of `ncp_test_play`; worked lines in `laws`.
 #![tactic(auto)]
 
 mod arrived;

@@ -3,7 +3,7 @@
 //! - *Use:* `ncp_play_scene/src/next_event.rt` reads the next line so.
 //! - *Proved:* the line, its number and what is left are those of the bytes (`next_line` and `next_played`, clause
 //!   `told`).
-//! - *Tests:* `script/reading` and `script/lines` of `ncp_test_play_host`.
+//! - *Tests:* `script/reading` and `script/lines` of `ncp_test_play`.
 #![tactic(auto)]
 
 mod letting_out;

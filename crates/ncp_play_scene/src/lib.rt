@@ -4,7 +4,7 @@
 //! - *Use:* `ncp_play_world` has a `Scene` of two hosts, one of many, and two `Teller`s: lines, and a recording.
 //! - *Proved:* the events are those of the bytes, and what is written is what the teller tells of the notes
 //!   (`play_first`, clause `told`), of whichever scene.
-//! - *Tests:* `ncp_test_play_world`.
+//! - *Tests:* `world` of `ncp_test_play`.
 #![tactic(auto)]
 
 mod first_line;

@@ -5,7 +5,7 @@
 //! - *Use:* `call(alloc, &mut words, None)` reads the call that the words of a line are, as `give 2 3 2 16 6162`.
 //! - *Proved:* a line asks for exactly what the definition says (`call_named`, `host_line`, clause `call` or `line`),
 //!   and only a give wants memory (`memory`); each word names one call (`laws::words_name_calls`).
-//! - *Tests:* `script` of `ncp_test_play_host`; worked lines in `examples`.
+//! - *Tests:* `script` of `ncp_test_play`; worked lines in `examples`.
 #![tactic(auto)]
 
 mod arguments;

@@ -8,7 +8,7 @@
 //!
 //! - *Proved:* what is written is what is told of a transcript of the script's events (`play_world`, clauses `told` and
 //!   `many`), so all that is proved of transcripts holds of what is printed.
-//! - *Tests:* `ncp_test_play_world`; worked lines in `laws`.
+//! - *Tests:* `world` of `ncp_test_play`; worked lines in `laws`.
 #![tactic(auto)]
 
 pub mod examples;

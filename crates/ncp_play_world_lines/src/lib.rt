@@ -5,7 +5,7 @@
 //!   `say_world_note` and `say_many_note`; `is_settle` and `say_settled` are for the word `settle` of both.
 //! - *Proved:* a line asks for the event that the definition says, and a note has its lines or its record (clause
 //!   `event`, `told`).
-//! - *Tests:* worked lines in `examples` and `laws`; whole scripts in `ncp_test_play_world`.
+//! - *Tests:* worked lines in `examples` and `laws`; whole scripts in `world` of `ncp_test_play`.
 #![tactic(auto)]
 
 pub mod examples;
