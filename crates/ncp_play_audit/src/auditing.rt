@@ -1,8 +1,8 @@
 //! `audit`: which rules the messages of a file break, and by whom, line by line.
 ghost use Rattle.std.specs.Prelude.{◌≡◌, ℕ, ◌+◌, ◌-◌, ◌/◌, ◌<◌, ◌≤◌, ◌&&◌, ◌||◌, [], List, Some, true, false, length, drop, is_some, IfOk};
-ghost use Rattle.ncp_play_stream.specs.Pieces.{reads_for, reads_beyond, bytes_and_writes, lost_pieces, unpaid, Paid};
-ghost use Rattle.ncp_play_stream.specs.Streams.{Ahead, SaidSoFar};
-ghost use Rattle.ncp_play_page.specs.Windows.{effort};
+ghost use Rattle.ncp_play_stream.specs.Pieces.{reads_for, lost_pieces, unpaid};
+ghost use Rattle.ncp_play_page.specs.Inlets.{SameInlet, left_in, reads_left, read_failed, slack, work, Brings, PaidBy};
+ghost use Rattle.ncp_play_page.specs.Outlets.{SameOutlet, written_by, write_failed, credit, HasSaid};
 ghost use Rattle.ncp_play_files.specs.Results.{is_read_failed, is_write_failed};
 ghost use Rattle.ncp_play_files.specs.Steps.{Says, says_nothing, unpaid_after};
 ghost use Rattle.ncp_play_files.specs.Waiting.{is_waiting};
@@ -15,15 +15,16 @@ ghost use Rattle.ncp_play_audit.specs.AuditSteps.{AuditsNext, AuditsOn, AuditsFr
 use crate::finding_line::{is_clean, say_findings};
 use ncp_bits::Bits;
 use ncp_play_files::{Direction, FileFault, Version, let_out, read_next, read_version};
-use ncp_play_page::{Page, Window};
+use ncp_play_page::{Inlet, Outlet, Page, Window};
 use ncp_play_stream::{LEAST_PIECE, Sink, Source, stop_at_fault};
 use ncp_umpire::{Findings, Umpire, Way};
 use std::alloc::{AllocError, Global};
 
-/// An umpire, with room for the findings of a record.
+/// An umpire, with room for the message of a record and for its findings.
 #[derive(Drop)]
 pub struct Auditor {
     umpire: Umpire,
+    message: Bits,
     found: Findings,
 }
 
@@ -35,6 +36,7 @@ impl Auditor {
     {
         Ok(Auditor {
             umpire: Umpire::new(alloc, part)?,
+            message: Bits::new(),
             found: Findings::new(alloc)?,
         })
     }
@@ -57,40 +59,43 @@ fn way_of(direction: Direction) -> Way
     }
 }
 
-// Reads the next record into `message` and says its findings. It answers whether none is told, if there was a record.
+// Reads the next record and says its findings. It answers whether none is told, if there was a record.
 fn audit_next<S: Source, W: Sink>(
-    window: &mut Window,
-    source: &mut S,
-    message: &mut Bits,
-    page: &mut Page,
-    sink: &mut W,
+    input: &mut Inlet<'_, S>,
+    out: &mut Outlet<'_, W>,
     auditor: &mut Auditor,
     standard: bool,
     number: u32,
 ) -> Result<Option<bool>, FileFault>
     ensures told { (bytes : List ℕ) (was : List ℕ) (said : List ℕ)
-        → Ahead window.old (S.left source.old) bytes → SaidSoFar was page.old (W.written sink.old) said
-        → AuditsNext standard auditor.old.umpire number bytes was said result auditor.new.umpire window.new (S.left source.new) page.new (W.written sink.new) }
-    ensures source_mark { S.has_failed source.new ≡ (S.has_failed source.old || is_read_failed result) }
-    ensures writes { bytes_and_writes W.takes_all (W.writes sink.old) (W.written sink.old) ≤ bytes_and_writes W.takes_all (W.writes sink.new) (W.written sink.new) + lost_pieces (is_write_failed result) }
-    ensures sink_mark { W.has_failed sink.new ≡ (W.has_failed sink.old || is_write_failed result) }
-    ensures reads { reads_beyond S.gives_all (S.reads source.old) (S.left source.old) ≤ reads_beyond S.gives_all (S.reads source.new) (S.left source.new) + 1 }
-    ensures taken { IfOk result (λ next. is_some next ≡ true → reads_beyond S.gives_all (S.reads source.old) (S.left source.old) ≤ reads_beyond S.gives_all (S.reads source.new) (S.left source.new)) }
-    ensures effort { IfOk result (λ next. is_some next ≡ true → effort (S.reads source.new) window.new < effort (S.reads source.old) window.old) }
-    ensures lowers { S.reads source.new ≤ S.reads source.old }
-    ensures waited { says_nothing (more_of result) ≡ false → is_waiting Two window.old ≡ true → S.reads source.new < S.reads source.old }
-    ensures kept { says_nothing (more_of result) ≡ true → page.new ≡ page.old }
+        → Brings S.Source input.old bytes → HasSaid W.Sink was out.old said
+        → AuditsNext standard auditor.old.umpire number bytes was said result auditor.new.umpire input.new.window.now (left_in S.Source input.new) out.new.page.now (written_by W.Sink out.new) }
+    ensures source_mark { read_failed S.Source input.new ≡ (read_failed S.Source input.old || is_read_failed result) }
+    ensures writes { credit W.Sink out.old ≤ credit W.Sink out.new + lost_pieces (is_write_failed result) }
+    ensures sink_mark { write_failed W.Sink out.new ≡ (write_failed W.Sink out.old || is_write_failed result) }
+    ensures reads { slack S.Source input.old ≤ slack S.Source input.new + 1 }
+    ensures taken { IfOk result (λ next. is_some next ≡ true → slack S.Source input.old ≤ slack S.Source input.new) }
+    ensures effort { IfOk result (λ next. is_some next ≡ true → work S.Source input.new < work S.Source input.old) }
+    ensures lowers { reads_left S.Source input.new ≤ reads_left S.Source input.old }
+    ensures waited { says_nothing (more_of result) ≡ false → is_waiting Two input.old.window.now ≡ true
+        → reads_left S.Source input.new < reads_left S.Source input.old }
+    ensures kept { says_nothing (more_of result) ≡ true → out.new.page.now ≡ out.old.page.now }
+    ensures same_inlet { SameInlet input.old input.new }
+    ensures same_outlet { SameOutlet out.old out.new }
 {
-    let Some(passage) = read_next(window, source, Version::Two, message)? else {
+    let Some(passage) = read_next(input, Version::Two, &mut auditor.message)? else {
         return Ok(None);
     };
     let at = host_of(passage.at);
-    auditor
-        .umpire
-        .judge(way_of(passage.direction), at, message, &mut auditor.found);
+    auditor.umpire.judge(
+        way_of(passage.direction),
+        at,
+        &auditor.message,
+        &mut auditor.found,
+    );
     let found = auditor.found.as_slice();
     let clean = is_clean(standard, found);
-    match say_findings(page, sink, standard, number, at, found) {
+    match say_findings(out, standard, number, at, found) {
         Ok(()) => Ok(Some(clean)),
         Err(_) => Err(FileFault::WriteFailed),
     }
@@ -98,34 +103,31 @@ fn audit_next<S: Source, W: Sink>(
 
 // Says the findings of the next record as `audit_next` does. Before more is waited for, all that was said is written.
 fn audit_on<S: Source, W: Sink>(
-    window: &mut Window,
-    source: &mut S,
-    message: &mut Bits,
-    page: &mut Page,
-    sink: &mut W,
+    input: &mut Inlet<'_, S>,
+    out: &mut Outlet<'_, W>,
     auditor: &mut Auditor,
     standard: bool,
     number: u32,
 ) -> Result<Option<bool>, FileFault>
     ensures told { (bytes : List ℕ) (was : List ℕ) (said : List ℕ)
-        → Ahead window.old (S.left source.old) bytes → SaidSoFar was page.old (W.written sink.old) said
-        → AuditsOn standard auditor.old.umpire number bytes was said result auditor.new.umpire window.new (S.left source.new) page.new (W.written sink.new) }
-    ensures source_mark { S.has_failed source.new ≡ (S.has_failed source.old || is_read_failed result) }
-    ensures writes { Paid W.takes_all (W.writes sink.old) (W.written sink.old) (S.reads source.old) (W.writes sink.new) (W.written sink.new) (S.reads source.new) (unpaid_after (more_of result) page.new) }
-    ensures sink_mark { W.has_failed sink.new ≡ (W.has_failed sink.old || is_write_failed result) }
-    ensures reads { reads_beyond S.gives_all (S.reads source.old) (S.left source.old) ≤ reads_beyond S.gives_all (S.reads source.new) (S.left source.new) + 1 }
-    ensures taken { IfOk result (λ next. is_some next ≡ true → reads_beyond S.gives_all (S.reads source.old) (S.left source.old) ≤ reads_beyond S.gives_all (S.reads source.new) (S.left source.new)) }
-    ensures effort { IfOk result (λ next. is_some next ≡ true → effort (S.reads source.new) window.new < effort (S.reads source.old) window.old) }
+        → Brings S.Source input.old bytes → HasSaid W.Sink was out.old said
+        → AuditsOn standard auditor.old.umpire number bytes was said result auditor.new.umpire input.new.window.now (left_in S.Source input.new) out.new.page.now (written_by W.Sink out.new) }
+    ensures source_mark { read_failed S.Source input.new ≡ (read_failed S.Source input.old || is_read_failed result) }
+    ensures writes { PaidBy S.Source W.Sink out.old input.old out.new input.new (unpaid_after (more_of result)) }
+    ensures sink_mark { write_failed W.Sink out.new ≡ (write_failed W.Sink out.old || is_write_failed result) }
+    ensures reads { slack S.Source input.old ≤ slack S.Source input.new + 1 }
+    ensures taken { IfOk result (λ next. is_some next ≡ true → slack S.Source input.old ≤ slack S.Source input.new) }
+    ensures effort { IfOk result (λ next. is_some next ≡ true → work S.Source input.new < work S.Source input.old) }
+    ensures same_inlet { SameInlet input.old input.new }
+    ensures same_outlet { SameOutlet out.old out.new }
 {
-    let_out(window, Version::Two, page, sink)?;
-    let judged = audit_next(
-        window, source, message, page, sink, auditor, standard, number,
-    );
+    let_out(input.window, Version::Two, out.page, out.sink)?;
+    let judged = audit_next(input, out, auditor, standard, number);
     stop_at_fault(
-        source,
+        input.source,
         &judged,
         number.saturating_sub(1),
-        window.unread().len(),
+        input.window.unread().len(),
     );
     judged
 }
@@ -139,34 +141,24 @@ fn both(one: bool, other: bool) -> bool
 
 // Says the findings of the records behind the header, and answers whether none is told.
 fn audit_records<S: Source, W: Sink>(
-    window: &mut Window,
-    source: &mut S,
-    page: &mut Page,
-    sink: &mut W,
+    input: &mut Inlet<'_, S>,
+    out: &mut Outlet<'_, W>,
     auditor: &mut Auditor,
     standard: bool,
 ) -> Result<bool, FileFault>
     ensures told { (bytes : List ℕ) (was : List ℕ) (said : List ℕ)
-        → Ahead window.old (S.left source.old) bytes → SaidSoFar was page.old (W.written sink.old) said
-        → AuditsFrom standard auditor.old.umpire 1 bytes was said true result (S.left source.new) page.new (W.written sink.new) }
-    ensures source_mark { S.has_failed source.new ≡ (S.has_failed source.old || is_read_failed result) }
-    ensures writes { Paid W.takes_all (W.writes sink.old) (W.written sink.old) (S.reads source.old) (W.writes sink.new) (W.written sink.new) (S.reads source.new) (unpaid (is_write_failed result) page.new) }
-    ensures sink_mark { W.has_failed sink.new ≡ (W.has_failed sink.old || is_write_failed result) }
-    ensures reads { reads_beyond S.gives_all (S.reads source.old) (S.left source.old) ≤ reads_beyond S.gives_all (S.reads source.new) (S.left source.new) + 1 }
+        → Brings S.Source input.old bytes → HasSaid W.Sink was out.old said
+        → AuditsFrom standard auditor.old.umpire 1 bytes was said true result (left_in S.Source input.new) out.new.page.now (written_by W.Sink out.new) }
+    ensures source_mark { read_failed S.Source input.new ≡ (read_failed S.Source input.old || is_read_failed result) }
+    ensures writes { PaidBy S.Source W.Sink out.old input.old out.new input.new (unpaid (is_write_failed result)) }
+    ensures sink_mark { write_failed W.Sink out.new ≡ (write_failed W.Sink out.old || is_write_failed result) }
+    ensures reads { slack S.Source input.old ≤ slack S.Source input.new + 1 }
+    ensures same_inlet { SameInlet input.old input.new }
+    ensures same_outlet { SameOutlet out.old out.new }
 {
-    let mut message = Bits::new();
     let mut number = 1u32;
     let mut clean = true;
-    while let Some(one) = audit_on(
-        window,
-        source,
-        &mut message,
-        page,
-        sink,
-        auditor,
-        standard,
-        number,
-    )? {
+    while let Some(one) = audit_on(input, out, auditor, standard, number)? {
         number = number.saturating_add(1);
         clean = both(clean, one);
     }
@@ -175,29 +167,30 @@ fn audit_records<S: Source, W: Sink>(
 
 // Says the findings of a file, but for what stays on the page, and answers whether none is told.
 fn audit_file<S: Source, W: Sink>(
-    source: &mut S,
-    page: &mut Page,
-    sink: &mut W,
+    input: &mut Inlet<'_, S>,
+    out: &mut Outlet<'_, W>,
     auditor: &mut Auditor,
     standard: bool,
 ) -> Result<bool, FileFault>
-    requires { page.old ≡ [] }
+    requires window { input.old.window.now ≡ [] }
+    requires page { out.old.page.now ≡ [] }
     ensures told { (bytes : List ℕ) (was : List ℕ)
-        → S.left source.old ≡ Some bytes → W.written sink.old ≡ Some was
-        → Says (AuditedAs standard auditor.old.umpire) (AuditedCut standard auditor.old.umpire) bytes was (done_of result) (S.left source.new) page.new (W.written sink.new) }
+        → left_in S.Source input.old ≡ Some bytes → written_by W.Sink out.old ≡ Some was
+        → Says (AuditedAs standard auditor.old.umpire) (AuditedCut standard auditor.old.umpire) bytes was (done_of result) (left_in S.Source input.new) out.new.page.now (written_by W.Sink out.new) }
     ensures verdict { (bytes : List ℕ) (was : List ℕ)
-        → S.left source.old ≡ Some bytes → W.written sink.old ≡ Some was
+        → left_in S.Source input.old ≡ Some bytes → written_by W.Sink out.old ≡ Some was
         → IfOk result (λ good. HasVerdict standard auditor.old.umpire bytes good) }
-    ensures source_mark { S.has_failed source.new ≡ (S.has_failed source.old || is_read_failed result) }
-    ensures writes { Paid W.takes_all (W.writes sink.old) (W.written sink.old) (S.reads source.old) (W.writes sink.new) (W.written sink.new) (S.reads source.new) (unpaid (is_write_failed result) page.new) }
-    ensures sink_mark { W.has_failed sink.new ≡ (W.has_failed sink.old || is_write_failed result) }
-    ensures reads { reads_beyond S.gives_all (S.reads source.old) (S.left source.old) ≤ reads_beyond S.gives_all (S.reads source.new) (S.left source.new) + 1 }
+    ensures source_mark { read_failed S.Source input.new ≡ (read_failed S.Source input.old || is_read_failed result) }
+    ensures writes { PaidBy S.Source W.Sink out.old input.old out.new input.new (unpaid (is_write_failed result)) }
+    ensures sink_mark { write_failed W.Sink out.new ≡ (write_failed W.Sink out.old || is_write_failed result) }
+    ensures reads { slack S.Source input.old ≤ slack S.Source input.new + 1 }
+    ensures same_inlet { SameInlet input.old input.new }
+    ensures same_outlet { SameOutlet out.old out.new }
 {
-    let mut window = Window::new();
-    let version = read_version(&mut window, source)?;
+    let version = read_version(input)?;
     match version {
         Version::One(_) => Err(FileFault::BadHeader),
-        Version::Two => audit_records(&mut window, source, page, sink, auditor, standard),
+        Version::Two => audit_records(input, out, auditor, standard),
     }
 }
 
@@ -245,12 +238,21 @@ pub fn audit<S: Source, W: Sink>(
         → W.written sink.old ≡ Some was → W.written sink.new ≡ Some now
         → W.writes sink.old ≤ W.writes sink.new + (length now - length was) / LEAST_PIECE + (S.reads source.old - S.reads source.new) + 2 }
 {
+    let mut window = Window::new();
     let mut page = Page::new();
-    let audited = audit_file(source, &mut page, sink, auditor, standard);
-    if sink.failed() {
+    let mut input = Inlet {
+        window: &mut window,
+        source,
+    };
+    let mut out = Outlet {
+        page: &mut page,
+        sink,
+    };
+    let audited = audit_file(&mut input, &mut out, auditor, standard);
+    if out.sink.failed() {
         return audited;
     }
-    match page.flush(sink) {
+    match out.flush() {
         Ok(()) => audited,
         Err(_) => Err(FileFault::WriteFailed),
     }

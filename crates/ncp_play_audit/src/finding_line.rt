@@ -2,11 +2,11 @@
 ghost use Rattle.std.specs.Prelude.{◌≡◌, ◌+◌, ◌≤◌, ◌||◌, ◌++◌, not, length, is_err};
 ghost use Rattle.std.specs.List.{flat_map, list_any};
 ghost use Rattle.ncp_play_audit.specs.FindingLines.{who_words, finding_line, is_told, told_line};
-ghost use Rattle.ncp_play_stream.specs.Pieces.{bytes_and_writes, lost_pieces};
-ghost use Rattle.ncp_play_stream.specs.Streams.{SaysTextOrBeginning};
+ghost use Rattle.ncp_play_stream.specs.Pieces.{lost_pieces};
+ghost use Rattle.ncp_play_page.specs.Outlets.{SameOutlet, write_failed, credit, SaysOrBreaks};
 
 use crate::rule_words::{is_standard, push_rule};
-use ncp_play_page::{PAGE_SIZE, Page, push_field};
+use ncp_play_page::{Outlet, PAGE_SIZE, Page, push_field};
 use ncp_play_stream::{Failed, Sink};
 use ncp_umpire::{Finding, Who};
 
@@ -62,20 +62,20 @@ fn push_told(page: &mut Page, standard: bool, number: u32, at: u8, finding: &Fin
 
 /// Says the lines of the findings of a record that are told.
 pub(crate) fn say_findings<W: Sink>(
-    page: &mut Page,
-    sink: &mut W,
+    out: &mut Outlet<'_, W>,
     standard: bool,
     number: u32,
     at: u8,
     found: &[Finding],
 ) -> Result<(), Failed>
-    ensures told { SaysTextOrBeginning page.old (W.written sink.old) (flat_map (told_line standard number at) found.now) result page.new (W.written sink.new) }
-    ensures writes { bytes_and_writes W.takes_all (W.writes sink.old) (W.written sink.old) ≤ bytes_and_writes W.takes_all (W.writes sink.new) (W.written sink.new) + lost_pieces (is_err result) }
-    ensures mark { W.has_failed sink.new ≡ (W.has_failed sink.old || is_err result) }
+    ensures told { SaysOrBreaks W.Sink out.old (flat_map (told_line standard number at) found.now) result out.new }
+    ensures writes { credit W.Sink out.old ≤ credit W.Sink out.new + lost_pieces (is_err result) }
+    ensures mark { write_failed W.Sink out.new ≡ (write_failed W.Sink out.old || is_err result) }
+    ensures same_outlet { SameOutlet out.old out.new }
 {
     for finding in found {
-        page.make_room(sink, LONGEST_FINDING)?;
-        push_told(page, standard, number, at, finding);
+        out.make_room(LONGEST_FINDING)?;
+        push_told(out.page, standard, number, at, finding);
     }
     Ok(())
 }

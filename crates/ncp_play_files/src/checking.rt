@@ -1,9 +1,9 @@
 //! `check`: whether a message file is sound.
-ghost use Rattle.std.specs.Prelude.{◌≡◌, ℕ, ◌+◌, ◌<◌, ◌≤◌, ◌||◌, List, Option, Some, true, false, length, is_some, IfOk, OnOk};
-ghost use Rattle.ncp_play_stream.specs.Pieces.{reads_for, reads_beyond};
+ghost use Rattle.std.specs.Prelude.{◌≡◌, ℕ, ◌+◌, ◌<◌, ◌≤◌, ◌||◌, List, [], Option, Some, true, false, length, is_some, IfOk, OnOk};
+ghost use Rattle.ncp_play_page.specs.Inlets.{SameInlet, left_in, read_failed, slack, work, Brings};
+ghost use Rattle.ncp_play_stream.specs.Pieces.{reads_for};
 ghost use Rattle.ncp_play_files.specs.Results.{is_read_failed, is_write_failed};
 ghost use Rattle.ncp_play_stream.specs.Streams.{Ahead};
-ghost use Rattle.ncp_play_page.specs.Windows.{effort};
 ghost use Rattle.ncp_play_files.specs.Steps.{StandsWhole};
 ghost use Rattle.ncp_play_files.specs.Tallies.{no_messages, JudgesRecord, JudgesNext, TalliesFrom, TalliesFile};
 ghost use Rattle.ncp_play_files.specs.Checked.{Checked};
@@ -11,7 +11,7 @@ ghost use Rattle.ncp_play_files.specs.Checked.{Checked};
 use crate::file::{FileFault, message_of, skip_record};
 use crate::tally::{Counts, Tally, Verdict, judge, push_tally};
 use crate::version::{PlacedRecords, PlainRecords, Records, Version, read_version};
-use ncp_play_page::{Page, Window};
+use ncp_play_page::{Inlet, Page, Window};
 use ncp_play_stream::{Sink, Source, stop_at_fault};
 
 // Judges the message of a record that stands in the window, where it stands, and uses up the record.
@@ -34,78 +34,83 @@ fn judge_record(window: &mut Window, len: usize) -> Result<Verdict, FileFault>
 // Judges the message of the next of these records, if there is one.
 #[inline(always)]
 fn judge_next<S: Source, R: Records>(
-    window: &mut Window,
-    source: &mut S,
+    input: &mut Inlet<'_, S>,
     records: R,
 ) -> Result<Option<Verdict>, FileFault>
-    ensures told { (bytes : List ℕ) → Ahead window.old (S.left source.old) bytes → JudgesNext (R.version records) bytes result window.new (S.left source.new) }
-    ensures mark { S.has_failed source.new ≡ (S.has_failed source.old || is_read_failed result) }
+    ensures told { (bytes : List ℕ) → Brings S.Source input.old bytes
+        → JudgesNext (R.version records) bytes result input.new.window.now (left_in S.Source input.new) }
+    ensures mark { read_failed S.Source input.new ≡ (read_failed S.Source input.old || is_read_failed result) }
     ensures other { is_write_failed result ≡ false }
-    ensures reads { reads_beyond S.gives_all (S.reads source.old) (S.left source.old) ≤ reads_beyond S.gives_all (S.reads source.new) (S.left source.new) + 1 }
-    ensures taken { IfOk result (λ found. is_some found ≡ true → reads_beyond S.gives_all (S.reads source.old) (S.left source.old) ≤ reads_beyond S.gives_all (S.reads source.new) (S.left source.new)) }
-    ensures effort { IfOk result (λ found. is_some found ≡ true → effort (S.reads source.new) window.new < effort (S.reads source.old) window.old) }
+    ensures reads { slack S.Source input.old ≤ slack S.Source input.new + 1 }
+    ensures taken { IfOk result (λ found. is_some found ≡ true → slack S.Source input.old ≤ slack S.Source input.new) }
+    ensures effort { IfOk result (λ found. is_some found ≡ true → work S.Source input.new < work S.Source input.old) }
+    ensures same_inlet { SameInlet input.old input.new }
 {
-    let Some(found) = records.find_next(window, source)? else {
+    let Some(found) = records.find_next(input)? else {
         return Ok(None);
     };
-    let verdict = judge_record(window, found.len)?;
+    let verdict = judge_record(input.window, found.len)?;
     Ok(Some(verdict))
 }
 
 // Judges the next message as `judge_next` does, behind those that were counted.
 #[inline(always)]
 fn judge_on<S: Source, R: Records>(
-    window: &mut Window,
-    source: &mut S,
+    input: &mut Inlet<'_, S>,
     records: R,
     counts: &Counts,
 ) -> Result<Option<Verdict>, FileFault>
-    ensures told { (bytes : List ℕ) → Ahead window.old (S.left source.old) bytes → JudgesNext (R.version records) bytes result window.new (S.left source.new) }
-    ensures mark { S.has_failed source.new ≡ (S.has_failed source.old || is_read_failed result) }
+    ensures told { (bytes : List ℕ) → Brings S.Source input.old bytes
+        → JudgesNext (R.version records) bytes result input.new.window.now (left_in S.Source input.new) }
+    ensures mark { read_failed S.Source input.new ≡ (read_failed S.Source input.old || is_read_failed result) }
     ensures other { is_write_failed result ≡ false }
-    ensures reads { reads_beyond S.gives_all (S.reads source.old) (S.left source.old) ≤ reads_beyond S.gives_all (S.reads source.new) (S.left source.new) + 1 }
-    ensures taken { IfOk result (λ found. is_some found ≡ true → reads_beyond S.gives_all (S.reads source.old) (S.left source.old) ≤ reads_beyond S.gives_all (S.reads source.new) (S.left source.new)) }
-    ensures effort { IfOk result (λ found. is_some found ≡ true → effort (S.reads source.new) window.new < effort (S.reads source.old) window.old) }
+    ensures reads { slack S.Source input.old ≤ slack S.Source input.new + 1 }
+    ensures taken { IfOk result (λ found. is_some found ≡ true → slack S.Source input.old ≤ slack S.Source input.new) }
+    ensures effort { IfOk result (λ found. is_some found ≡ true → work S.Source input.new < work S.Source input.old) }
+    ensures same_inlet { SameInlet input.old input.new }
 {
-    let judged = judge_next(window, source, records);
+    let judged = judge_next(input, records);
     stop_at_fault(
-        source,
+        input.source,
         &judged,
         counts.tally().messages,
-        window.unread().len(),
+        input.window.unread().len(),
     );
     judged
 }
 
 // Counts the messages behind the header.
 fn tally_records<S: Source, R: Records>(
-    window: &mut Window,
-    source: &mut S,
+    input: &mut Inlet<'_, S>,
     records: R,
 ) -> Result<Tally, FileFault>
-    ensures told { (bytes : List ℕ) → Ahead window.old (S.left source.old) bytes → TalliesFrom (R.version records) bytes no_messages result (S.left source.new) }
-    ensures mark { S.has_failed source.new ≡ (S.has_failed source.old || is_read_failed result) }
+    ensures told { (bytes : List ℕ) → Brings S.Source input.old bytes
+        → TalliesFrom (R.version records) bytes no_messages result (left_in S.Source input.new) }
+    ensures mark { read_failed S.Source input.new ≡ (read_failed S.Source input.old || is_read_failed result) }
     ensures other { is_write_failed result ≡ false }
-    ensures reads { reads_beyond S.gives_all (S.reads source.old) (S.left source.old) ≤ reads_beyond S.gives_all (S.reads source.new) (S.left source.new) + 1 }
+    ensures reads { slack S.Source input.old ≤ slack S.Source input.new + 1 }
+    ensures same_inlet { SameInlet input.old input.new }
 {
     let mut counts = Counts::new();
-    while let Some(verdict) = judge_on(window, source, records, &counts)? {
+    while let Some(verdict) = judge_on(input, records, &counts)? {
         counts.count(verdict);
     }
     Ok(counts.tally())
 }
 
 // Counts the messages of a file.
-fn tally_file<S: Source>(source: &mut S) -> Result<Tally, FileFault>
-    ensures told { (bytes : List ℕ) → S.left source.old ≡ Some bytes → TalliesFile bytes result (S.left source.new) }
-    ensures mark { S.has_failed source.new ≡ (S.has_failed source.old || is_read_failed result) }
+fn tally_file<S: Source>(input: &mut Inlet<'_, S>) -> Result<Tally, FileFault>
+    requires { input.old.window.now ≡ [] }
+    ensures told { (bytes : List ℕ) → left_in S.Source input.old ≡ Some bytes
+        → TalliesFile bytes result (left_in S.Source input.new) }
+    ensures mark { read_failed S.Source input.new ≡ (read_failed S.Source input.old || is_read_failed result) }
     ensures other { is_write_failed result ≡ false }
-    ensures reads { reads_beyond S.gives_all (S.reads source.old) (S.left source.old) ≤ reads_beyond S.gives_all (S.reads source.new) (S.left source.new) + 1 }
+    ensures reads { slack S.Source input.old ≤ slack S.Source input.new + 1 }
+    ensures same_inlet { SameInlet input.old input.new }
 {
-    let mut window = Window::new();
-    match read_version(&mut window, source)? {
-        Version::One(direction) => tally_records(&mut window, source, PlainRecords { direction }),
-        Version::Two => tally_records(&mut window, source, PlacedRecords),
+    match read_version(input)? {
+        Version::One(direction) => tally_records(input, PlainRecords { direction }),
+        Version::Two => tally_records(input, PlacedRecords),
     }
 }
 
@@ -134,7 +139,12 @@ pub fn check<S: Source, W: Sink>(source: &mut S, sink: &mut W) -> Result<bool, F
     // A sink that takes all that it can is written to once, and where it was full once more.
     ensures writes { W.takes_all ≡ true → W.writes sink.old ≤ W.writes sink.new + 2 }
 {
-    let tally = tally_file(source)?;
+    let mut window = Window::new();
+    let mut input = Inlet {
+        window: &mut window,
+        source,
+    };
+    let tally = tally_file(&mut input)?;
     let mut page = Page::new();
     push_tally(&mut page, &tally);
     match page.flush(sink) {

@@ -1,9 +1,9 @@
 //! `convert`: a message file of one version as one of the other.
-ghost use Rattle.std.specs.Prelude.{◌≡◌, ℕ, ◌+◌, ◌-◌, ◌/◌, ◌<◌, ◌≤◌, ◌||◌, [], List, Bool, Some, true, false, length, IfOk, OnOk};
-ghost use Rattle.ncp_play_stream.specs.Pieces.{reads_for, reads_beyond, bytes_and_writes, lost_pieces, unpaid, Paid};
-ghost use Rattle.ncp_play_stream.specs.Streams.{Ahead, SaidSoFar};
+ghost use Rattle.std.specs.Prelude.{◌≡◌, ℕ, ◌+◌, ◌-◌, ◌/◌, ◌<◌, ◌≤◌, ◌||◌, [], List, Some, true, false, length, IfOk};
+ghost use Rattle.ncp_play_page.specs.Inlets.{SameInlet, left_in, reads_left, read_failed, slack, work, Brings, PaidBy};
+ghost use Rattle.ncp_play_page.specs.Outlets.{SameOutlet, written_by, write_failed, credit, HasSaid};
+ghost use Rattle.ncp_play_stream.specs.Pieces.{reads_for, lost_pieces, unpaid};
 ghost use Rattle.ncp_play_files.specs.Results.{is_read_failed, is_write_failed};
-ghost use Rattle.ncp_play_page.specs.Windows.{effort};
 ghost use Rattle.ncp_play_files.specs.Waiting.{is_waiting};
 ghost use Rattle.ncp_play_files.specs.Steps.{SaysNext, SaysOn, SaysFrom, Says, says_nothing, unpaid_after};
 ghost use Rattle.ncp_play_files.specs.Converted.{other_version, passage_in, next_at, ConvertedAs, ConvertedCut, Converted};
@@ -14,7 +14,7 @@ use crate::letting_out::let_out;
 use crate::version::{PASSAGE, Passage, Version, direction_by, read_next, read_version};
 use crate::writing::{push_header, say_message};
 use ncp_bits::{Bits, MAX_BITS};
-use ncp_play_page::{Page, Window};
+use ncp_play_page::{Inlet, Outlet, Page, Window};
 use ncp_play_stream::{LEAST_PIECE, Sink, Source, stop_at_fault};
 
 // The other version, for a file of this direction.
@@ -71,17 +71,19 @@ fn turn_of(version: Version, direction: Direction, host: u8) -> Turn
 }
 
 // The direction that the first byte ahead names, if there is one; else toward the IMP.
-fn peek_direction<S: Source>(window: &mut Window, source: &mut S) -> Result<Direction, FileFault>
-    ensures told { (bytes : List ℕ) → Ahead window.old (S.left source.old) bytes → FindsDirection Version.Two bytes result window.new (S.left source.new) }
-    ensures mark { S.has_failed source.new ≡ (S.has_failed source.old || is_read_failed result) }
+fn peek_direction<S: Source>(input: &mut Inlet<'_, S>) -> Result<Direction, FileFault>
+    ensures told { (bytes : List ℕ) → Brings S.Source input.old bytes
+        → FindsDirection Version.Two bytes result input.new.window.now (left_in S.Source input.new) }
+    ensures mark { read_failed S.Source input.new ≡ (read_failed S.Source input.old || is_read_failed result) }
     ensures other { is_write_failed result ≡ false }
-    ensures reads { reads_beyond S.gives_all (S.reads source.old) (S.left source.old) ≤ reads_beyond S.gives_all (S.reads source.new) (S.left source.new) + 1 }
-    ensures lowers { S.reads source.new ≤ S.reads source.old }
+    ensures reads { slack S.Source input.old ≤ slack S.Source input.new + 1 }
+    ensures lowers { reads_left S.Source input.new ≤ reads_left S.Source input.old }
+    ensures same_inlet { SameInlet input.old input.new }
 {
-    if !window.need(source, 1)? {
+    if !input.window.need(input.source, 1)? {
         return Ok(Direction::ToImp);
     }
-    match direction_by(window.unread()[0]) {
+    match direction_by(input.window.unread()[0]) {
         Some(direction) => Ok(direction),
         None => Ok(Direction::ToImp),
     }
@@ -89,40 +91,43 @@ fn peek_direction<S: Source>(window: &mut Window, source: &mut S) -> Result<Dire
 
 // The direction of the messages ahead: in a file of version 2 that of the first record.
 fn find_direction<S: Source>(
-    window: &mut Window,
-    source: &mut S,
+    input: &mut Inlet<'_, S>,
     version: Version,
 ) -> Result<Direction, FileFault>
-    ensures told { (bytes : List ℕ) → Ahead window.old (S.left source.old) bytes → FindsDirection version bytes result window.new (S.left source.new) }
-    ensures mark { S.has_failed source.new ≡ (S.has_failed source.old || is_read_failed result) }
+    ensures told { (bytes : List ℕ) → Brings S.Source input.old bytes
+        → FindsDirection version bytes result input.new.window.now (left_in S.Source input.new) }
+    ensures mark { read_failed S.Source input.new ≡ (read_failed S.Source input.old || is_read_failed result) }
     ensures other { is_write_failed result ≡ false }
-    ensures reads { reads_beyond S.gives_all (S.reads source.old) (S.left source.old) ≤ reads_beyond S.gives_all (S.reads source.new) (S.left source.new) + 1 }
-    ensures lowers { S.reads source.new ≤ S.reads source.old }
+    ensures reads { slack S.Source input.old ≤ slack S.Source input.new + 1 }
+    ensures lowers { reads_left S.Source input.new ≤ reads_left S.Source input.old }
+    ensures same_inlet { SameInlet input.old input.new }
 {
     match version {
         Version::One(direction) => Ok(direction),
-        Version::Two => peek_direction(window, source),
+        Version::Two => peek_direction(input),
     }
 }
 
 // Reads the next message into `message`, and answers whether there was one. A record with another
 // passage is one too many.
 fn take_next<S: Source>(
-    window: &mut Window,
-    source: &mut S,
+    input: &mut Inlet<'_, S>,
     turn: Turn,
     message: &mut Bits,
 ) -> Result<bool, FileFault>
-    ensures told { (bytes : List ℕ) → Ahead window.old (S.left source.old) bytes → ReadsMessage (next_at turn.from turn.wanted) bytes result message.new window.new (S.left source.new) }
-    ensures mark { S.has_failed source.new ≡ (S.has_failed source.old || is_read_failed result) }
+    ensures told { (bytes : List ℕ) → Brings S.Source input.old bytes
+        → ReadsMessage (next_at turn.from turn.wanted) bytes result message.new input.new.window.now (left_in S.Source input.new) }
+    ensures mark { read_failed S.Source input.new ≡ (read_failed S.Source input.old || is_read_failed result) }
     ensures other { is_write_failed result ≡ false }
-    ensures reads { reads_beyond S.gives_all (S.reads source.old) (S.left source.old) ≤ reads_beyond S.gives_all (S.reads source.new) (S.left source.new) + 1 }
-    ensures taken { IfOk result (λ more. more ≡ true → reads_beyond S.gives_all (S.reads source.old) (S.left source.old) ≤ reads_beyond S.gives_all (S.reads source.new) (S.left source.new)) }
-    ensures effort { IfOk result (λ more. more ≡ true → effort (S.reads source.new) window.new < effort (S.reads source.old) window.old) }
-    ensures lowers { S.reads source.new ≤ S.reads source.old }
-    ensures waited { IfOk result (λ more. more ≡ true → is_waiting turn.from window.old ≡ true → S.reads source.new < S.reads source.old) }
+    ensures reads { slack S.Source input.old ≤ slack S.Source input.new + 1 }
+    ensures taken { IfOk result (λ more. more ≡ true → slack S.Source input.old ≤ slack S.Source input.new) }
+    ensures effort { IfOk result (λ more. more ≡ true → work S.Source input.new < work S.Source input.old) }
+    ensures lowers { reads_left S.Source input.new ≤ reads_left S.Source input.old }
+    ensures waited { IfOk result (λ more. more ≡ true
+        → is_waiting turn.from input.old.window.now ≡ true → reads_left S.Source input.new < reads_left S.Source input.old) }
+    ensures same_inlet { SameInlet input.old input.new }
 {
-    let Some(passage) = read_next(window, source, turn.from, message)? else {
+    let Some(passage) = read_next(input, turn.from, message)? else {
         return Ok(false);
     };
     if passage != turn.wanted {
@@ -143,54 +148,57 @@ fn used_of(found: &Result<bool, FileFault>, message: &Bits) -> usize
 
 // Takes the next message as `take_next` does, behind so many.
 fn take_on<S: Source>(
-    window: &mut Window,
-    source: &mut S,
+    input: &mut Inlet<'_, S>,
     turn: Turn,
     message: &mut Bits,
     records: u32,
 ) -> Result<bool, FileFault>
-    ensures told { (bytes : List ℕ) → Ahead window.old (S.left source.old) bytes → ReadsMessage (next_at turn.from turn.wanted) bytes result message.new window.new (S.left source.new) }
-    ensures mark { S.has_failed source.new ≡ (S.has_failed source.old || is_read_failed result) }
+    ensures told { (bytes : List ℕ) → Brings S.Source input.old bytes
+        → ReadsMessage (next_at turn.from turn.wanted) bytes result message.new input.new.window.now (left_in S.Source input.new) }
+    ensures mark { read_failed S.Source input.new ≡ (read_failed S.Source input.old || is_read_failed result) }
     ensures other { is_write_failed result ≡ false }
-    ensures reads { reads_beyond S.gives_all (S.reads source.old) (S.left source.old) ≤ reads_beyond S.gives_all (S.reads source.new) (S.left source.new) + 1 }
-    ensures taken { IfOk result (λ more. more ≡ true → reads_beyond S.gives_all (S.reads source.old) (S.left source.old) ≤ reads_beyond S.gives_all (S.reads source.new) (S.left source.new)) }
-    ensures effort { IfOk result (λ more. more ≡ true → effort (S.reads source.new) window.new < effort (S.reads source.old) window.old) }
-    ensures lowers { S.reads source.new ≤ S.reads source.old }
-    ensures waited { IfOk result (λ more. more ≡ true → is_waiting turn.from window.old ≡ true → S.reads source.new < S.reads source.old) }
+    ensures reads { slack S.Source input.old ≤ slack S.Source input.new + 1 }
+    ensures taken { IfOk result (λ more. more ≡ true → slack S.Source input.old ≤ slack S.Source input.new) }
+    ensures effort { IfOk result (λ more. more ≡ true → work S.Source input.new < work S.Source input.old) }
+    ensures lowers { reads_left S.Source input.new ≤ reads_left S.Source input.old }
+    ensures waited { IfOk result (λ more. more ≡ true
+        → is_waiting turn.from input.old.window.now ≡ true → reads_left S.Source input.new < reads_left S.Source input.old) }
+    ensures same_inlet { SameInlet input.old input.new }
 {
-    let found = take_next(window, source, turn, message);
-    let ahead = window.unread().len() + used_of(&found, message);
-    stop_at_fault(source, &found, records, ahead);
+    let found = take_next(input, turn, message);
+    let ahead = input.window.unread().len() + used_of(&found, message);
+    stop_at_fault(input.source, &found, records, ahead);
     found
 }
 
 // Converts the next message, and answers whether there was one.
 fn convert_next<S: Source, W: Sink>(
-    window: &mut Window,
-    source: &mut S,
+    input: &mut Inlet<'_, S>,
     message: &mut Bits,
-    page: &mut Page,
-    sink: &mut W,
+    out: &mut Outlet<'_, W>,
     turn: Turn,
     records: u32,
 ) -> Result<bool, FileFault>
     ensures told { (number : ℕ) (bytes : List ℕ) (was : List ℕ) (said : List ℕ)
-        → Ahead window.old (S.left source.old) bytes → SaidSoFar was page.old (W.written sink.old) said
-        → SaysNext (next_at turn.from turn.wanted) (message_told turn.given) number bytes was said result window.new (S.left source.new) page.new (W.written sink.new) }
-    ensures source_mark { S.has_failed source.new ≡ (S.has_failed source.old || is_read_failed result) }
-    ensures writes { bytes_and_writes W.takes_all (W.writes sink.old) (W.written sink.old) ≤ bytes_and_writes W.takes_all (W.writes sink.new) (W.written sink.new) + lost_pieces (is_write_failed result) }
-    ensures sink_mark { W.has_failed sink.new ≡ (W.has_failed sink.old || is_write_failed result) }
-    ensures reads { reads_beyond S.gives_all (S.reads source.old) (S.left source.old) ≤ reads_beyond S.gives_all (S.reads source.new) (S.left source.new) + 1 }
-    ensures taken { IfOk result (λ more. more ≡ true → reads_beyond S.gives_all (S.reads source.old) (S.left source.old) ≤ reads_beyond S.gives_all (S.reads source.new) (S.left source.new)) }
-    ensures effort { IfOk result (λ more. more ≡ true → effort (S.reads source.new) window.new < effort (S.reads source.old) window.old) }
-    ensures lowers { S.reads source.new ≤ S.reads source.old }
-    ensures waited { says_nothing result ≡ false → is_waiting turn.from window.old ≡ true → S.reads source.new < S.reads source.old }
-    ensures kept { says_nothing result ≡ true → page.new ≡ page.old }
+        → Brings S.Source input.old bytes → HasSaid W.Sink was out.old said
+        → SaysNext (next_at turn.from turn.wanted) (message_told turn.given) number bytes was said result input.new.window.now (left_in S.Source input.new) out.new.page.now (written_by W.Sink out.new) }
+    ensures source_mark { read_failed S.Source input.new ≡ (read_failed S.Source input.old || is_read_failed result) }
+    ensures writes { credit W.Sink out.old ≤ credit W.Sink out.new + lost_pieces (is_write_failed result) }
+    ensures sink_mark { write_failed W.Sink out.new ≡ (write_failed W.Sink out.old || is_write_failed result) }
+    ensures reads { slack S.Source input.old ≤ slack S.Source input.new + 1 }
+    ensures taken { IfOk result (λ more. more ≡ true → slack S.Source input.old ≤ slack S.Source input.new) }
+    ensures effort { IfOk result (λ more. more ≡ true → work S.Source input.new < work S.Source input.old) }
+    ensures lowers { reads_left S.Source input.new ≤ reads_left S.Source input.old }
+    ensures waited { says_nothing result ≡ false
+        → is_waiting turn.from input.old.window.now ≡ true → reads_left S.Source input.new < reads_left S.Source input.old }
+    ensures kept { says_nothing result ≡ true → out.new.page.now ≡ out.old.page.now }
+    ensures same_inlet { SameInlet input.old input.new }
+    ensures same_outlet { SameOutlet out.old out.new }
 {
-    if !take_on(window, source, turn, message, records)? {
+    if !take_on(input, turn, message, records)? {
         return Ok(false);
     }
-    match say_message(page, sink, turn.given, message) {
+    match say_message(out.page, out.sink, turn.given, message) {
         Ok(()) => Ok(true),
         Err(_) => Err(FileFault::WriteFailed),
     }
@@ -198,47 +206,47 @@ fn convert_next<S: Source, W: Sink>(
 
 // Converts the next message as `convert_next` does. Before more is waited for, all that was said is written.
 fn convert_on<S: Source, W: Sink>(
-    window: &mut Window,
-    source: &mut S,
+    input: &mut Inlet<'_, S>,
     message: &mut Bits,
-    page: &mut Page,
-    sink: &mut W,
+    out: &mut Outlet<'_, W>,
     turn: Turn,
     records: u32,
 ) -> Result<bool, FileFault>
     ensures told { (number : ℕ) (bytes : List ℕ) (was : List ℕ) (said : List ℕ)
-        → Ahead window.old (S.left source.old) bytes → SaidSoFar was page.old (W.written sink.old) said
-        → SaysOn (next_at turn.from turn.wanted) (message_told turn.given) number bytes was said result window.new (S.left source.new) page.new (W.written sink.new) }
-    ensures source_mark { S.has_failed source.new ≡ (S.has_failed source.old || is_read_failed result) }
-    ensures writes { Paid W.takes_all (W.writes sink.old) (W.written sink.old) (S.reads source.old) (W.writes sink.new) (W.written sink.new) (S.reads source.new) (unpaid_after result page.new) }
-    ensures sink_mark { W.has_failed sink.new ≡ (W.has_failed sink.old || is_write_failed result) }
-    ensures reads { reads_beyond S.gives_all (S.reads source.old) (S.left source.old) ≤ reads_beyond S.gives_all (S.reads source.new) (S.left source.new) + 1 }
-    ensures taken { IfOk result (λ more. more ≡ true → reads_beyond S.gives_all (S.reads source.old) (S.left source.old) ≤ reads_beyond S.gives_all (S.reads source.new) (S.left source.new)) }
-    ensures effort { IfOk result (λ more. more ≡ true → effort (S.reads source.new) window.new < effort (S.reads source.old) window.old) }
+        → Brings S.Source input.old bytes → HasSaid W.Sink was out.old said
+        → SaysOn (next_at turn.from turn.wanted) (message_told turn.given) number bytes was said result input.new.window.now (left_in S.Source input.new) out.new.page.now (written_by W.Sink out.new) }
+    ensures source_mark { read_failed S.Source input.new ≡ (read_failed S.Source input.old || is_read_failed result) }
+    ensures writes { PaidBy S.Source W.Sink out.old input.old out.new input.new (unpaid_after result) }
+    ensures sink_mark { write_failed W.Sink out.new ≡ (write_failed W.Sink out.old || is_write_failed result) }
+    ensures reads { slack S.Source input.old ≤ slack S.Source input.new + 1 }
+    ensures taken { IfOk result (λ more. more ≡ true → slack S.Source input.old ≤ slack S.Source input.new) }
+    ensures effort { IfOk result (λ more. more ≡ true → work S.Source input.new < work S.Source input.old) }
+    ensures same_inlet { SameInlet input.old input.new }
+    ensures same_outlet { SameOutlet out.old out.new }
 {
-    let_out(window, turn.from, page, sink)?;
-    convert_next(window, source, message, page, sink, turn, records)
+    let_out(input.window, turn.from, out.page, out.sink)?;
+    convert_next(input, message, out, turn, records)
 }
 
 // Converts all messages that are left behind the first.
 fn convert_rest<S: Source, W: Sink>(
-    window: &mut Window,
-    source: &mut S,
+    input: &mut Inlet<'_, S>,
     message: &mut Bits,
-    page: &mut Page,
-    sink: &mut W,
+    out: &mut Outlet<'_, W>,
     turn: Turn,
 ) -> Result<(), FileFault>
     ensures told { (number : ℕ) (bytes : List ℕ) (was : List ℕ) (said : List ℕ)
-        → Ahead window.old (S.left source.old) bytes → SaidSoFar was page.old (W.written sink.old) said
-        → SaysFrom (next_at turn.from turn.wanted) (message_told turn.given) number bytes was said result (S.left source.new) page.new (W.written sink.new) }
-    ensures source_mark { S.has_failed source.new ≡ (S.has_failed source.old || is_read_failed result) }
-    ensures writes { Paid W.takes_all (W.writes sink.old) (W.written sink.old) (S.reads source.old) (W.writes sink.new) (W.written sink.new) (S.reads source.new) (unpaid (is_write_failed result) page.new) }
-    ensures sink_mark { W.has_failed sink.new ≡ (W.has_failed sink.old || is_write_failed result) }
-    ensures reads { reads_beyond S.gives_all (S.reads source.old) (S.left source.old) ≤ reads_beyond S.gives_all (S.reads source.new) (S.left source.new) + 1 }
+        → Brings S.Source input.old bytes → HasSaid W.Sink was out.old said
+        → SaysFrom (next_at turn.from turn.wanted) (message_told turn.given) number bytes was said result (left_in S.Source input.new) out.new.page.now (written_by W.Sink out.new) }
+    ensures source_mark { read_failed S.Source input.new ≡ (read_failed S.Source input.old || is_read_failed result) }
+    ensures writes { PaidBy S.Source W.Sink out.old input.old out.new input.new (unpaid (is_write_failed result)) }
+    ensures sink_mark { write_failed W.Sink out.new ≡ (write_failed W.Sink out.old || is_write_failed result) }
+    ensures reads { slack S.Source input.old ≤ slack S.Source input.new + 1 }
+    ensures same_inlet { SameInlet input.old input.new }
+    ensures same_outlet { SameOutlet out.old out.new }
 {
     let mut records = 1u32;
-    while convert_on(window, source, message, page, sink, turn, records)? {
+    while convert_on(input, message, out, turn, records)? {
         records = records.saturating_add(1);
     }
     Ok(())
@@ -247,59 +255,54 @@ fn convert_rest<S: Source, W: Sink>(
 // Converts the messages behind the header. The header that is written waits for the first of them, or
 // for the end.
 fn convert_messages<S: Source, W: Sink>(
-    window: &mut Window,
-    source: &mut S,
-    page: &mut Page,
-    sink: &mut W,
+    input: &mut Inlet<'_, S>,
+    out: &mut Outlet<'_, W>,
     turn: Turn,
 ) -> Result<(), FileFault>
-    requires { page.old ≡ [] }
+    requires { out.old.page.now ≡ [] }
     ensures told { (bytes : List ℕ) (was : List ℕ)
-        → Ahead window.old (S.left source.old) bytes → W.written sink.old ≡ Some was
-        → SaysTurned turn.to turn.given (next_at turn.from turn.wanted) bytes was result (S.left source.new) page.new (W.written sink.new) }
-    ensures source_mark { S.has_failed source.new ≡ (S.has_failed source.old || is_read_failed result) }
-    ensures writes { Paid W.takes_all (W.writes sink.old) (W.written sink.old) (S.reads source.old) (W.writes sink.new) (W.written sink.new) (S.reads source.new) (unpaid (is_write_failed result) page.new) }
-    ensures sink_mark { W.has_failed sink.new ≡ (W.has_failed sink.old || is_write_failed result) }
-    ensures reads { reads_beyond S.gives_all (S.reads source.old) (S.left source.old) ≤ reads_beyond S.gives_all (S.reads source.new) (S.left source.new) + 1 }
+        → Brings S.Source input.old bytes → written_by W.Sink out.old ≡ Some was
+        → SaysTurned turn.to turn.given (next_at turn.from turn.wanted) bytes was result (left_in S.Source input.new) out.new.page.now (written_by W.Sink out.new) }
+    ensures source_mark { read_failed S.Source input.new ≡ (read_failed S.Source input.old || is_read_failed result) }
+    ensures writes { PaidBy S.Source W.Sink out.old input.old out.new input.new (unpaid (is_write_failed result)) }
+    ensures sink_mark { write_failed W.Sink out.new ≡ (write_failed W.Sink out.old || is_write_failed result) }
+    ensures reads { slack S.Source input.old ≤ slack S.Source input.new + 1 }
+    ensures same_inlet { SameInlet input.old input.new }
+    ensures same_outlet { SameOutlet out.old out.new }
 {
     let mut message = Bits::new();
-    let found = take_on(window, source, turn, &mut message, 0)?;
-    push_header(page, turn.to);
+    let found = take_on(input, turn, &mut message, 0)?;
+    push_header(out.page, turn.to);
     if !found {
         return Ok(());
     }
-    match say_message(page, sink, turn.given, &message) {
-        Ok(()) => convert_rest(window, source, &mut message, page, sink, turn),
+    match say_message(out.page, out.sink, turn.given, &message) {
+        Ok(()) => convert_rest(input, &mut message, out, turn),
         Err(_) => Err(FileFault::WriteFailed),
     }
 }
 
 // Converts a file, but for what stays on the page.
 fn convert_file<S: Source, W: Sink>(
-    source: &mut S,
-    page: &mut Page,
-    sink: &mut W,
+    input: &mut Inlet<'_, S>,
+    out: &mut Outlet<'_, W>,
     at: u8,
 ) -> Result<(), FileFault>
-    requires { page.old ≡ [] }
+    requires window { input.old.window.now ≡ [] }
+    requires page { out.old.page.now ≡ [] }
     ensures told { (bytes : List ℕ) (was : List ℕ)
-        → S.left source.old ≡ Some bytes → W.written sink.old ≡ Some was
-        → Says (ConvertedAs at) (ConvertedCut at) bytes was result (S.left source.new) page.new (W.written sink.new) }
-    ensures source_mark { S.has_failed source.new ≡ (S.has_failed source.old || is_read_failed result) }
-    ensures writes { Paid W.takes_all (W.writes sink.old) (W.written sink.old) (S.reads source.old) (W.writes sink.new) (W.written sink.new) (S.reads source.new) (unpaid (is_write_failed result) page.new) }
-    ensures sink_mark { W.has_failed sink.new ≡ (W.has_failed sink.old || is_write_failed result) }
-    ensures reads { reads_beyond S.gives_all (S.reads source.old) (S.left source.old) ≤ reads_beyond S.gives_all (S.reads source.new) (S.left source.new) + 2 }
+        → left_in S.Source input.old ≡ Some bytes → written_by W.Sink out.old ≡ Some was
+        → Says (ConvertedAs at) (ConvertedCut at) bytes was result (left_in S.Source input.new) out.new.page.now (written_by W.Sink out.new) }
+    ensures source_mark { read_failed S.Source input.new ≡ (read_failed S.Source input.old || is_read_failed result) }
+    ensures writes { PaidBy S.Source W.Sink out.old input.old out.new input.new (unpaid (is_write_failed result)) }
+    ensures sink_mark { write_failed W.Sink out.new ≡ (write_failed W.Sink out.old || is_write_failed result) }
+    ensures reads { slack S.Source input.old ≤ slack S.Source input.new + 2 }
+    ensures same_inlet { SameInlet input.old input.new }
+    ensures same_outlet { SameOutlet out.old out.new }
 {
-    let mut window = Window::new();
-    let version = read_version(&mut window, source)?;
-    let direction = find_direction(&mut window, source, version)?;
-    convert_messages(
-        &mut window,
-        source,
-        page,
-        sink,
-        turn_of(version, direction, at),
-    )
+    let version = read_version(input)?;
+    let direction = find_direction(input, version)?;
+    convert_messages(input, out, turn_of(version, direction, at))
 }
 
 /// Turns a message file of version 1 into one of version 2, with each message at the interface of host
@@ -340,12 +343,21 @@ pub fn convert<S: Source, W: Sink>(source: &mut S, sink: &mut W, at: u8) -> Resu
         → W.written sink.old ≡ Some was → W.written sink.new ≡ Some now
         → W.writes sink.old ≤ W.writes sink.new + (length now - length was) / LEAST_PIECE + (S.reads source.old - S.reads source.new) + 2 }
 {
+    let mut window = Window::new();
     let mut page = Page::new();
-    let converted = convert_file(source, &mut page, sink, at);
-    if sink.failed() {
+    let mut input = Inlet {
+        window: &mut window,
+        source,
+    };
+    let mut out = Outlet {
+        page: &mut page,
+        sink,
+    };
+    let converted = convert_file(&mut input, &mut out, at);
+    if out.sink.failed() {
         return converted;
     }
-    match page.flush(sink) {
+    match out.flush() {
         Ok(()) => converted,
         Err(_) => Err(FileFault::WriteFailed),
     }

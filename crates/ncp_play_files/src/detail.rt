@@ -1,5 +1,6 @@
 //! The detail lines of a regular message.
 ghost use Rattle.std.specs.Prelude.{◌≡◌, ◌+◌, ◌≤◌, ◌||◌, ◌++◌, ◌/◌, ◌%◌, length, codes, is_err};
+ghost use Rattle.ncp_play_page.specs.Outlets.{SameOutlet, write_failed, credit, SaysOrBreaks};
 ghost use Rattle.ncp_numbers.specs.Bytes.{bytes_of};
 ghost use Rattle.ncp_leader.specs.Message.{message_in};
 ghost use Rattle.ncp_play_page.specs.Lines.{field, hex_of};
@@ -12,7 +13,7 @@ use crate::line::LONGEST_LINE;
 use ncp_bits::{Bits, MAX_BITS, Part};
 use ncp_control::Commands;
 use ncp_leader::{MessageFault, Regular, read_regular_in};
-use ncp_play_page::{PAGE_SIZE, Page, push_field};
+use ncp_play_page::{Outlet, PAGE_SIZE, Page, push_field};
 use ncp_play_stream::{Failed, Sink};
 use ncp_terms::{Command, CommandFault, ERROR_DATA};
 
@@ -164,15 +165,16 @@ pub fn push_item(page: &mut Page, item: &Result<Command, CommandFault>)
 }
 
 // Says a line for each command of a control text, and one for its fault.
-fn say_commands<W: Sink>(page: &mut Page, sink: &mut W, text: Part<'_>) -> Result<(), Failed>
+fn say_commands<W: Sink>(out: &mut Outlet<'_, W>, text: Part<'_>) -> Result<(), Failed>
     requires { length text % 8 ≡ 0 }
-    ensures told { SaysTextOrBeginning page.old (W.written sink.old) (control_lines (bytes_of text.entry)) result page.new (W.written sink.new) }
-    ensures writes { bytes_and_writes W.takes_all (W.writes sink.old) (W.written sink.old) ≤ bytes_and_writes W.takes_all (W.writes sink.new) (W.written sink.new) + lost_pieces (is_err result) }
-    ensures mark { W.has_failed sink.new ≡ (W.has_failed sink.old || is_err result) }
+    ensures told { SaysOrBreaks W.Sink out.old (control_lines (bytes_of text.entry)) result out.new }
+    ensures writes { credit W.Sink out.old ≤ credit W.Sink out.new + lost_pieces (is_err result) }
+    ensures mark { write_failed W.Sink out.new ≡ (write_failed W.Sink out.old || is_err result) }
+    ensures same_outlet { SameOutlet out.old out.new }
 {
     for item in Commands::new(text) {
-        page.make_room(sink, LONGEST_LINE)?;
-        push_item(page, &item);
+        out.make_room(LONGEST_LINE)?;
+        push_item(out.page, &item);
     }
     Ok(())
 }
@@ -239,49 +241,53 @@ fn push_fault(page: &mut Page, fault: MessageFault)
 }
 
 // Says the line of a text.
-fn say_text<W: Sink>(page: &mut Page, sink: &mut W, text: &Part<'_>) -> Result<(), Failed>
-    ensures told { SaysTextOrBeginning page.old (W.written sink.old) (text_line text.now) result page.new (W.written sink.new) }
-    ensures writes { bytes_and_writes W.takes_all (W.writes sink.old) (W.written sink.old) ≤ bytes_and_writes W.takes_all (W.writes sink.new) (W.written sink.new) + lost_pieces (is_err result) }
-    ensures mark { W.has_failed sink.new ≡ (W.has_failed sink.old || is_err result) }
+fn say_text<W: Sink>(out: &mut Outlet<'_, W>, text: &Part<'_>) -> Result<(), Failed>
+    ensures told { SaysOrBreaks W.Sink out.old (text_line text.now) result out.new }
+    ensures writes { credit W.Sink out.old ≤ credit W.Sink out.new + lost_pieces (is_err result) }
+    ensures mark { write_failed W.Sink out.new ≡ (write_failed W.Sink out.old || is_err result) }
+    ensures same_outlet { SameOutlet out.old out.new }
 {
-    page.make_room(sink, LONGEST_TEXT_LINE)?;
-    push_text_line(page, text);
+    out.make_room(LONGEST_TEXT_LINE)?;
+    push_text_line(out.page, text);
     Ok(())
 }
 
 // Says the line of a message's size and count.
-fn say_size<W: Sink>(page: &mut Page, sink: &mut W, message: &Regular<'_>) -> Result<(), Failed>
-    ensures told { SaysTextOrBeginning page.old (W.written sink.old) (size_line message.now) result page.new (W.written sink.new) }
-    ensures writes { bytes_and_writes W.takes_all (W.writes sink.old) (W.written sink.old) ≤ bytes_and_writes W.takes_all (W.writes sink.new) (W.written sink.new) + lost_pieces (is_err result) }
-    ensures mark { W.has_failed sink.new ≡ (W.has_failed sink.old || is_err result) }
+fn say_size<W: Sink>(out: &mut Outlet<'_, W>, message: &Regular<'_>) -> Result<(), Failed>
+    ensures told { SaysOrBreaks W.Sink out.old (size_line message.now) result out.new }
+    ensures writes { credit W.Sink out.old ≤ credit W.Sink out.new + lost_pieces (is_err result) }
+    ensures mark { write_failed W.Sink out.new ≡ (write_failed W.Sink out.old || is_err result) }
+    ensures same_outlet { SameOutlet out.old out.new }
 {
-    page.make_room(sink, LONGEST_LINE)?;
-    push_size(page, message);
+    out.make_room(LONGEST_LINE)?;
+    push_size(out.page, message);
     Ok(())
 }
 
 // Says the line of a message's fault.
-fn say_fault<W: Sink>(page: &mut Page, sink: &mut W, fault: MessageFault) -> Result<(), Failed>
-    ensures told { SaysTextOrBeginning page.old (W.written sink.old) (fault_line fault) result page.new (W.written sink.new) }
-    ensures writes { bytes_and_writes W.takes_all (W.writes sink.old) (W.written sink.old) ≤ bytes_and_writes W.takes_all (W.writes sink.new) (W.written sink.new) + lost_pieces (is_err result) }
-    ensures mark { W.has_failed sink.new ≡ (W.has_failed sink.old || is_err result) }
+fn say_fault<W: Sink>(out: &mut Outlet<'_, W>, fault: MessageFault) -> Result<(), Failed>
+    ensures told { SaysOrBreaks W.Sink out.old (fault_line fault) result out.new }
+    ensures writes { credit W.Sink out.old ≤ credit W.Sink out.new + lost_pieces (is_err result) }
+    ensures mark { write_failed W.Sink out.new ≡ (write_failed W.Sink out.old || is_err result) }
+    ensures same_outlet { SameOutlet out.old out.new }
 {
-    page.make_room(sink, LONGEST_LINE)?;
-    push_fault(page, fault);
+    out.make_room(LONGEST_LINE)?;
+    push_fault(out.page, fault);
     Ok(())
 }
 
 // Says the lines of a message that has no fault.
-fn say_message<W: Sink>(page: &mut Page, sink: &mut W, message: &Regular<'_>) -> Result<(), Failed>
-    ensures told { SaysTextOrBeginning page.old (W.written sink.old) (size_line message.now ++ text_lines message.now) result page.new (W.written sink.new) }
-    ensures writes { bytes_and_writes W.takes_all (W.writes sink.old) (W.written sink.old) ≤ bytes_and_writes W.takes_all (W.writes sink.new) (W.written sink.new) + lost_pieces (is_err result) }
-    ensures mark { W.has_failed sink.new ≡ (W.has_failed sink.old || is_err result) }
+fn say_message<W: Sink>(out: &mut Outlet<'_, W>, message: &Regular<'_>) -> Result<(), Failed>
+    ensures told { SaysOrBreaks W.Sink out.old (size_line message.now ++ text_lines message.now) result out.new }
+    ensures writes { credit W.Sink out.old ≤ credit W.Sink out.new + lost_pieces (is_err result) }
+    ensures mark { write_failed W.Sink out.new ≡ (write_failed W.Sink out.old || is_err result) }
+    ensures same_outlet { SameOutlet out.old out.new }
 {
-    say_size(page, sink, message)?;
+    say_size(out, message)?;
     if is_of_control(message) {
-        say_commands(page, sink, message.text())
+        say_commands(out, message.text())
     } else {
-        say_text(page, sink, &message.text())
+        say_text(out, &message.text())
     }
 }
 
@@ -292,22 +298,22 @@ pub fn say_details<W: Sink>(page: &mut Page, sink: &mut W, bits: &Bits) -> Resul
     ensures writes { bytes_and_writes W.takes_all (W.writes sink.old) (W.written sink.old) ≤ bytes_and_writes W.takes_all (W.writes sink.new) (W.written sink.new) + lost_pieces (is_err result) }
     ensures mark { W.has_failed sink.new ≡ (W.has_failed sink.old || is_err result) }
 {
-    say_details_in(page, sink, &bits.whole())
+    say_details_in(&mut Outlet { page, sink }, &bits.whole())
 }
 
 /// As [`say_details`], of a message that stands in other bits or in bytes.
 #[inline(always)]
 pub(crate) fn say_details_in<W: Sink>(
-    page: &mut Page,
-    sink: &mut W,
+    out: &mut Outlet<'_, W>,
     part: &Part<'_>,
 ) -> Result<(), Failed>
-    ensures told { SaysTextOrBeginning page.old (W.written sink.old) (message_lines (message_in part.now)) result page.new (W.written sink.new) }
-    ensures writes { bytes_and_writes W.takes_all (W.writes sink.old) (W.written sink.old) ≤ bytes_and_writes W.takes_all (W.writes sink.new) (W.written sink.new) + lost_pieces (is_err result) }
-    ensures mark { W.has_failed sink.new ≡ (W.has_failed sink.old || is_err result) }
+    ensures told { SaysOrBreaks W.Sink out.old (message_lines (message_in part.now)) result out.new }
+    ensures writes { credit W.Sink out.old ≤ credit W.Sink out.new + lost_pieces (is_err result) }
+    ensures mark { write_failed W.Sink out.new ≡ (write_failed W.Sink out.old || is_err result) }
+    ensures same_outlet { SameOutlet out.old out.new }
 {
     match read_regular_in(part) {
-        Ok(message) => say_message(page, sink, &message),
-        Err(fault) => say_fault(page, sink, fault),
+        Ok(message) => say_message(out, &message),
+        Err(fault) => say_fault(out, fault),
     }
 }

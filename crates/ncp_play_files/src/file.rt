@@ -1,21 +1,22 @@
 //! A message file: its faults, and the header and the records of version 1.
 ghost use Rattle.std.specs.Prelude.{◌≡◌, ℕ, Option, ◌+◌, ◌<◌, ◌≤◌, ◌||◌, List, true, false, length, drop, slice_range, is_some, IfSome, IfOk, IfErr, OnOk};
+ghost use Rattle.ncp_play_stream.specs.Pieces.{reads_beyond};
+ghost use Rattle.ncp_play_page.specs.Windows.{effort};
+ghost use Rattle.ncp_play_page.specs.Inlets.{SameInlet, left_in, reads_left, read_failed, slack, work, Brings};
 ghost use Rattle.byteorder.specs.Endian.{big_number};
 ghost use Rattle.ncp_numbers.specs.Bytes.{bytes_for};
 ghost use Rattle.ncp_bits.specs.declared.bits.TheConstants.{MAX_BITS};
 ghost use Rattle.ncp_play_files.specs.File.{name_of_fault, fault_of_bits};
-ghost use Rattle.ncp_play_stream.specs.Pieces.{reads_beyond};
 ghost use Rattle.ncp_play_files.specs.Results.{is_read_failed, is_write_failed};
 ghost use Rattle.ncp_play_files.specs.Steps.{ReadsHeader, StandsWhole, FindsRecord, FindsMessage, TakesRecord, ReadsRecord};
 ghost use Rattle.ncp_play_files.specs.Waiting.{lacks_message};
-ghost use Rattle.ncp_play_page.specs.Windows.{effort};
 ghost use Rattle.ncp_play_stream.specs.Streams.{Ahead};
 ghost use Rattle.ncp_play_files.specs.declared.file.TheConstants.{LENGTH};
 
 use crate::version::{LONGEST_RECORD, Version, read_version};
 use byteorder::{BigEndian, ByteOrder};
 use ncp_bits::{Bits, BitsFault, MAX_BITS, Part};
-use ncp_play_page::Window;
+use ncp_play_page::{Inlet, Window};
 use ncp_play_stream::{Failed, Source};
 use thiserror::Error;
 
@@ -90,7 +91,7 @@ pub fn read_header<S: Source>(window: &mut Window, source: &mut S) -> Result<Dir
     ensures taken { OnOk result (reads_beyond S.gives_all (S.reads source.old) (S.left source.old) ≤ reads_beyond S.gives_all (S.reads source.new) (S.left source.new)) }
     ensures lowers { S.reads source.new ≤ S.reads source.old }
 {
-    match read_version(window, source)? {
+    match read_version(&mut Inlet { window, source })? {
         Version::One(direction) => Ok(direction),
         Version::Two => Err(FileFault::BadHeader),
     }
@@ -126,26 +127,29 @@ fn message_len(ahead: &[u8]) -> Result<usize, FileFault>
 // Reads until the window has the next record of a file of version 1: first its length, and then what
 // the length says.
 #[inline(never)]
-fn need_parts<S: Source>(window: &mut Window, source: &mut S) -> Result<Option<usize>, FileFault>
-    ensures told { (bytes : List ℕ) → Ahead window.old (S.left source.old) bytes → FindsRecord bytes result window.new (S.left source.new) }
-    ensures stands { IfOk result (λ found. IfSome found (λ len. StandsWhole window.new len)) }
-    ensures mark { S.has_failed source.new ≡ (S.has_failed source.old || is_read_failed result) }
+fn need_parts<S: Source>(input: &mut Inlet<'_, S>) -> Result<Option<usize>, FileFault>
+    ensures told { (bytes : List ℕ) → Brings S.Source input.old bytes
+        → FindsRecord bytes result input.new.window.now (left_in S.Source input.new) }
+    ensures stands { IfOk result (λ found. IfSome found (λ len. StandsWhole input.new.window.now len)) }
+    ensures mark { read_failed S.Source input.new ≡ (read_failed S.Source input.old || is_read_failed result) }
     ensures other { is_write_failed result ≡ false }
-    ensures reads { reads_beyond S.gives_all (S.reads source.old) (S.left source.old) ≤ reads_beyond S.gives_all (S.reads source.new) (S.left source.new) + 1 }
-    ensures taken { IfOk result (λ found. is_some found ≡ true → reads_beyond S.gives_all (S.reads source.old) (S.left source.old) ≤ reads_beyond S.gives_all (S.reads source.new) (S.left source.new)) }
-    ensures effort { effort (S.reads source.new) window.new ≤ effort (S.reads source.old) window.old }
-    ensures lowers { S.reads source.new ≤ S.reads source.old }
-    ensures unread { IfOk result (λ found. is_some found ≡ true → S.reads source.new ≡ S.reads source.old → window.new ≡ window.old) }
+    ensures reads { slack S.Source input.old ≤ slack S.Source input.new + 1 }
+    ensures taken { IfOk result (λ found. is_some found ≡ true → slack S.Source input.old ≤ slack S.Source input.new) }
+    ensures effort { work S.Source input.new ≤ work S.Source input.old }
+    ensures lowers { reads_left S.Source input.new ≤ reads_left S.Source input.old }
+    ensures unread { IfOk result (λ found. is_some found ≡ true
+        → reads_left S.Source input.new ≡ reads_left S.Source input.old → input.new.window.now ≡ input.old.window.now) }
+    ensures same_inlet { SameInlet input.old input.new }
 {
-    if !window.need(source, LENGTH)? {
-        return if window.unread().is_empty() {
+    if !input.window.need(input.source, LENGTH)? {
+        return if input.window.unread().is_empty() {
             Ok(None)
         } else {
             Err(FileFault::Truncated)
         };
     }
-    let len = message_len(window.unread())?;
-    if !window.need(source, LENGTH + len.div_ceil(8))? {
+    let len = message_len(input.window.unread())?;
+    if !input.window.need(input.source, LENGTH + len.div_ceil(8))? {
         return Err(FileFault::Truncated);
     }
     Ok(Some(len))
@@ -155,24 +159,24 @@ fn need_parts<S: Source>(window: &mut Window, source: &mut S) -> Result<Option<u
 /// message has; `None` where no record begins. The record is not used up.
 // It stands in the loops that read, where the window mostly has more than the longest record.
 #[inline(always)]
-pub(crate) fn need_record<S: Source>(
-    window: &mut Window,
-    source: &mut S,
-) -> Result<Option<usize>, FileFault>
-    ensures told { (bytes : List ℕ) → Ahead window.old (S.left source.old) bytes → FindsRecord bytes result window.new (S.left source.new) }
-    ensures stands { IfOk result (λ found. IfSome found (λ len. StandsWhole window.new len)) }
-    ensures mark { S.has_failed source.new ≡ (S.has_failed source.old || is_read_failed result) }
+pub(crate) fn need_record<S: Source>(input: &mut Inlet<'_, S>) -> Result<Option<usize>, FileFault>
+    ensures told { (bytes : List ℕ) → Brings S.Source input.old bytes
+        → FindsRecord bytes result input.new.window.now (left_in S.Source input.new) }
+    ensures stands { IfOk result (λ found. IfSome found (λ len. StandsWhole input.new.window.now len)) }
+    ensures mark { read_failed S.Source input.new ≡ (read_failed S.Source input.old || is_read_failed result) }
     ensures other { is_write_failed result ≡ false }
-    ensures reads { reads_beyond S.gives_all (S.reads source.old) (S.left source.old) ≤ reads_beyond S.gives_all (S.reads source.new) (S.left source.new) + 1 }
-    ensures taken { IfOk result (λ found. is_some found ≡ true → reads_beyond S.gives_all (S.reads source.old) (S.left source.old) ≤ reads_beyond S.gives_all (S.reads source.new) (S.left source.new)) }
-    ensures effort { effort (S.reads source.new) window.new ≤ effort (S.reads source.old) window.old }
-    ensures lowers { S.reads source.new ≤ S.reads source.old }
-    ensures unread { IfOk result (λ found. is_some found ≡ true → S.reads source.new ≡ S.reads source.old → window.new ≡ window.old) }
+    ensures reads { slack S.Source input.old ≤ slack S.Source input.new + 1 }
+    ensures taken { IfOk result (λ found. is_some found ≡ true → slack S.Source input.old ≤ slack S.Source input.new) }
+    ensures effort { work S.Source input.new ≤ work S.Source input.old }
+    ensures lowers { reads_left S.Source input.new ≤ reads_left S.Source input.old }
+    ensures unread { IfOk result (λ found. is_some found ≡ true
+        → reads_left S.Source input.new ≡ reads_left S.Source input.old → input.new.window.now ≡ input.old.window.now) }
+    ensures same_inlet { SameInlet input.old input.new }
 {
-    if window.unread().len() < LONGEST_RECORD {
-        return need_parts(window, source);
+    if input.window.unread().len() < LONGEST_RECORD {
+        return need_parts(input);
     }
-    let len = message_len(window.unread())?;
+    let len = message_len(input.window.unread())?;
     Ok(Some(len))
 }
 
@@ -247,7 +251,7 @@ pub fn read_record<S: Source>(
     ensures lowers { S.reads source.new ≤ S.reads source.old }
     ensures waited { IfOk result (λ found. found ≡ true → lacks_message 0 window.old ≡ true → S.reads source.new < S.reads source.old) }
 {
-    let Some(len) = need_record(window, source)? else {
+    let Some(len) = need_record(&mut Inlet { window, source })? else {
         return Ok(false);
     };
     take_record(window, len, message)?;

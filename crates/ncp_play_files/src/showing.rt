@@ -1,9 +1,9 @@
 //! `show`: what a message file holds, line by line.
 ghost use Rattle.std.specs.Prelude.{◌≡◌, ℕ, ◌+◌, ◌-◌, ◌/◌, ◌<◌, ◌≤◌, ◌||◌, [], List, Some, true, false, length, IfOk};
-ghost use Rattle.ncp_play_stream.specs.Pieces.{reads_for, reads_beyond, bytes_and_writes, lost_pieces, unpaid, Paid};
+ghost use Rattle.ncp_play_page.specs.Inlets.{SameInlet, left_in, reads_left, read_failed, slack, work, Brings, PaidBy};
+ghost use Rattle.ncp_play_page.specs.Outlets.{SameOutlet, written_by, write_failed, credit, HasSaid};
+ghost use Rattle.ncp_play_stream.specs.Pieces.{reads_for, lost_pieces, unpaid};
 ghost use Rattle.ncp_play_files.specs.Results.{is_read_failed, is_write_failed};
-ghost use Rattle.ncp_play_stream.specs.Streams.{Ahead, SaidSoFar};
-ghost use Rattle.ncp_play_page.specs.Windows.{effort};
 ghost use Rattle.ncp_play_files.specs.Versions.{next_in};
 ghost use Rattle.ncp_play_files.specs.Lines.{record_lines};
 ghost use Rattle.ncp_play_files.specs.Waiting.{is_waiting};
@@ -14,39 +14,40 @@ use crate::file::{FileFault, message_of, skip_record};
 use crate::letting_out::let_out;
 use crate::record::say_record;
 use crate::version::{PlacedRecords, PlainRecords, Records, Version, read_version};
-use ncp_play_page::{Counter, Page, Window};
+use ncp_play_page::{Counter, Inlet, Outlet, Page, Window};
 use ncp_play_stream::{LEAST_PIECE, Sink, Source, stop_at_fault};
 
 // Shows the next record where it stands in the window, and answers whether there was one.
 fn show_next<S: Source, W: Sink, R: Records>(
-    window: &mut Window,
-    source: &mut S,
-    page: &mut Page,
-    sink: &mut W,
+    input: &mut Inlet<'_, S>,
+    out: &mut Outlet<'_, W>,
     records: R,
     number: &Counter,
 ) -> Result<bool, FileFault>
     ensures told { (bytes : List ℕ) (was : List ℕ) (said : List ℕ)
-        → Ahead window.old (S.left source.old) bytes → SaidSoFar was page.old (W.written sink.old) said
-        → SaysNext (next_in (R.version records)) record_lines number.now bytes was said result window.new (S.left source.new) page.new (W.written sink.new) }
-    ensures source_mark { S.has_failed source.new ≡ (S.has_failed source.old || is_read_failed result) }
-    ensures writes { bytes_and_writes W.takes_all (W.writes sink.old) (W.written sink.old) ≤ bytes_and_writes W.takes_all (W.writes sink.new) (W.written sink.new) + lost_pieces (is_write_failed result) }
-    ensures sink_mark { W.has_failed sink.new ≡ (W.has_failed sink.old || is_write_failed result) }
-    ensures reads { reads_beyond S.gives_all (S.reads source.old) (S.left source.old) ≤ reads_beyond S.gives_all (S.reads source.new) (S.left source.new) + 1 }
-    ensures taken { IfOk result (λ more. more ≡ true → reads_beyond S.gives_all (S.reads source.old) (S.left source.old) ≤ reads_beyond S.gives_all (S.reads source.new) (S.left source.new)) }
-    ensures effort { IfOk result (λ more. more ≡ true → effort (S.reads source.new) window.new < effort (S.reads source.old) window.old) }
-    ensures lowers { S.reads source.new ≤ S.reads source.old }
-    ensures waited { says_nothing result ≡ false → is_waiting (R.version records) window.old ≡ true → S.reads source.new < S.reads source.old }
-    ensures kept { says_nothing result ≡ true → page.new ≡ page.old }
+        → Brings S.Source input.old bytes → HasSaid W.Sink was out.old said
+        → SaysNext (next_in (R.version records)) record_lines number.now bytes was said result input.new.window.now (left_in S.Source input.new) out.new.page.now (written_by W.Sink out.new) }
+    ensures source_mark { read_failed S.Source input.new ≡ (read_failed S.Source input.old || is_read_failed result) }
+    ensures writes { credit W.Sink out.old ≤ credit W.Sink out.new + lost_pieces (is_write_failed result) }
+    ensures sink_mark { write_failed W.Sink out.new ≡ (write_failed W.Sink out.old || is_write_failed result) }
+    ensures reads { slack S.Source input.old ≤ slack S.Source input.new + 1 }
+    ensures taken { IfOk result (λ more. more ≡ true → slack S.Source input.old ≤ slack S.Source input.new) }
+    ensures effort { IfOk result (λ more. more ≡ true → work S.Source input.new < work S.Source input.old) }
+    ensures lowers { reads_left S.Source input.new ≤ reads_left S.Source input.old }
+    ensures waited { says_nothing result ≡ false
+        → is_waiting (R.version records) input.old.window.now ≡ true → reads_left S.Source input.new < reads_left S.Source input.old }
+    ensures kept { says_nothing result ≡ true → out.new.page.now ≡ out.old.page.now }
+    ensures same_inlet { SameInlet input.old input.new }
+    ensures same_outlet { SameOutlet out.old out.new }
 {
-    let Some(found) = records.find_next(window, source)? else {
+    let Some(found) = records.find_next(input)? else {
         return Ok(false);
     };
-    let shown = match message_of(window, found.len) {
-        Ok(message) => say_record(page, sink, found.passage, number, &message),
+    let shown = match message_of(input.window, found.len) {
+        Ok(message) => say_record(out, found.passage, number, &message),
         Err(fault) => return Err(fault),
     };
-    skip_record(window, found.len);
+    skip_record(input.window, found.len);
     match shown {
         Ok(()) => Ok(true),
         Err(_) => Err(FileFault::WriteFailed),
@@ -55,52 +56,52 @@ fn show_next<S: Source, W: Sink, R: Records>(
 
 // Shows the next record as `show_next` does. Before more is waited for, all that was said is written.
 fn show_on<S: Source, W: Sink, R: Records>(
-    window: &mut Window,
-    source: &mut S,
-    page: &mut Page,
-    sink: &mut W,
+    input: &mut Inlet<'_, S>,
+    out: &mut Outlet<'_, W>,
     records: R,
     number: &Counter,
 ) -> Result<bool, FileFault>
     ensures told { (bytes : List ℕ) (was : List ℕ) (said : List ℕ)
-        → Ahead window.old (S.left source.old) bytes → SaidSoFar was page.old (W.written sink.old) said
-        → SaysOn (next_in (R.version records)) record_lines number.now bytes was said result window.new (S.left source.new) page.new (W.written sink.new) }
-    ensures source_mark { S.has_failed source.new ≡ (S.has_failed source.old || is_read_failed result) }
-    ensures writes { Paid W.takes_all (W.writes sink.old) (W.written sink.old) (S.reads source.old) (W.writes sink.new) (W.written sink.new) (S.reads source.new) (unpaid_after result page.new) }
-    ensures sink_mark { W.has_failed sink.new ≡ (W.has_failed sink.old || is_write_failed result) }
-    ensures reads { reads_beyond S.gives_all (S.reads source.old) (S.left source.old) ≤ reads_beyond S.gives_all (S.reads source.new) (S.left source.new) + 1 }
-    ensures taken { IfOk result (λ more. more ≡ true → reads_beyond S.gives_all (S.reads source.old) (S.left source.old) ≤ reads_beyond S.gives_all (S.reads source.new) (S.left source.new)) }
-    ensures effort { IfOk result (λ more. more ≡ true → effort (S.reads source.new) window.new < effort (S.reads source.old) window.old) }
+        → Brings S.Source input.old bytes → HasSaid W.Sink was out.old said
+        → SaysOn (next_in (R.version records)) record_lines number.now bytes was said result input.new.window.now (left_in S.Source input.new) out.new.page.now (written_by W.Sink out.new) }
+    ensures source_mark { read_failed S.Source input.new ≡ (read_failed S.Source input.old || is_read_failed result) }
+    ensures writes { PaidBy S.Source W.Sink out.old input.old out.new input.new (unpaid_after result) }
+    ensures sink_mark { write_failed W.Sink out.new ≡ (write_failed W.Sink out.old || is_write_failed result) }
+    ensures reads { slack S.Source input.old ≤ slack S.Source input.new + 1 }
+    ensures taken { IfOk result (λ more. more ≡ true → slack S.Source input.old ≤ slack S.Source input.new) }
+    ensures effort { IfOk result (λ more. more ≡ true → work S.Source input.new < work S.Source input.old) }
+    ensures same_inlet { SameInlet input.old input.new }
+    ensures same_outlet { SameOutlet out.old out.new }
 {
-    let_out(window, records.file(), page, sink)?;
-    let shown = show_next(window, source, page, sink, records, number);
+    let_out(input.window, records.file(), out.page, out.sink)?;
+    let shown = show_next(input, out, records, number);
     stop_at_fault(
-        source,
+        input.source,
         &shown,
         number.number().saturating_sub(1),
-        window.unread().len(),
+        input.window.unread().len(),
     );
     shown
 }
 
 // Shows the records behind the header.
 fn show_records<S: Source, W: Sink, R: Records>(
-    window: &mut Window,
-    source: &mut S,
-    page: &mut Page,
-    sink: &mut W,
+    input: &mut Inlet<'_, S>,
+    out: &mut Outlet<'_, W>,
     records: R,
 ) -> Result<(), FileFault>
     ensures told { (bytes : List ℕ) (was : List ℕ) (said : List ℕ)
-        → Ahead window.old (S.left source.old) bytes → SaidSoFar was page.old (W.written sink.old) said
-        → SaysFrom (next_in (R.version records)) record_lines 1 bytes was said result (S.left source.new) page.new (W.written sink.new) }
-    ensures source_mark { S.has_failed source.new ≡ (S.has_failed source.old || is_read_failed result) }
-    ensures writes { Paid W.takes_all (W.writes sink.old) (W.written sink.old) (S.reads source.old) (W.writes sink.new) (W.written sink.new) (S.reads source.new) (unpaid (is_write_failed result) page.new) }
-    ensures sink_mark { W.has_failed sink.new ≡ (W.has_failed sink.old || is_write_failed result) }
-    ensures reads { reads_beyond S.gives_all (S.reads source.old) (S.left source.old) ≤ reads_beyond S.gives_all (S.reads source.new) (S.left source.new) + 1 }
+        → Brings S.Source input.old bytes → HasSaid W.Sink was out.old said
+        → SaysFrom (next_in (R.version records)) record_lines 1 bytes was said result (left_in S.Source input.new) out.new.page.now (written_by W.Sink out.new) }
+    ensures source_mark { read_failed S.Source input.new ≡ (read_failed S.Source input.old || is_read_failed result) }
+    ensures writes { PaidBy S.Source W.Sink out.old input.old out.new input.new (unpaid (is_write_failed result)) }
+    ensures sink_mark { write_failed W.Sink out.new ≡ (write_failed W.Sink out.old || is_write_failed result) }
+    ensures reads { slack S.Source input.old ≤ slack S.Source input.new + 1 }
+    ensures same_inlet { SameInlet input.old input.new }
+    ensures same_outlet { SameOutlet out.old out.new }
 {
     let mut number = Counter::first();
-    while show_on(window, source, page, sink, records, &number)? {
+    while show_on(input, out, records, &number)? {
         number.advance();
     }
     Ok(())
@@ -108,25 +109,24 @@ fn show_records<S: Source, W: Sink, R: Records>(
 
 // Shows a file, but for what stays on the page.
 fn show_file<S: Source, W: Sink>(
-    source: &mut S,
-    page: &mut Page,
-    sink: &mut W,
+    input: &mut Inlet<'_, S>,
+    out: &mut Outlet<'_, W>,
 ) -> Result<(), FileFault>
-    requires { page.old ≡ [] }
+    requires window { input.old.window.now ≡ [] }
+    requires page { out.old.page.now ≡ [] }
     ensures told { (bytes : List ℕ) (was : List ℕ)
-        → S.left source.old ≡ Some bytes → W.written sink.old ≡ Some was
-        → Says ShownAs ShownCut bytes was result (S.left source.new) page.new (W.written sink.new) }
-    ensures source_mark { S.has_failed source.new ≡ (S.has_failed source.old || is_read_failed result) }
-    ensures writes { Paid W.takes_all (W.writes sink.old) (W.written sink.old) (S.reads source.old) (W.writes sink.new) (W.written sink.new) (S.reads source.new) (unpaid (is_write_failed result) page.new) }
-    ensures sink_mark { W.has_failed sink.new ≡ (W.has_failed sink.old || is_write_failed result) }
-    ensures reads { reads_beyond S.gives_all (S.reads source.old) (S.left source.old) ≤ reads_beyond S.gives_all (S.reads source.new) (S.left source.new) + 1 }
+        → left_in S.Source input.old ≡ Some bytes → written_by W.Sink out.old ≡ Some was
+        → Says ShownAs ShownCut bytes was result (left_in S.Source input.new) out.new.page.now (written_by W.Sink out.new) }
+    ensures source_mark { read_failed S.Source input.new ≡ (read_failed S.Source input.old || is_read_failed result) }
+    ensures writes { PaidBy S.Source W.Sink out.old input.old out.new input.new (unpaid (is_write_failed result)) }
+    ensures sink_mark { write_failed W.Sink out.new ≡ (write_failed W.Sink out.old || is_write_failed result) }
+    ensures reads { slack S.Source input.old ≤ slack S.Source input.new + 1 }
+    ensures same_inlet { SameInlet input.old input.new }
+    ensures same_outlet { SameOutlet out.old out.new }
 {
-    let mut window = Window::new();
-    match read_version(&mut window, source)? {
-        Version::One(direction) => {
-            show_records(&mut window, source, page, sink, PlainRecords { direction })
-        }
-        Version::Two => show_records(&mut window, source, page, sink, PlacedRecords),
+    match read_version(input)? {
+        Version::One(direction) => show_records(input, out, PlainRecords { direction }),
+        Version::Two => show_records(input, out, PlacedRecords),
     }
 }
 
@@ -162,12 +162,21 @@ pub fn show<S: Source, W: Sink>(source: &mut S, sink: &mut W) -> Result<(), File
         → W.written sink.old ≡ Some was → W.written sink.new ≡ Some now
         → W.writes sink.old ≤ W.writes sink.new + (length now - length was) / LEAST_PIECE + (S.reads source.old - S.reads source.new) + 2 }
 {
+    let mut window = Window::new();
     let mut page = Page::new();
-    let shown = show_file(source, &mut page, sink);
-    if sink.failed() {
+    let mut input = Inlet {
+        window: &mut window,
+        source,
+    };
+    let mut out = Outlet {
+        page: &mut page,
+        sink,
+    };
+    let shown = show_file(&mut input, &mut out);
+    if out.sink.failed() {
         return shown;
     }
-    match page.flush(sink) {
+    match out.flush() {
         Ok(()) => shown,
         Err(_) => Err(FileFault::WriteFailed),
     }

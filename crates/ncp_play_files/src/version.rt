@@ -1,17 +1,15 @@
 //! The two versions of a message file: their headers, and the records of both.
 ghost use Rattle.std.specs.Prelude.{◌≡◌, ℕ, ◌+◌, ◌<◌, ◌≤◌, ◌||◌, List, true, false, length, drop, is_some, IfSome, IfOk, OnOk};
+ghost use Rattle.ncp_play_page.specs.Inlets.{SameInlet, left_in, reads_left, read_failed, slack, work, Brings};
 ghost use Rattle.ncp_play_files.specs.File.{version_of};
 ghost use Rattle.ncp_play_files.specs.Versions.{direction_by, next_passage, next_in};
 ghost use Rattle.ncp_play_files.specs.Results.{is_read_failed, is_write_failed};
 ghost use Rattle.ncp_play_files.specs.Waiting.{is_waiting};
 ghost use Rattle.ncp_play_files.specs.Steps.{ReadsVersion, ReadsOne, StandsWhole, FindsNext, ReadsNext};
-ghost use Rattle.ncp_play_page.specs.Windows.{effort};
-ghost use Rattle.ncp_play_stream.specs.Pieces.{reads_beyond};
-ghost use Rattle.ncp_play_stream.specs.Streams.{Ahead};
 
 use crate::file::{Direction, FileFault, LENGTH, need_record, take_record};
 use ncp_bits::{Bits, MAX_BITS};
-use ncp_play_page::Window;
+use ncp_play_page::Inlet;
 use ncp_play_stream::Source;
 
 /// The version of a message file.
@@ -67,21 +65,23 @@ fn version_in(head: &[u8]) -> Option<Version>
 }
 
 /// Reads the header of a file of either version.
-pub fn read_version<S: Source>(window: &mut Window, source: &mut S) -> Result<Version, FileFault>
-    ensures told { (bytes : List ℕ) → Ahead window.old (S.left source.old) bytes → ReadsVersion bytes result window.new (S.left source.new) }
-    ensures mark { S.has_failed source.new ≡ (S.has_failed source.old || is_read_failed result) }
+pub fn read_version<S: Source>(input: &mut Inlet<'_, S>) -> Result<Version, FileFault>
+    ensures told { (bytes : List ℕ) → Brings S.Source input.old bytes
+        → ReadsVersion bytes result input.new.window.now (left_in S.Source input.new) }
+    ensures mark { read_failed S.Source input.new ≡ (read_failed S.Source input.old || is_read_failed result) }
     ensures other { is_write_failed result ≡ false }
-    ensures reads { reads_beyond S.gives_all (S.reads source.old) (S.left source.old) ≤ reads_beyond S.gives_all (S.reads source.new) (S.left source.new) + 1 }
-    ensures taken { OnOk result (reads_beyond S.gives_all (S.reads source.old) (S.left source.old) ≤ reads_beyond S.gives_all (S.reads source.new) (S.left source.new)) }
-    ensures lowers { S.reads source.new ≤ S.reads source.old }
+    ensures reads { slack S.Source input.old ≤ slack S.Source input.new + 1 }
+    ensures taken { OnOk result (slack S.Source input.old ≤ slack S.Source input.new) }
+    ensures lowers { reads_left S.Source input.new ≤ reads_left S.Source input.old }
+    ensures same_inlet { SameInlet input.old input.new }
 {
-    if !window.need(source, HEADER)? {
+    if !input.window.need(input.source, HEADER)? {
         return Err(FileFault::BadHeader);
     }
-    let Some(version) = version_in(&window.unread()[..HEADER]) else {
+    let Some(version) = version_in(&input.window.unread()[..HEADER]) else {
         return Err(FileFault::BadHeader);
     };
-    window.skip(HEADER);
+    input.window.skip(HEADER);
     Ok(version)
 }
 
@@ -99,30 +99,30 @@ pub(crate) fn direction_by(byte: u8) -> Option<Direction>
 // Reads the passage in front of a message, if one begins there. The direction is judged before the
 // host is read.
 #[inline(always)]
-fn read_passage<S: Source>(
-    window: &mut Window,
-    source: &mut S,
-) -> Result<Option<Passage>, FileFault>
-    ensures told { (bytes : List ℕ) → Ahead window.old (S.left source.old) bytes → ReadsOne next_passage bytes result window.new (S.left source.new) }
-    ensures mark { S.has_failed source.new ≡ (S.has_failed source.old || is_read_failed result) }
+fn read_passage<S: Source>(input: &mut Inlet<'_, S>) -> Result<Option<Passage>, FileFault>
+    ensures told { (bytes : List ℕ) → Brings S.Source input.old bytes
+        → ReadsOne next_passage bytes result input.new.window.now (left_in S.Source input.new) }
+    ensures mark { read_failed S.Source input.new ≡ (read_failed S.Source input.old || is_read_failed result) }
     ensures other { is_write_failed result ≡ false }
-    ensures reads { reads_beyond S.gives_all (S.reads source.old) (S.left source.old) ≤ reads_beyond S.gives_all (S.reads source.new) (S.left source.new) + 1 }
-    ensures taken { IfOk result (λ found. is_some found ≡ true → reads_beyond S.gives_all (S.reads source.old) (S.left source.old) ≤ reads_beyond S.gives_all (S.reads source.new) (S.left source.new)) }
-    ensures effort { effort (S.reads source.new) window.new ≤ effort (S.reads source.old) window.old }
-    ensures lowers { S.reads source.new ≤ S.reads source.old }
-    ensures unread { IfOk result (λ found. is_some found ≡ true → S.reads source.new ≡ S.reads source.old → window.new ≡ drop PASSAGE window.old) }
+    ensures reads { slack S.Source input.old ≤ slack S.Source input.new + 1 }
+    ensures taken { IfOk result (λ found. is_some found ≡ true → slack S.Source input.old ≤ slack S.Source input.new) }
+    ensures effort { work S.Source input.new ≤ work S.Source input.old }
+    ensures lowers { reads_left S.Source input.new ≤ reads_left S.Source input.old }
+    ensures unread { IfOk result (λ found. is_some found ≡ true
+        → reads_left S.Source input.new ≡ reads_left S.Source input.old → input.new.window.now ≡ drop PASSAGE input.old.window.now) }
+    ensures same_inlet { SameInlet input.old input.new }
 {
-    if !window.need(source, 1)? {
+    if !input.window.need(input.source, 1)? {
         return Ok(None);
     }
-    let Some(direction) = direction_by(window.unread()[0]) else {
+    let Some(direction) = direction_by(input.window.unread()[0]) else {
         return Err(FileFault::BadDirection);
     };
-    if !window.need(source, PASSAGE)? {
+    if !input.window.need(input.source, PASSAGE)? {
         return Err(FileFault::Truncated);
     }
-    let host = window.unread()[1];
-    window.skip(PASSAGE);
+    let host = input.window.unread()[1];
+    input.window.skip(PASSAGE);
     Ok(Some(Passage {
         direction,
         at: Some(host),
@@ -142,20 +142,19 @@ pub(crate) trait Records: Copy {
 
     /// Reads until the window has the message of the next record, if there is one. What is in front of
     /// the message is used up.
-    fn find_next<S: Source>(
-        self,
-        window: &mut Window,
-        source: &mut S,
-    ) -> Result<Option<Found>, FileFault>
-        ensures told { (bytes : List ℕ) → Ahead window.old (S.left source.old) bytes → FindsNext (version self) bytes result window.new (S.left source.new) }
-        ensures stands { IfOk result (λ next. IfSome next (λ found. StandsWhole window.new found.len)) }
-        ensures mark { S.has_failed source.new ≡ (S.has_failed source.old || is_read_failed result) }
+    fn find_next<S: Source>(self, input: &mut Inlet<'_, S>) -> Result<Option<Found>, FileFault>
+        ensures told { (bytes : List ℕ) → Brings S.Source input.old bytes
+            → FindsNext (version self) bytes result input.new.window.now (left_in S.Source input.new) }
+        ensures stands { IfOk result (λ next. IfSome next (λ found. StandsWhole input.new.window.now found.len)) }
+        ensures mark { read_failed S.Source input.new ≡ (read_failed S.Source input.old || is_read_failed result) }
         ensures other { is_write_failed result ≡ false }
-        ensures reads { reads_beyond S.gives_all (S.reads source.old) (S.left source.old) ≤ reads_beyond S.gives_all (S.reads source.new) (S.left source.new) + 1 }
-        ensures taken { IfOk result (λ next. is_some next ≡ true → reads_beyond S.gives_all (S.reads source.old) (S.left source.old) ≤ reads_beyond S.gives_all (S.reads source.new) (S.left source.new)) }
-        ensures effort { effort (S.reads source.new) window.new ≤ effort (S.reads source.old) window.old }
-        ensures lowers { S.reads source.new ≤ S.reads source.old }
-        ensures waited { IfOk result (λ next. is_some next ≡ true → is_waiting (version self) window.old ≡ true → S.reads source.new < S.reads source.old) };
+        ensures reads { slack S.Source input.old ≤ slack S.Source input.new + 1 }
+        ensures taken { IfOk result (λ next. is_some next ≡ true → slack S.Source input.old ≤ slack S.Source input.new) }
+        ensures effort { work S.Source input.new ≤ work S.Source input.old }
+        ensures lowers { reads_left S.Source input.new ≤ reads_left S.Source input.old }
+        ensures waited { IfOk result (λ next. is_some next ≡ true
+            → is_waiting (version self) input.old.window.now ≡ true → reads_left S.Source input.new < reads_left S.Source input.old) }
+        ensures same_inlet { SameInlet input.old input.new };
 }
 
 /// The records of a file of version 1, whose messages all go this way.
@@ -174,12 +173,8 @@ impl Records for PlainRecords {
     }
 
     #[inline(always)]
-    fn find_next<S: Source>(
-        self,
-        window: &mut Window,
-        source: &mut S,
-    ) -> Result<Option<Found>, FileFault> {
-        let Some(len) = need_record(window, source)? else {
+    fn find_next<S: Source>(self, input: &mut Inlet<'_, S>) -> Result<Option<Found>, FileFault> {
+        let Some(len) = need_record(input)? else {
             return Ok(None);
         };
         let passage = Passage {
@@ -205,15 +200,11 @@ impl Records for PlacedRecords {
     }
 
     #[inline(always)]
-    fn find_next<S: Source>(
-        self,
-        window: &mut Window,
-        source: &mut S,
-    ) -> Result<Option<Found>, FileFault> {
-        let Some(passage) = read_passage(window, source)? else {
+    fn find_next<S: Source>(self, input: &mut Inlet<'_, S>) -> Result<Option<Found>, FileFault> {
+        let Some(passage) = read_passage(input)? else {
             return Ok(None);
         };
-        let Some(len) = need_record(window, source)? else {
+        let Some(len) = need_record(input)? else {
             return Err(FileFault::Truncated);
         };
         Ok(Some(Found { passage, len }))
@@ -224,24 +215,26 @@ impl Records for PlacedRecords {
 /// was one.
 #[inline(always)]
 pub(crate) fn read_next_of<S: Source, R: Records>(
-    window: &mut Window,
-    source: &mut S,
+    input: &mut Inlet<'_, S>,
     records: R,
     message: &mut Bits,
 ) -> Result<Option<Passage>, FileFault>
-    ensures told { (bytes : List ℕ) → Ahead window.old (S.left source.old) bytes → ReadsNext (R.version records) bytes result message.new window.new (S.left source.new) }
-    ensures mark { S.has_failed source.new ≡ (S.has_failed source.old || is_read_failed result) }
+    ensures told { (bytes : List ℕ) → Brings S.Source input.old bytes
+        → ReadsNext (R.version records) bytes result message.new input.new.window.now (left_in S.Source input.new) }
+    ensures mark { read_failed S.Source input.new ≡ (read_failed S.Source input.old || is_read_failed result) }
     ensures other { is_write_failed result ≡ false }
-    ensures reads { reads_beyond S.gives_all (S.reads source.old) (S.left source.old) ≤ reads_beyond S.gives_all (S.reads source.new) (S.left source.new) + 1 }
-    ensures taken { IfOk result (λ found. is_some found ≡ true → reads_beyond S.gives_all (S.reads source.old) (S.left source.old) ≤ reads_beyond S.gives_all (S.reads source.new) (S.left source.new)) }
-    ensures effort { IfOk result (λ found. is_some found ≡ true → effort (S.reads source.new) window.new < effort (S.reads source.old) window.old) }
-    ensures lowers { S.reads source.new ≤ S.reads source.old }
-    ensures waited { IfOk result (λ found. is_some found ≡ true → is_waiting (R.version records) window.old ≡ true → S.reads source.new < S.reads source.old) }
+    ensures reads { slack S.Source input.old ≤ slack S.Source input.new + 1 }
+    ensures taken { IfOk result (λ found. is_some found ≡ true → slack S.Source input.old ≤ slack S.Source input.new) }
+    ensures effort { IfOk result (λ found. is_some found ≡ true → work S.Source input.new < work S.Source input.old) }
+    ensures lowers { reads_left S.Source input.new ≤ reads_left S.Source input.old }
+    ensures waited { IfOk result (λ found. is_some found ≡ true
+        → is_waiting (R.version records) input.old.window.now ≡ true → reads_left S.Source input.new < reads_left S.Source input.old) }
+    ensures same_inlet { SameInlet input.old input.new }
 {
-    let Some(found) = records.find_next(window, source)? else {
+    let Some(found) = records.find_next(input)? else {
         return Ok(None);
     };
-    take_record(window, found.len, message)?;
+    take_record(input.window, found.len, message)?;
     Ok(Some(found.passage))
 }
 
@@ -249,24 +242,24 @@ pub(crate) fn read_next_of<S: Source, R: Records>(
 /// message, if there was one. In version 2 a byte that names no direction is judged before the host
 /// behind it is read, then the message as in version 1.
 pub fn read_next<S: Source>(
-    window: &mut Window,
-    source: &mut S,
+    input: &mut Inlet<'_, S>,
     version: Version,
     message: &mut Bits,
 ) -> Result<Option<Passage>, FileFault>
-    ensures told { (bytes : List ℕ) → Ahead window.old (S.left source.old) bytes → ReadsNext version bytes result message.new window.new (S.left source.new) }
-    ensures mark { S.has_failed source.new ≡ (S.has_failed source.old || is_read_failed result) }
+    ensures told { (bytes : List ℕ) → Brings S.Source input.old bytes
+        → ReadsNext version bytes result message.new input.new.window.now (left_in S.Source input.new) }
+    ensures mark { read_failed S.Source input.new ≡ (read_failed S.Source input.old || is_read_failed result) }
     ensures other { is_write_failed result ≡ false }
-    ensures reads { reads_beyond S.gives_all (S.reads source.old) (S.left source.old) ≤ reads_beyond S.gives_all (S.reads source.new) (S.left source.new) + 1 }
-    ensures taken { IfOk result (λ found. is_some found ≡ true → reads_beyond S.gives_all (S.reads source.old) (S.left source.old) ≤ reads_beyond S.gives_all (S.reads source.new) (S.left source.new)) }
-    ensures effort { IfOk result (λ found. is_some found ≡ true → effort (S.reads source.new) window.new < effort (S.reads source.old) window.old) }
-    ensures lowers { S.reads source.new ≤ S.reads source.old }
-    ensures waited { IfOk result (λ found. is_some found ≡ true → is_waiting version window.old ≡ true → S.reads source.new < S.reads source.old) }
+    ensures reads { slack S.Source input.old ≤ slack S.Source input.new + 1 }
+    ensures taken { IfOk result (λ found. is_some found ≡ true → slack S.Source input.old ≤ slack S.Source input.new) }
+    ensures effort { IfOk result (λ found. is_some found ≡ true → work S.Source input.new < work S.Source input.old) }
+    ensures lowers { reads_left S.Source input.new ≤ reads_left S.Source input.old }
+    ensures waited { IfOk result (λ found. is_some found ≡ true
+        → is_waiting version input.old.window.now ≡ true → reads_left S.Source input.new < reads_left S.Source input.old) }
+    ensures same_inlet { SameInlet input.old input.new }
 {
     match version {
-        Version::One(direction) => {
-            read_next_of(window, source, PlainRecords { direction }, message)
-        }
-        Version::Two => read_next_of(window, source, PlacedRecords, message),
+        Version::One(direction) => read_next_of(input, PlainRecords { direction }, message),
+        Version::Two => read_next_of(input, PlacedRecords, message),
     }
 }

@@ -2,14 +2,14 @@
 ghost use Rattle.std.specs.Prelude.{◌≡◌, ◌+◌, ◌*◌, ◌≤◌, ◌||◌, ◌++◌, length, is_err};
 ghost use Rattle.std.specs.List.{flat_map};
 ghost use Rattle.ncp_play_follow.specs.ConnectionLines.{way_word, end_word, ended_word, which_words, socket_words, end_words, said_words, life_words, allocation_words, connection_line, of_words, shown_words, said_text, said_line, connection_lines};
-ghost use Rattle.ncp_play_stream.specs.Pieces.{bytes_and_writes, lost_pieces};
-ghost use Rattle.ncp_play_stream.specs.Streams.{SaysTextOrBeginning};
+ghost use Rattle.ncp_play_stream.specs.Pieces.{lost_pieces};
+ghost use Rattle.ncp_play_page.specs.Outlets.{SameOutlet, write_failed, credit, SaysOrBreaks};
 
 use crate::words::{LONGEST_AMOUNT, push_amount};
 use ncp_bits::{MAX_BITS, Part};
 use ncp_follow::{Connection, End};
 use ncp_play_files::push_text_word;
-use ncp_play_page::{LONGEST_NUMBER, PAGE_SIZE, Page, push_field};
+use ncp_play_page::{LONGEST_NUMBER, Outlet, PAGE_SIZE, Page, push_field};
 use ncp_play_stream::{Failed, Sink};
 
 /// How many bytes the lines of a connection have at most.
@@ -204,17 +204,17 @@ fn push_connection(page: &mut Page, connection: &Connection)
 
 /// Says the lines of connections.
 pub(crate) fn say_connections<W: Sink>(
-    page: &mut Page,
-    sink: &mut W,
+    out: &mut Outlet<'_, W>,
     told: &[Connection],
 ) -> Result<(), Failed>
-    ensures told { SaysTextOrBeginning page.old (W.written sink.old) (flat_map connection_lines told.now) result page.new (W.written sink.new) }
-    ensures writes { bytes_and_writes W.takes_all (W.writes sink.old) (W.written sink.old) ≤ bytes_and_writes W.takes_all (W.writes sink.new) (W.written sink.new) + lost_pieces (is_err result) }
-    ensures mark { W.has_failed sink.new ≡ (W.has_failed sink.old || is_err result) }
+    ensures told { SaysOrBreaks W.Sink out.old (flat_map connection_lines told.now) result out.new }
+    ensures writes { credit W.Sink out.old ≤ credit W.Sink out.new + lost_pieces (is_err result) }
+    ensures mark { write_failed W.Sink out.new ≡ (write_failed W.Sink out.old || is_err result) }
+    ensures same_outlet { SameOutlet out.old out.new }
 {
     for connection in told {
-        page.make_room(sink, LONGEST_CONNECTION)?;
-        push_connection(page, connection);
+        out.make_room(LONGEST_CONNECTION)?;
+        push_connection(out.page, connection);
     }
     Ok(())
 }

@@ -1,8 +1,8 @@
 //! `follow`: what was said on each connection of a file.
 ghost use Rattle.std.specs.Prelude.{◌≡◌, ℕ, ◌+◌, ◌-◌, ◌/◌, ◌<◌, ◌≤◌, ◌||◌, [], List, Some, true, false, length, is_err, IfOk};
-ghost use Rattle.ncp_play_stream.specs.Pieces.{reads_for, reads_beyond, bytes_and_writes, lost_pieces};
-ghost use Rattle.ncp_play_stream.specs.Streams.{Ahead, SaysTextOrBeginning};
-ghost use Rattle.ncp_play_page.specs.Windows.{effort};
+ghost use Rattle.ncp_play_stream.specs.Pieces.{reads_for, lost_pieces};
+ghost use Rattle.ncp_play_page.specs.Inlets.{SameInlet, left_in, read_failed, slack, work, Brings};
+ghost use Rattle.ncp_play_page.specs.Outlets.{SameOutlet, write_failed, credit, SaysOrBreaks, WritesOrBreaks};
 ghost use Rattle.ncp_play_files.specs.Results.{is_read_failed, is_write_failed};
 ghost use Rattle.ncp_play_follow.specs.ConnectionLines.{follow_lines};
 ghost use Rattle.ncp_play_follow.specs.FollowedFiles.{host_of, is_sent, Follows};
@@ -13,7 +13,7 @@ use crate::stray_line::say_strays;
 use ncp_bits::Bits;
 use ncp_follow::Follower;
 use ncp_play_files::{Direction, FileFault, Version, read_next, read_version};
-use ncp_play_page::{Page, Window};
+use ncp_play_page::{Inlet, Outlet, Page, Window};
 use ncp_play_stream::{Failed, LEAST_PIECE, Sink, Source, stop_at_fault};
 
 // The host at whose interface a record is.
@@ -35,20 +35,21 @@ fn is_sent(direction: Direction) -> bool
 
 // Reads the next record into `message` and hears it, if there is one.
 fn hear_next<S: Source>(
-    window: &mut Window,
-    source: &mut S,
+    input: &mut Inlet<'_, S>,
     message: &mut Bits,
     follower: &mut Follower,
     number: u32,
 ) -> Result<bool, FileFault>
-    ensures told { (bytes : List ℕ) → Ahead window.old (S.left source.old) bytes → HearsNext follower.old number bytes result follower.new window.new (S.left source.new) }
-    ensures mark { S.has_failed source.new ≡ (S.has_failed source.old || is_read_failed result) }
+    ensures told { (bytes : List ℕ) → Brings S.Source input.old bytes
+        → HearsNext follower.old number bytes result follower.new input.new.window.now (left_in S.Source input.new) }
+    ensures mark { read_failed S.Source input.new ≡ (read_failed S.Source input.old || is_read_failed result) }
     ensures other { is_write_failed result ≡ false }
-    ensures reads { reads_beyond S.gives_all (S.reads source.old) (S.left source.old) ≤ reads_beyond S.gives_all (S.reads source.new) (S.left source.new) + 1 }
-    ensures taken { IfOk result (λ more. more ≡ true → reads_beyond S.gives_all (S.reads source.old) (S.left source.old) ≤ reads_beyond S.gives_all (S.reads source.new) (S.left source.new)) }
-    ensures effort { IfOk result (λ more. more ≡ true → effort (S.reads source.new) window.new < effort (S.reads source.old) window.old) }
+    ensures reads { slack S.Source input.old ≤ slack S.Source input.new + 1 }
+    ensures taken { IfOk result (λ more. more ≡ true → slack S.Source input.old ≤ slack S.Source input.new) }
+    ensures effort { IfOk result (λ more. more ≡ true → work S.Source input.new < work S.Source input.old) }
+    ensures same_inlet { SameInlet input.old input.new }
 {
-    let Some(passage) = read_next(window, source, Version::Two, message)? else {
+    let Some(passage) = read_next(input, Version::Two, message)? else {
         return Ok(false);
     };
     follower.hear(
@@ -62,81 +63,87 @@ fn hear_next<S: Source>(
 
 /// Hears the next record as `hear_next` does, and lets the source hear of a fault.
 pub(crate) fn hear_on<S: Source>(
-    window: &mut Window,
-    source: &mut S,
+    input: &mut Inlet<'_, S>,
     message: &mut Bits,
     follower: &mut Follower,
     number: u32,
 ) -> Result<bool, FileFault>
-    ensures told { (bytes : List ℕ) → Ahead window.old (S.left source.old) bytes → HearsNext follower.old number bytes result follower.new window.new (S.left source.new) }
-    ensures mark { S.has_failed source.new ≡ (S.has_failed source.old || is_read_failed result) }
+    ensures told { (bytes : List ℕ) → Brings S.Source input.old bytes
+        → HearsNext follower.old number bytes result follower.new input.new.window.now (left_in S.Source input.new) }
+    ensures mark { read_failed S.Source input.new ≡ (read_failed S.Source input.old || is_read_failed result) }
     ensures other { is_write_failed result ≡ false }
-    ensures reads { reads_beyond S.gives_all (S.reads source.old) (S.left source.old) ≤ reads_beyond S.gives_all (S.reads source.new) (S.left source.new) + 1 }
-    ensures taken { IfOk result (λ more. more ≡ true → reads_beyond S.gives_all (S.reads source.old) (S.left source.old) ≤ reads_beyond S.gives_all (S.reads source.new) (S.left source.new)) }
-    ensures effort { IfOk result (λ more. more ≡ true → effort (S.reads source.new) window.new < effort (S.reads source.old) window.old) }
+    ensures reads { slack S.Source input.old ≤ slack S.Source input.new + 1 }
+    ensures taken { IfOk result (λ more. more ≡ true → slack S.Source input.old ≤ slack S.Source input.new) }
+    ensures effort { IfOk result (λ more. more ≡ true → work S.Source input.new < work S.Source input.old) }
+    ensures same_inlet { SameInlet input.old input.new }
 {
-    let heard = hear_next(window, source, message, follower, number);
+    let heard = hear_next(input, message, follower, number);
     stop_at_fault(
-        source,
+        input.source,
         &heard,
         number.saturating_sub(1),
-        window.unread().len(),
+        input.window.unread().len(),
     );
     heard
 }
 
 // Hears the records behind the header.
 fn hear_records<S: Source>(
-    window: &mut Window,
-    source: &mut S,
+    input: &mut Inlet<'_, S>,
     follower: &mut Follower,
 ) -> Result<(), FileFault>
-    ensures told { (bytes : List ℕ) → Ahead window.old (S.left source.old) bytes → HearsFrom follower.old 1 bytes result follower.new (S.left source.new) }
-    ensures mark { S.has_failed source.new ≡ (S.has_failed source.old || is_read_failed result) }
+    ensures told { (bytes : List ℕ) → Brings S.Source input.old bytes
+        → HearsFrom follower.old 1 bytes result follower.new (left_in S.Source input.new) }
+    ensures mark { read_failed S.Source input.new ≡ (read_failed S.Source input.old || is_read_failed result) }
     ensures other { is_write_failed result ≡ false }
-    ensures reads { reads_beyond S.gives_all (S.reads source.old) (S.left source.old) ≤ reads_beyond S.gives_all (S.reads source.new) (S.left source.new) + 1 }
+    ensures reads { slack S.Source input.old ≤ slack S.Source input.new + 1 }
+    ensures same_inlet { SameInlet input.old input.new }
 {
     let mut message = Bits::new();
     let mut number = 1u32;
-    while hear_on(window, source, &mut message, follower, number)? {
+    while hear_on(input, &mut message, follower, number)? {
         number = number.saturating_add(1);
     }
     Ok(())
 }
 
 // Hears the records of a file.
-fn hear_file<S: Source>(source: &mut S, follower: &mut Follower) -> Result<(), FileFault>
-    ensures told { (bytes : List ℕ) → S.left source.old ≡ Some bytes → HearsFile follower.old bytes result follower.new (S.left source.new) }
-    ensures mark { S.has_failed source.new ≡ (S.has_failed source.old || is_read_failed result) }
+fn hear_file<S: Source>(input: &mut Inlet<'_, S>, follower: &mut Follower) -> Result<(), FileFault>
+    requires { input.old.window.now ≡ [] }
+    ensures told { (bytes : List ℕ) → left_in S.Source input.old ≡ Some bytes
+        → HearsFile follower.old bytes result follower.new (left_in S.Source input.new) }
+    ensures mark { read_failed S.Source input.new ≡ (read_failed S.Source input.old || is_read_failed result) }
     ensures other { is_write_failed result ≡ false }
-    ensures reads { reads_beyond S.gives_all (S.reads source.old) (S.left source.old) ≤ reads_beyond S.gives_all (S.reads source.new) (S.left source.new) + 1 }
+    ensures reads { slack S.Source input.old ≤ slack S.Source input.new + 1 }
+    ensures same_inlet { SameInlet input.old input.new }
 {
-    let mut window = Window::new();
-    let version = read_version(&mut window, source)?;
+    let version = read_version(input)?;
     match version {
         Version::One(_) => Err(FileFault::BadHeader),
-        Version::Two => hear_records(&mut window, source, follower),
+        Version::Two => hear_records(input, follower),
     }
 }
 
 // Says the lines of all that is known.
-fn say_lines<W: Sink>(page: &mut Page, sink: &mut W, follower: &Follower) -> Result<(), Failed>
-    ensures told { SaysTextOrBeginning page.old (W.written sink.old) (follow_lines follower.now) result page.new (W.written sink.new) }
-    ensures writes { bytes_and_writes W.takes_all (W.writes sink.old) (W.written sink.old) ≤ bytes_and_writes W.takes_all (W.writes sink.new) (W.written sink.new) + lost_pieces (is_err result) }
-    ensures mark { W.has_failed sink.new ≡ (W.has_failed sink.old || is_err result) }
+fn say_lines<W: Sink>(out: &mut Outlet<'_, W>, follower: &Follower) -> Result<(), Failed>
+    ensures told { SaysOrBreaks W.Sink out.old (follow_lines follower.now) result out.new }
+    ensures writes { credit W.Sink out.old ≤ credit W.Sink out.new + lost_pieces (is_err result) }
+    ensures mark { write_failed W.Sink out.new ≡ (write_failed W.Sink out.old || is_err result) }
+    ensures same_outlet { SameOutlet out.old out.new }
 {
-    say_connections(page, sink, follower.told())?;
-    say_strays(page, sink, follower.sessions())
+    say_connections(out, follower.told())?;
+    say_strays(out, follower.sessions())
 }
 
 // Says them, and writes all.
-fn write_lines<W: Sink>(page: &mut Page, sink: &mut W, follower: &Follower) -> Result<(), Failed>
-    ensures told { SaysTextOrBeginning page.old (W.written sink.old) (follow_lines follower.now) result [] (W.written sink.new) }
-    ensures writes { bytes_and_writes W.takes_all (W.writes sink.old) (W.written sink.old) ≤ bytes_and_writes W.takes_all (W.writes sink.new) (W.written sink.new) + lost_pieces true }
-    ensures mark { W.has_failed sink.new ≡ (W.has_failed sink.old || is_err result) }
+fn write_lines<W: Sink>(out: &mut Outlet<'_, W>, follower: &Follower) -> Result<(), Failed>
+    ensures told { WritesOrBreaks W.Sink out.old (follow_lines follower.now) result out.new }
+    ensures writes { credit W.Sink out.old ≤ credit W.Sink out.new + lost_pieces true }
+    ensures mark { write_failed W.Sink out.new ≡ (write_failed W.Sink out.old || is_err result) }
+    ensures same_outlet { SameOutlet out.old out.new }
 {
-    say_lines(page, sink, follower)?;
-    page.flush(sink)
+    say_lines(out, follower)?;
+    out.flush()
 }
 
 /// Writes the lines of the connections of a message file of version 2, in the order of opening, up to its first fault, and
@@ -175,9 +182,18 @@ pub fn follow<S: Source, W: Sink>(
         → W.written sink.old ≡ Some was → W.written sink.new ≡ Some now
         → W.writes sink.old ≤ W.writes sink.new + (length now - length was) / LEAST_PIECE + 2 }
 {
+    let mut window = Window::new();
     let mut page = Page::new();
-    let heard = hear_file(source, follower);
-    match write_lines(&mut page, sink, follower) {
+    let mut input = Inlet {
+        window: &mut window,
+        source,
+    };
+    let mut out = Outlet {
+        page: &mut page,
+        sink,
+    };
+    let heard = hear_file(&mut input, follower);
+    match write_lines(&mut out, follower) {
         Ok(()) => heard,
         Err(_) => Err(FileFault::WriteFailed),
     }

@@ -2,12 +2,12 @@
 ghost use Rattle.std.specs.Prelude.{◌≡◌, ◌+◌, ◌≤◌, ◌||◌, ◌++◌, length, is_err};
 ghost use Rattle.std.specs.List.{flat_map};
 ghost use Rattle.ncp_play_follow.specs.ConnectionLines.{is_quiet, stray_words, stray_line};
-ghost use Rattle.ncp_play_stream.specs.Pieces.{bytes_and_writes, lost_pieces};
-ghost use Rattle.ncp_play_stream.specs.Streams.{SaysTextOrBeginning};
+ghost use Rattle.ncp_play_stream.specs.Pieces.{lost_pieces};
+ghost use Rattle.ncp_play_page.specs.Outlets.{SameOutlet, write_failed, credit, SaysOrBreaks};
 
 use crate::words::push_amount;
 use ncp_follow::Session;
-use ncp_play_page::{PAGE_SIZE, Page, push_field};
+use ncp_play_page::{Outlet, PAGE_SIZE, Page, push_field};
 use ncp_play_stream::{Failed, Sink};
 
 // How many bytes a line has at most.
@@ -45,17 +45,17 @@ fn push_stray(page: &mut Page, session: &Session)
 
 /// Says the lines of the texts that belong to no connection.
 pub(crate) fn say_strays<W: Sink>(
-    page: &mut Page,
-    sink: &mut W,
+    out: &mut Outlet<'_, W>,
     sessions: &[Session],
 ) -> Result<(), Failed>
-    ensures told { SaysTextOrBeginning page.old (W.written sink.old) (flat_map stray_line sessions.now) result page.new (W.written sink.new) }
-    ensures writes { bytes_and_writes W.takes_all (W.writes sink.old) (W.written sink.old) ≤ bytes_and_writes W.takes_all (W.writes sink.new) (W.written sink.new) + lost_pieces (is_err result) }
-    ensures mark { W.has_failed sink.new ≡ (W.has_failed sink.old || is_err result) }
+    ensures told { SaysOrBreaks W.Sink out.old (flat_map stray_line sessions.now) result out.new }
+    ensures writes { credit W.Sink out.old ≤ credit W.Sink out.new + lost_pieces (is_err result) }
+    ensures mark { write_failed W.Sink out.new ≡ (write_failed W.Sink out.old || is_err result) }
+    ensures same_outlet { SameOutlet out.old out.new }
 {
     for session in sessions {
-        page.make_room(sink, LONGEST_STRAY)?;
-        push_stray(page, session);
+        out.make_room(LONGEST_STRAY)?;
+        push_stray(out.page, session);
     }
     Ok(())
 }

@@ -2,9 +2,9 @@
 ghost use Rattle.std.specs.Prelude.{◌≡◌, ℕ, ◌+◌, ◌-◌, ◌*◌, ◌/◌, ◌%◌, ◌<◌, ◌≤◌, ◌||◌, ◌++◌, [], List, Bool, Option, Some, true, false, length, is_err, option_map, IfOk};
 ghost use Rattle.ncp_numbers.specs.Bytes.{bytes_of};
 ghost use Rattle.ncp_follow.specs.Connections.{text_in};
-ghost use Rattle.ncp_play_stream.specs.Pieces.{reads_for, reads_beyond, bytes_and_writes, lost_pieces};
-ghost use Rattle.ncp_play_stream.specs.Streams.{Ahead, SaysTextOrBeginning};
-ghost use Rattle.ncp_play_page.specs.Windows.{effort};
+ghost use Rattle.ncp_play_stream.specs.Pieces.{reads_for, lost_pieces};
+ghost use Rattle.ncp_play_page.specs.Inlets.{SameInlet, left_in, read_failed, slack, work, Brings};
+ghost use Rattle.ncp_play_page.specs.Outlets.{SameOutlet, written_by, write_failed, credit, WritesOrBreaks};
 ghost use Rattle.ncp_play_files.specs.Results.{is_read_failed, is_write_failed};
 ghost use Rattle.ncp_play_follow.specs.FollowedTexts.{FollowsText};
 ghost use Rattle.ncp_play_follow.specs.TextSteps.{SaidBits, KeepsBits, SaysBits, SayNext, SayFrom, SayFile};
@@ -13,7 +13,7 @@ use crate::following::hear_on;
 use ncp_bits::{Bits, MAX_BITS, Part};
 use ncp_follow::{Connection, Follower};
 use ncp_play_files::{FileFault, Version, read_version};
-use ncp_play_page::{PAGE_SIZE, Page, Window};
+use ncp_play_page::{Inlet, Outlet, PAGE_SIZE, Page, Window};
 use ncp_play_stream::{Failed, LEAST_PIECE, Sink, Source};
 
 // How many bits a byte has.
@@ -24,6 +24,15 @@ const BYTE: usize = 8;
 const MOST_BITS: usize = MAX_BITS - BYTE;
 
 const MOST_BYTES: usize = MAX_BITS / BYTE;
+
+// The text of a connection on its way out: the number of the connection, the bits that are no whole byte yet, and room
+// for the message of a record.
+#[derive(Drop)]
+struct Text {
+    wanted: u32,
+    spare: Bits,
+    message: Bits,
+}
 
 // Appends the bytes of bits.
 fn push_part(page: &mut Page, part: &Part<'_>)
@@ -55,78 +64,77 @@ fn push_bits(page: &mut Page, spare: &mut Bits, text: Part<'_>)
 
 // Says the bits of a text: its whole bytes, and those that are no whole byte are spare.
 fn say_bits<W: Sink>(
-    page: &mut Page,
-    sink: &mut W,
+    out: &mut Outlet<'_, W>,
     spare: &mut Bits,
     text: &Part<'_>,
 ) -> Result<(), Failed>
     requires { length spare.old < BYTE }
     ensures said { (was : List ℕ) (bits : List Bool)
-        → SaidBits was page.old (W.written sink.old) spare.old bits
-        → SaysBits result was page.new (W.written sink.new) spare.new bits text.now }
+        → SaidBits was out.old.page.now (written_by W.Sink out.old) spare.old bits
+        → SaysBits result was out.new.page.now (written_by W.Sink out.new) spare.new bits text.now }
     ensures few { length spare.new < BYTE }
-    ensures writes { bytes_and_writes W.takes_all (W.writes sink.old) (W.written sink.old) ≤ bytes_and_writes W.takes_all (W.writes sink.new) (W.written sink.new) + lost_pieces (is_err result) }
-    ensures mark { W.has_failed sink.new ≡ (W.has_failed sink.old || is_err result) }
+    ensures writes { credit W.Sink out.old ≤ credit W.Sink out.new + lost_pieces (is_err result) }
+    ensures mark { write_failed W.Sink out.new ≡ (write_failed W.Sink out.old || is_err result) }
+    ensures same_outlet { SameOutlet out.old out.new }
 {
-    page.make_room(sink, 2 * MOST_BYTES)?;
+    out.make_room(2 * MOST_BYTES)?;
     let front = text.len().min(MOST_BITS);
-    push_bits(page, spare, text.slice(0, front));
-    push_bits(page, spare, text.slice(front, text.len() - front));
+    push_bits(out.page, spare, text.slice(0, front));
+    push_bits(out.page, spare, text.slice(front, text.len() - front));
     Ok(())
 }
 
 // Says the text of a connection, if there is one.
 fn say_text<W: Sink>(
-    page: &mut Page,
-    sink: &mut W,
+    out: &mut Outlet<'_, W>,
     spare: &mut Bits,
     connection: Option<&Connection>,
 ) -> Result<(), Failed>
     requires { length spare.old < BYTE }
     ensures said { (was : List ℕ) (bits : List Bool)
-        → SaidBits was page.old (W.written sink.old) spare.old bits
-        → SaysBits result was page.new (W.written sink.new) spare.new bits (text_in (option_map (λ one. one.now) connection.entry)) }
+        → SaidBits was out.old.page.now (written_by W.Sink out.old) spare.old bits
+        → SaysBits result was out.new.page.now (written_by W.Sink out.new) spare.new bits (text_in (option_map (λ one. one.now) connection.entry)) }
     ensures few { length spare.new < BYTE }
-    ensures writes { bytes_and_writes W.takes_all (W.writes sink.old) (W.written sink.old) ≤ bytes_and_writes W.takes_all (W.writes sink.new) (W.written sink.new) + lost_pieces (is_err result) }
-    ensures mark { W.has_failed sink.new ≡ (W.has_failed sink.old || is_err result) }
+    ensures writes { credit W.Sink out.old ≤ credit W.Sink out.new + lost_pieces (is_err result) }
+    ensures mark { write_failed W.Sink out.new ≡ (write_failed W.Sink out.old || is_err result) }
+    ensures same_outlet { SameOutlet out.old out.new }
 {
     match connection {
-        Some(connection) => say_bits(page, sink, spare, &connection.text.whole()),
+        Some(connection) => say_bits(out, spare, &connection.text.whole()),
         None => Ok(()),
     }
 }
 
-// Reads the next record into `message`, and says what it says on the connection that is wanted.
+// Reads the next record, and says what it says on the connection that is wanted.
 fn say_next<S: Source, W: Sink>(
-    window: &mut Window,
-    source: &mut S,
-    message: &mut Bits,
-    page: &mut Page,
-    sink: &mut W,
-    spare: &mut Bits,
+    input: &mut Inlet<'_, S>,
+    out: &mut Outlet<'_, W>,
+    text: &mut Text,
     follower: &mut Follower,
-    wanted: u32,
     number: u32,
 ) -> Result<bool, FileFault>
-    requires { length spare.old < BYTE }
+    requires { length text.old.spare < BYTE }
     ensures told { (bytes : List ℕ) (was : List ℕ) (bits : List Bool)
-        → Ahead window.old (S.left source.old) bytes → SaidBits was page.old (W.written sink.old) spare.old bits
-        → (more : List Bool) × SayNext wanted follower.old number bytes result follower.new window.new (S.left source.new) more
-        × KeepsBits (is_write_failed result) was page.new (W.written sink.new) spare.new (bits ++ more) }
-    ensures few { length spare.new < BYTE }
-    ensures source_mark { S.has_failed source.new ≡ (S.has_failed source.old || is_read_failed result) }
-    ensures writes { bytes_and_writes W.takes_all (W.writes sink.old) (W.written sink.old) ≤ bytes_and_writes W.takes_all (W.writes sink.new) (W.written sink.new) + lost_pieces (is_write_failed result) }
-    ensures sink_mark { W.has_failed sink.new ≡ (W.has_failed sink.old || is_write_failed result) }
-    ensures reads { reads_beyond S.gives_all (S.reads source.old) (S.left source.old) ≤ reads_beyond S.gives_all (S.reads source.new) (S.left source.new) + 1 }
-    ensures taken { IfOk result (λ more. more ≡ true → reads_beyond S.gives_all (S.reads source.old) (S.left source.old) ≤ reads_beyond S.gives_all (S.reads source.new) (S.left source.new)) }
-    ensures effort { IfOk result (λ more. more ≡ true → effort (S.reads source.new) window.new < effort (S.reads source.old) window.old) }
+        → Brings S.Source input.old bytes → SaidBits was out.old.page.now (written_by W.Sink out.old) text.old.spare bits
+        → (more : List Bool) × SayNext text.old.wanted follower.old number bytes result follower.new input.new.window.now (left_in S.Source input.new) more
+        × KeepsBits (is_write_failed result) was out.new.page.now (written_by W.Sink out.new) text.new.spare (bits ++ more) }
+    ensures few { length text.new.spare < BYTE }
+    ensures wanted { text.new.wanted ≡ text.old.wanted }
+    ensures source_mark { read_failed S.Source input.new ≡ (read_failed S.Source input.old || is_read_failed result) }
+    ensures writes { credit W.Sink out.old ≤ credit W.Sink out.new + lost_pieces (is_write_failed result) }
+    ensures sink_mark { write_failed W.Sink out.new ≡ (write_failed W.Sink out.old || is_write_failed result) }
+    ensures reads { slack S.Source input.old ≤ slack S.Source input.new + 1 }
+    ensures taken { IfOk result (λ more. more ≡ true → slack S.Source input.old ≤ slack S.Source input.new) }
+    ensures effort { IfOk result (λ more. more ≡ true → work S.Source input.new < work S.Source input.old) }
+    ensures same_inlet { SameInlet input.old input.new }
+    ensures same_outlet { SameOutlet out.old out.new }
 {
-    follower.forget_text(wanted);
-    let more = hear_on(window, source, message, follower, number)?;
+    follower.forget_text(text.wanted);
+    let more = hear_on(input, &mut text.message, follower, number)?;
     if !more {
         return Ok(false);
     }
-    match say_text(page, sink, spare, follower.connection(wanted)) {
+    match say_text(out, &mut text.spare, follower.connection(text.wanted)) {
         Ok(()) => Ok(true),
         Err(_) => Err(FileFault::WriteFailed),
     }
@@ -134,37 +142,25 @@ fn say_next<S: Source, W: Sink>(
 
 // Says what the records behind the header say on the connection.
 fn say_records<S: Source, W: Sink>(
-    window: &mut Window,
-    source: &mut S,
-    page: &mut Page,
-    sink: &mut W,
-    spare: &mut Bits,
+    input: &mut Inlet<'_, S>,
+    out: &mut Outlet<'_, W>,
+    text: &mut Text,
     follower: &mut Follower,
-    wanted: u32,
 ) -> Result<(), FileFault>
-    requires { length spare.old < BYTE }
+    requires { length text.old.spare < BYTE }
     ensures told { (bytes : List ℕ) (was : List ℕ) (bits : List Bool)
-        → Ahead window.old (S.left source.old) bytes → SaidBits was page.old (W.written sink.old) spare.old bits
-        → (more : List Bool) × SayFrom wanted follower.old 1 bytes result (S.left source.new) more
-        × KeepsBits (is_write_failed result) was page.new (W.written sink.new) spare.new (bits ++ more) }
-    ensures source_mark { S.has_failed source.new ≡ (S.has_failed source.old || is_read_failed result) }
-    ensures writes { bytes_and_writes W.takes_all (W.writes sink.old) (W.written sink.old) ≤ bytes_and_writes W.takes_all (W.writes sink.new) (W.written sink.new) + lost_pieces (is_write_failed result) }
-    ensures sink_mark { W.has_failed sink.new ≡ (W.has_failed sink.old || is_write_failed result) }
-    ensures reads { reads_beyond S.gives_all (S.reads source.old) (S.left source.old) ≤ reads_beyond S.gives_all (S.reads source.new) (S.left source.new) + 1 }
+        → Brings S.Source input.old bytes → SaidBits was out.old.page.now (written_by W.Sink out.old) text.old.spare bits
+        → (more : List Bool) × SayFrom text.old.wanted follower.old 1 bytes result (left_in S.Source input.new) more
+        × KeepsBits (is_write_failed result) was out.new.page.now (written_by W.Sink out.new) text.new.spare (bits ++ more) }
+    ensures source_mark { read_failed S.Source input.new ≡ (read_failed S.Source input.old || is_read_failed result) }
+    ensures writes { credit W.Sink out.old ≤ credit W.Sink out.new + lost_pieces (is_write_failed result) }
+    ensures sink_mark { write_failed W.Sink out.new ≡ (write_failed W.Sink out.old || is_write_failed result) }
+    ensures reads { slack S.Source input.old ≤ slack S.Source input.new + 1 }
+    ensures same_inlet { SameInlet input.old input.new }
+    ensures same_outlet { SameOutlet out.old out.new }
 {
-    let mut message = Bits::new();
     let mut number = 1u32;
-    while say_next(
-        window,
-        source,
-        &mut message,
-        page,
-        sink,
-        spare,
-        follower,
-        wanted,
-        number,
-    )? {
+    while say_next(input, out, text, follower, number)? {
         number = number.saturating_add(1);
     }
     Ok(())
@@ -172,41 +168,42 @@ fn say_records<S: Source, W: Sink>(
 
 // Says what a file says on the connection, but for the bits that are no whole byte.
 fn say_file<S: Source, W: Sink>(
-    source: &mut S,
-    page: &mut Page,
-    sink: &mut W,
-    spare: &mut Bits,
+    input: &mut Inlet<'_, S>,
+    out: &mut Outlet<'_, W>,
+    text: &mut Text,
     follower: &mut Follower,
-    wanted: u32,
 ) -> Result<(), FileFault>
-    requires page { page.old ≡ [] }
-    requires spare { spare.old ≡ [] }
+    requires window { input.old.window.now ≡ [] }
+    requires page { out.old.page.now ≡ [] }
+    requires spare { text.old.spare ≡ [] }
     ensures told { (bytes : List ℕ) (was : List ℕ)
-        → S.left source.old ≡ Some bytes → W.written sink.old ≡ Some was
-        → (bits : List Bool) × SayFile wanted follower.old bytes result (S.left source.new) bits
-        × KeepsBits (is_write_failed result) was page.new (W.written sink.new) spare.new bits }
-    ensures source_mark { S.has_failed source.new ≡ (S.has_failed source.old || is_read_failed result) }
-    ensures writes { bytes_and_writes W.takes_all (W.writes sink.old) (W.written sink.old) ≤ bytes_and_writes W.takes_all (W.writes sink.new) (W.written sink.new) + lost_pieces (is_write_failed result) }
-    ensures sink_mark { W.has_failed sink.new ≡ (W.has_failed sink.old || is_write_failed result) }
-    ensures reads { reads_beyond S.gives_all (S.reads source.old) (S.left source.old) ≤ reads_beyond S.gives_all (S.reads source.new) (S.left source.new) + 1 }
+        → left_in S.Source input.old ≡ Some bytes → written_by W.Sink out.old ≡ Some was
+        → (bits : List Bool) × SayFile text.old.wanted follower.old bytes result (left_in S.Source input.new) bits
+        × KeepsBits (is_write_failed result) was out.new.page.now (written_by W.Sink out.new) text.new.spare bits }
+    ensures source_mark { read_failed S.Source input.new ≡ (read_failed S.Source input.old || is_read_failed result) }
+    ensures writes { credit W.Sink out.old ≤ credit W.Sink out.new + lost_pieces (is_write_failed result) }
+    ensures sink_mark { write_failed W.Sink out.new ≡ (write_failed W.Sink out.old || is_write_failed result) }
+    ensures reads { slack S.Source input.old ≤ slack S.Source input.new + 1 }
+    ensures same_inlet { SameInlet input.old input.new }
+    ensures same_outlet { SameOutlet out.old out.new }
 {
-    let mut window = Window::new();
-    let version = read_version(&mut window, source)?;
+    let version = read_version(input)?;
     match version {
         Version::One(_) => Err(FileFault::BadHeader),
-        Version::Two => say_records(&mut window, source, page, sink, spare, follower, wanted),
+        Version::Two => say_records(input, out, text, follower),
     }
 }
 
 // Says the byte of the bits that are spare, and writes all.
-fn write_rest<W: Sink>(page: &mut Page, sink: &mut W, spare: &Bits) -> Result<(), Failed>
-    ensures told { SaysTextOrBeginning page.old (W.written sink.old) (bytes_of spare.now) result [] (W.written sink.new) }
-    ensures writes { bytes_and_writes W.takes_all (W.writes sink.old) (W.written sink.old) ≤ bytes_and_writes W.takes_all (W.writes sink.new) (W.written sink.new) + lost_pieces true }
-    ensures mark { W.has_failed sink.new ≡ (W.has_failed sink.old || is_err result) }
+fn write_rest<W: Sink>(out: &mut Outlet<'_, W>, spare: &Bits) -> Result<(), Failed>
+    ensures told { WritesOrBreaks W.Sink out.old (bytes_of spare.now) result out.new }
+    ensures writes { credit W.Sink out.old ≤ credit W.Sink out.new + lost_pieces true }
+    ensures mark { write_failed W.Sink out.new ≡ (write_failed W.Sink out.old || is_err result) }
+    ensures same_outlet { SameOutlet out.old out.new }
 {
-    page.make_room(sink, MOST_BYTES)?;
-    push_part(page, &spare.whole());
-    page.flush(sink)
+    out.make_room(MOST_BYTES)?;
+    push_part(out.page, &spare.whole());
+    out.flush()
 }
 
 /// Writes the text of the connection with the number `wanted` of a message file of version 2, as the records up to its
@@ -248,13 +245,26 @@ pub fn follow_text<S: Source, W: Sink>(
         → W.written sink.old ≡ Some was → W.written sink.new ≡ Some now
         → W.writes sink.old ≤ W.writes sink.new + (length now - length was) / LEAST_PIECE + 2 }
 {
+    let mut window = Window::new();
     let mut page = Page::new();
-    let mut spare = Bits::new();
-    let said = say_file(source, &mut page, sink, &mut spare, follower, wanted);
-    if sink.failed() {
+    let mut input = Inlet {
+        window: &mut window,
+        source,
+    };
+    let mut out = Outlet {
+        page: &mut page,
+        sink,
+    };
+    let mut text = Text {
+        wanted,
+        spare: Bits::new(),
+        message: Bits::new(),
+    };
+    let said = say_file(&mut input, &mut out, &mut text, follower);
+    if out.sink.failed() {
         return said;
     }
-    match write_rest(&mut page, sink, &spare) {
+    match write_rest(&mut out, &text.spare) {
         Ok(()) => said,
         Err(_) => Err(FileFault::WriteFailed),
     }

@@ -1,2 +1,4 @@
 pub mod Windows
 pub mod Lines
+pub mod Outlets
+pub mod Inlets

@@ -15,7 +15,7 @@ pub returns-in_err-passage-clause-told : goal.returns-in_err-passage-clause-told
 returns-in_err-passage-clause-told g c = λ bytes was said a k.
     let p = err_from_is_err_and c.from_residual.result c.from_residual.ensures.1 in
     rw (p.1, p.2) (
-    next_ends c.args.standard c.args.auditor.now.umpire c.args.number bytes was said c.args.auditor.now.umpire c.read_next.new.window c.args.page.now (g.S.Source.left c.read_next.new.source) (g.W.Sink.written c.args.sink.now) c.in_err-passage.field-0.0
+    next_ends c.args.standard c.args.auditor.now.umpire c.args.number bytes was said c.args.auditor.now.umpire c.read_next.new.input.window.now c.args.out.now.page.now (g.S.Source.left c.read_next.new.input.source.now) (g.W.Sink.written c.args.out.now.sink.now) c.in_err-passage.field-0.0
     (c.in_err-passage.ensures.told bytes a) k)
 
 pub returns-in_default-clause-told : goal.returns-in_default-clause-told
@@ -33,7 +33,7 @@ returns-in-Ok-clause-told g c = λ bytes was said a k.
       read.0,
       read.1,
       read.2,
-      subst (λ (xs : List ℕ). SaidSoFar was c.say_findings.new.page (g.W.Sink.written c.say_findings.new.sink) (said ++ xs)) lines (c.in-Ok.ensures.told was said k),
+      subst (λ (xs : List ℕ). SaidSoFar was c.say_findings.new.out.page.now (g.W.Sink.written c.say_findings.new.out.sink.now) (said ++ xs)) lines (c.in-Ok.ensures.told was said k),
       c.judge.ensures.after ∙ ap (λ w. after_record c.args.auditor.now.umpire w c.host_of-at.result c.read_next.new.message) c.way_of.ensures
           ∙ ap (λ n. after_record c.args.auditor.now.umpire (way_of c.in-Some.passage.direction) n c.read_next.new.message) c.host_of-at.ensures,
       c.is_clean-clean.ensures ∙ ap (λ (fs : List Finding). not (list_any (is_told c.args.standard) fs)) found,
@@ -52,7 +52,7 @@ returns-in-Err-clause-told g c = λ bytes was said a k.
       read.0,
       broken.0,
       read.1,
-      subst (λ (xs : List ℕ). SaidSoFar was broken.0 (g.W.Sink.written c.say_findings.new.sink) (said ++ xs)) lines (broken.1 was said k),
+      subst (λ (xs : List ℕ). SaidSoFar was broken.0 (g.W.Sink.written c.say_findings.new.out.sink.now) (said ++ xs)) lines (broken.1 was said k),
     )
 
 pub returns-in_err-passage-clause-writes : goal.returns-in_err-passage-clause-writes
@@ -61,7 +61,7 @@ returns-in_err-passage-clause-writes g c = le-add_right _ _
 pub returns-in_err-passage-clause-sink_mark : goal.returns-in_err-passage-clause-sink_mark
 returns-in_err-passage-clause-sink_mark g c =
     let p = err_from_is_err_and c.from_residual.result c.from_residual.ensures.1 in
-    rw (p.1, p.2) (sym (or-false _) ∙ ap (λ b. g.W.Sink.has_failed c.args.sink.now || b) (sym c.in_err-passage.ensures.other))
+    rw (p.1, p.2) (sym (or-false _) ∙ ap (λ b. g.W.Sink.has_failed c.args.out.now.sink.now || b) (sym c.in_err-passage.ensures.other))
 
 pub returns-in_default-clause-writes : goal.returns-in_default-clause-writes
 returns-in_default-clause-writes g c = le-add_right _ _

@@ -14,7 +14,7 @@ pub returns-in_err-let_out-clause-told : goal.returns-in_err-let_out-clause-told
 returns-in_err-let_out-clause-told g c = λ bytes was said a k.
     let p = err_from_is_err_and c.from_residual.result c.from_residual.ensures.1 in
     let out = c.in_err-let_out.ensures.told in
-    let left = g.S.Source.left c.args.source.now in let written = g.W.Sink.written c.let_out.new.sink in
+    let left = g.S.Source.left c.args.input.now.source.now in let written = g.W.Sink.written c.let_out.new.sink in
     rw (p.1, p.2) (
     subst (λ (fault : FileFault). AuditsFrom c.args.standard c.args.auditor.now.umpire c.args.number bytes was said true (Err fault) left c.let_out.new.page written) (sym out.0)
     (from_lost c.args.standard c.args.auditor.now.umpire c.args.number bytes was said true out.1 c.let_out.new.page left written (out.2 was said k)))
@@ -38,9 +38,9 @@ pub returns-clause-told : goal.returns-clause-told
 returns-clause-told g c = λ bytes was said a k.
     let umpire = c.args.auditor.now.umpire in let after = c.audit_next-judged.new.auditor.umpire in
     let r = c.audit_next-judged.result in
-    let page = c.audit_next-judged.new.page in let window = c.audit_next-judged.new.window in let written = g.W.Sink.written c.audit_next-judged.new.sink in
+    let page = c.audit_next-judged.new.out.page.now in let window = c.audit_next-judged.new.input.window.now in let written = g.W.Sink.written c.audit_next-judged.new.out.sink.now in
     subst (λ (left : Option (List ℕ)). AuditsOn c.args.standard umpire c.args.number bytes was said r after window left page written) (sym c.stop_at_fault.ensures.left)
-    (audits_on c.args.standard umpire c.args.number bytes was said after window page (g.S.Source.left c.audit_next-judged.new.source) written r
+    (audits_on c.args.standard umpire c.args.number bytes was said after window page (g.S.Source.left c.audit_next-judged.new.input.source.now) written r
     (c.audit_next-judged.ensures.told bytes was said a (c.in_ok-let_out.ensures.told was said k)))
 
 pub returns-clause-source_mark : goal.returns-clause-source_mark
@@ -63,6 +63,6 @@ returns-clause-writes g c =
     let w = g.W.Sink in let s = g.S.Source in
     let r = c.audit_next-judged.result in
     rw c.stop_at_fault.ensures.reads (
-    paid_on w.takes_all (w.writes c.args.sink.now) (w.writes c.let_out.new.sink) (w.writes c.audit_next-judged.new.sink) (w.written c.args.sink.now) (w.written c.let_out.new.sink) (w.written c.audit_next-judged.new.sink)
-    (s.reads c.args.source.now) (s.reads c.audit_next-judged.new.source) c.let_out.new.page c.audit_next-judged.new.page (is_waiting Two c.args.window.now) (more_of r) c.in_ok-let_out.ensures.writes (rw (same_more r) c.audit_next-judged.ensures.writes)
+    paid_on w.takes_all (w.writes c.args.out.now.sink.now) (w.writes c.let_out.new.sink) (w.writes c.audit_next-judged.new.out.sink.now) (w.written c.args.out.now.sink.now) (w.written c.let_out.new.sink) (w.written c.audit_next-judged.new.out.sink.now)
+    (s.reads c.args.input.now.source.now) (s.reads c.audit_next-judged.new.input.source.now) c.let_out.new.page c.audit_next-judged.new.out.page.now (is_waiting Two c.args.input.now.window.now) (more_of r) c.in_ok-let_out.ensures.writes (rw (same_more r) c.audit_next-judged.ensures.writes)
     c.audit_next-judged.ensures.lowers c.in_ok-let_out.ensures.out c.audit_next-judged.ensures.waited c.audit_next-judged.ensures.kept)

@@ -11,11 +11,11 @@ use Rattle.ncp_play_audit.proofs.auditing.audit_records.Goals as goal
 pub returns-in_err-one-clause-told : goal.returns-in_err-one-clause-told
 returns-in_err-one-clause-told g c = λ bytes was said a k.
     let p = err_from_is_err_and c.from_residual.result c.from_residual.ensures.1 in
-    let left = g.S.Source.left c.audit_on.new.source in let written = g.W.Sink.written c.audit_on.new.sink in
+    let left = g.S.Source.left c.audit_on.new.input.source.now in let written = g.W.Sink.written c.audit_on.new.out.sink.now in
     let before = c.loop-one.invariant.told bytes was said a k in
     let one = c.in_err-one.ensures.told before.0 was before.1 before.2 before.3 in
     rw (p.1, p.2) (
-    before.4 (Err c.in_err-one.field-0.0) left c.audit_on.new.page written one)
+    before.4 (Err c.in_err-one.field-0.0) left c.audit_on.new.out.page.now written one)
 
 pub loop-one-preserved : goal.loop-one-preserved
 loop-one-preserved g c =
@@ -41,15 +41,17 @@ loop-one-preserved g c =
       source_mark = c.in_ok-one.ensures.source_mark ∙ or-false _ ∙ c.loop-one.invariant.source_mark;
       writes = let one = rw c.in-Some.is at c.in_ok-one.ensures.writes in omega (arith, one, c.loop-one.invariant.writes);
       sink_mark = c.in_ok-one.ensures.sink_mark ∙ or-false _ ∙ c.loop-one.invariant.sink_mark;
+      same_inlet = (c.in_ok-one.ensures.same_inlet.0 ∙ c.loop-one.invariant.same_inlet.0, c.in_ok-one.ensures.same_inlet.1 ∙ c.loop-one.invariant.same_inlet.1);
+      same_outlet = (c.in_ok-one.ensures.same_outlet.0 ∙ c.loop-one.invariant.same_outlet.0, c.in_ok-one.ensures.same_outlet.1 ∙ c.loop-one.invariant.same_outlet.1);
     }
 
 pub returns-clause-told : goal.returns-clause-told
 returns-clause-told g c = λ bytes was said a k.
-    let left = g.S.Source.left c.audit_on.new.source in let written = g.W.Sink.written c.audit_on.new.sink in
+    let left = g.S.Source.left c.audit_on.new.input.source.now in let written = g.W.Sink.written c.audit_on.new.out.sink.now in
     let before = c.loop-one.invariant.told bytes was said a k in
     let none = rw c.in_default.is at (c.in_ok-one.ensures.told before.0 was before.1 before.2 before.3) in
-    before.4 (Ok c.loop-one.clean) left c.audit_on.new.page written
-    (from_end c.args.standard c.loop-one.auditor.umpire c.loop-one.number before.0 was before.1 c.loop-one.clean c.audit_on.new.auditor.umpire c.audit_on.new.window c.audit_on.new.page left written none)
+    before.4 (Ok c.loop-one.clean) left c.audit_on.new.out.page.now written
+    (from_end c.args.standard c.loop-one.auditor.umpire c.loop-one.number before.0 was before.1 c.loop-one.clean c.audit_on.new.auditor.umpire c.audit_on.new.input.window.now c.audit_on.new.out.page.now left written none)
 
 pub returns-in_err-one-clause-writes : goal.returns-in_err-one-clause-writes
 returns-in_err-one-clause-writes g c =

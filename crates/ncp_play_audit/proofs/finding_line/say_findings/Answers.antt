@@ -13,16 +13,17 @@ use Rattle.ncp_play_audit.proofs.finding_line.say_findings.Goals as goal
 
 pub loop-finding-init : goal.loop-finding-init
 loop-finding-init g c = record {
-  said = says_none (told_line c.args.standard c.args.number c.args.at) c.args.page.now (g.W.Sink.written c.args.sink.now);
+  said = says_none (told_line c.args.standard c.args.number c.args.at) c.args.out.now.page.now (g.W.Sink.written c.args.out.now.sink.now);
   writes = omega arith;
   mark = refl;
+  same_outlet = (refl, refl);
 }
 
 pub returns-in_err-make_room-clause-told : goal.returns-in_err-make_room-clause-told
 returns-in_err-make_room-clause-told g c =
     let w = g.W.Sink in let found = c.args.found.now in let i = c.loop-finding.finding-index in
-    answers_broken c.args.page.now (flat_map (told_line c.args.standard c.args.number c.args.at) found) (w.written c.args.sink.now) (w.written c.make_room.new.sink) c.make_room.new.self c.from_residual.result c.from_residual.ensures.0
-    (says_items_broken (told_line c.args.standard c.args.number c.args.at) c.args.page.now c.loop-finding.page (w.written c.args.sink.now) (w.written c.loop-finding.sink) (w.written c.make_room.new.sink) (take i found) (drop i found) found c.loop-finding.invariant.said
+    answers_broken c.args.out.now.page.now (flat_map (told_line c.args.standard c.args.number c.args.at) found) (w.written c.args.out.now.sink.now) (w.written c.make_room.new.self.sink.now) c.make_room.new.self.page.now c.from_residual.result c.from_residual.ensures.0
+    (says_items_broken (told_line c.args.standard c.args.number c.args.at) c.args.out.now.page.now c.loop-finding.out.page.now (w.written c.args.out.now.sink.now) (w.written c.loop-finding.out.sink.now) (w.written c.make_room.new.self.sink.now) (take i found) (drop i found) found c.loop-finding.invariant.said
     c.in_err-make_room.ensures.err (take-append-drop i found))
 
 pub loop-finding-preserved : goal.loop-finding-preserved
@@ -31,15 +32,16 @@ loop-finding-preserved g c =
     let none : Finding = record { who = Host 0; rule = Short 0 } in
     let item : Finding = get_or found i none in
     record {
-      said = subst (λ (done : List Finding). SaysText c.args.page.now (w.written c.args.sink.now) (flat_map (told_line c.args.standard c.args.number c.args.at) done) c.push_told.new.page (w.written c.make_room.new.sink)) (sym (take_more found i none c.loop-finding-test.true))
-          (says_item (told_line c.args.standard c.args.number c.args.at) c.args.page.now c.loop-finding.page c.make_room.new.self c.push_told.new.page (w.written c.args.sink.now) (w.written c.loop-finding.sink) (w.written c.make_room.new.sink) (take i found) item
+      said = subst (λ (done : List Finding). SaysText c.args.out.now.page.now (w.written c.args.out.now.sink.now) (flat_map (told_line c.args.standard c.args.number c.args.at) done) c.push_told.new.page (w.written c.make_room.new.self.sink.now)) (sym (take_more found i none c.loop-finding-test.true))
+          (says_item (told_line c.args.standard c.args.number c.args.at) c.args.out.now.page.now c.loop-finding.out.page.now c.make_room.new.self.page.now c.push_told.new.page (w.written c.args.out.now.sink.now) (w.written c.loop-finding.out.sink.now) (w.written c.make_room.new.self.sink.now) (take i found) item
           c.loop-finding.invariant.said c.in_ok-make_room.ensures.ok c.push_told.ensures);
       writes = let one = c.in_ok-make_room.ensures.writes in omega (arith, one, c.loop-finding.invariant.writes);
       mark = c.in_ok-make_room.ensures.mark ∙ or-false _ ∙ c.loop-finding.invariant.mark;
+      same_outlet = (c.in_ok-make_room.ensures.same_outlet.0 ∙ c.loop-finding.invariant.same_outlet.0, c.in_ok-make_room.ensures.same_outlet.1 ∙ c.loop-finding.invariant.same_outlet.1);
     }
 
 pub returns-clause-told : goal.returns-clause-told
 returns-clause-told g c =
     let w = g.W.Sink in let found = c.args.found.now in let i = c.loop-finding.finding-index in
-    says_items (told_line c.args.standard c.args.number c.args.at) c.args.page.now c.loop-finding.page (w.written c.args.sink.now) (w.written c.loop-finding.sink) (take i found) (drop i found) found c.loop-finding.invariant.said (take-append-drop i found)
+    says_items (told_line c.args.standard c.args.number c.args.at) c.args.out.now.page.now c.loop-finding.out.page.now (w.written c.args.out.now.sink.now) (w.written c.loop-finding.out.sink.now) (take i found) (drop i found) found c.loop-finding.invariant.said (take-append-drop i found)
     (drop_of_length-le found c.loop-finding-test.false)

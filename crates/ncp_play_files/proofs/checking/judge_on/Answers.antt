@@ -4,7 +4,7 @@ use Rattle.ncp_play_files.proofs.checking.judge_on.Goals as goal
 
 pub returns-clause-told : goal.returns-clause-told
 returns-clause-told g c = λ bytes a.
-    subst (λ (left : Option (List ℕ)). JudgesNext (g.R.Records.version c.args.records) bytes c.judge_next-judged.result c.judge_next-judged.new.window left) (sym c.stop_at_fault.ensures.left)
+    subst (λ (left : Option (List ℕ)). JudgesNext (g.R.Records.version c.args.records) bytes c.judge_next-judged.result c.judge_next-judged.new.input.window.now left) (sym c.stop_at_fault.ensures.left)
     (c.judge_next-judged.ensures.told bytes a)
 
 pub returns-clause-mark : goal.returns-clause-mark

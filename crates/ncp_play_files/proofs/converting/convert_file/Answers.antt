@@ -12,27 +12,27 @@ use Rattle.ncp_play_files.proofs.converting.convert_file.Goals as goal
 pub returns-in_err-version-clause-told : goal.returns-in_err-version-clause-told
 returns-in_err-version-clause-told g c = λ bytes was e f.
     let p = err_from_is_err_and c.from_residual.result c.from_residual.ensures.1 in
-    let ahead : Ahead c.new-window.result (g.S.Source.left c.args.source.now) bytes = (bytes, e, ap (λ (w : List ℕ). w ++ bytes) c.new-window.ensures) in
-    let said : SaidSoFar was c.args.page.now (g.W.Sink.written c.args.sink.now) [] = ([], f ∙ ap Some (sym (append-nil was)), c.requires) in
+    let ahead : Ahead c.args.input.now.window.now (g.S.Source.left c.args.input.now.source.now) bytes = (bytes, e, ap (λ (w : List ℕ). w ++ bytes) c.requires.window) in
+    let said : SaidSoFar was c.args.out.now.page.now (g.W.Sink.written c.args.out.now.sink.now) [] = ([], f ∙ ap Some (sym (append-nil was)), c.requires.page) in
     rw (p.1, p.2) (
-    turns_nothing c.args.at bytes was c.read_version.new.window c.args.page.now (g.S.Source.left c.read_version.new.source) (g.W.Sink.written c.args.sink.now) c.in_err-version.field-0.0
+    turns_nothing c.args.at bytes was c.read_version.new.input.window.now c.args.out.now.page.now (g.S.Source.left c.read_version.new.input.source.now) (g.W.Sink.written c.args.out.now.sink.now) c.in_err-version.field-0.0
     (c.in_err-version.ensures.told bytes ahead) said)
 
 pub returns-in_err-direction-clause-told : goal.returns-in_err-direction-clause-told
 returns-in_err-direction-clause-told g c = λ bytes was e f.
     let p = err_from_is_err_and c.from_residual-in_err-direction.result c.from_residual-in_err-direction.ensures.1 in
-    let ahead : Ahead c.new-window.result (g.S.Source.left c.args.source.now) bytes = (bytes, e, ap (λ (w : List ℕ). w ++ bytes) c.new-window.ensures) in
-    let said : SaidSoFar was c.args.page.now (g.W.Sink.written c.args.sink.now) [] = ([], f ∙ ap Some (sym (append-nil was)), c.requires) in
+    let ahead : Ahead c.args.input.now.window.now (g.S.Source.left c.args.input.now.source.now) bytes = (bytes, e, ap (λ (w : List ℕ). w ++ bytes) c.requires.window) in
+    let said : SaidSoFar was c.args.out.now.page.now (g.W.Sink.written c.args.out.now.sink.now) [] = ([], f ∙ ap Some (sym (append-nil was)), c.requires.page) in
     let head = c.in_ok-version.ensures.told bytes ahead in
     rw (p.1, p.2) (
-    turns_no_more c.args.at bytes was c.find_direction.new.window c.args.page.now (g.S.Source.left c.find_direction.new.source) (g.W.Sink.written c.args.sink.now) c.in_ok-version.version c.in_err-direction.field-0.0 head.0
+    turns_no_more c.args.at bytes was c.find_direction.new.input.window.now c.args.out.now.page.now (g.S.Source.left c.find_direction.new.input.source.now) (g.W.Sink.written c.args.out.now.sink.now) c.in_ok-version.version c.in_err-direction.field-0.0 head.0
     (c.in_err-direction.ensures.told (drop 4 bytes) head.1) said)
 
 pub returns-clause-told : goal.returns-clause-told
 returns-clause-told g c = λ bytes was e f.
-    let ahead : Ahead c.new-window.result (g.S.Source.left c.args.source.now) bytes = (bytes, e, ap (λ (w : List ℕ). w ++ bytes) c.new-window.ensures) in
+    let ahead : Ahead c.args.input.now.window.now (g.S.Source.left c.args.input.now.source.now) bytes = (bytes, e, ap (λ (w : List ℕ). w ++ bytes) c.requires.window) in
     let version = c.in_ok-version.version in
-    let left = g.S.Source.left c.convert_messages.new.source in let written = g.W.Sink.written c.convert_messages.new.sink in let page = c.convert_messages.new.page in
+    let left = g.S.Source.left c.convert_messages.new.input.source.now in let written = g.W.Sink.written c.convert_messages.new.out.sink.now in let page = c.convert_messages.new.out.page.now in
     let head = c.in_ok-version.ensures.told bytes ahead in
     let found = c.in_ok-direction.ensures.told (drop 4 bytes) head.1 in
     let turned = rw (c.turn_of.ensures.from, c.turn_of.ensures.wanted, c.turn_of.ensures.to, c.turn_of.ensures.given) at (c.convert_messages.ensures.told (drop 4 bytes) was found.1 f) in
@@ -46,7 +46,7 @@ returns-in_err-version-clause-writes g c = omega (arith, c.in_err-version.ensure
 pub returns-in_err-version-clause-sink_mark : goal.returns-in_err-version-clause-sink_mark
 returns-in_err-version-clause-sink_mark g c =
     let p = err_from_is_err_and c.from_residual.result c.from_residual.ensures.1 in
-    rw (p.1, p.2) (sym (or-false _) ∙ ap (λ b. g.W.Sink.has_failed c.args.sink.now || b) (sym c.in_err-version.ensures.other))
+    rw (p.1, p.2) (sym (or-false _) ∙ ap (λ b. g.W.Sink.has_failed c.args.out.now.sink.now || b) (sym c.in_err-version.ensures.other))
 
 pub returns-in_err-direction-clause-source_mark : goal.returns-in_err-direction-clause-source_mark
 returns-in_err-direction-clause-source_mark g c =
@@ -59,7 +59,7 @@ returns-in_err-direction-clause-writes g c = omega (arith, c.in_ok-version.ensur
 pub returns-in_err-direction-clause-sink_mark : goal.returns-in_err-direction-clause-sink_mark
 returns-in_err-direction-clause-sink_mark g c =
     let p = err_from_is_err_and c.from_residual-in_err-direction.result c.from_residual-in_err-direction.ensures.1 in
-    rw (p.1, p.2) (sym (or-false _) ∙ ap (λ b. g.W.Sink.has_failed c.args.sink.now || b) (sym c.in_err-direction.ensures.other))
+    rw (p.1, p.2) (sym (or-false _) ∙ ap (λ b. g.W.Sink.has_failed c.args.out.now.sink.now || b) (sym c.in_err-direction.ensures.other))
 
 pub returns-clause-source_mark : goal.returns-clause-source_mark
 returns-clause-source_mark g c =

@@ -10,7 +10,7 @@ pub returns-in_err-take_on-clause-told : goal.returns-in_err-take_on-clause-told
 returns-in_err-take_on-clause-told g c = λ number bytes was said a k.
     let p = err_from_is_err_and c.from_residual.result c.from_residual.ensures.1 in
     rw (p.1, p.2) (
-    next_ends (next_at c.args.turn.from c.args.turn.wanted) (message_told c.args.turn.given) number bytes was said c.take_on.new.window c.args.page.now (g.S.Source.left c.take_on.new.source) (g.W.Sink.written c.args.sink.now)
+    next_ends (next_at c.args.turn.from c.args.turn.wanted) (message_told c.args.turn.given) number bytes was said c.take_on.new.input.window.now c.args.out.now.page.now (g.S.Source.left c.take_on.new.input.source.now) (g.W.Sink.written c.args.out.now.sink.now)
     c.in_err-take_on.field-0.0 (c.in_err-take_on.ensures.told bytes a) k)
 
 pub returns-then-not-branch-clause-told : goal.returns-then-not-branch-clause-told
@@ -33,7 +33,7 @@ returns-in_err-take_on-clause-writes g c = le-add_right _ _
 pub returns-in_err-take_on-clause-sink_mark : goal.returns-in_err-take_on-clause-sink_mark
 returns-in_err-take_on-clause-sink_mark g c =
     let p = err_from_is_err_and c.from_residual.result c.from_residual.ensures.1 in
-    rw (p.1, p.2) (sym (or-false _) ∙ ap (λ b. g.W.Sink.has_failed c.args.sink.now || b) (sym c.in_err-take_on.ensures.other))
+    rw (p.1, p.2) (sym (or-false _) ∙ ap (λ b. g.W.Sink.has_failed c.args.out.now.sink.now || b) (sym c.in_err-take_on.ensures.other))
 
 pub returns-then-not-branch-clause-writes : goal.returns-then-not-branch-clause-writes
 returns-then-not-branch-clause-writes g c = le-add_right _ _

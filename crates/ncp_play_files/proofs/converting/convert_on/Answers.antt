@@ -17,7 +17,7 @@ returns-in_err-let_out-clause-told g c = λ number bytes was said a k.
     let p = err_from_is_err_and c.from_residual.result c.from_residual.ensures.1 in
     let out = c.in_err-let_out.ensures.told in
     let turn = c.args.turn in
-    let left = g.S.Source.left c.args.source.now in let written = g.W.Sink.written c.let_out.new.sink in
+    let left = g.S.Source.left c.args.input.now.source.now in let written = g.W.Sink.written c.let_out.new.sink in
     rw (p.1, p.2) (
     subst (λ (fault : FileFault). SaysFrom (next_at turn.from turn.wanted) (message_told turn.given) number bytes was said (Err fault) left c.let_out.new.page written) (sym out.0)
     (from_lost (next_at turn.from turn.wanted) (at_front turn.from turn.wanted) (message_told turn.given) number bytes was said out.1 c.let_out.new.page left written (out.2 was said k)))
@@ -40,7 +40,7 @@ returns-in_err-let_out-clause-writes g c =
 pub returns-clause-told : goal.returns-clause-told
 returns-clause-told g c = λ number bytes was said a k.
     let turn = c.args.turn in
-    says_on (next_at turn.from turn.wanted) (at_front turn.from turn.wanted) (message_told turn.given) number bytes was said c.convert_next.new.window c.convert_next.new.page (g.S.Source.left c.convert_next.new.source) (g.W.Sink.written c.convert_next.new.sink) c.convert_next.result
+    says_on (next_at turn.from turn.wanted) (at_front turn.from turn.wanted) (message_told turn.given) number bytes was said c.convert_next.new.input.window.now c.convert_next.new.out.page.now (g.S.Source.left c.convert_next.new.input.source.now) (g.W.Sink.written c.convert_next.new.out.sink.now) c.convert_next.result
     (c.convert_next.ensures.told number bytes was said a (c.in_ok-let_out.ensures.told was said k))
 
 pub returns-clause-sink_mark : goal.returns-clause-sink_mark
@@ -49,7 +49,7 @@ returns-clause-sink_mark g c = c.convert_next.ensures.sink_mark ∙ ap (λ b. b 
 pub returns-clause-writes : goal.returns-clause-writes
 returns-clause-writes g c =
     let w = g.W.Sink in let s = g.S.Source in
-    let waits = is_waiting c.args.turn.from c.args.window.now in
-    paid_on w.takes_all (w.writes c.args.sink.now) (w.writes c.let_out.new.sink) (w.writes c.convert_next.new.sink) (w.written c.args.sink.now) (w.written c.let_out.new.sink) (w.written c.convert_next.new.sink)
-    (s.reads c.args.source.now) (s.reads c.convert_next.new.source) c.let_out.new.page c.convert_next.new.page waits c.convert_next.result c.in_ok-let_out.ensures.writes c.convert_next.ensures.writes
+    let waits = is_waiting c.args.turn.from c.args.input.now.window.now in
+    paid_on w.takes_all (w.writes c.args.out.now.sink.now) (w.writes c.let_out.new.sink) (w.writes c.convert_next.new.out.sink.now) (w.written c.args.out.now.sink.now) (w.written c.let_out.new.sink) (w.written c.convert_next.new.out.sink.now)
+    (s.reads c.args.input.now.source.now) (s.reads c.convert_next.new.input.source.now) c.let_out.new.page c.convert_next.new.out.page.now waits c.convert_next.result c.in_ok-let_out.ensures.writes c.convert_next.ensures.writes
     c.convert_next.ensures.lowers c.in_ok-let_out.ensures.out c.convert_next.ensures.waited c.convert_next.ensures.kept

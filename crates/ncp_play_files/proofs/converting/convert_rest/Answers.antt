@@ -11,11 +11,11 @@ use Rattle.ncp_play_files.proofs.converting.convert_rest.Goals as goal
 pub returns-in_err-convert_on-clause-told : goal.returns-in_err-convert_on-clause-told
 returns-in_err-convert_on-clause-told g c = λ number bytes was said a k.
     let p = err_from_is_err_and c.from_residual.result c.from_residual.ensures.1 in
-    let left = g.S.Source.left c.convert_on.new.source in let written = g.W.Sink.written c.convert_on.new.sink in
+    let left = g.S.Source.left c.convert_on.new.input.source.now in let written = g.W.Sink.written c.convert_on.new.out.sink.now in
     let turn = c.args.turn in
     let before = c.loop-records.invariant.told bytes was said a k in
     rw (p.1, p.2) (
-    before.4 (Err c.in_err-convert_on.field-0.0) left c.convert_on.new.page written
+    before.4 (Err c.in_err-convert_on.field-0.0) left c.convert_on.new.out.page.now written
     (λ n. c.in_err-convert_on.ensures.told n before.0 was before.1 before.2 before.3)
     number)
 
@@ -39,16 +39,18 @@ loop-records-preserved g c =
       source_mark = c.in_ok-convert_on.ensures.source_mark ∙ or-false _ ∙ c.loop-records.invariant.source_mark;
       writes = let one = rw c.if-branch.true at c.in_ok-convert_on.ensures.writes in omega (arith, one, c.loop-records.invariant.writes);
       sink_mark = c.in_ok-convert_on.ensures.sink_mark ∙ or-false _ ∙ c.loop-records.invariant.sink_mark;
+      same_inlet = (c.in_ok-convert_on.ensures.same_inlet.0 ∙ c.loop-records.invariant.same_inlet.0, c.in_ok-convert_on.ensures.same_inlet.1 ∙ c.loop-records.invariant.same_inlet.1);
+      same_outlet = (c.in_ok-convert_on.ensures.same_outlet.0 ∙ c.loop-records.invariant.same_outlet.0, c.in_ok-convert_on.ensures.same_outlet.1 ∙ c.loop-records.invariant.same_outlet.1);
     }
 
 pub returns-clause-told : goal.returns-clause-told
 returns-clause-told g c = λ number bytes was said a k.
-    let left = g.S.Source.left c.convert_on.new.source in let written = g.W.Sink.written c.convert_on.new.sink in
+    let left = g.S.Source.left c.convert_on.new.input.source.now in let written = g.W.Sink.written c.convert_on.new.out.sink.now in
     let turn = c.args.turn in
     let before = c.loop-records.invariant.told bytes was said a k in
-    before.4 (Ok tt) left c.convert_on.new.page written
+    before.4 (Ok tt) left c.convert_on.new.out.page.now written
     (λ n.
-    from_end (next_at turn.from turn.wanted) (at_front turn.from turn.wanted) (message_told turn.given) n before.0 was before.1 c.convert_on.new.window c.convert_on.new.page left written
+    from_end (next_at turn.from turn.wanted) (at_front turn.from turn.wanted) (message_told turn.given) n before.0 was before.1 c.convert_on.new.input.window.now c.convert_on.new.out.page.now left written
     (rw c.if-branch.false at (c.in_ok-convert_on.ensures.told n before.0 was before.1 before.2 before.3)))
     number
 

@@ -1,8 +1,7 @@
 use Rattle.std.proofs.Common.{◌≡◌, ◌≤◌, ℕ, List, Option, Result}
+use Rattle.ncp_play_page.specs.Outlets.{SameOutlet, write_failed, HasSaid}
+use Rattle.ncp_play_page.specs.Inlets.{SameInlet, read_failed, slack, work, Brings, PaidBy}
 use Rattle.ncp_play_files.specs.declared.file.FileFault.{FileFault}
-use Rattle.ncp_play_stream.specs.Pieces.{reads_beyond, Paid}
-use Rattle.ncp_play_stream.specs.Streams.{Ahead, SaidSoFar}
-use Rattle.ncp_play_page.specs.Windows.{effort}
 use Rattle.ncp_play_files.specs.Converted.{next_at}
 use Rattle.ncp_play_files.specs.Steps.{SaysFrom}
 use Rattle.ncp_play_files.specs.Turning.{message_told}
@@ -13,16 +12,18 @@ abbrev pub invariant-loop-records : goal.invariant-loop-records
 invariant-loop-records g l =
     let s = g.S.Source in let w = g.W.Sink in
     record {
-      told : (bytes was said : List ℕ) → Ahead l.initial.window (s.left l.initial.source) bytes → SaidSoFar was l.initial.page (w.written l.initial.sink) said
-          → (now now_said : List ℕ) × Ahead l.window (s.left l.source) now × SaidSoFar was l.page (w.written l.sink) now_said
+      told : (bytes was said : List ℕ) → Brings s l.initial.input bytes → HasSaid w was l.initial.out said
+          → (now now_said : List ℕ) × Brings s l.input now × HasSaid w was l.out now_said
           × ((r : Result Unit FileFault) (left : Option (List ℕ)) (page : List ℕ) (written : Option (List ℕ))
           → ((number : ℕ) → SaysFrom (next_at l.turn.from l.turn.wanted) (message_told l.turn.given) number now was now_said r left page written)
           → (number : ℕ) → SaysFrom (next_at l.turn.from l.turn.wanted) (message_told l.turn.given) number bytes was said r left page written);
-      reads : reads_beyond s.gives_all (s.reads l.initial.source) (s.left l.initial.source) ≤ reads_beyond s.gives_all (s.reads l.source) (s.left l.source);
-      source_mark : s.has_failed l.source ≡ s.has_failed l.initial.source;
-      writes : Paid w.takes_all (w.writes l.initial.sink) (w.written l.initial.sink) (s.reads l.initial.source) (w.writes l.sink) (w.written l.sink) (s.reads l.source) 0;
-      sink_mark : w.has_failed l.sink ≡ w.has_failed l.initial.sink;
+      reads : slack s l.initial.input ≤ slack s l.input;
+      source_mark : read_failed s l.input ≡ read_failed s l.initial.input;
+      writes : PaidBy s w l.initial.out l.initial.input l.out l.input (λ _. 0);
+      sink_mark : write_failed w l.out ≡ write_failed w l.initial.out;
+      same_inlet : SameInlet l.initial.input l.input;
+      same_outlet : SameOutlet l.initial.out l.out;
     }
 
 abbrev pub decreases-loop-records : goal.decreases-loop-records
-decreases-loop-records g l = effort (g.S.Source.reads l.source) l.window
+decreases-loop-records g l = work g.S.Source l.input

@@ -8,7 +8,7 @@ use Rattle.ncp_play_files.proofs.converting.take_next.Goals as goal
 pub returns-in_err-passage-clause-told : goal.returns-in_err-passage-clause-told
 returns-in_err-passage-clause-told g c = λ bytes a.
     let p = err_from_is_err_and c.from_residual.result c.from_residual.ensures.1 in
-    rw (p.1, p.2) (at_stops c.args.turn.from c.args.turn.wanted bytes (g.S.Source.left c.read_next.new.source) c.in_err-passage.field-0.0 (c.in_err-passage.ensures.told bytes a))
+    rw (p.1, p.2) (at_stops c.args.turn.from c.args.turn.wanted bytes (g.S.Source.left c.read_next.new.input.source.now) c.in_err-passage.field-0.0 (c.in_err-passage.ensures.told bytes a))
 
 pub returns-in_default-clause-told : goal.returns-in_default-clause-told
 returns-in_default-clause-told g c = λ bytes a. ap (message_at c.args.turn.wanted) (rw c.in_default.is at (c.in_ok-passage.ensures.told bytes a))

@@ -5,7 +5,7 @@ use Rattle.ncp_play_files.proofs.converting.take_on.Goals as goal
 
 pub returns-clause-told : goal.returns-clause-told
 returns-clause-told g c = λ bytes a.
-    subst (λ (left : Option (List ℕ)). ReadsMessage (next_at c.args.turn.from c.args.turn.wanted) bytes c.take_next-found.result c.take_next-found.new.message c.take_next-found.new.window left) (sym c.stop_at_fault.ensures.left)
+    subst (λ (left : Option (List ℕ)). ReadsMessage (next_at c.args.turn.from c.args.turn.wanted) bytes c.take_next-found.result c.take_next-found.new.message c.take_next-found.new.input.window.now left) (sym c.stop_at_fault.ensures.left)
     (c.take_next-found.ensures.told bytes a)
 
 pub returns-clause-mark : goal.returns-clause-mark

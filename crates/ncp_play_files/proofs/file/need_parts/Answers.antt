@@ -43,7 +43,7 @@ returns-in_err-len-clause-told g c = λ bytes a.
 pub returns-in_err-len-clause-mark : goal.returns-in_err-len-clause-mark
 returns-in_err-len-clause-mark g c =
     let p = err_from_is_err_and c.from_residual-in_err-len.result c.from_residual-in_err-len.ensures.1 in
-    rw (p.1, p.2) (c.in_ok-need.ensures.mark ∙ ap (λ b. g.S.Source.has_failed c.args.source.now || b) (sym c.in_err-len.ensures.read))
+    rw (p.1, p.2) (c.in_ok-need.ensures.mark ∙ ap (λ b. g.S.Source.has_failed c.args.input.now.source.now || b) (sym c.in_err-len.ensures.read))
 
 pub returns-in_err-len-clause-other : goal.returns-in_err-len-clause-other
 returns-in_err-len-clause-other g c =
@@ -120,5 +120,5 @@ returns-clause-lowers g c = le_trans c.in_ok-need-2.ensures.lowers c.in_ok-need.
 pub returns-clause-unread : goal.returns-clause-unread
 returns-clause-unread g c = λ found same.
     let second : g.S.Source.reads c.need-2.new.source ≡ g.S.Source.reads c.need.new.source = omega (arith, same, c.in_ok-need-2.ensures.lowers, c.in_ok-need.ensures.lowers) in
-    let first : g.S.Source.reads c.need.new.source ≡ g.S.Source.reads c.args.source.now = omega (arith, same, c.in_ok-need-2.ensures.lowers, c.in_ok-need.ensures.lowers) in
+    let first : g.S.Source.reads c.need.new.source ≡ g.S.Source.reads c.args.input.now.source.now = omega (arith, same, c.in_ok-need-2.ensures.lowers, c.in_ok-need.ensures.lowers) in
     c.in_ok-need-2.ensures.unread second ∙ c.in_ok-need.ensures.unread first

@@ -11,16 +11,16 @@ use Rattle.ncp_play_files.proofs.file.need_record.Goals as goal
 pub returns-in_err-len-clause-told : goal.returns-in_err-len-clause-told
 returns-in_err-len-clause-told g c = λ bytes a.
     let p = err_from_is_err_and c.from_residual.result c.from_residual.ensures.1 in
-    let there : 2 ≤ length c.args.window.now = omega (arith, ap length c.unread.ensures.bytes) in
-    let len : big_number 2 c.unread-2.result.now ≡ big_number 2 c.args.window.now = ap (big_number 2) c.unread-2.ensures.bytes in
+    let there : 2 ≤ length c.args.input.now.window.now = omega (arith, ap length c.unread.ensures.bytes) in
+    let len : big_number 2 c.unread-2.result.now ≡ big_number 2 c.args.input.now.window.now = ap (big_number 2) c.unread-2.ensures.bytes in
     rw (p.1, p.2, c.in_err-len.ensures.err.0) (
     ap next_record (sym a.2)
-    ∙ next_too_long (c.args.window.now ++ a.0) (big_number 2 c.unread-2.result.now) (simp length-append (omega arith)) (len ∙ sym (big_from-append 2 c.args.window.now a.0 there)) c.in_err-len.ensures.err.1)
+    ∙ next_too_long (c.args.input.now.window.now ++ a.0) (big_number 2 c.unread-2.result.now) (simp length-append (omega arith)) (len ∙ sym (big_from-append 2 c.args.input.now.window.now a.0 there)) c.in_err-len.ensures.err.1)
 
 pub returns-in_err-len-clause-mark : goal.returns-in_err-len-clause-mark
 returns-in_err-len-clause-mark g c =
     let p = err_from_is_err_and c.from_residual.result c.from_residual.ensures.1 in
-    rw (p.1, p.2) (sym (or-false _) ∙ ap (λ b. g.S.Source.has_failed c.args.source.now || b) (sym c.in_err-len.ensures.read))
+    rw (p.1, p.2) (sym (or-false _) ∙ ap (λ b. g.S.Source.has_failed c.args.input.now.source.now || b) (sym c.in_err-len.ensures.read))
 
 pub returns-in_err-len-clause-other : goal.returns-in_err-len-clause-other
 returns-in_err-len-clause-other g c =

@@ -17,7 +17,7 @@ returns-in_err-let_out-clause-told g c = λ bytes was said a k.
     let p = err_from_is_err_and c.from_residual.result c.from_residual.ensures.1 in
     let out = c.in_err-let_out.ensures.told in
     let version = g.R.Records.version c.args.records in
-    let left = g.S.Source.left c.args.source.now in let written = g.W.Sink.written c.let_out.new.sink in
+    let left = g.S.Source.left c.args.input.now.source.now in let written = g.W.Sink.written c.let_out.new.sink in
     rw (p.1, p.2) (
     subst (λ (fault : FileFault). SaysFrom (next_in version) record_lines c.args.number.now bytes was said (Err fault) left c.let_out.new.page written) (sym out.0)
     (from_lost (next_in version) (in_front version) record_lines c.args.number.now bytes was said out.1 c.let_out.new.page left written (out.2 was said k)))
@@ -41,9 +41,9 @@ pub returns-clause-told : goal.returns-clause-told
 returns-clause-told g c = λ bytes was said a k.
     let version = g.R.Records.version c.args.records in
     let r = c.show_next-shown.result in
-    let page = c.show_next-shown.new.page in let window = c.show_next-shown.new.window in let written = g.W.Sink.written c.show_next-shown.new.sink in
+    let page = c.show_next-shown.new.out.page.now in let window = c.show_next-shown.new.input.window.now in let written = g.W.Sink.written c.show_next-shown.new.out.sink.now in
     subst (λ (left : Option (List ℕ)). SaysOn (next_in version) record_lines c.args.number.now bytes was said r window left page written) (sym c.stop_at_fault.ensures.left)
-    (says_on (next_in version) (in_front version) record_lines c.args.number.now bytes was said window page (g.S.Source.left c.show_next-shown.new.source) written r
+    (says_on (next_in version) (in_front version) record_lines c.args.number.now bytes was said window page (g.S.Source.left c.show_next-shown.new.input.source.now) written r
     (c.show_next-shown.ensures.told bytes was said a (c.in_ok-let_out.ensures.told was said k)))
 
 pub returns-clause-source_mark : goal.returns-clause-source_mark
@@ -64,9 +64,9 @@ returns-clause-effort g c = rw c.stop_at_fault.ensures.reads c.show_next-shown.e
 pub returns-clause-writes : goal.returns-clause-writes
 returns-clause-writes g c =
     let w = g.W.Sink in let s = g.S.Source in
-    let waits = is_waiting (g.R.Records.version c.args.records) c.args.window.now in
+    let waits = is_waiting (g.R.Records.version c.args.records) c.args.input.now.window.now in
     let file = c.file.ensures in
     rw c.stop_at_fault.ensures.reads (
-    paid_on w.takes_all (w.writes c.args.sink.now) (w.writes c.let_out.new.sink) (w.writes c.show_next-shown.new.sink) (w.written c.args.sink.now) (w.written c.let_out.new.sink) (w.written c.show_next-shown.new.sink)
-    (s.reads c.args.source.now) (s.reads c.show_next-shown.new.source) c.let_out.new.page c.show_next-shown.new.page waits c.show_next-shown.result (rw file at c.in_ok-let_out.ensures.writes) c.show_next-shown.ensures.writes
+    paid_on w.takes_all (w.writes c.args.out.now.sink.now) (w.writes c.let_out.new.sink) (w.writes c.show_next-shown.new.out.sink.now) (w.written c.args.out.now.sink.now) (w.written c.let_out.new.sink) (w.written c.show_next-shown.new.out.sink.now)
+    (s.reads c.args.input.now.source.now) (s.reads c.show_next-shown.new.input.source.now) c.let_out.new.page c.show_next-shown.new.out.page.now waits c.show_next-shown.result (rw file at c.in_ok-let_out.ensures.writes) c.show_next-shown.ensures.writes
     c.show_next-shown.ensures.lowers (rw file at c.in_ok-let_out.ensures.out) c.show_next-shown.ensures.waited c.show_next-shown.ensures.kept)

@@ -22,16 +22,18 @@ loop-number-init g c =
       source_mark = refl;
       writes = omega arith;
       sink_mark = refl;
+      same_inlet = (refl, refl);
+      same_outlet = (refl, refl);
     }
 
 pub returns-in_err-show_on-clause-told : goal.returns-in_err-show_on-clause-told
 returns-in_err-show_on-clause-told g c = λ bytes was said a k.
     let p = err_from_is_err_and c.from_residual.result c.from_residual.ensures.1 in
-    let left = g.S.Source.left c.show_on.new.source in let written = g.W.Sink.written c.show_on.new.sink in
+    let left = g.S.Source.left c.show_on.new.input.source.now in let written = g.W.Sink.written c.show_on.new.out.sink.now in
     let before = c.loop-number.invariant.told bytes was said a k in
     let one = c.in_err-show_on.ensures.told before.0 was before.1 before.2 before.3 in
     rw (p.1, p.2) (
-    before.4 (Err c.in_err-show_on.field-0.0) left c.show_on.new.page written one)
+    before.4 (Err c.in_err-show_on.field-0.0) left c.show_on.new.out.page.now written one)
 
 pub loop-number-preserved : goal.loop-number-preserved
 loop-number-preserved g c =
@@ -53,15 +55,17 @@ loop-number-preserved g c =
       source_mark = c.in_ok-show_on.ensures.source_mark ∙ or-false _ ∙ c.loop-number.invariant.source_mark;
       writes = let one = rw c.if-branch.true at c.in_ok-show_on.ensures.writes in omega (arith, one, c.loop-number.invariant.writes);
       sink_mark = c.in_ok-show_on.ensures.sink_mark ∙ or-false _ ∙ c.loop-number.invariant.sink_mark;
+      same_inlet = (c.in_ok-show_on.ensures.same_inlet.0 ∙ c.loop-number.invariant.same_inlet.0, c.in_ok-show_on.ensures.same_inlet.1 ∙ c.loop-number.invariant.same_inlet.1);
+      same_outlet = (c.in_ok-show_on.ensures.same_outlet.0 ∙ c.loop-number.invariant.same_outlet.0, c.in_ok-show_on.ensures.same_outlet.1 ∙ c.loop-number.invariant.same_outlet.1);
     }
 
 pub returns-clause-told : goal.returns-clause-told
 returns-clause-told g c = λ bytes was said a k.
-    let left = g.S.Source.left c.show_on.new.source in let written = g.W.Sink.written c.show_on.new.sink in
+    let left = g.S.Source.left c.show_on.new.input.source.now in let written = g.W.Sink.written c.show_on.new.out.sink.now in
     let before = c.loop-number.invariant.told bytes was said a k in
     let one = rw c.if-branch.false at (c.in_ok-show_on.ensures.told before.0 was before.1 before.2 before.3) in
-    before.4 (Ok tt) left c.show_on.new.page written
-    (from_end (next_in (g.R.Records.version c.args.records)) (in_front (g.R.Records.version c.args.records)) record_lines c.loop-number.number before.0 was before.1 c.show_on.new.window c.show_on.new.page left written one)
+    before.4 (Ok tt) left c.show_on.new.out.page.now written
+    (from_end (next_in (g.R.Records.version c.args.records)) (in_front (g.R.Records.version c.args.records)) record_lines c.loop-number.number before.0 was before.1 c.show_on.new.input.window.now c.show_on.new.out.page.now left written one)
 
 pub returns-in_err-show_on-clause-writes : goal.returns-in_err-show_on-clause-writes
 returns-in_err-show_on-clause-writes g c =

@@ -102,5 +102,5 @@ returns-clause-lowers g c = le_trans c.in_ok-need-2.ensures.lowers c.in_ok-need.
 pub returns-clause-unread : goal.returns-clause-unread
 returns-clause-unread g c = λ found same.
     let second : g.S.Source.reads c.need-2.new.source ≡ g.S.Source.reads c.need.new.source = omega (arith, same, c.in_ok-need-2.ensures.lowers, c.in_ok-need.ensures.lowers) in
-    let first : g.S.Source.reads c.need.new.source ≡ g.S.Source.reads c.args.source.now = omega (arith, same, c.in_ok-need-2.ensures.lowers, c.in_ok-need.ensures.lowers) in
+    let first : g.S.Source.reads c.need.new.source ≡ g.S.Source.reads c.args.input.now.source.now = omega (arith, same, c.in_ok-need-2.ensures.lowers, c.in_ok-need.ensures.lowers) in
     c.skip.ensures ∙ ap (λ w. drop 2 w) (c.in_ok-need-2.ensures.unread second ∙ c.in_ok-need.ensures.unread first)

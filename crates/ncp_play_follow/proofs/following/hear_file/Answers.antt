@@ -7,18 +7,18 @@ use Rattle.ncp_play_follow.proofs.following.hear_file.Goals as goal
 pub returns-in_err-version-clause-told : goal.returns-in_err-version-clause-told
 returns-in_err-version-clause-told g c = λ bytes e.
     let p = err_from_is_err_and c.from_residual.result c.from_residual.ensures.1 in
-    let ahead : Ahead c.new-window.result (g.S.Source.left c.args.source.now) bytes = (bytes, e, ap (λ (w : List ℕ). w ++ bytes) c.new-window.ensures) in
+    let ahead : Ahead c.args.input.now.window.now (g.S.Source.left c.args.input.now.source.now) bytes = (bytes, e, ap (λ (w : List ℕ). w ++ bytes) c.requires) in
     rw (p.1, p.2) (
-    file_no_header c.args.follower.now c.args.follower.now bytes c.read_version.new.window (g.S.Source.left c.read_version.new.source) c.in_err-version.field-0.0 (c.in_err-version.ensures.told bytes ahead) refl)
+    file_no_header c.args.follower.now c.args.follower.now bytes c.read_version.new.input.window.now (g.S.Source.left c.read_version.new.input.source.now) c.in_err-version.field-0.0 (c.in_err-version.ensures.told bytes ahead) refl)
 
 pub returns-in-One-clause-told : goal.returns-in-One-clause-told
 returns-in-One-clause-told g c = λ bytes e.
-    let ahead : Ahead c.new-window.result (g.S.Source.left c.args.source.now) bytes = (bytes, e, ap (λ (w : List ℕ). w ++ bytes) c.new-window.ensures) in
+    let ahead : Ahead c.args.input.now.window.now (g.S.Source.left c.args.input.now.source.now) bytes = (bytes, e, ap (λ (w : List ℕ). w ++ bytes) c.requires) in
     let read = rw c.in-One.is at (c.in_ok-version.ensures.told bytes ahead) in
-    file_plain c.args.follower.now c.args.follower.now bytes (g.S.Source.left c.read_version.new.source) _ read.0 refl
+    file_plain c.args.follower.now c.args.follower.now bytes (g.S.Source.left c.read_version.new.input.source.now) _ read.0 refl
 
 pub returns-in-Two-clause-told : goal.returns-in-Two-clause-told
 returns-in-Two-clause-told g c = λ bytes e.
-    let ahead : Ahead c.new-window.result (g.S.Source.left c.args.source.now) bytes = (bytes, e, ap (λ (w : List ℕ). w ++ bytes) c.new-window.ensures) in
+    let ahead : Ahead c.args.input.now.window.now (g.S.Source.left c.args.input.now.source.now) bytes = (bytes, e, ap (λ (w : List ℕ). w ++ bytes) c.requires) in
     let read = rw c.in-Two.is at (c.in_ok-version.ensures.told bytes ahead) in
-    file_heard c.args.follower.now c.hear_records.new.follower bytes (g.S.Source.left c.hear_records.new.source) c.hear_records.result read.0 (c.hear_records.ensures.told (drop 4 bytes) read.1)
+    file_heard c.args.follower.now c.hear_records.new.follower bytes (g.S.Source.left c.hear_records.new.input.source.now) c.hear_records.result read.0 (c.hear_records.ensures.told (drop 4 bytes) read.1)

@@ -10,7 +10,7 @@ use Rattle.ncp_play_follow.proofs.following.hear_records.Goals as goal
 pub returns-in_err-hear_on-clause-told : goal.returns-in_err-hear_on-clause-told
 returns-in_err-hear_on-clause-told g c = λ bytes a.
     let p = err_from_is_err_and c.from_residual.result c.from_residual.ensures.1 in
-    let left = g.S.Source.left c.hear_on.new.source in
+    let left = g.S.Source.left c.hear_on.new.input.source.now in
     let before = c.loop-number.invariant.told bytes a in
     let one = c.in_err-hear_on.ensures.told before.0 before.1 in
     rw (p.1, p.2) (
@@ -33,11 +33,12 @@ loop-number-preserved g c =
           );
       reads = let taken = c.in_ok-hear_on.ensures.taken c.if-branch.true in omega (arith, taken, c.loop-number.invariant.reads);
       mark = c.in_ok-hear_on.ensures.mark ∙ or-false _ ∙ c.loop-number.invariant.mark;
+      same_inlet = (c.in_ok-hear_on.ensures.same_inlet.0 ∙ c.loop-number.invariant.same_inlet.0, c.in_ok-hear_on.ensures.same_inlet.1 ∙ c.loop-number.invariant.same_inlet.1);
     }
 
 pub returns-clause-told : goal.returns-clause-told
 returns-clause-told g c = λ bytes a.
-    let left = g.S.Source.left c.hear_on.new.source in
+    let left = g.S.Source.left c.hear_on.new.input.source.now in
     let before = c.loop-number.invariant.told bytes a in
     let one = rw c.if-branch.false at (c.in_ok-hear_on.ensures.told before.0 before.1) in
     before.2 (Ok tt) c.hear_on.new.follower left (hears_end c.loop-number.follower c.loop-number.number before.0 c.hear_on.new.follower left one.0 one.1)

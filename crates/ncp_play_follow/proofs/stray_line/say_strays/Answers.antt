@@ -12,16 +12,17 @@ use Rattle.ncp_play_follow.proofs.stray_line.say_strays.Goals as goal
 
 pub loop-session-init : goal.loop-session-init
 loop-session-init g c = record {
-  said = says_none stray_line c.args.page.now (g.W.Sink.written c.args.sink.now);
+  said = says_none stray_line c.args.out.now.page.now (g.W.Sink.written c.args.out.now.sink.now);
   writes = omega arith;
   mark = refl;
+  same_outlet = (refl, refl);
 }
 
 pub returns-in_err-make_room-clause-told : goal.returns-in_err-make_room-clause-told
 returns-in_err-make_room-clause-told g c =
     let w = g.W.Sink in let all = c.args.sessions.now in let i = c.loop-session.session-index in
-    answers_broken c.args.page.now (flat_map stray_line all) (w.written c.args.sink.now) (w.written c.make_room.new.sink) c.make_room.new.self c.from_residual.result c.from_residual.ensures.0
-    (says_items_broken stray_line c.args.page.now c.loop-session.page (w.written c.args.sink.now) (w.written c.loop-session.sink) (w.written c.make_room.new.sink) (take i all) (drop i all) all c.loop-session.invariant.said
+    answers_broken c.args.out.now.page.now (flat_map stray_line all) (w.written c.args.out.now.sink.now) (w.written c.make_room.new.self.sink.now) c.make_room.new.self.page.now c.from_residual.result c.from_residual.ensures.0
+    (says_items_broken stray_line c.args.out.now.page.now c.loop-session.out.page.now (w.written c.args.out.now.sink.now) (w.written c.loop-session.out.sink.now) (w.written c.make_room.new.self.sink.now) (take i all) (drop i all) all c.loop-session.invariant.said
     c.in_err-make_room.ensures.err (take-append-drop i all))
 
 pub loop-session-preserved : goal.loop-session-preserved
@@ -30,15 +31,16 @@ loop-session-preserved g c =
     let none : Session = new_session false 0 0 in
     let item : Session = get_or all i none in
     record {
-      said = subst (λ (done : List Session). SaysText c.args.page.now (w.written c.args.sink.now) (flat_map stray_line done) c.push_stray.new.page (w.written c.make_room.new.sink)) (sym (take_more all i none c.loop-session-test.true))
-          (says_item stray_line c.args.page.now c.loop-session.page c.make_room.new.self c.push_stray.new.page (w.written c.args.sink.now) (w.written c.loop-session.sink) (w.written c.make_room.new.sink) (take i all) item
+      said = subst (λ (done : List Session). SaysText c.args.out.now.page.now (w.written c.args.out.now.sink.now) (flat_map stray_line done) c.push_stray.new.page (w.written c.make_room.new.self.sink.now)) (sym (take_more all i none c.loop-session-test.true))
+          (says_item stray_line c.args.out.now.page.now c.loop-session.out.page.now c.make_room.new.self.page.now c.push_stray.new.page (w.written c.args.out.now.sink.now) (w.written c.loop-session.out.sink.now) (w.written c.make_room.new.self.sink.now) (take i all) item
           c.loop-session.invariant.said c.in_ok-make_room.ensures.ok c.push_stray.ensures);
       writes = let one = c.in_ok-make_room.ensures.writes in omega (arith, one, c.loop-session.invariant.writes);
       mark = c.in_ok-make_room.ensures.mark ∙ or-false _ ∙ c.loop-session.invariant.mark;
+      same_outlet = (c.in_ok-make_room.ensures.same_outlet.0 ∙ c.loop-session.invariant.same_outlet.0, c.in_ok-make_room.ensures.same_outlet.1 ∙ c.loop-session.invariant.same_outlet.1);
     }
 
 pub returns-clause-told : goal.returns-clause-told
 returns-clause-told g c =
     let w = g.W.Sink in let all = c.args.sessions.now in let i = c.loop-session.session-index in
-    says_items stray_line c.args.page.now c.loop-session.page (w.written c.args.sink.now) (w.written c.loop-session.sink) (take i all) (drop i all) all c.loop-session.invariant.said (take-append-drop i all)
+    says_items stray_line c.args.out.now.page.now c.loop-session.out.page.now (w.written c.args.out.now.sink.now) (w.written c.loop-session.out.sink.now) (take i all) (drop i all) all c.loop-session.invariant.said (take-append-drop i all)
     (drop_of_length-le all c.loop-session-test.false)

@@ -17,8 +17,8 @@ returns-in_err-more-clause-told g c = λ bytes was bits a k.
     let heard = c.in_err-more.ensures.told bytes a in
     rw (p.1, p.2) (
       [],
-      from_fault c.args.wanted c.args.follower.now c.args.number bytes (g.S.Source.left c.hear_on.new.source) c.in_err-more.field-0.0 heard.0,
-      (c.args.page.now, λ f. refl, bits_same was c.args.page.now (g.W.Sink.written c.args.sink.now) c.args.spare.now bits k),
+      from_fault c.args.text.now.wanted c.args.follower.now c.args.number bytes (g.S.Source.left c.hear_on.new.input.source.now) c.in_err-more.field-0.0 heard.0,
+      (c.args.out.now.page.now, λ f. refl, bits_same was c.args.out.now.page.now (g.W.Sink.written c.args.out.now.sink.now) c.args.text.now.spare bits k),
     )
 
 pub returns-then-not-more-clause-told : goal.returns-then-not-more-clause-told
@@ -26,12 +26,12 @@ returns-then-not-more-clause-told g c = λ bytes was bits a k.
     let heard = rw c.if-not-more.true at (c.in_ok-more.ensures.told bytes a) in (
       [],
       (heard.0, refl),
-      (c.args.page.now, λ n. refl, bits_same was c.args.page.now (g.W.Sink.written c.args.sink.now) c.args.spare.now bits k),
+      (c.args.out.now.page.now, λ n. refl, bits_same was c.args.out.now.page.now (g.W.Sink.written c.args.out.now.sink.now) c.args.text.now.spare bits k),
     )
 
 pub returns-in-Ok-clause-told : goal.returns-in-Ok-clause-told
 returns-in-Ok-clause-told g c = λ bytes was bits a k.
-    let wanted = c.args.wanted in let number = c.args.number in
+    let wanted = c.args.text.now.wanted in let number = c.args.number in
     let heard = rw c.if-not-more.false at (c.in_ok-more.ensures.told bytes a) in
     let seen = heard.0 in
     let text = text_in (option_map (λ (one : Bor Connection). one.now) c.connection.result) in
@@ -40,13 +40,13 @@ returns-in-Ok-clause-told g c = λ bytes was bits a k.
     ap text_in c.connection.ensures ∙ ap (λ (f : Follower). text_in (numbered f.tables.told (place_of wanted))) after in (
       text,
       (seen, heard.1, heard.2, heard.3, after, said),
-      (c.say_text.new.page, λ n. refl, c.in-Ok.ensures.said was bits k),
+      (c.say_text.new.out.page.now, λ n. refl, c.in-Ok.ensures.said was bits k),
     )
 
 pub returns-in-Err-clause-told : goal.returns-in-Err-clause-told
 returns-in-Err-clause-told g c = λ bytes was bits a k.
     let lost = c.in-Err.ensures.said was bits k in (
       [],
-      from_lost c.args.wanted c.args.follower.now c.args.number bytes (g.S.Source.left c.hear_on.new.source),
-      (lost.0, λ n. let f : ⊥ = cc (n) in absurd f, bits_same was lost.0 (g.W.Sink.written c.say_text.new.sink) c.say_text.new.spare bits lost.1),
+      from_lost c.args.text.now.wanted c.args.follower.now c.args.number bytes (g.S.Source.left c.hear_on.new.input.source.now),
+      (lost.0, λ n. let f : ⊥ = cc (n) in absurd f, bits_same was lost.0 (g.W.Sink.written c.say_text.new.out.sink.now) c.say_text.new.spare bits lost.1),
     )

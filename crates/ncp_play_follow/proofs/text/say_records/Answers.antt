@@ -11,33 +11,35 @@ use Rattle.ncp_play_follow.proofs.text.say_records.Goals as goal
 
 pub loop-number-init : goal.loop-number-init
 loop-number-init g c = record {
-  told = λ bytes was bits a k. (bytes, [], a, bits_same was c.args.page.now (g.W.Sink.written c.args.sink.now) c.args.spare.now bits k, λ r left more h. h);
+  told = λ bytes was bits a k. (bytes, [], a, bits_same was c.args.out.now.page.now (g.W.Sink.written c.args.out.now.sink.now) c.args.text.now.spare bits k, λ r left more h. h);
   few = c.requires;
   reads = omega arith;
   source_mark = refl;
   writes = omega arith;
   sink_mark = refl;
+  same_inlet = (refl, refl);
+  same_outlet = (refl, refl);
 }
 
 pub returns-in_err-say_next-clause-told : goal.returns-in_err-say_next-clause-told
 returns-in_err-say_next-clause-told g c = λ bytes was bits a k.
     let p = err_from_is_err_and c.from_residual.result c.from_residual.ensures.1 in
-    let left = g.S.Source.left c.say_next.new.source in let written = g.W.Sink.written c.say_next.new.sink in
+    let left = g.S.Source.left c.say_next.new.input.source.now in let written = g.W.Sink.written c.say_next.new.out.sink.now in
     let fault = c.in_err-say_next.field-0.0 in
     let before = c.loop-number.invariant.told bytes was bits a k in
     let one = c.in_err-say_next.ensures.told before.0 was (bits ++ before.1) before.2 before.3 in
     rw (p.1, p.2) (
       before.1 ++ one.0,
       before.4 (Err fault) left one.0 one.1,
-      subst (KeepsBits (is_write_failed {X = Unit} (Err fault)) was c.say_next.new.page written c.say_next.new.spare) (append_assoc bits before.1 one.0) one.2,
+      subst (KeepsBits (is_write_failed {X = Unit} (Err fault)) was c.say_next.new.out.page.now written c.say_next.new.text.spare) (append_assoc bits before.1 one.0) one.2,
     )
 
 pub loop-number-preserved : goal.loop-number-preserved
 loop-number-preserved g c =
     record {
       told = λ bytes was bits a k.
-          let follower = c.loop-number.follower in let number = c.loop-number.number in
-          let page = c.say_next.new.page in let written = g.W.Sink.written c.say_next.new.sink in let spare = c.say_next.new.spare in
+          let follower = c.loop-number.follower in let wanted = c.loop-number.text.wanted in let number = c.loop-number.number in
+          let page = c.say_next.new.out.page.now in let written = g.W.Sink.written c.say_next.new.out.sink.now in let spare = c.say_next.new.text.spare in
           let before = c.loop-number.invariant.told bytes was bits a k in
           let one = rw c.if-branch.true at (c.in_ok-say_next.ensures.told before.0 was (bits ++ before.1) before.2 before.3) in
           let rest = one.1.1 in (
@@ -47,28 +49,31 @@ loop-number-preserved g c =
             subst (SaidBits was page written spare) (append_assoc bits before.1 one.0)
                 (subst (λ (last : List ℕ). SaidBits was last written spare ((bits ++ before.1) ++ one.0)) (one.2.1 refl) one.2.2),
             λ r left more h.
-                subst (SayFrom c.args.wanted c.args.follower.now 1 bytes r left) (sym (append_assoc before.1 one.0 more)) (
+                subst (SayFrom c.args.text.now.wanted c.args.follower.now 1 bytes r left) (sym (append_assoc before.1 one.0 more)) (
                 before.4 r left (one.0 ++ more) (
-                subst (λ (xs : List Bool). SayFrom c.args.wanted follower number before.0 r left (xs ++ more)) (sym one.1.5)
-                (from_more c.args.wanted follower number before.0 left one.1.0 rest r more one.1.2
-                (subst (λ (f : Follower). SayFrom c.args.wanted f (number_after number) rest r left more) one.1.4
-                (subst (λ (n : ℕ). SayFrom c.args.wanted c.say_next.new.follower n rest r left more) c.saturating_add-number.ensures h))))),
+                subst (λ (xs : List Bool). SayFrom wanted follower number before.0 r left (xs ++ more)) (sym one.1.5)
+                (from_more wanted follower number before.0 left one.1.0 rest r more one.1.2
+                (subst (λ (f : Follower). SayFrom wanted f (number_after number) rest r left more) one.1.4
+                (subst (λ (n : ℕ). SayFrom wanted c.say_next.new.follower n rest r left more) c.saturating_add-number.ensures
+                (subst (λ (w : ℕ). SayFrom w c.say_next.new.follower c.saturating_add-number.result rest r left more) c.in_ok-say_next.ensures.wanted h)))))),
           );
       few = c.in_ok-say_next.ensures.few;
       reads = let taken = c.in_ok-say_next.ensures.taken c.if-branch.true in omega (arith, taken, c.loop-number.invariant.reads);
       source_mark = c.in_ok-say_next.ensures.source_mark ∙ or-false _ ∙ c.loop-number.invariant.source_mark;
       writes = let one = c.in_ok-say_next.ensures.writes in omega (arith, one, c.loop-number.invariant.writes);
       sink_mark = c.in_ok-say_next.ensures.sink_mark ∙ or-false _ ∙ c.loop-number.invariant.sink_mark;
+      same_inlet = (c.in_ok-say_next.ensures.same_inlet.0 ∙ c.loop-number.invariant.same_inlet.0, c.in_ok-say_next.ensures.same_inlet.1 ∙ c.loop-number.invariant.same_inlet.1);
+      same_outlet = (c.in_ok-say_next.ensures.same_outlet.0 ∙ c.loop-number.invariant.same_outlet.0, c.in_ok-say_next.ensures.same_outlet.1 ∙ c.loop-number.invariant.same_outlet.1);
     }
 
 pub returns-clause-told : goal.returns-clause-told
 returns-clause-told g c = λ bytes was bits a k.
-    let left = g.S.Source.left c.say_next.new.source in let written = g.W.Sink.written c.say_next.new.sink in
+    let left = g.S.Source.left c.say_next.new.input.source.now in let written = g.W.Sink.written c.say_next.new.out.sink.now in
     let before = c.loop-number.invariant.told bytes was bits a k in
     let one = rw c.if-branch.false at (c.in_ok-say_next.ensures.told before.0 was (bits ++ before.1) before.2 before.3) in (
       before.1 ++ one.0,
-      before.4 (Ok tt) left one.0 (from_end c.args.wanted c.loop-number.follower c.loop-number.number before.0 left one.0 one.1.0 one.1.1),
-      subst (KeepsBits (is_write_failed {X = Unit} (Ok tt)) was c.say_next.new.page written c.say_next.new.spare) (append_assoc bits before.1 one.0) one.2,
+      before.4 (Ok tt) left one.0 (from_end c.loop-number.text.wanted c.loop-number.follower c.loop-number.number before.0 left one.0 one.1.0 one.1.1),
+      subst (KeepsBits (is_write_failed {X = Unit} (Ok tt)) was c.say_next.new.out.page.now written c.say_next.new.text.spare) (append_assoc bits before.1 one.0) one.2,
     )
 
 pub returns-in_err-say_next-clause-writes : goal.returns-in_err-say_next-clause-writes

@@ -1,8 +1,7 @@
 use Rattle.std.proofs.Common.{◌≡◌, ◌≤◌, ◌<◌, ◌++◌, ℕ, Bool, List, Option, Result, length}
 use Rattle.ncp_play_files.specs.declared.file.FileFault.{FileFault}
-use Rattle.ncp_play_stream.specs.Pieces.{reads_beyond, bytes_and_writes}
-use Rattle.ncp_play_stream.specs.Streams.{Ahead}
-use Rattle.ncp_play_page.specs.Windows.{effort}
+use Rattle.ncp_play_page.specs.Inlets.{SameInlet, read_failed, slack, work, Brings}
+use Rattle.ncp_play_page.specs.Outlets.{SameOutlet, written_by, write_failed, credit}
 use Rattle.ncp_play_follow.specs.TextSteps.{SaidBits, SayFrom}
 use Rattle.ncp_play_follow.proofs.text.say_records.Given as goal
 
@@ -10,15 +9,17 @@ abbrev pub invariant-loop-number : goal.invariant-loop-number
 invariant-loop-number g l =
     let s = g.S.Source in let w = g.W.Sink in
     record {
-      told : (bytes was : List ℕ) (bits : List Bool) → Ahead l.initial.window (s.left l.initial.source) bytes → SaidBits was l.initial.page (w.written l.initial.sink) l.initial.spare bits
-          → (now : List ℕ) × (gone : List Bool) × Ahead l.window (s.left l.source) now × SaidBits was l.page (w.written l.sink) l.spare (bits ++ gone)
-          × ((r : Result Unit FileFault) (left : Option (List ℕ)) (more : List Bool) → SayFrom l.wanted l.follower l.number now r left more → SayFrom l.wanted l.initial.follower 1 bytes r left (gone ++ more));
-      few : length l.spare < 8;
-      reads : reads_beyond s.gives_all (s.reads l.initial.source) (s.left l.initial.source) ≤ reads_beyond s.gives_all (s.reads l.source) (s.left l.source);
-      source_mark : s.has_failed l.source ≡ s.has_failed l.initial.source;
-      writes : bytes_and_writes w.takes_all (w.writes l.initial.sink) (w.written l.initial.sink) ≤ bytes_and_writes w.takes_all (w.writes l.sink) (w.written l.sink);
-      sink_mark : w.has_failed l.sink ≡ w.has_failed l.initial.sink;
+      told : (bytes was : List ℕ) (bits : List Bool) → Brings s l.initial.input bytes → SaidBits was l.initial.out.page.now (written_by w l.initial.out) l.initial.text.spare bits
+          → (now : List ℕ) × (gone : List Bool) × Brings s l.input now × SaidBits was l.out.page.now (written_by w l.out) l.text.spare (bits ++ gone)
+          × ((r : Result Unit FileFault) (left : Option (List ℕ)) (more : List Bool) → SayFrom l.text.wanted l.follower l.number now r left more → SayFrom l.initial.text.wanted l.initial.follower 1 bytes r left (gone ++ more));
+      few : length l.text.spare < 8;
+      reads : slack s l.initial.input ≤ slack s l.input;
+      source_mark : read_failed s l.input ≡ read_failed s l.initial.input;
+      writes : credit w l.initial.out ≤ credit w l.out;
+      sink_mark : write_failed w l.out ≡ write_failed w l.initial.out;
+      same_inlet : SameInlet l.initial.input l.input;
+      same_outlet : SameOutlet l.initial.out l.out;
     }
 
 abbrev pub decreases-loop-number : goal.decreases-loop-number
-decreases-loop-number g l = effort (g.S.Source.reads l.source) l.window
+decreases-loop-number g l = work g.S.Source l.input

@@ -11,7 +11,7 @@ use Rattle.ncp_play_files.proofs.version.PlacedRecordsRecords.find_next.Goals as
 pub returns-in_err-passage-clause-told : goal.returns-in_err-passage-clause-told
 returns-in_err-passage-clause-told g c = λ bytes a.
     let p = err_from_is_err_and c.from_residual.result c.from_residual.ensures.1 in
-    rw (p.1, p.2) (passage_stops bytes (g.S.Source.left c.read_passage.new.source) c.in_err-passage.field-0.0 (c.in_err-passage.ensures.told bytes a))
+    rw (p.1, p.2) (passage_stops bytes (g.S.Source.left c.read_passage.new.input.source.now) c.in_err-passage.field-0.0 (c.in_err-passage.ensures.told bytes a))
 
 pub returns-in_default-clause-told : goal.returns-in_default-clause-told
 returns-in_default-clause-told g c = λ bytes a. ap behind_passage (rw c.in_default.is at (c.in_ok-passage.ensures.told bytes a))
@@ -21,7 +21,7 @@ returns-in_err-len-clause-told g c = λ bytes a.
     let p = err_from_is_err_and c.from_residual-in_err-len.result c.from_residual-in_err-len.ensures.1 in
     let passed = rw c.in-Some.is at (c.in_ok-passage.ensures.told bytes a) in
     rw (p.1, p.2) (
-    message_stops bytes passed.0 c.need_record.new.window c.in-Some.passage (g.S.Source.left c.need_record.new.source) c.in_err-len.field-0.0 passed.1 (c.in_err-len.ensures.told passed.0 passed.2))
+    message_stops bytes passed.0 c.need_record.new.input.window.now c.in-Some.passage (g.S.Source.left c.need_record.new.input.source.now) c.in_err-len.field-0.0 passed.1 (c.in_err-len.ensures.told passed.0 passed.2))
 
 pub returns-in_default-2-clause-told : goal.returns-in_default-2-clause-told
 returns-in_default-2-clause-told g c = λ bytes a.
@@ -81,5 +81,5 @@ pub returns-clause-waited : goal.returns-clause-waited
 returns-clause-waited g c = λ found.
     let s = g.S.Source in
     let whole = rw c.in-Some-2.is at c.in_ok-len.ensures.stands in
-    waited_placed (s.reads c.args.source.now) (s.reads c.read_passage.new.source) (s.reads c.need_record.new.source) c.args.window.now c.read_passage.new.window c.need_record.new.window c.in-Some-2.len c.in_ok-len.ensures.lowers
+    waited_placed (s.reads c.args.input.now.source.now) (s.reads c.read_passage.new.input.source.now) (s.reads c.need_record.new.input.source.now) c.args.input.now.window.now c.read_passage.new.input.window.now c.need_record.new.input.window.now c.in-Some-2.len c.in_ok-len.ensures.lowers
     c.in_ok-passage.ensures.lowers (c.in_ok-passage.ensures.unread (ap is_some c.in-Some.is)) (c.in_ok-len.ensures.unread (ap is_some c.in-Some-2.is)) (omega (arith, whole.inside)) whole

@@ -8,7 +8,7 @@ use Rattle.ncp_play_files.proofs.version.PlainRecordsRecords.find_next.Goals as 
 pub returns-in_err-len-clause-told : goal.returns-in_err-len-clause-told
 returns-in_err-len-clause-told g c = λ bytes a.
     let p = err_from_is_err_and c.from_residual.result c.from_residual.ensures.1 in
-    rw (p.1, p.2) (one_stops c.args.self.direction bytes c.need_record.new.window (g.S.Source.left c.need_record.new.source) c.in_err-len.field-0.0 (c.in_err-len.ensures.told bytes a))
+    rw (p.1, p.2) (one_stops c.args.self.direction bytes c.need_record.new.input.window.now (g.S.Source.left c.need_record.new.input.source.now) c.in_err-len.field-0.0 (c.in_err-len.ensures.told bytes a))
 
 pub returns-in_default-clause-told : goal.returns-in_default-clause-told
 returns-in_default-clause-told g c = λ bytes a. ap (recorded (plain c.args.self.direction) (Ok None)) (rw c.in_default.is at (c.in_ok-len.ensures.told bytes a))
@@ -20,4 +20,4 @@ pub returns-clause-waited : goal.returns-clause-waited
 returns-clause-waited g c = λ found.
     let s = g.S.Source in
     let whole = rw c.in-Some.is at c.in_ok-len.ensures.stands in
-    waited_plain (s.reads c.args.source.now) (s.reads c.need_record.new.source) c.args.window.now c.need_record.new.window c.in-Some.len c.in_ok-len.ensures.lowers (c.in_ok-len.ensures.unread (ap is_some c.in-Some.is)) whole
+    waited_plain (s.reads c.args.input.now.source.now) (s.reads c.need_record.new.input.source.now) c.args.input.now.window.now c.need_record.new.input.window.now c.in-Some.len c.in_ok-len.ensures.lowers (c.in_ok-len.ensures.unread (ap is_some c.in-Some.is)) whole
