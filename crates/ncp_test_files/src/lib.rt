@@ -1,8 +1,10 @@
-//! Message files, the command line and the program, with printed texts, streams that fail and memory, and a table of
-//! connections, as tests of what the crates below show to everybody. They stand in a crate of their own, since a crate
-//! with tests is proved twice.
+//! Message files, what is told of captures (`audits`, `follows`), the command line and the program, with printed texts,
+//! streams that fail and memory, and a table of connections, as tests of what the crates below show to everybody. They
+//! stand in a crate of their own, since a crate with tests is proved twice.
 #![tactic(auto)]
 
+#[cfg(test)]
+mod audits;
 #[cfg(test)]
 mod breaks;
 #[cfg(test)]
@@ -15,6 +17,8 @@ mod failures;
 mod faults;
 #[cfg(test)]
 mod files;
+#[cfg(test)]
+mod follows;
 #[cfg(test)]
 mod pieces;
 #[cfg(test)]

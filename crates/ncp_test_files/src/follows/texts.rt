@@ -1,6 +1,6 @@
 //! The texts of single connections, as bytes.
 
-use crate::captures::{OPENED, ROWS, TEXT, joined};
+use super::captures::{OPENED, ROWS, TEXT, joined};
 use ncp_follow::Follower;
 use ncp_play_files::FileFault;
 use ncp_play_follow::follow_text;

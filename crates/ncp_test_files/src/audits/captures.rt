@@ -1,6 +1,6 @@
 //! Captures, with the lines of their findings.
 
-use crate::audited::audited;
+use super::audited::audited;
 use ncp_play_audit::{Auditor, RULES, rule_meaning};
 use ncp_play_files::FileFault;
 use ncp_play_stream::{MemorySink, MemorySource};

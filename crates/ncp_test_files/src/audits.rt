@@ -1,0 +1,5 @@
+//! Captures with the findings that are told of them.
+
+mod audited;
+mod captures;
+mod refused;
