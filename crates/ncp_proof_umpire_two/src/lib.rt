@@ -4,7 +4,7 @@
 //! - *Use:* what `ncp audit` says of a file that `ncp record` wrote rests on it.
 //! - *Proved:* the law of `two`: neither host is blamed at its own interface or at that of the other, by no rule, and the
 //!   subnet is not.
-//! - *Tests:* what is found of wrong hosts and of a wrong subnet is in `ncp_test_audit`.
+//! - *Tests:* what is found of wrong hosts and of a wrong subnet is in `audits` of `ncp_test_files`.
 #![tactic(auto)]
 
 pub mod two;
