@@ -75,11 +75,3 @@ fn expect(
     assert!(rt; answered == answer && sink.bytes() == lines);
     Ok(())
 }
-
-/// These bytes, and behind them those.
-fn joined(alloc: Global, front: &[u8], rest: &[u8]) -> Result<Vec<u8>, Fail> {
-    let mut bytes = Vec::new(alloc);
-    bytes.extend_from_slice(front)?;
-    bytes.extend_from_slice(rest)?;
-    Ok(bytes)
-}

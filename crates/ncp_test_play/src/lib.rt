@@ -30,4 +30,6 @@ mod scripts;
 #[cfg(test)]
 mod streams;
 #[cfg(test)]
+mod texts;
+#[cfg(test)]
 mod world;

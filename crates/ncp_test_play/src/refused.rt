@@ -1,6 +1,7 @@
 //! What stands where the player of one host is refused memory. Here each test has ample memory. `bench/refuse.py` runs
 //! each test again and again, refuses it one request after the other, and reads what is printed of the request.
 use crate::streams::ROOM;
+use crate::world::refused::{are_first_lines, is_noted};
 use ncp_bits::{BitStore, PackedStore, PlainStore};
 use ncp_play_host::play_host;
 use ncp_play_notes::PlayFault;
@@ -35,35 +36,6 @@ fn sink_of(alloc: Global) -> Result<MemorySink, AllocError> {
     }
 }
 
-/// How many bytes two texts have in common at their front.
-fn same_front(one: &[u8], other: &[u8]) -> usize {
-    for (place, (byte, same)) in one.iter().zip(other.iter()).enumerate() {
-        if *byte != *same {
-            return place;
-        }
-    }
-    one.len().min(other.len())
-}
-
-/// What a text has behind so many bytes.
-fn behind(text: &[u8], count: usize) -> &[u8] {
-    &text[count.min(text.len())..]
-}
-
-/// Whether what was written is the lines of the first notes: none of them is cut off from its details.
-fn are_first_lines(written: &[u8]) -> bool {
-    let same = same_front(written, LINES);
-    let are_whole = written.is_empty() || written.ends_with(b"\n");
-    are_whole && same == written.len() && !behind(LINES, same).starts_with(b" ")
-}
-
-/// Whether the first line that differs is of a call, which is refused for want of memory.
-fn is_noted(written: &[u8]) -> bool {
-    let same = same_front(written, LINES);
-    behind(written, same).starts_with(b"refused OutOfMemory\n")
-        && behind(LINES, same).starts_with(b"ok\n")
-}
-
 /// Plays the script. Whether it was refused memory: then the player says so behind the lines of what happened before,
 /// or the line of a call does.
 fn is_refused<S: BitStore>(rt: &impl Abort, alloc: Global) -> Result<bool, Fail> {
@@ -76,10 +48,10 @@ fn is_refused<S: BitStore>(rt: &impl Abort, alloc: Global) -> Result<bool, Fail>
         return Ok(false);
     }
     match answer {
-        Ok(answered) => assert!(rt; !answered && is_noted(written)),
+        Ok(answered) => assert!(rt; !answered && is_noted(written, LINES)),
         Err(fault) => {
             let is_told = fault == PlayFault::OutOfMemory && fault.number() == 7;
-            assert!(rt; is_told && are_first_lines(written));
+            assert!(rt; is_told && are_first_lines(written, LINES));
         }
     }
     Ok(true)

@@ -6,7 +6,7 @@ use ncp_play_page::Page;
 use ncp_play_script::{HostLine, Words, host_line};
 use ncp_play_stream::MemorySink;
 use ncp_transcript::{Alone, HostNote, Input, Message};
-use std::alloc::Global;
+use std::alloc::{AllocError, Global};
 use std::process::Abort;
 use std::test::Fail;
 
@@ -47,9 +47,14 @@ pub(crate) fn is_said(
     }
 }
 
+/// What a line of a script is. It tells the prover nothing.
+fn line_in(alloc: Global, line: &[u8]) -> Result<Option<HostLine>, AllocError> {
+    host_line(alloc, &mut Words::new(line))
+}
+
 /// What a line of a script asks for.
 fn input_in(alloc: Global, line: &[u8]) -> Result<Input, Fail> {
-    match host_line(alloc, &mut Words::new(line))? {
+    match line_in(alloc, line)? {
         Some(HostLine::Input(input)) => Ok(input),
         _ => Err("the line asks for no input".into()),
     }

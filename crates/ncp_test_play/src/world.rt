@@ -7,7 +7,7 @@ mod many;
 mod opening;
 mod played;
 mod recorded;
-mod refused;
+pub(crate) mod refused;
 mod scripts;
 mod settled;
 mod streams;

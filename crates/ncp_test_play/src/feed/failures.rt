@@ -1,5 +1,5 @@
 //! Reads and writes that fail in a feed, each in turn.
-use super::{ROOM, fed, fed_to_page, joined};
+use super::{ROOM, fed, fed_to_page};
 use crate::bytewise::{Bytewise, Piecemeal};
 use ncp_play_files::FileFault;
 use ncp_play_notes::PlayFault;
@@ -109,7 +109,7 @@ fn each_failed_read_and_write_is_told(rt: HostRuntime) -> Result<(), Fail> {
 
 // A feed of so many stray answers.
 fn many(alloc: Global) -> Result<Vec<u8>, Fail> {
-    let mut bytes = joined(alloc, b"NCPI", b"")?;
+    let mut bytes = Vec::from_slice(alloc, b"NCPI")?;
     for _ in 0..MANY {
         bytes.extend_from_slice(STRAY)?;
     }

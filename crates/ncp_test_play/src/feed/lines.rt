@@ -1,5 +1,6 @@
 //! What a feed gives, line by line.
-use super::{expect, joined};
+use super::expect;
+use crate::texts::joined;
 use ncp_play_files::FileFault;
 use ncp_play_notes::PlayFault;
 use std::test::Fail;
@@ -66,7 +67,7 @@ fn a_fault_ends_a_feed(rt: HostRuntime) -> Result<(), Fail> {
     ];
     for (fault, rest) in FAULTS {
         for (front, lines) in FRONTS {
-            let bytes = joined(rt.alloc(), front, rest)?;
+            let bytes = joined(rt.alloc(), &[front, rest])?;
             expect(&rt, rt.alloc(), &bytes, Err(PlayFault::Feed(*fault)), lines)?;
         }
     }

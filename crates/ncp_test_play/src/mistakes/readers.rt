@@ -1,9 +1,10 @@
 //! That what is told of a line agrees with the readers of scripts: on the words that name what is to be done, on what
 //! stands behind each, and on the names of faults.
 
+use super::names::names;
 use ncp_leader::MessageFault;
 use ncp_model::CallFault;
-use ncp_play_faults::{NAMES, Player, meaning, verbs, wrong_line};
+use ncp_play_faults::{Player, meaning, verbs, wrong_line};
 use ncp_play_files::FileFault;
 use ncp_play_notes::PlayFault;
 use ncp_play_script::{TwoHosts, Words, host_line};
@@ -90,9 +91,14 @@ fn is_well(alloc: Global, script: Script, line: &[u8]) -> Result<bool, AllocErro
     Ok(told.as_str() == LAST_RESORT || told.starts_with("behind 'feed' "))
 }
 
+// Words, one space apart.
+fn spaced(alloc: Global, words: &[&str]) -> Result<String, AllocError> {
+    words.join(alloc, " ")
+}
+
 // A line: the words in front, and those behind.
 fn line_of(alloc: Global, front: &[&str], behind: &[&str]) -> Result<String, AllocError> {
-    let mut line = front.join(alloc, " ")?;
+    let mut line = spaced(alloc, front)?;
     for word in behind {
         line.push_str(" ")?;
         line.push_str(word)?;
@@ -117,7 +123,7 @@ fn agree_on(
 // The same words, of which the last is ten times as great: a number that is too great, or other digits than the bits
 // have.
 fn with_greater(alloc: Global, behind: &[&str]) -> Result<String, AllocError> {
-    let mut text = behind.join(alloc, " ")?;
+    let mut text = spaced(alloc, behind)?;
     text.push_str("0")?;
     Ok(text)
 }
@@ -267,20 +273,25 @@ const MESSAGES: &[MessageFault] = &[
     MessageFault::TextMissing,
 ];
 
+// A name means something.
+fn expect_explained(rt: &impl Abort, name: &str) {
+    assert!(rt; meaning(name).is_some(), "{name}");
+}
+
 #[test]
 fn each_name_that_is_printed_is_explained(rt: HostRuntime) {
     for fault in FILES {
-        assert!(rt; meaning(fault.name()).is_some(), "{}", fault.name());
+        expect_explained(&rt, fault.name());
     }
     for fault in SCRIPTS {
-        assert!(rt; meaning(fault.name()).is_some(), "{}", fault.name());
+        expect_explained(&rt, fault.name());
     }
     for fault in REFUSALS {
-        assert!(rt; meaning(fault.name()).is_some(), "{}", fault.name());
+        expect_explained(&rt, fault.name());
     }
     for fault in MESSAGES {
-        assert!(rt; meaning(fault.name()).is_some(), "{}", fault.name());
+        expect_explained(&rt, fault.name());
     }
     let count = FILES.len() + SCRIPTS.len() + REFUSALS.len() + MESSAGES.len();
-    assert!(rt; NAMES.len() == count);
+    assert!(rt; names().len() == count);
 }

@@ -1,8 +1,7 @@
 //! Scripts of two hosts, and of two to eight, at the limits: more lines than any other script has, and the longest lines.
+use crate::texts::{joined, numbered, repeated};
 use crate::world::opening::{COMING_UP, COMING_UP_LINES, HEADER, HOSTS};
-use crate::world::played::{
-    Doing, Row, Run, Store, expect_rows, joined, numbered, play, repeated, whole,
-};
+use crate::world::played::{Doing, Row, Run, Store, expect_rows, play, whole};
 use ncp_play_notes::PlayFault;
 use std::alloc::{AllocError, Global};
 use std::process::Abort;

@@ -1,5 +1,6 @@
 //! Scripts of two to eight hosts.
-use crate::world::played::{Case, Doing, Row, expect, expect_rows, joined, numbered, repeated};
+use crate::texts::{joined, numbered, repeated};
+use crate::world::played::{Case, Doing, Row, expect, expect_rows};
 use std::alloc::Global;
 use std::process::Abort;
 use std::test::Fail;

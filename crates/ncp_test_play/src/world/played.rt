@@ -1,6 +1,7 @@
 //! Plays and records scripts. Nothing is promised of it, so that the prover does not follow a page through a long
 //! test.
 use crate::bytewise::{Bytewise, Piecemeal};
+use crate::texts::joined;
 use ncp_bits::{PackedStore, PlainStore};
 use ncp_play_notes::PlayFault;
 use ncp_play_stream::{MemorySink, MemorySource, Sink, Source};
@@ -111,52 +112,6 @@ pub(crate) fn play(rt: &impl Abort, alloc: Global, how: &Run<'_>) -> Result<Play
         answer,
         sink: sink.sink,
     })
-}
-
-/// These texts, one behind the other.
-pub(crate) fn joined(alloc: Global, texts: &[&[u8]]) -> Result<Vec<u8>, AllocError> {
-    let mut all = Vec::new(alloc);
-    for text in texts {
-        all.extend_from_slice(text)?;
-    }
-    Ok(all)
-}
-
-/// These texts, and others behind them.
-pub(crate) fn joined_behind(
-    alloc: Global,
-    texts: &[&[u8]],
-    behind: &[&[u8]],
-) -> Result<Vec<u8>, AllocError> {
-    let mut all = joined(alloc, texts)?;
-    for text in behind {
-        all.extend_from_slice(text)?;
-    }
-    Ok(all)
-}
-
-/// So many times the same line.
-pub(crate) fn repeated(alloc: Global, line: &[u8], count: u32) -> Result<Vec<u8>, AllocError> {
-    let mut lines = Vec::new(alloc);
-    for _ in 0..count {
-        lines.extend_from_slice(line)?;
-    }
-    Ok(lines)
-}
-
-/// So many lines from a number on: the number of each, and what stands behind it.
-pub(crate) fn numbered(
-    alloc: Global,
-    first: u32,
-    count: u32,
-    behind: &[u8],
-) -> Result<Vec<u8>, AllocError> {
-    let mut lines = Vec::new(alloc);
-    for number in first..first.saturating_add(count) {
-        lines.extend_from_slice(format!(in alloc; "{number}")?.as_bytes())?;
-        lines.extend_from_slice(behind)?;
-    }
-    Ok(lines)
 }
 
 /// A script, what it answers, and what is written of it.

@@ -1,9 +1,10 @@
 //! What stands where the player of scripts is refused memory. Here each test has ample memory. `bench/refuse.py` runs
 //! each test again and again, refuses it one request after the other, and reads what is printed of the request.
+use crate::texts::joined;
 use crate::world::opening::{
     COMING_UP, COMING_UP_LINES, GIVING, GIVING_LINES, HOSTS, SENDING, SENDING_LINES,
 };
-use crate::world::played::{Doing, Store, joined, play, whole};
+use crate::world::played::{Doing, Store, play, whole};
 use ncp_play_notes::PlayFault;
 use std::alloc::{AllocError, Global};
 use std::process::Abort;
@@ -63,14 +64,14 @@ fn behind(text: &[u8], count: usize) -> &[u8] {
 }
 
 /// Whether what was written is the lines of the first notes: none of them is cut off from its details.
-fn are_first_lines(written: &[u8], lines: &[u8]) -> bool {
+pub(crate) fn are_first_lines(written: &[u8], lines: &[u8]) -> bool {
     let are_whole = written.is_empty() || written.ends_with(b"\n");
     let same = same_front(written, lines);
     are_whole && same == written.len() && !behind(lines, same).starts_with(b" ")
 }
 
 /// Whether the first line that differs is of a call, which is refused for want of memory.
-fn is_noted(written: &[u8], lines: &[u8]) -> bool {
+pub(crate) fn is_noted(written: &[u8], lines: &[u8]) -> bool {
     let same = same_front(written, lines);
     behind(written, same).starts_with(b"refused OutOfMemory\n")
         && behind(lines, same).starts_with(b"ok\n")

@@ -1,6 +1,7 @@
 //! Worked scripts, each behind its beginning: what is printed of it, and what is recorded.
+use crate::texts::joined_behind;
 use crate::world::opening::Beginning;
-use crate::world::played::{Case, Doing, expect, joined_behind};
+use crate::world::played::{Case, Doing, expect};
 use std::alloc::Global;
 use std::process::Abort;
 use std::test::Fail;

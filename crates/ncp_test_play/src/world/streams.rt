@@ -1,6 +1,7 @@
 //! Each read and each write of a script that fails in turn, where a byte is read and written at a time.
+use crate::texts::joined;
 use crate::world::opening::{COMING_UP, COMING_UP_LINES, HOSTS};
-use crate::world::played::{Doing, Run, Store, joined, play, whole};
+use crate::world::played::{Doing, Run, Store, play, whole};
 use crate::world::recorded::{RECORDING, RESET};
 use ncp_play_notes::PlayFault;
 use std::alloc::Global;
