@@ -1,6 +1,5 @@
 """./test all with a toolchain that only says what a gate says: its last line is the gate's, and a step that fails fails it."""
 import os
-import re
 import shutil
 import subprocess
 import tempfile
@@ -8,7 +7,7 @@ import unittest
 
 TOP = os.path.dirname(os.path.dirname(os.path.dirname(os.path.abspath(__file__))))
 RT = """#!/bin/sh
-echo "a crate is proved in $RT_JOBS lanes"
+echo "a crate is proved"
 echo "$VERDICT"
 exit $STATUS
 """
@@ -35,11 +34,10 @@ class Gate(unittest.TestCase):
             file.write(text)
         os.chmod(path, 0o755)
 
-    def gate(self, verdict, status=0, beside=0, lanes=None):
+    def gate(self, verdict, status=0, beside=0):
         """The status, the lines, and the last line."""
         path = f"{self.room.name}/bin:{os.environ['PATH']}"
-        environment = {name: value for name, value in os.environ.items() if name != "RT_JOBS"} | ({"RT_JOBS": lanes} if lanes else {})
-        environment |= {"PATH": path, "VERDICT": verdict, "STATUS": f"{status}", "BESIDE": f"{beside}"}
+        environment = {**os.environ, "PATH": path, "VERDICT": verdict, "STATUS": f"{status}", "BESIDE": f"{beside}"}
         ran = subprocess.run([f"{self.top}/test", "all"], env=environment, stdout=subprocess.PIPE, stderr=subprocess.STDOUT, text=True)
         return ran.returncode, ran.stdout, ran.stdout.splitlines()[-1]
 
@@ -48,11 +46,6 @@ class Gate(unittest.TestCase):
         self.assertEqual((status, last), (0, "7 passed, 0 failed"), said)
         self.assertIn("tools/audit --changed", said)
         self.assertIn("skipped: there is no tools/prebuild", said)
-
-    def test_each_proof_has_a_lane_of_its_own(self):
-        _, said, _ = self.gate("7 passed, 0 failed")
-        self.assertIn(int(re.search(r"in (\d+) lanes", said)[1]), range(1, len(os.sched_getaffinity(0)) + 1))
-        self.assertIn("in 17 lanes", self.gate("7 passed, 0 failed", lanes="17")[1])
 
     def test_a_gate_that_fails(self):
         self.assertEqual(self.gate("6 passed, 1 failed", status=1)[::2], (1, "6 passed, 1 failed"))
