@@ -121,7 +121,7 @@ fn audit_on<S: Source, W: Sink>(
     ensures same_inlet { SameInlet input.old input.new }
     ensures same_outlet { SameOutlet out.old out.new }
 {
-    let_out(input.window, Version::Two, out.page, out.sink)?;
+    let_out(input.window, Version::Two, out)?;
     let judged = audit_next(input, out, auditor, standard, number);
     stop_at_fault(
         input.source,

@@ -1,6 +1,8 @@
 //! `feed`.
 ghost use Rattle.std.specs.Prelude.{◌≡◌, ℕ, ◌+◌, ◌*◌, ◌≤◌, ◌||◌, List, OnOk};
-ghost use Rattle.ncp_play_stream.specs.Pieces.{reads_beyond, bytes_and_writes, lost_pieces, Paid};
+ghost use Rattle.ncp_play_page.specs.Inlets.{SameInlet, left_in, reads_left, read_failed, slack, Brings, PaidBy};
+ghost use Rattle.ncp_play_page.specs.Outlets.{SameOutlet, written_by, write_failed, credit};
+ghost use Rattle.ncp_play_stream.specs.Pieces.{reads_beyond, lost_pieces, Paid};
 ghost use Rattle.ncp_play_stream.specs.Streams.{Ahead};
 ghost use Rattle.ncp_play_files.specs.Results.{is_read_failed as is_file_read_failed, is_write_failed as is_file_write_failed};
 ghost use Rattle.ncp_play_files.specs.Steps.{LetsOut};
@@ -15,38 +17,37 @@ use crate::sending::send_all;
 use ncp_bits::BitStore;
 use ncp_play_files::{Direction, FileFault, HEADER, read_header};
 use ncp_play_notes::{Heading, PlayFault};
-use ncp_play_page::{Page, Window};
+use ncp_play_page::{Inlet, Outlet, Page, Window};
 use ncp_play_stream::{LEAST_PIECE, Sink, Source};
 use ncp_transcript::Alone;
 
 // Reads the header, which has to be that of a file from an IMP.
-fn read_feed_header<R: Source>(window: &mut Window, source: &mut R) -> Result<(), FileFault>
-    ensures told { (bytes : List ℕ) → Ahead window.old (R.left source.old) bytes → ReadsFeedHeader bytes result window.new (R.left source.new) }
-    ensures mark { R.has_failed source.new ≡ (R.has_failed source.old || is_file_read_failed result) }
-    ensures reads { reads_beyond R.gives_all (R.reads source.old) (R.left source.old) ≤ reads_beyond R.gives_all (R.reads source.new) (R.left source.new) + 1 }
-    ensures taken { OnOk result (reads_beyond R.gives_all (R.reads source.old) (R.left source.old) ≤ reads_beyond R.gives_all (R.reads source.new) (R.left source.new)) }
-    ensures lowers { R.reads source.new ≤ R.reads source.old }
+fn read_feed_header<R: Source>(input: &mut Inlet<'_, R>) -> Result<(), FileFault>
+    ensures told { (bytes : List ℕ) → Brings R.Source input.old bytes
+        → ReadsFeedHeader bytes result input.new.window.now (left_in R.Source input.new) }
+    ensures mark { read_failed R.Source input.new ≡ (read_failed R.Source input.old || is_file_read_failed result) }
+    ensures reads { slack R.Source input.old ≤ slack R.Source input.new + 1 }
+    ensures taken { OnOk result (slack R.Source input.old ≤ slack R.Source input.new) }
+    ensures lowers { reads_left R.Source input.new ≤ reads_left R.Source input.old }
+    ensures same_inlet { SameInlet input.old input.new }
 {
-    match read_header(window, source)? {
+    match read_header(input)? {
         Direction::FromImp => Ok(()),
         Direction::ToImp => Err(FileFault::BadHeader),
     }
 }
 
 // Writes the page where the header did not come whole yet.
-fn let_out_before_header<W: Sink>(
-    window: &Window,
-    page: &mut Page,
-    sink: &mut W,
-) -> Result<(), FileFault>
-    ensures told { LetsOut page.old (W.written sink.old) result page.new (W.written sink.new) }
-    ensures writes { bytes_and_writes W.takes_all (W.writes sink.old) (W.written sink.old) ≤ bytes_and_writes W.takes_all (W.writes sink.new) (W.written sink.new) + lost_pieces (is_file_write_failed result) + LEAST_PIECE }
-    ensures mark { W.has_failed sink.new ≡ (W.has_failed sink.old || is_file_write_failed result) }
+fn let_out_before_header<W: Sink>(window: &Window, out: &mut Outlet<'_, W>) -> Result<(), FileFault>
+    ensures told { LetsOut out.old.page.now (written_by W.Sink out.old) result out.new.page.now (written_by W.Sink out.new) }
+    ensures writes { credit W.Sink out.old ≤ credit W.Sink out.new + lost_pieces (is_file_write_failed result) + LEAST_PIECE }
+    ensures mark { write_failed W.Sink out.new ≡ (write_failed W.Sink out.old || is_file_write_failed result) }
+    ensures same_outlet { SameOutlet out.old out.new }
 {
     if window.unread().len() >= HEADER {
         return Ok(());
     }
-    match page.flush(sink) {
+    match out.flush() {
         Ok(()) => Ok(()),
         Err(_) => Err(FileFault::WriteFailed),
     }
@@ -56,24 +57,26 @@ fn let_out_before_header<W: Sink>(
 fn feed_file<S: BitStore, R: Source, W: Sink>(
     alone: &mut Alone<S>,
     heading: &mut Heading,
-    window: &mut Window,
-    source: &mut R,
-    page: &mut Page,
-    sink: &mut W,
+    input: &mut Inlet<'_, R>,
+    out: &mut Outlet<'_, W>,
 ) -> Result<(), PlayFault>
-    ensures events { (bytes : List ℕ) → Ahead window.old (R.left source.old) bytes → FeedDoes bytes alone.old result alone.new (R.left source.new) }
-    ensures told { (was : List ℕ) (first : Beginning) → Tells was first alone.old.notes heading.old page.old (W.written sink.old)
-        → TellsAs was first alone.new.notes result heading.new page.new (W.written sink.new) }
-    ensures source_mark { R.has_failed source.new ≡ (R.has_failed source.old || is_read_failed result) }
-    ensures sink_mark { W.has_failed sink.new ≡ (W.has_failed sink.old || is_write_failed result) }
-    ensures reads { reads_beyond R.gives_all (R.reads source.old) (R.left source.old) ≤ reads_beyond R.gives_all (R.reads source.new) (R.left source.new) + 1 }
-    ensures writes { Paid W.takes_all (W.writes sink.old) (W.written sink.old) (R.reads source.old) (W.writes sink.new) (W.written sink.new) (R.reads source.new) (lost_pieces (is_write_failed result) + LEAST_PIECE) }
+    ensures events { (bytes : List ℕ) → Brings R.Source input.old bytes
+        → FeedDoes bytes alone.old result alone.new (left_in R.Source input.new) }
+    ensures told { (was : List ℕ) (first : Beginning)
+        → Tells was first alone.old.notes heading.old out.old.page.now (written_by W.Sink out.old)
+        → TellsAs was first alone.new.notes result heading.new out.new.page.now (written_by W.Sink out.new) }
+    ensures source_mark { read_failed R.Source input.new ≡ (read_failed R.Source input.old || is_read_failed result) }
+    ensures sink_mark { write_failed W.Sink out.new ≡ (write_failed W.Sink out.old || is_write_failed result) }
+    ensures reads { slack R.Source input.old ≤ slack R.Source input.new + 1 }
+    ensures writes { PaidBy R.Source W.Sink out.old input.old out.new input.new (λ _. lost_pieces (is_write_failed result) + LEAST_PIECE) }
+    ensures same_inlet { SameInlet input.old input.new }
+    ensures same_outlet { SameOutlet out.old out.new }
 {
-    if let Err(fault) = read_feed_header(window, source) {
+    if let Err(fault) = read_feed_header(input) {
         return Err(PlayFault::Feed(fault));
     }
-    hear_all(alone, heading, window, source, page, sink)?;
-    send_all(alone, heading, page, sink)
+    hear_all(alone, heading, input, out)?;
+    send_all(alone, heading, out)
 }
 
 /// Feeds a host with the message file that is ahead: each message comes, up to the file's first
@@ -110,8 +113,10 @@ pub fn feed<S: BitStore, R: Source, W: Sink>(
     ensures reads { reads_beyond R.gives_all (R.reads source.old) (R.left source.old) ≤ reads_beyond R.gives_all (R.reads source.new) (R.left source.new) + 1 }
     ensures writes { Paid W.takes_all (W.writes sink.old) (W.written sink.old) (R.reads source.old) (W.writes sink.new) (W.written sink.new) (R.reads source.new) (lost_pieces (is_write_failed result) + 2 * LEAST_PIECE) }
 {
-    match let_out_before_header(window, page, sink) {
-        Ok(()) => feed_file(alone, heading, window, source, page, sink),
+    let mut input = Inlet { window, source };
+    let mut out = Outlet { page, sink };
+    match let_out_before_header(input.window, &mut out) {
+        Ok(()) => feed_file(alone, heading, &mut input, &mut out),
         Err(_) => Err(PlayFault::WriteFailed),
     }
 }

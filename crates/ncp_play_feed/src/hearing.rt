@@ -1,8 +1,8 @@
 //! The messages of a feed come.
-ghost use Rattle.std.specs.Prelude.{◌≡◌, ℕ, ◌+◌, ◌<◌, ◌≤◌, ◌||◌, List, true, false, IfOk, OnOk};
-ghost use Rattle.ncp_play_stream.specs.Pieces.{reads_beyond, bytes_and_writes, lost_pieces, Paid};
-ghost use Rattle.ncp_play_stream.specs.Streams.{Ahead};
-ghost use Rattle.ncp_play_page.specs.Windows.{effort};
+ghost use Rattle.std.specs.Prelude.{◌≡◌, ℕ, ◌+◌, ◌<◌, ◌≤◌, ◌||◌, List, true, false, IfOk};
+ghost use Rattle.ncp_play_page.specs.Inlets.{SameInlet, left_in, reads_left, read_failed, slack, work, Brings, PaidBy};
+ghost use Rattle.ncp_play_page.specs.Outlets.{SameOutlet, written_by, write_failed, credit};
+ghost use Rattle.ncp_play_stream.specs.Pieces.{lost_pieces};
 ghost use Rattle.ncp_play_notes.specs.Faults.{is_read_failed, is_write_failed};
 ghost use Rattle.ncp_play_notes.specs.Playing.{Tells, TellsAs};
 ghost use Rattle.ncp_play_notes.specs.declared.heading.Heading.{Heading as Beginning};
@@ -12,7 +12,7 @@ ghost use Rattle.ncp_play_feed.specs.Steps.{HearsNext, HearsOn, HearsFrom, unpai
 use ncp_bits::{BitStore, Bits};
 use ncp_play_files::{Direction, Version, let_out, read_record};
 use ncp_play_notes::{Heading, PlayFault, play_input};
-use ncp_play_page::{Page, Window};
+use ncp_play_page::{Inlet, Outlet};
 use ncp_play_stream::{LEAST_PIECE, Sink, Source, stop_at_fault};
 use ncp_transcript::{Alone, Input};
 
@@ -20,27 +20,30 @@ use ncp_transcript::{Alone, Input};
 fn hear_next<S: BitStore, R: Source, W: Sink>(
     alone: &mut Alone<S>,
     heading: &mut Heading,
-    window: &mut Window,
-    source: &mut R,
-    page: &mut Page,
-    sink: &mut W,
+    input: &mut Inlet<'_, R>,
+    out: &mut Outlet<'_, W>,
 ) -> Result<bool, PlayFault>
-    ensures events { (bytes : List ℕ) → Ahead window.old (R.left source.old) bytes → HearsNext bytes alone.old result alone.new window.new (R.left source.new) }
-    ensures told { (was : List ℕ) (first : Beginning) → Tells was first alone.old.notes heading.old page.old (W.written sink.old)
-        → TellsAs was first alone.new.notes result heading.new page.new (W.written sink.new) }
-    ensures source_mark { R.has_failed source.new ≡ (R.has_failed source.old || is_read_failed result) }
-    ensures sink_mark { W.has_failed sink.new ≡ (W.has_failed sink.old || is_write_failed result) }
-    ensures reads { reads_beyond R.gives_all (R.reads source.old) (R.left source.old) ≤ reads_beyond R.gives_all (R.reads source.new) (R.left source.new) + 1 }
-    ensures taken { IfOk result (λ more. more ≡ true → reads_beyond R.gives_all (R.reads source.old) (R.left source.old) ≤ reads_beyond R.gives_all (R.reads source.new) (R.left source.new)) }
-    ensures effort { IfOk result (λ more. more ≡ true → effort (R.reads source.new) window.new < effort (R.reads source.old) window.old) }
-    ensures lowers { R.reads source.new ≤ R.reads source.old }
-    ensures waited { IfOk result (λ more. more ≡ true → lacks_message 0 window.old ≡ true → R.reads source.new < R.reads source.old) }
-    ensures writes { bytes_and_writes W.takes_all (W.writes sink.old) (W.written sink.old) ≤ bytes_and_writes W.takes_all (W.writes sink.new) (W.written sink.new) + lost_pieces (is_write_failed result) }
+    ensures events { (bytes : List ℕ) → Brings R.Source input.old bytes
+        → HearsNext bytes alone.old result alone.new input.new.window.now (left_in R.Source input.new) }
+    ensures told { (was : List ℕ) (first : Beginning)
+        → Tells was first alone.old.notes heading.old out.old.page.now (written_by W.Sink out.old)
+        → TellsAs was first alone.new.notes result heading.new out.new.page.now (written_by W.Sink out.new) }
+    ensures source_mark { read_failed R.Source input.new ≡ (read_failed R.Source input.old || is_read_failed result) }
+    ensures sink_mark { write_failed W.Sink out.new ≡ (write_failed W.Sink out.old || is_write_failed result) }
+    ensures reads { slack R.Source input.old ≤ slack R.Source input.new + 1 }
+    ensures taken { IfOk result (λ more. more ≡ true → slack R.Source input.old ≤ slack R.Source input.new) }
+    ensures effort { IfOk result (λ more. more ≡ true → work R.Source input.new < work R.Source input.old) }
+    ensures lowers { reads_left R.Source input.new ≤ reads_left R.Source input.old }
+    ensures waited { IfOk result (λ more. more ≡ true
+        → lacks_message 0 input.old.window.now ≡ true → reads_left R.Source input.new < reads_left R.Source input.old) }
+    ensures writes { credit W.Sink out.old ≤ credit W.Sink out.new + lost_pieces (is_write_failed result) }
+    ensures same_inlet { SameInlet input.old input.new }
+    ensures same_outlet { SameOutlet out.old out.new }
 {
     let mut message = Bits::new();
-    match read_record(window, source, &mut message) {
+    match read_record(input, &mut message) {
         Ok(true) => {
-            play_input(alone, &Input::In(message), heading, page, sink)?;
+            play_input(alone, &Input::In(message), heading, out.page, out.sink)?;
             Ok(true)
         }
         Ok(false) => Ok(false),
@@ -52,26 +55,28 @@ fn hear_next<S: BitStore, R: Source, W: Sink>(
 fn hear_on<S: BitStore, R: Source, W: Sink>(
     alone: &mut Alone<S>,
     heading: &mut Heading,
-    window: &mut Window,
-    source: &mut R,
-    page: &mut Page,
-    sink: &mut W,
+    input: &mut Inlet<'_, R>,
+    out: &mut Outlet<'_, W>,
     messages: u32,
 ) -> Result<bool, PlayFault>
-    ensures events { (bytes : List ℕ) → Ahead window.old (R.left source.old) bytes → HearsOn bytes alone.old result alone.new window.new (R.left source.new) }
-    ensures told { (was : List ℕ) (first : Beginning) → Tells was first alone.old.notes heading.old page.old (W.written sink.old)
-        → TellsAs was first alone.new.notes result heading.new page.new (W.written sink.new) }
-    ensures source_mark { R.has_failed source.new ≡ (R.has_failed source.old || is_read_failed result) }
-    ensures sink_mark { W.has_failed sink.new ≡ (W.has_failed sink.old || is_write_failed result) }
-    ensures reads { reads_beyond R.gives_all (R.reads source.old) (R.left source.old) ≤ reads_beyond R.gives_all (R.reads source.new) (R.left source.new) + 1 }
-    ensures taken { IfOk result (λ more. more ≡ true → reads_beyond R.gives_all (R.reads source.old) (R.left source.old) ≤ reads_beyond R.gives_all (R.reads source.new) (R.left source.new)) }
-    ensures effort { IfOk result (λ more. more ≡ true → effort (R.reads source.new) window.new < effort (R.reads source.old) window.old) }
-    ensures writes { Paid W.takes_all (W.writes sink.old) (W.written sink.old) (R.reads source.old) (W.writes sink.new) (W.written sink.new) (R.reads source.new) (unpaid_after result) }
+    ensures events { (bytes : List ℕ) → Brings R.Source input.old bytes
+        → HearsOn bytes alone.old result alone.new input.new.window.now (left_in R.Source input.new) }
+    ensures told { (was : List ℕ) (first : Beginning)
+        → Tells was first alone.old.notes heading.old out.old.page.now (written_by W.Sink out.old)
+        → TellsAs was first alone.new.notes result heading.new out.new.page.now (written_by W.Sink out.new) }
+    ensures source_mark { read_failed R.Source input.new ≡ (read_failed R.Source input.old || is_read_failed result) }
+    ensures sink_mark { write_failed W.Sink out.new ≡ (write_failed W.Sink out.old || is_write_failed result) }
+    ensures reads { slack R.Source input.old ≤ slack R.Source input.new + 1 }
+    ensures taken { IfOk result (λ more. more ≡ true → slack R.Source input.old ≤ slack R.Source input.new) }
+    ensures effort { IfOk result (λ more. more ≡ true → work R.Source input.new < work R.Source input.old) }
+    ensures writes { PaidBy R.Source W.Sink out.old input.old out.new input.new (λ _. unpaid_after result) }
+    ensures same_inlet { SameInlet input.old input.new }
+    ensures same_outlet { SameOutlet out.old out.new }
 {
-    match let_out(window, Version::One(Direction::FromImp), page, sink) {
+    match let_out(input.window, Version::One(Direction::FromImp), out) {
         Ok(()) => {
-            let heard = hear_next(alone, heading, window, source, page, sink);
-            stop_at_fault(source, &heard, messages, window.unread().len());
+            let heard = hear_next(alone, heading, input, out);
+            stop_at_fault(input.source, &heard, messages, input.window.unread().len());
             heard
         }
         Err(_) => Err(PlayFault::WriteFailed),
@@ -82,21 +87,23 @@ fn hear_on<S: BitStore, R: Source, W: Sink>(
 pub(crate) fn hear_all<S: BitStore, R: Source, W: Sink>(
     alone: &mut Alone<S>,
     heading: &mut Heading,
-    window: &mut Window,
-    source: &mut R,
-    page: &mut Page,
-    sink: &mut W,
+    input: &mut Inlet<'_, R>,
+    out: &mut Outlet<'_, W>,
 ) -> Result<(), PlayFault>
-    ensures events { (bytes : List ℕ) → Ahead window.old (R.left source.old) bytes → HearsFrom bytes alone.old result alone.new (R.left source.new) }
-    ensures told { (was : List ℕ) (first : Beginning) → Tells was first alone.old.notes heading.old page.old (W.written sink.old)
-        → TellsAs was first alone.new.notes result heading.new page.new (W.written sink.new) }
-    ensures source_mark { R.has_failed source.new ≡ (R.has_failed source.old || is_read_failed result) }
-    ensures sink_mark { W.has_failed sink.new ≡ (W.has_failed sink.old || is_write_failed result) }
-    ensures reads { reads_beyond R.gives_all (R.reads source.old) (R.left source.old) ≤ reads_beyond R.gives_all (R.reads source.new) (R.left source.new) + 1 }
-    ensures writes { Paid W.takes_all (W.writes sink.old) (W.written sink.old) (R.reads source.old) (W.writes sink.new) (W.written sink.new) (R.reads source.new) (lost_pieces (is_write_failed result) + LEAST_PIECE) }
+    ensures events { (bytes : List ℕ) → Brings R.Source input.old bytes
+        → HearsFrom bytes alone.old result alone.new (left_in R.Source input.new) }
+    ensures told { (was : List ℕ) (first : Beginning)
+        → Tells was first alone.old.notes heading.old out.old.page.now (written_by W.Sink out.old)
+        → TellsAs was first alone.new.notes result heading.new out.new.page.now (written_by W.Sink out.new) }
+    ensures source_mark { read_failed R.Source input.new ≡ (read_failed R.Source input.old || is_read_failed result) }
+    ensures sink_mark { write_failed W.Sink out.new ≡ (write_failed W.Sink out.old || is_write_failed result) }
+    ensures reads { slack R.Source input.old ≤ slack R.Source input.new + 1 }
+    ensures writes { PaidBy R.Source W.Sink out.old input.old out.new input.new (λ _. lost_pieces (is_write_failed result) + LEAST_PIECE) }
+    ensures same_inlet { SameInlet input.old input.new }
+    ensures same_outlet { SameOutlet out.old out.new }
 {
     let mut messages = 0u32;
-    while hear_on(alone, heading, window, source, page, sink, messages)? {
+    while hear_on(alone, heading, input, out, messages)? {
         messages = messages.saturating_add(1);
     }
     Ok(())

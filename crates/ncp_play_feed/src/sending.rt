@@ -1,6 +1,7 @@
 //! What a host has goes out.
 ghost use Rattle.std.specs.Prelude.{◌≡◌, ℕ, ◌+◌, ◌<◌, ◌≤◌, ◌||◌, ◌++◌, ◌∷◌, [], List, true, IfOk};
-ghost use Rattle.ncp_play_stream.specs.Pieces.{bytes_and_writes, lost_pieces};
+ghost use Rattle.ncp_play_page.specs.Outlets.{SameOutlet, written_by, write_failed, credit};
+ghost use Rattle.ncp_play_stream.specs.Pieces.{lost_pieces};
 ghost use Rattle.ncp_transcript.specs.declared.note.HostNote.{HostNote as Note};
 ghost use Rattle.ncp_play_notes.specs.Faults.{is_write_failed};
 ghost use Rattle.ncp_play_notes.specs.Playing.{Tells, TellsAs};
@@ -10,7 +11,7 @@ ghost use Rattle.ncp_play_feed.specs.Going.{open_links};
 
 use ncp_bits::BitStore;
 use ncp_play_notes::{Heading, PlayFault, play_input};
-use ncp_play_page::Page;
+use ncp_play_page::Outlet;
 use ncp_play_stream::Sink;
 use ncp_transcript::{Alone, HostNote, Input};
 
@@ -26,17 +27,18 @@ fn is_out(note: &HostNote) -> bool
 fn send_next<S: BitStore, W: Sink>(
     alone: &mut Alone<S>,
     heading: &mut Heading,
-    page: &mut Page,
-    sink: &mut W,
+    out: &mut Outlet<'_, W>,
 ) -> Result<bool, PlayFault>
     ensures events { SendsNext alone.old result alone.new }
-    ensures told { (was : List ℕ) (first : Beginning) → Tells was first alone.old.notes heading.old page.old (W.written sink.old)
-        → TellsAs was first alone.new.notes result heading.new page.new (W.written sink.new) }
+    ensures told { (was : List ℕ) (first : Beginning)
+        → Tells was first alone.old.notes heading.old out.old.page.now (written_by W.Sink out.old)
+        → TellsAs was first alone.new.notes result heading.new out.new.page.now (written_by W.Sink out.new) }
     ensures fewer { IfOk result (λ more. more ≡ true → open_links alone.new.host < open_links alone.old.host) }
-    ensures sink_mark { W.has_failed sink.new ≡ (W.has_failed sink.old || is_write_failed result) }
-    ensures writes { bytes_and_writes W.takes_all (W.writes sink.old) (W.written sink.old) ≤ bytes_and_writes W.takes_all (W.writes sink.new) (W.written sink.new) + lost_pieces (is_write_failed result) }
+    ensures sink_mark { write_failed W.Sink out.new ≡ (write_failed W.Sink out.old || is_write_failed result) }
+    ensures writes { credit W.Sink out.old ≤ credit W.Sink out.new + lost_pieces (is_write_failed result) }
+    ensures same_outlet { SameOutlet out.old out.new }
 {
-    play_input(alone, &Input::Out, heading, page, sink)?;
+    play_input(alone, &Input::Out, heading, out.page, out.sink)?;
     let notes = alone.transcript();
     Ok(is_out(&notes[notes.len() - 1]))
 }
@@ -46,15 +48,16 @@ fn send_next<S: BitStore, W: Sink>(
 pub(crate) fn send_all<S: BitStore, W: Sink>(
     alone: &mut Alone<S>,
     heading: &mut Heading,
-    page: &mut Page,
-    sink: &mut W,
+    out: &mut Outlet<'_, W>,
 ) -> Result<(), PlayFault>
     ensures events { SendsFrom alone.old result alone.new }
-    ensures told { (was : List ℕ) (first : Beginning) → Tells was first alone.old.notes heading.old page.old (W.written sink.old)
-        → TellsAs was first alone.new.notes result heading.new page.new (W.written sink.new) }
-    ensures sink_mark { W.has_failed sink.new ≡ (W.has_failed sink.old || is_write_failed result) }
-    ensures writes { bytes_and_writes W.takes_all (W.writes sink.old) (W.written sink.old) ≤ bytes_and_writes W.takes_all (W.writes sink.new) (W.written sink.new) + lost_pieces (is_write_failed result) }
+    ensures told { (was : List ℕ) (first : Beginning)
+        → Tells was first alone.old.notes heading.old out.old.page.now (written_by W.Sink out.old)
+        → TellsAs was first alone.new.notes result heading.new out.new.page.now (written_by W.Sink out.new) }
+    ensures sink_mark { write_failed W.Sink out.new ≡ (write_failed W.Sink out.old || is_write_failed result) }
+    ensures writes { credit W.Sink out.old ≤ credit W.Sink out.new + lost_pieces (is_write_failed result) }
+    ensures same_outlet { SameOutlet out.old out.new }
 {
-    while send_next(alone, heading, page, sink)? {}
+    while send_next(alone, heading, out)? {}
     Ok(())
 }

@@ -224,7 +224,7 @@ fn convert_on<S: Source, W: Sink>(
     ensures same_inlet { SameInlet input.old input.new }
     ensures same_outlet { SameOutlet out.old out.new }
 {
-    let_out(input.window, turn.from, out.page, out.sink)?;
+    let_out(input.window, turn.from, out)?;
     convert_next(input, message, out, turn, records)
 }
 

@@ -5,8 +5,7 @@ ghost use Rattle.ncp_numbers.specs.Bytes.{bytes_of};
 ghost use Rattle.ncp_leader.specs.Message.{message_in};
 ghost use Rattle.ncp_play_page.specs.Lines.{field, hex_of};
 ghost use Rattle.ncp_play_files.specs.Lines.{command_words, item_line, control_lines, text_word, text_line, size_line, fault_line, text_lines, message_lines};
-ghost use Rattle.ncp_play_stream.specs.Pieces.{bytes_and_writes, lost_pieces};
-ghost use Rattle.ncp_play_stream.specs.Streams.{SaysTextOrBeginning};
+ghost use Rattle.ncp_play_stream.specs.Pieces.{lost_pieces};
 
 use crate::control::is_of_control;
 use crate::line::LONGEST_LINE;
@@ -293,12 +292,13 @@ fn say_message<W: Sink>(out: &mut Outlet<'_, W>, message: &Regular<'_>) -> Resul
 
 /// Says the detail lines of a regular message: appends them to the page, and writes it where they do
 /// not fit.
-pub fn say_details<W: Sink>(page: &mut Page, sink: &mut W, bits: &Bits) -> Result<(), Failed>
-    ensures told { SaysTextOrBeginning page.old (W.written sink.old) (message_lines (message_in bits.now)) result page.new (W.written sink.new) }
-    ensures writes { bytes_and_writes W.takes_all (W.writes sink.old) (W.written sink.old) ≤ bytes_and_writes W.takes_all (W.writes sink.new) (W.written sink.new) + lost_pieces (is_err result) }
-    ensures mark { W.has_failed sink.new ≡ (W.has_failed sink.old || is_err result) }
+pub fn say_details<W: Sink>(out: &mut Outlet<'_, W>, bits: &Bits) -> Result<(), Failed>
+    ensures told { SaysOrBreaks W.Sink out.old (message_lines (message_in bits.now)) result out.new }
+    ensures writes { credit W.Sink out.old ≤ credit W.Sink out.new + lost_pieces (is_err result) }
+    ensures mark { write_failed W.Sink out.new ≡ (write_failed W.Sink out.old || is_err result) }
+    ensures same_outlet { SameOutlet out.old out.new }
 {
-    say_details_in(&mut Outlet { page, sink }, &bits.whole())
+    say_details_in(out, &bits.whole())
 }
 
 /// As [`say_details`], of a message that stands in other bits or in bytes.

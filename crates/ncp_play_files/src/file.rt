@@ -1,7 +1,5 @@
 //! A message file: its faults, and the header and the records of version 1.
 ghost use Rattle.std.specs.Prelude.{◌≡◌, ℕ, Option, ◌+◌, ◌<◌, ◌≤◌, ◌||◌, List, true, false, length, drop, slice_range, is_some, IfSome, IfOk, IfErr, OnOk};
-ghost use Rattle.ncp_play_stream.specs.Pieces.{reads_beyond};
-ghost use Rattle.ncp_play_page.specs.Windows.{effort};
 ghost use Rattle.ncp_play_page.specs.Inlets.{SameInlet, left_in, reads_left, read_failed, slack, work, Brings};
 ghost use Rattle.byteorder.specs.Endian.{big_number};
 ghost use Rattle.ncp_numbers.specs.Bytes.{bytes_for};
@@ -83,15 +81,17 @@ impl From<Failed> for FileFault {
 pub(crate) const LENGTH: usize = 2;
 
 /// Reads the header of a file of version 1. That of another version is a bad one.
-pub fn read_header<S: Source>(window: &mut Window, source: &mut S) -> Result<Direction, FileFault>
-    ensures told { (bytes : List ℕ) → Ahead window.old (S.left source.old) bytes → ReadsHeader bytes result window.new (S.left source.new) }
-    ensures mark { S.has_failed source.new ≡ (S.has_failed source.old || is_read_failed result) }
+pub fn read_header<S: Source>(input: &mut Inlet<'_, S>) -> Result<Direction, FileFault>
+    ensures told { (bytes : List ℕ) → Brings S.Source input.old bytes
+        → ReadsHeader bytes result input.new.window.now (left_in S.Source input.new) }
+    ensures mark { read_failed S.Source input.new ≡ (read_failed S.Source input.old || is_read_failed result) }
     ensures other { is_write_failed result ≡ false }
-    ensures reads { reads_beyond S.gives_all (S.reads source.old) (S.left source.old) ≤ reads_beyond S.gives_all (S.reads source.new) (S.left source.new) + 1 }
-    ensures taken { OnOk result (reads_beyond S.gives_all (S.reads source.old) (S.left source.old) ≤ reads_beyond S.gives_all (S.reads source.new) (S.left source.new)) }
-    ensures lowers { S.reads source.new ≤ S.reads source.old }
+    ensures reads { slack S.Source input.old ≤ slack S.Source input.new + 1 }
+    ensures taken { OnOk result (slack S.Source input.old ≤ slack S.Source input.new) }
+    ensures lowers { reads_left S.Source input.new ≤ reads_left S.Source input.old }
+    ensures same_inlet { SameInlet input.old input.new }
 {
-    match read_version(&mut Inlet { window, source })? {
+    match read_version(input)? {
         Version::One(direction) => Ok(direction),
         Version::Two => Err(FileFault::BadHeader),
     }
@@ -238,22 +238,24 @@ pub(crate) fn take_record(
 /// Reads the next record of a file of version 1 into `message`, and answers whether there was one.
 #[inline(always)]
 pub fn read_record<S: Source>(
-    window: &mut Window,
-    source: &mut S,
+    input: &mut Inlet<'_, S>,
     message: &mut Bits,
 ) -> Result<bool, FileFault>
-    ensures told { (bytes : List ℕ) → Ahead window.old (S.left source.old) bytes → ReadsRecord bytes result message.new window.new (S.left source.new) }
-    ensures mark { S.has_failed source.new ≡ (S.has_failed source.old || is_read_failed result) }
+    ensures told { (bytes : List ℕ) → Brings S.Source input.old bytes
+        → ReadsRecord bytes result message.new input.new.window.now (left_in S.Source input.new) }
+    ensures mark { read_failed S.Source input.new ≡ (read_failed S.Source input.old || is_read_failed result) }
     ensures other { is_write_failed result ≡ false }
-    ensures reads { reads_beyond S.gives_all (S.reads source.old) (S.left source.old) ≤ reads_beyond S.gives_all (S.reads source.new) (S.left source.new) + 1 }
-    ensures taken { IfOk result (λ found. found ≡ true → reads_beyond S.gives_all (S.reads source.old) (S.left source.old) ≤ reads_beyond S.gives_all (S.reads source.new) (S.left source.new)) }
-    ensures effort { IfOk result (λ found. found ≡ true → effort (S.reads source.new) window.new < effort (S.reads source.old) window.old) }
-    ensures lowers { S.reads source.new ≤ S.reads source.old }
-    ensures waited { IfOk result (λ found. found ≡ true → lacks_message 0 window.old ≡ true → S.reads source.new < S.reads source.old) }
+    ensures reads { slack S.Source input.old ≤ slack S.Source input.new + 1 }
+    ensures taken { IfOk result (λ found. found ≡ true → slack S.Source input.old ≤ slack S.Source input.new) }
+    ensures effort { IfOk result (λ found. found ≡ true → work S.Source input.new < work S.Source input.old) }
+    ensures lowers { reads_left S.Source input.new ≤ reads_left S.Source input.old }
+    ensures waited { IfOk result (λ found. found ≡ true
+        → lacks_message 0 input.old.window.now ≡ true → reads_left S.Source input.new < reads_left S.Source input.old) }
+    ensures same_inlet { SameInlet input.old input.new }
 {
-    let Some(len) = need_record(&mut Inlet { window, source })? else {
+    let Some(len) = need_record(input)? else {
         return Ok(false);
     };
-    take_record(window, len, message)?;
+    take_record(input.window, len, message)?;
     Ok(true)
 }

@@ -1,6 +1,6 @@
 //! `let_out`: what was said goes out before more of a message file is waited for.
 ghost use Rattle.std.specs.Prelude.{◌≡◌, ◌+◌, ◌≤◌, ◌||◌, [], true, false, OnOk};
-ghost use Rattle.ncp_play_stream.specs.Pieces.{bytes_and_writes};
+ghost use Rattle.ncp_play_page.specs.Outlets.{SameOutlet, written_by, write_failed, credit};
 ghost use Rattle.ncp_play_files.specs.Results.{is_write_failed};
 ghost use Rattle.ncp_play_files.specs.Steps.{LetsOut, unpaid_out};
 ghost use Rattle.ncp_play_files.specs.Waiting.{lacks_message, is_waiting};
@@ -9,7 +9,7 @@ use crate::file::{FileFault, LENGTH};
 use crate::version::{LONGEST_RECORD, PASSAGE, Version};
 use byteorder::{BigEndian, ByteOrder};
 use ncp_bits::MAX_BITS;
-use ncp_play_page::{Page, Window};
+use ncp_play_page::{Outlet, Window};
 use ncp_play_stream::Sink;
 
 // Whether the length of a message is missing behind so many bytes, or bytes of the message are.
@@ -44,19 +44,19 @@ fn is_waiting(ahead: &[u8], version: Version) -> bool
 pub fn let_out<W: Sink>(
     window: &Window,
     version: Version,
-    page: &mut Page,
-    sink: &mut W,
+    out: &mut Outlet<'_, W>,
 ) -> Result<(), FileFault>
-    ensures told { LetsOut page.old (W.written sink.old) result page.new (W.written sink.new) }
-    ensures out { OnOk result (is_waiting version window.now ≡ true → page.new ≡ []) }
-    ensures stays { is_waiting version window.now ≡ false → page.new ≡ page.old }
-    ensures writes { bytes_and_writes W.takes_all (W.writes sink.old) (W.written sink.old) ≤ bytes_and_writes W.takes_all (W.writes sink.new) (W.written sink.new) + unpaid_out result (is_waiting version window.now) }
-    ensures mark { W.has_failed sink.new ≡ (W.has_failed sink.old || is_write_failed result) }
+    ensures told { LetsOut out.old.page.now (written_by W.Sink out.old) result out.new.page.now (written_by W.Sink out.new) }
+    ensures out { OnOk result (is_waiting version window.now ≡ true → out.new.page.now ≡ []) }
+    ensures stays { is_waiting version window.now ≡ false → out.new.page.now ≡ out.old.page.now }
+    ensures writes { credit W.Sink out.old ≤ credit W.Sink out.new + unpaid_out result (is_waiting version window.now) }
+    ensures mark { write_failed W.Sink out.new ≡ (write_failed W.Sink out.old || is_write_failed result) }
+    ensures same_outlet { SameOutlet out.old out.new }
 {
     if !is_waiting(window.unread(), version) {
         return Ok(());
     }
-    match page.flush(sink) {
+    match out.flush() {
         Ok(()) => Ok(()),
         Err(_) => Err(FileFault::WriteFailed),
     }

@@ -73,7 +73,7 @@ fn show_on<S: Source, W: Sink, R: Records>(
     ensures same_inlet { SameInlet input.old input.new }
     ensures same_outlet { SameOutlet out.old out.new }
 {
-    let_out(input.window, records.file(), out.page, out.sink)?;
+    let_out(input.window, records.file(), out)?;
     let shown = show_next(input, out, records, number);
     stop_at_fault(
         input.source,

@@ -1,5 +1,6 @@
 //! The lines of a note.
 ghost use Rattle.std.specs.Prelude.{◌≡◌, ◌+◌, ◌≤◌, ◌||◌, ◌++◌, length, is_err};
+ghost use Rattle.ncp_play_page.specs.Outlets.{SameOutlet, write_failed, credit, SaysOrBreaks};
 ghost use Rattle.ncp_play_stream.specs.Pieces.{bytes_and_writes, lost_pieces};
 ghost use Rattle.ncp_play_stream.specs.Streams.{SaysTextOrBeginning};
 ghost use Rattle.ncp_play_notes.specs.NoteLines.{toward, call_line, in_line, out_line, nothing_line, first_line, lines_behind, note_lines};
@@ -13,7 +14,7 @@ use ncp_bits::Bits;
 use ncp_host::{Error, Received};
 use ncp_leader::{Leader, Short, read_leader};
 use ncp_play_files::{LONGEST_LINE, push_item, say_details};
-use ncp_play_page::{PAGE_SIZE, Page, push_field};
+use ncp_play_page::{Outlet, PAGE_SIZE, Page, push_field};
 use ncp_play_stream::{Failed, Sink};
 use ncp_terms::Command;
 use ncp_transcript::HostNote;
@@ -97,17 +98,17 @@ fn push_first_line(page: &mut Page, heading: Heading, note: &HostNote)
 
 // Says the first line of a note.
 fn say_first_line<W: Sink>(
-    page: &mut Page,
-    sink: &mut W,
+    out: &mut Outlet<'_, W>,
     heading: Heading,
     note: &HostNote,
 ) -> Result<(), Failed>
-    ensures told { SaysTextOrBeginning page.old (W.written sink.old) (first_line heading note.now) result page.new (W.written sink.new) }
-    ensures writes { bytes_and_writes W.takes_all (W.writes sink.old) (W.written sink.old) ≤ bytes_and_writes W.takes_all (W.writes sink.new) (W.written sink.new) + lost_pieces (is_err result) }
-    ensures mark { W.has_failed sink.new ≡ (W.has_failed sink.old || is_err result) }
+    ensures told { SaysOrBreaks W.Sink out.old (first_line heading note.now) result out.new }
+    ensures writes { credit W.Sink out.old ≤ credit W.Sink out.new + lost_pieces (is_err result) }
+    ensures mark { write_failed W.Sink out.new ≡ (write_failed W.Sink out.old || is_err result) }
+    ensures same_outlet { SameOutlet out.old out.new }
 {
-    page.make_room(sink, LONGEST_FIRST)?;
-    push_first_line(page, heading, note);
+    out.make_room(LONGEST_FIRST)?;
+    push_first_line(out.page, heading, note);
     Ok(())
 }
 
@@ -126,27 +127,29 @@ fn push_error_line(page: &mut Page, error: &Error)
 }
 
 // Says a line for each ERR.
-fn say_errors<W: Sink>(page: &mut Page, sink: &mut W, errors: &[Error]) -> Result<(), Failed>
-    ensures told { SaysTextOrBeginning page.old (W.written sink.old) (error_lines errors.now) result page.new (W.written sink.new) }
-    ensures writes { bytes_and_writes W.takes_all (W.writes sink.old) (W.written sink.old) ≤ bytes_and_writes W.takes_all (W.writes sink.new) (W.written sink.new) + lost_pieces (is_err result) }
-    ensures mark { W.has_failed sink.new ≡ (W.has_failed sink.old || is_err result) }
+fn say_errors<W: Sink>(out: &mut Outlet<'_, W>, errors: &[Error]) -> Result<(), Failed>
+    ensures told { SaysOrBreaks W.Sink out.old (error_lines errors.now) result out.new }
+    ensures writes { credit W.Sink out.old ≤ credit W.Sink out.new + lost_pieces (is_err result) }
+    ensures mark { write_failed W.Sink out.new ≡ (write_failed W.Sink out.old || is_err result) }
+    ensures same_outlet { SameOutlet out.old out.new }
 {
     for error in errors {
-        page.make_room(sink, LONGEST_LINE)?;
-        push_error_line(page, error);
+        out.make_room(LONGEST_LINE)?;
+        push_error_line(out.page, error);
     }
     Ok(())
 }
 
 // Says the lines behind the first.
-fn say_behind<W: Sink>(page: &mut Page, sink: &mut W, note: &HostNote) -> Result<(), Failed>
-    ensures told { SaysTextOrBeginning page.old (W.written sink.old) (lines_behind note.now) result page.new (W.written sink.new) }
-    ensures writes { bytes_and_writes W.takes_all (W.writes sink.old) (W.written sink.old) ≤ bytes_and_writes W.takes_all (W.writes sink.new) (W.written sink.new) + lost_pieces (is_err result) }
-    ensures mark { W.has_failed sink.new ≡ (W.has_failed sink.old || is_err result) }
+fn say_behind<W: Sink>(out: &mut Outlet<'_, W>, note: &HostNote) -> Result<(), Failed>
+    ensures told { SaysOrBreaks W.Sink out.old (lines_behind note.now) result out.new }
+    ensures writes { credit W.Sink out.old ≤ credit W.Sink out.new + lost_pieces (is_err result) }
+    ensures mark { write_failed W.Sink out.new ≡ (write_failed W.Sink out.old || is_err result) }
+    ensures same_outlet { SameOutlet out.old out.new }
 {
     match note {
-        HostNote::Out { message } => say_details(page, sink, &message.to_bits()),
-        HostNote::Errors { errors, .. } => say_errors(page, sink, errors.as_slice()),
+        HostNote::Out { message } => say_details(out, &message.to_bits()),
+        HostNote::Errors { errors, .. } => say_errors(out, errors.as_slice()),
         _ => Ok(()),
     }
 }
@@ -164,6 +167,7 @@ pub fn say_note<W: Sink>(
     ensures writes { bytes_and_writes W.takes_all (W.writes sink.old) (W.written sink.old) ≤ bytes_and_writes W.takes_all (W.writes sink.new) (W.written sink.new) + lost_pieces (is_err result) }
     ensures mark { W.has_failed sink.new ≡ (W.has_failed sink.old || is_err result) }
 {
-    say_first_line(page, sink, heading, note)?;
-    say_behind(page, sink, note)
+    let mut out = Outlet { page, sink };
+    say_first_line(&mut out, heading, note)?;
+    say_behind(&mut out, note)
 }

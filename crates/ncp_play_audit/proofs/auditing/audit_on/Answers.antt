@@ -14,10 +14,10 @@ pub returns-in_err-let_out-clause-told : goal.returns-in_err-let_out-clause-told
 returns-in_err-let_out-clause-told g c = λ bytes was said a k.
     let p = err_from_is_err_and c.from_residual.result c.from_residual.ensures.1 in
     let out = c.in_err-let_out.ensures.told in
-    let left = g.S.Source.left c.args.input.now.source.now in let written = g.W.Sink.written c.let_out.new.sink in
+    let left = g.S.Source.left c.args.input.now.source.now in let written = g.W.Sink.written c.let_out.new.out.sink.now in
     rw (p.1, p.2) (
-    subst (λ (fault : FileFault). AuditsFrom c.args.standard c.args.auditor.now.umpire c.args.number bytes was said true (Err fault) left c.let_out.new.page written) (sym out.0)
-    (from_lost c.args.standard c.args.auditor.now.umpire c.args.number bytes was said true out.1 c.let_out.new.page left written (out.2 was said k)))
+    subst (λ (fault : FileFault). AuditsFrom c.args.standard c.args.auditor.now.umpire c.args.number bytes was said true (Err fault) left c.let_out.new.out.page.now written) (sym out.0)
+    (from_lost c.args.standard c.args.auditor.now.umpire c.args.number bytes was said true out.1 c.let_out.new.out.page.now left written (out.2 was said k)))
 
 pub returns-in_err-let_out-clause-sink_mark : goal.returns-in_err-let_out-clause-sink_mark
 returns-in_err-let_out-clause-sink_mark g c =
@@ -63,6 +63,6 @@ returns-clause-writes g c =
     let w = g.W.Sink in let s = g.S.Source in
     let r = c.audit_next-judged.result in
     rw c.stop_at_fault.ensures.reads (
-    paid_on w.takes_all (w.writes c.args.out.now.sink.now) (w.writes c.let_out.new.sink) (w.writes c.audit_next-judged.new.out.sink.now) (w.written c.args.out.now.sink.now) (w.written c.let_out.new.sink) (w.written c.audit_next-judged.new.out.sink.now)
-    (s.reads c.args.input.now.source.now) (s.reads c.audit_next-judged.new.input.source.now) c.let_out.new.page c.audit_next-judged.new.out.page.now (is_waiting Two c.args.input.now.window.now) (more_of r) c.in_ok-let_out.ensures.writes (rw (same_more r) c.audit_next-judged.ensures.writes)
+    paid_on w.takes_all (w.writes c.args.out.now.sink.now) (w.writes c.let_out.new.out.sink.now) (w.writes c.audit_next-judged.new.out.sink.now) (w.written c.args.out.now.sink.now) (w.written c.let_out.new.out.sink.now) (w.written c.audit_next-judged.new.out.sink.now)
+    (s.reads c.args.input.now.source.now) (s.reads c.audit_next-judged.new.input.source.now) c.let_out.new.out.page.now c.audit_next-judged.new.out.page.now (is_waiting Two c.args.input.now.window.now) (more_of r) c.in_ok-let_out.ensures.writes (rw (same_more r) c.audit_next-judged.ensures.writes)
     c.audit_next-judged.ensures.lowers c.in_ok-let_out.ensures.out c.audit_next-judged.ensures.waited c.audit_next-judged.ensures.kept)

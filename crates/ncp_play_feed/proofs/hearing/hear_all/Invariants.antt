@@ -1,7 +1,6 @@
 use Rattle.std.proofs.Common.{◌≡◌, ◌≤◌, ℕ, List, Option, Result}
-use Rattle.ncp_play_stream.specs.Pieces.{reads_beyond, Paid}
-use Rattle.ncp_play_stream.specs.Streams.{Ahead}
-use Rattle.ncp_play_page.specs.Windows.{effort}
+use Rattle.ncp_play_page.specs.Outlets.{SameOutlet, written_by, write_failed}
+use Rattle.ncp_play_page.specs.Inlets.{SameInlet, read_failed, slack, work, Brings, PaidBy}
 use Rattle.ncp_transcript.specs.Alone.{Alone}
 use Rattle.ncp_play_notes.specs.declared.fault.PlayFault.{PlayFault}
 use Rattle.ncp_play_notes.specs.declared.heading.Heading.{Heading}
@@ -13,15 +12,17 @@ abbrev pub invariant-loop-messages : goal.invariant-loop-messages
 invariant-loop-messages g l =
     let s = g.R.Source in let w = g.W.Sink in
     record {
-      events : (bytes : List ℕ) → Ahead l.initial.window (s.left l.initial.source) bytes
-          → (rest : List ℕ) × Ahead l.window (s.left l.source) rest
+      events : (bytes : List ℕ) → Brings s l.initial.input bytes
+          → (rest : List ℕ) × Brings s l.input rest
           × ((r : Result Unit PlayFault) (now : Alone) (left : Option (List ℕ)) → HearsFrom rest l.alone r now left → HearsFrom bytes l.initial.alone r now left);
-      told : (was : List ℕ) (first : Heading) → Tells was first l.initial.alone.notes l.initial.heading l.initial.page (w.written l.initial.sink) → Tells was first l.alone.notes l.heading l.page (w.written l.sink);
-      source_mark : s.has_failed l.source ≡ s.has_failed l.initial.source;
-      sink_mark : w.has_failed l.sink ≡ w.has_failed l.initial.sink;
-      reads : reads_beyond s.gives_all (s.reads l.initial.source) (s.left l.initial.source) ≤ reads_beyond s.gives_all (s.reads l.source) (s.left l.source);
-      writes : Paid w.takes_all (w.writes l.initial.sink) (w.written l.initial.sink) (s.reads l.initial.source) (w.writes l.sink) (w.written l.sink) (s.reads l.source) 0;
+      told : (was : List ℕ) (first : Heading) → Tells was first l.initial.alone.notes l.initial.heading l.initial.out.page.now (written_by w l.initial.out) → Tells was first l.alone.notes l.heading l.out.page.now (written_by w l.out);
+      source_mark : read_failed s l.input ≡ read_failed s l.initial.input;
+      sink_mark : write_failed w l.out ≡ write_failed w l.initial.out;
+      reads : slack s l.initial.input ≤ slack s l.input;
+      writes : PaidBy s w l.initial.out l.initial.input l.out l.input (λ _. 0);
+      same_inlet : SameInlet l.initial.input l.input;
+      same_outlet : SameOutlet l.initial.out l.out;
     }
 
 abbrev pub decreases-loop-messages : goal.decreases-loop-messages
-decreases-loop-messages g l = effort (g.R.Source.reads l.source) l.window
+decreases-loop-messages g l = work g.R.Source l.input

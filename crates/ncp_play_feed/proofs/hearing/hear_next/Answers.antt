@@ -8,7 +8,7 @@ returns-in_err-play_input-in-Ok-true-clause-events g c = λ bytes ahead.
     let p = err_from_is_err_and c.from_residual.result c.from_residual.ensures.1 in
     let read = rw c.in-Ok-true.field-0-test at (c.in-Ok-true.ensures.told bytes ahead) in
     rw (p.1, p.2) (
-    next_breaks bytes read.0 c.read_record.new.window c.read_record.new.message (g.R.Source.left c.read_record.new.source) c.args.alone.now c.play_input.new.alone c.in_err-play_input-in-Ok-true.field-0.0 read.1
+    next_breaks bytes read.0 c.read_record.new.input.window.now c.read_record.new.message (g.R.Source.left c.read_record.new.input.source.now) c.args.alone.now c.play_input.new.alone c.in_err-play_input-in-Ok-true.field-0.0 read.1
     c.in_err-play_input-in-Ok-true.ensures.events)
 
 pub returns-in_ok-play_input-in-Ok-true-clause-events : goal.returns-in_ok-play_input-in-Ok-true-clause-events
@@ -21,7 +21,7 @@ returns-in-Ok-false-clause-events g c = λ bytes ahead. (rw c.in-Ok-false.field-
 
 pub returns-in-Err-clause-events : goal.returns-in-Err-clause-events
 returns-in-Err-clause-events g c = λ bytes ahead.
-    next_ends bytes c.read_record.new.window c.read_record.new.message (g.R.Source.left c.read_record.new.source) c.args.alone.now c.args.alone.now c.in-Err.fault (c.in-Err.ensures.told bytes ahead) refl
+    next_ends bytes c.read_record.new.input.window.now c.read_record.new.message (g.R.Source.left c.read_record.new.input.source.now) c.args.alone.now c.args.alone.now c.in-Err.fault (c.in-Err.ensures.told bytes ahead) refl
 
 pub returns-in_err-play_input-in-Ok-true-clause-told : goal.returns-in_err-play_input-in-Ok-true-clause-told
 returns-in_err-play_input-in-Ok-true-clause-told g c = λ was first told.

@@ -10,8 +10,8 @@ use Rattle.ncp_play_feed.proofs.hearing.hear_on.Goals as goal
 pub returns-in-Ok-clause-events : goal.returns-in-Ok-clause-events
 returns-in-Ok-clause-events g c = λ bytes ahead.
     let r = c.hear_next-heard.result in
-    subst (λ (left : Option (List ℕ)). HearsOn bytes c.args.alone.now r c.hear_next-heard.new.alone c.hear_next-heard.new.window left) (sym c.stop_at_fault.ensures.left)
-    (hears_on bytes c.hear_next-heard.new.window (g.R.Source.left c.hear_next-heard.new.source) c.args.alone.now c.hear_next-heard.new.alone r (c.hear_next-heard.ensures.events bytes ahead))
+    subst (λ (left : Option (List ℕ)). HearsOn bytes c.args.alone.now r c.hear_next-heard.new.alone c.hear_next-heard.new.input.window.now left) (sym c.stop_at_fault.ensures.left)
+    (hears_on bytes c.hear_next-heard.new.input.window.now (g.R.Source.left c.hear_next-heard.new.input.source.now) c.args.alone.now c.hear_next-heard.new.alone r (c.hear_next-heard.ensures.events bytes ahead))
 
 pub returns-in-Ok-clause-told : goal.returns-in-Ok-clause-told
 returns-in-Ok-clause-told g c = λ was first told. c.hear_next-heard.ensures.told was first (told.0, c.in-Ok.ensures.told was _ told.1)
@@ -35,8 +35,8 @@ pub returns-in-Ok-clause-writes : goal.returns-in-Ok-clause-writes
 returns-in-Ok-clause-writes g c =
     let w = g.W.Sink in let s = g.R.Source in
     rw c.stop_at_fault.ensures.reads (
-    paid_on w.takes_all (w.writes c.args.sink.now) (w.writes c.let_out.new.sink) (w.writes c.hear_next-heard.new.sink) (w.written c.args.sink.now) (w.written c.let_out.new.sink) (w.written c.hear_next-heard.new.sink)
-    (s.reads c.args.source.now) (s.reads c.hear_next-heard.new.source) (lacks_message 0 c.args.window.now) c.hear_next-heard.result c.in-Ok.ensures.writes c.hear_next-heard.ensures.writes c.hear_next-heard.ensures.lowers c.hear_next-heard.ensures.waited)
+    paid_on w.takes_all (w.writes c.args.out.now.sink.now) (w.writes c.let_out.new.out.sink.now) (w.writes c.hear_next-heard.new.out.sink.now) (w.written c.args.out.now.sink.now) (w.written c.let_out.new.out.sink.now) (w.written c.hear_next-heard.new.out.sink.now)
+    (s.reads c.args.input.now.source.now) (s.reads c.hear_next-heard.new.input.source.now) (lacks_message 0 c.args.input.now.window.now) c.hear_next-heard.result c.in-Ok.ensures.writes c.hear_next-heard.ensures.writes c.hear_next-heard.ensures.lowers c.hear_next-heard.ensures.waited)
 
 pub returns-in-Err-clause-events : goal.returns-in-Err-clause-events
 returns-in-Err-clause-events g c = λ bytes ahead. let all = holds_some bytes in ([], all.0, all.1, all.2, refl)

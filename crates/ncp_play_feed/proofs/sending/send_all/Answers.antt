@@ -15,7 +15,7 @@ pub returns-in_err-send_next-clause-told : goal.returns-in_err-send_next-clause-
 returns-in_err-send_next-clause-told g c = λ was first told.
     let p = err_from_is_err_and c.from_residual.result c.from_residual.ensures.1 in
     rw (p.1, p.2) (
-    told_as Bool Unit was first c.send_next.new.alone.notes c.in_err-send_next.field-0.0 c.send_next.new.heading c.send_next.new.page (g.W.Sink.written c.send_next.new.sink)
+    told_as Bool Unit was first c.send_next.new.alone.notes c.in_err-send_next.field-0.0 c.send_next.new.heading c.send_next.new.out.page.now (g.W.Sink.written c.send_next.new.out.sink.now)
     (c.in_err-send_next.ensures.told was first (c.loop.invariant.told was first told)))
 
 pub loop-preserved : goal.loop-preserved
@@ -25,6 +25,7 @@ loop-preserved g c =
       told = λ was first told. c.in_ok-send_next.ensures.told was first (c.loop.invariant.told was first told);
       sink_mark = c.in_ok-send_next.ensures.sink_mark ∙ or-false _ ∙ c.loop.invariant.sink_mark;
       writes = let one = c.in_ok-send_next.ensures.writes in omega (arith, one, c.loop.invariant.writes);
+      same_outlet = (c.in_ok-send_next.ensures.same_outlet.0 ∙ c.loop.invariant.same_outlet.0, c.in_ok-send_next.ensures.same_outlet.1 ∙ c.loop.invariant.same_outlet.1);
     }
 
 pub returns-clause-events : goal.returns-clause-events

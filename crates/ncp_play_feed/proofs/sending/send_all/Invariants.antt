@@ -1,5 +1,5 @@
 use Rattle.std.proofs.Common.{◌≡◌, ◌≤◌, ℕ, List, Result}
-use Rattle.ncp_play_stream.specs.Pieces.{bytes_and_writes}
+use Rattle.ncp_play_page.specs.Outlets.{SameOutlet, written_by, write_failed, credit}
 use Rattle.ncp_transcript.specs.Alone.{Alone}
 use Rattle.ncp_play_notes.specs.declared.fault.PlayFault.{PlayFault}
 use Rattle.ncp_play_notes.specs.declared.heading.Heading.{Heading}
@@ -13,9 +13,10 @@ invariant-loop g l =
     let w = g.W.Sink in
     record {
       events : (r : Result Unit PlayFault) (now : Alone) → SendsFrom l.alone r now → SendsFrom l.initial.alone r now;
-      told : (was : List ℕ) (first : Heading) → Tells was first l.initial.alone.notes l.initial.heading l.initial.page (w.written l.initial.sink) → Tells was first l.alone.notes l.heading l.page (w.written l.sink);
-      sink_mark : w.has_failed l.sink ≡ w.has_failed l.initial.sink;
-      writes : bytes_and_writes w.takes_all (w.writes l.initial.sink) (w.written l.initial.sink) ≤ bytes_and_writes w.takes_all (w.writes l.sink) (w.written l.sink);
+      told : (was : List ℕ) (first : Heading) → Tells was first l.initial.alone.notes l.initial.heading l.initial.out.page.now (written_by w l.initial.out) → Tells was first l.alone.notes l.heading l.out.page.now (written_by w l.out);
+      sink_mark : write_failed w l.out ≡ write_failed w l.initial.out;
+      writes : credit w l.initial.out ≤ credit w l.out;
+      same_outlet : SameOutlet l.initial.out l.out;
     }
 
 abbrev pub decreases-loop : goal.decreases-loop

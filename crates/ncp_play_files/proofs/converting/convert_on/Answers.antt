@@ -17,10 +17,10 @@ returns-in_err-let_out-clause-told g c = λ number bytes was said a k.
     let p = err_from_is_err_and c.from_residual.result c.from_residual.ensures.1 in
     let out = c.in_err-let_out.ensures.told in
     let turn = c.args.turn in
-    let left = g.S.Source.left c.args.input.now.source.now in let written = g.W.Sink.written c.let_out.new.sink in
+    let left = g.S.Source.left c.args.input.now.source.now in let written = g.W.Sink.written c.let_out.new.out.sink.now in
     rw (p.1, p.2) (
-    subst (λ (fault : FileFault). SaysFrom (next_at turn.from turn.wanted) (message_told turn.given) number bytes was said (Err fault) left c.let_out.new.page written) (sym out.0)
-    (from_lost (next_at turn.from turn.wanted) (at_front turn.from turn.wanted) (message_told turn.given) number bytes was said out.1 c.let_out.new.page left written (out.2 was said k)))
+    subst (λ (fault : FileFault). SaysFrom (next_at turn.from turn.wanted) (message_told turn.given) number bytes was said (Err fault) left c.let_out.new.out.page.now written) (sym out.0)
+    (from_lost (next_at turn.from turn.wanted) (at_front turn.from turn.wanted) (message_told turn.given) number bytes was said out.1 c.let_out.new.out.page.now left written (out.2 was said k)))
 
 pub returns-in_err-let_out-clause-sink_mark : goal.returns-in_err-let_out-clause-sink_mark
 returns-in_err-let_out-clause-sink_mark g c =
@@ -50,6 +50,6 @@ pub returns-clause-writes : goal.returns-clause-writes
 returns-clause-writes g c =
     let w = g.W.Sink in let s = g.S.Source in
     let waits = is_waiting c.args.turn.from c.args.input.now.window.now in
-    paid_on w.takes_all (w.writes c.args.out.now.sink.now) (w.writes c.let_out.new.sink) (w.writes c.convert_next.new.out.sink.now) (w.written c.args.out.now.sink.now) (w.written c.let_out.new.sink) (w.written c.convert_next.new.out.sink.now)
-    (s.reads c.args.input.now.source.now) (s.reads c.convert_next.new.input.source.now) c.let_out.new.page c.convert_next.new.out.page.now waits c.convert_next.result c.in_ok-let_out.ensures.writes c.convert_next.ensures.writes
+    paid_on w.takes_all (w.writes c.args.out.now.sink.now) (w.writes c.let_out.new.out.sink.now) (w.writes c.convert_next.new.out.sink.now) (w.written c.args.out.now.sink.now) (w.written c.let_out.new.out.sink.now) (w.written c.convert_next.new.out.sink.now)
+    (s.reads c.args.input.now.source.now) (s.reads c.convert_next.new.input.source.now) c.let_out.new.out.page.now c.convert_next.new.out.page.now waits c.convert_next.result c.in_ok-let_out.ensures.writes c.convert_next.ensures.writes
     c.convert_next.ensures.lowers c.in_ok-let_out.ensures.out c.convert_next.ensures.waited c.convert_next.ensures.kept

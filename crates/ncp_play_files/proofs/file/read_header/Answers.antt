@@ -1,26 +1,18 @@
-use Rattle.std.proofs.Common.{◌≡◌, refl, ap, rules}
+use Rattle.std.proofs.Common.{refl, ap}
 use Rattle.std.proofs.lemmas.Result.{err_from_is_err_and}
 use Rattle.ncp_play_files.specs.File.{one_direction}
 use Rattle.ncp_play_files.proofs.Placing.{header_ends}
 use Rattle.ncp_play_files.proofs.file.read_header.Goals as goal
 
 pub returns-in_err-direction-clause-told : goal.returns-in_err-direction-clause-told
-returns-in_err-direction-clause-told g c =
-    let same_window : c.read_version.new.input.window.now ≡ c.window-1.given.0 = search rules in
-    let same_source : c.read_version.new.input.source.now ≡ c.source-1.given.0 = search rules in
-    rw (← same_window, ← same_source) (
-    λ bytes a.
+returns-in_err-direction-clause-told g c = λ bytes a.
     let p = err_from_is_err_and c.from_residual.result c.from_residual.ensures.1 in
-    rw (p.1, p.2) (header_ends bytes c.read_version.new.input.window.now (g.S.Source.left c.read_version.new.input.source.now) c.in_err-direction.field-0.0 (c.in_err-direction.ensures.told bytes a)))
+    rw (p.1, p.2) (header_ends bytes c.read_version.new.input.window.now (g.S.Source.left c.read_version.new.input.source.now) c.in_err-direction.field-0.0 (c.in_err-direction.ensures.told bytes a))
 
 pub returns-in-One-clause-told : goal.returns-in-One-clause-told
-returns-in-One-clause-told g c =
-    let same_window : c.read_version.new.input.window.now ≡ c.window-1.given.0 = search rules in
-    let same_source : c.read_version.new.input.source.now ≡ c.source-1.given.0 = search rules in
-    rw (← same_window, ← same_source) (
-    λ bytes a.
+returns-in-One-clause-told g c = λ bytes a.
     let read = rw c.in-One.is at (c.in_ok-direction.ensures.told bytes a) in
-    (ap one_direction read.0, read.1))
+    (ap one_direction read.0, read.1)
 
 pub returns-in-Two-clause-told : goal.returns-in-Two-clause-told
 returns-in-Two-clause-told g c = λ bytes a.

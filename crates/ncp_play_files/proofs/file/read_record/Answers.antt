@@ -1,47 +1,33 @@
-use Rattle.std.proofs.Common.{◌∙◌, ◌||◌, is_some, sym, ap, lt_of_lt_of_le, ◌≡◌, rules}
+use Rattle.std.proofs.Common.{◌∙◌, ◌||◌, is_some, sym, ap, lt_of_lt_of_le}
 use Rattle.std.proofs.lemmas.Result.{err_from_is_err_and}
 use Rattle.ncp_play_files.proofs.Files.{fault_read, effort_shorter}
 use Rattle.ncp_play_files.proofs.Waiting.{waited_plain}
 use Rattle.ncp_play_files.proofs.file.read_record.Goals as goal
 
 pub returns-in_err-len-clause-told : goal.returns-in_err-len-clause-told
-returns-in_err-len-clause-told g c =
-    let same_window : c.need_record.new.input.window.now ≡ c.window-1.given.0 = search rules in
-    let same_source : c.need_record.new.input.source.now ≡ c.source-1.given.0 = search rules in
-    rw (← same_window, ← same_source) (
-    λ bytes a.
+returns-in_err-len-clause-told g c = λ bytes a.
     let p = err_from_is_err_and c.from_residual.result c.from_residual.ensures.1 in
-    rw (p.1, p.2) (c.in_err-len.ensures.told bytes a))
+    rw (p.1, p.2) (c.in_err-len.ensures.told bytes a)
 
 pub returns-in_default-clause-told : goal.returns-in_default-clause-told
 returns-in_default-clause-told g c = λ bytes a. rw c.in_default.is at (c.in_ok-len.ensures.told bytes a)
 
 pub returns-in_err-take_record-clause-told : goal.returns-in_err-take_record-clause-told
-returns-in_err-take_record-clause-told g c =
-    let same_window : c.need_record.new.input.window.now ≡ c.window-1.given.0 = search rules in
-    let same_source : c.need_record.new.input.source.now ≡ c.source-1.given.0 = search rules in
-    rw (← same_source) (
-    λ bytes a.
+returns-in_err-take_record-clause-told g c = λ bytes a.
     let p = err_from_is_err_and c.from_residual-in_err-take_record.result c.from_residual-in_err-take_record.ensures.1 in
     let left = g.S.Source.left c.need_record.new.input.source.now in
     let ahead = rw c.in-Some.is at (c.in_ok-len.ensures.told bytes a) in
-    rw (p.1, p.2) (fault_read bytes c.take_record.new.window c.take_record.new.message left c.in_err-take_record.field-0.0 (c.in_err-take_record.ensures.told bytes left (rw same_window at ahead))))
+    rw (p.1, p.2) (fault_read bytes c.take_record.new.window c.take_record.new.message left c.in_err-take_record.field-0.0 (c.in_err-take_record.ensures.told bytes left ahead))
 
 pub returns-clause-told : goal.returns-clause-told
-returns-clause-told g c =
-    let same_window : c.need_record.new.input.window.now ≡ c.window-1.given.0 = search rules in
-    let same_source : c.need_record.new.input.source.now ≡ c.source-1.given.0 = search rules in
-    rw (← same_source) (
-    λ bytes a.
+returns-clause-told g c = λ bytes a.
     let ahead = rw c.in-Some.is at (c.in_ok-len.ensures.told bytes a) in
-    c.in_ok-take_record.ensures.told bytes (g.S.Source.left c.need_record.new.input.source.now) (rw same_window at ahead))
+    c.in_ok-take_record.ensures.told bytes (g.S.Source.left c.need_record.new.input.source.now) ahead
 
 pub returns-in_err-take_record-clause-mark : goal.returns-in_err-take_record-clause-mark
 returns-in_err-take_record-clause-mark g c =
-    let same_source : c.need_record.new.input.source.now ≡ c.source-1.given.0 = search rules in
-    rw (← same_source) (
     let p = err_from_is_err_and c.from_residual-in_err-take_record.result c.from_residual-in_err-take_record.ensures.1 in
-    rw (p.1, p.2) (c.in_ok-len.ensures.mark ∙ ap (λ b. g.S.Source.has_failed c.args.source.now || b) (sym c.in_err-take_record.ensures.read)))
+    rw (p.1, p.2) (c.in_ok-len.ensures.mark ∙ ap (λ b. g.S.Source.has_failed c.args.input.now.source.now || b) (sym c.in_err-take_record.ensures.read))
 
 pub returns-in_err-take_record-clause-other : goal.returns-in_err-take_record-clause-other
 returns-in_err-take_record-clause-other g c =
@@ -49,23 +35,13 @@ returns-in_err-take_record-clause-other g c =
     rw (p.1, p.2) c.in_err-take_record.ensures.write
 
 pub returns-clause-taken : goal.returns-clause-taken
-returns-clause-taken g c =
-    let same_source : c.need_record.new.input.source.now ≡ c.source-1.given.0 = search rules in
-    rw (← same_source) (
-    λ found. c.in_ok-len.ensures.taken (ap is_some c.in-Some.is))
+returns-clause-taken g c = λ found. c.in_ok-len.ensures.taken (ap is_some c.in-Some.is)
 
 pub returns-clause-effort : goal.returns-clause-effort
-returns-clause-effort g c =
-    let same_window : c.need_record.new.input.window.now ≡ c.window-1.given.0 = search rules in
-    let same_source : c.need_record.new.input.source.now ≡ c.source-1.given.0 = search rules in
-    rw (← same_source) (
-    λ found. lt_of_lt_of_le (effort_shorter (g.S.Source.reads c.need_record.new.input.source.now) c.need_record.new.input.window.now c.take_record.new.window (rw (← same_window) at c.in_ok-take_record.ensures.shorter)) c.in_ok-len.ensures.effort)
+returns-clause-effort g c = λ found. lt_of_lt_of_le (effort_shorter (g.S.Source.reads c.need_record.new.input.source.now) c.need_record.new.input.window.now c.take_record.new.window c.in_ok-take_record.ensures.shorter) c.in_ok-len.ensures.effort
 
 pub returns-clause-waited : goal.returns-clause-waited
-returns-clause-waited g c =
-    let same_source : c.need_record.new.input.source.now ≡ c.source-1.given.0 = search rules in
-    rw (← same_source) (
-    λ found.
+returns-clause-waited g c = λ found.
     let s = g.S.Source in
     let whole = rw c.in-Some.is at c.in_ok-len.ensures.stands in
-    waited_plain (s.reads c.args.source.now) (s.reads c.need_record.new.input.source.now) c.args.window.now c.need_record.new.input.window.now c.in-Some.len c.in_ok-len.ensures.lowers (c.in_ok-len.ensures.unread (ap is_some c.in-Some.is)) whole)
+    waited_plain (s.reads c.args.input.now.source.now) (s.reads c.need_record.new.input.source.now) c.args.input.now.window.now c.need_record.new.input.window.now c.in-Some.len c.in_ok-len.ensures.lowers (c.in_ok-len.ensures.unread (ap is_some c.in-Some.is)) whole

@@ -17,10 +17,10 @@ returns-in_err-let_out-clause-told g c = λ bytes was said a k.
     let p = err_from_is_err_and c.from_residual.result c.from_residual.ensures.1 in
     let out = c.in_err-let_out.ensures.told in
     let version = g.R.Records.version c.args.records in
-    let left = g.S.Source.left c.args.input.now.source.now in let written = g.W.Sink.written c.let_out.new.sink in
+    let left = g.S.Source.left c.args.input.now.source.now in let written = g.W.Sink.written c.let_out.new.out.sink.now in
     rw (p.1, p.2) (
-    subst (λ (fault : FileFault). SaysFrom (next_in version) record_lines c.args.number.now bytes was said (Err fault) left c.let_out.new.page written) (sym out.0)
-    (from_lost (next_in version) (in_front version) record_lines c.args.number.now bytes was said out.1 c.let_out.new.page left written (out.2 was said k)))
+    subst (λ (fault : FileFault). SaysFrom (next_in version) record_lines c.args.number.now bytes was said (Err fault) left c.let_out.new.out.page.now written) (sym out.0)
+    (from_lost (next_in version) (in_front version) record_lines c.args.number.now bytes was said out.1 c.let_out.new.out.page.now left written (out.2 was said k)))
 
 pub returns-in_err-let_out-clause-sink_mark : goal.returns-in_err-let_out-clause-sink_mark
 returns-in_err-let_out-clause-sink_mark g c =
@@ -67,6 +67,6 @@ returns-clause-writes g c =
     let waits = is_waiting (g.R.Records.version c.args.records) c.args.input.now.window.now in
     let file = c.file.ensures in
     rw c.stop_at_fault.ensures.reads (
-    paid_on w.takes_all (w.writes c.args.out.now.sink.now) (w.writes c.let_out.new.sink) (w.writes c.show_next-shown.new.out.sink.now) (w.written c.args.out.now.sink.now) (w.written c.let_out.new.sink) (w.written c.show_next-shown.new.out.sink.now)
-    (s.reads c.args.input.now.source.now) (s.reads c.show_next-shown.new.input.source.now) c.let_out.new.page c.show_next-shown.new.out.page.now waits c.show_next-shown.result (rw file at c.in_ok-let_out.ensures.writes) c.show_next-shown.ensures.writes
+    paid_on w.takes_all (w.writes c.args.out.now.sink.now) (w.writes c.let_out.new.out.sink.now) (w.writes c.show_next-shown.new.out.sink.now) (w.written c.args.out.now.sink.now) (w.written c.let_out.new.out.sink.now) (w.written c.show_next-shown.new.out.sink.now)
+    (s.reads c.args.input.now.source.now) (s.reads c.show_next-shown.new.input.source.now) c.let_out.new.out.page.now c.show_next-shown.new.out.page.now waits c.show_next-shown.result (rw file at c.in_ok-let_out.ensures.writes) c.show_next-shown.ensures.writes
     c.show_next-shown.ensures.lowers (rw file at c.in_ok-let_out.ensures.out) c.show_next-shown.ensures.waited c.show_next-shown.ensures.kept)

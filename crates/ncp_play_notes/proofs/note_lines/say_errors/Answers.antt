@@ -10,16 +10,17 @@ use Rattle.ncp_play_notes.proofs.note_lines.say_errors.Goals as goal
 
 pub loop-error-init : goal.loop-error-init
 loop-error-init g c = record {
-  said = says_none error_line c.args.page.now (g.W.Sink.written c.args.sink.now);
+  said = says_none error_line c.args.out.now.page.now (g.W.Sink.written c.args.out.now.sink.now);
   writes = omega arith;
   mark = refl;
+  same_outlet = (refl, refl);
 }
 
 pub returns-in_err-make_room-clause-told : goal.returns-in_err-make_room-clause-told
 returns-in_err-make_room-clause-told g c =
     let w = g.W.Sink in let errors = c.args.errors.now in let i = c.loop-error.error-index in
-    answers_broken c.args.page.now (error_lines errors) (w.written c.args.sink.now) (w.written c.make_room.new.sink) c.make_room.new.self c.from_residual.result c.from_residual.ensures.0
-    (says_items_broken error_line c.args.page.now c.loop-error.page (w.written c.args.sink.now) (w.written c.loop-error.sink) (w.written c.make_room.new.sink) (take i errors) (drop i errors) errors c.loop-error.invariant.said
+    answers_broken c.args.out.now.page.now (error_lines errors) (w.written c.args.out.now.sink.now) (w.written c.make_room.new.self.sink.now) c.make_room.new.self.page.now c.from_residual.result c.from_residual.ensures.0
+    (says_items_broken error_line c.args.out.now.page.now c.loop-error.out.page.now (w.written c.args.out.now.sink.now) (w.written c.loop-error.out.sink.now) (w.written c.make_room.new.self.sink.now) (take i errors) (drop i errors) errors c.loop-error.invariant.said
     c.in_err-make_room.ensures.err (take-append-drop i errors))
 
 pub loop-error-preserved : goal.loop-error-preserved
@@ -27,15 +28,16 @@ loop-error-preserved g c =
     let w = g.W.Sink in let errors = c.args.errors.now in let i = c.loop-error.error-index in
     let item : Error = get_or errors i (record { code = 0; bytes = [] }) in
     record {
-      said = subst (λ (done : List Error). SaysText c.args.page.now (w.written c.args.sink.now) (error_lines done) c.push_error_line.new.page (w.written c.make_room.new.sink)) (sym (take_more errors i (record { code = 0; bytes = [] }) c.loop-error-test.true))
-          (says_item error_line c.args.page.now c.loop-error.page c.make_room.new.self c.push_error_line.new.page (w.written c.args.sink.now) (w.written c.loop-error.sink) (w.written c.make_room.new.sink) (take i errors) item
+      said = subst (λ (done : List Error). SaysText c.args.out.now.page.now (w.written c.args.out.now.sink.now) (error_lines done) c.push_error_line.new.page (w.written c.make_room.new.self.sink.now)) (sym (take_more errors i (record { code = 0; bytes = [] }) c.loop-error-test.true))
+          (says_item error_line c.args.out.now.page.now c.loop-error.out.page.now c.make_room.new.self.page.now c.push_error_line.new.page (w.written c.args.out.now.sink.now) (w.written c.loop-error.out.sink.now) (w.written c.make_room.new.self.sink.now) (take i errors) item
           c.loop-error.invariant.said c.in_ok-make_room.ensures.ok c.push_error_line.ensures);
       writes = let one = c.in_ok-make_room.ensures.writes in omega (arith, one, c.loop-error.invariant.writes);
       mark = c.in_ok-make_room.ensures.mark ∙ or-false _ ∙ c.loop-error.invariant.mark;
+      same_outlet = (c.in_ok-make_room.ensures.same_outlet.0 ∙ c.loop-error.invariant.same_outlet.0, c.in_ok-make_room.ensures.same_outlet.1 ∙ c.loop-error.invariant.same_outlet.1);
     }
 
 pub returns-clause-told : goal.returns-clause-told
 returns-clause-told g c =
     let w = g.W.Sink in let errors = c.args.errors.now in let i = c.loop-error.error-index in
-    says_items error_line c.args.page.now c.loop-error.page (w.written c.args.sink.now) (w.written c.loop-error.sink) (take i errors) (drop i errors) errors c.loop-error.invariant.said (take-append-drop i errors)
+    says_items error_line c.args.out.now.page.now c.loop-error.out.page.now (w.written c.args.out.now.sink.now) (w.written c.loop-error.out.sink.now) (take i errors) (drop i errors) errors c.loop-error.invariant.said (take-append-drop i errors)
     (drop_of_length-le errors c.loop-error-test.false)
