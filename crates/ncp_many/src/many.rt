@@ -7,8 +7,8 @@ ghost use Rattle.ncp_transcript_many.specs.Crowd.{is_there, are_hosts, new_crowd
 ghost use Rattle.ncp_transcript_many.specs.ManyTranscript.{new_many, IsManyStep, AreManyNotes, IsManyTranscript};
 ghost use Rattle.ncp_transcript_many.specs.Pairs.{ForEachTwo};
 ghost use Rattle.ncp_transcript_many.specs.NotesOfTwo.{ForEachNoteOfTwo};
-ghost use Rattle.ncp_proof_progress_notes.specs.NotesWork.{MovesArePaidFor};
-ghost use Rattle.ncp_proof_progress_settled.specs.Settled.{EndsFinished};
+ghost use Rattle.ncp_proof_settling.specs.NotesWork.{MovesArePaidFor};
+ghost use Rattle.ncp_proof_settling.specs.Settled.{EndsFinished};
 ghost use Rattle.ncp_proof_statement.specs.EachTwo.{HeadlineOfEachTwo};
 
 mod settling;

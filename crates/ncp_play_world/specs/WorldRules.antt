@@ -9,7 +9,7 @@ use Rattle.ncp_transcript_two.specs.Between.{after_note}
 use Rattle.ncp_transcript_two.specs.Happening.{Noted as Happens}
 use Rattle.ncp_transcript_two.specs.Seen.{seen}
 use Rattle.ncp_transcript_two.specs.Transcript.{Noted_world, IsSaid, IsTranscript, new_world}
-use Rattle.ncp_proof_progress_settled.specs.Settled.{IsSettled}
+use Rattle.ncp_proof_settling.specs.Settled.{IsSettled}
 use Rattle.ncp_proof_settling.specs.Settling.{ByItself}
 use Rattle.ncp_play_scene.specs.Rules.{Rules, script}
 use Rattle.ncp_play_world_lines.specs.declared.first_line.FirstLine.{FirstLine}

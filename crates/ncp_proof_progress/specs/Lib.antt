@@ -1,1 +1,5 @@
 pub mod Work
+pub mod HostsWork
+pub mod WorkRuns
+pub mod Idle
+pub mod Finished

@@ -1,12 +1,17 @@
-//! Progress: a measure of what one host can still bring about with one peer, and how it changes with all
-//! that can happen to the host.
+//! Progress of hosts of the model: each schedule ends, and where nothing moves any more all is finished.
 //!
-//! - *Use:* sums of it measure two hosts (`ncp_proof_progress_machine`), transcripts (`.._notes`) and one host against
-//!   any peer (`.._alone`).
+//! - *Use:* `ncp_proof_settling` carries it to transcripts, and to one host against any peer.
 //! - *Proved:* whatever happens to an end, commands and end afterwards have no more work than the end had and the
-//!   happening is worth (`work::what_happens_is_paid_for`), and so for phases, for what comes and for what goes out.
-//! - *Tests:* `rows`: each credit is met by one that is accepted.
+//!   happening is worth (`work::what_happens_is_paid_for`). So each message that goes out, comes, is lost or is answered
+//!   takes from a measure to which only calls, losses and deaths add (`hosts::every_schedule_ends`). Where nothing moves
+//!   no link has a message and nothing waits (`idle::where_nothing_moves_nothing_is_left`), and two hosts are finished
+//!   (`finished::where_nothing_moves_two_are_finished`): what may go arrived, a close closed, two requests opened.
+//! - *Tests:* `rows`: each credit is met by one that is accepted; `pairs`: pairs that are finished, and such that are not.
 #![tactic(auto)]
 
+pub mod finished;
+pub mod hosts;
+pub mod idle;
+pub mod pairs;
 pub mod rows;
 pub mod work;

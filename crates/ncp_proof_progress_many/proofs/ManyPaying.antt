@@ -27,9 +27,9 @@ use Rattle.ncp_transcript_many.proofs.Agreeing.{Fine, Agrees}
 use Rattle.ncp_transcript_many.proofs.Stepping.{fine-after, paired}
 use Rattle.ncp_transcript_many.proofs.Starting.{new-fine, new-agrees}
 use Rattle.ncp_transcript_many.proofs.EachPair.{a-stays, b-stays, same, pair-runs, pair-seen}
-use Rattle.ncp_proof_progress_machine.specs.HostsWork.{work}
-use Rattle.ncp_proof_progress_notes.specs.NotesWork.{notes_move, notes_allow}
-use Rattle.ncp_proof_progress_settled.specs.Settled.{is_held}
+use Rattle.ncp_proof_progress.specs.HostsWork.{work}
+use Rattle.ncp_proof_settling.specs.NotesWork.{notes_move, notes_allow}
+use Rattle.ncp_proof_settling.specs.Settled.{is_held}
 use Rattle.ncp_proof_settling.specs.Settling.{had_at, ByItself, AllByThemselves, GoesOn, IsWithinWork}
 use Rattle.ncp_proof_settling.proofs.Paying.{within}
 use Rattle.ncp_proof_progress_many.specs.ManySettling.{ManyByItself, AllManyByThemselves, ManyGoOn, AreWithinWork}

@@ -37,8 +37,8 @@ use Rattle.ncp_transcript_many.specs.ManyHappening.{are_there, are_two, by_numbe
 use Rattle.ncp_transcript_many.specs.ManyTranscript.{IsManyTranscript, Noted_many}
 use Rattle.ncp_transcript_many.specs.Pairs.{notes_between, hosts_between}
 use Rattle.ncp_transcript_many.proofs.EachPair.{pair-runs, pair-seen}
-use Rattle.ncp_proof_progress_settled.specs.Settled.{is_held}
-use Rattle.ncp_proof_progress_settled.proofs.Beginning.{new-none}
+use Rattle.ncp_proof_settling.specs.Settled.{is_held}
+use Rattle.ncp_proof_settling.proofs.Beginning.{new-none}
 use Rattle.ncp_proof_settling.proofs.Resting.{stands-at, kept-is, still, held-on}
 use Rattle.ncp_proof_progress_many.specs.ManySettling.{IsStillTo, ManyByItself, ManyGoOnce, many_says_nothing, IsManyTried}
 

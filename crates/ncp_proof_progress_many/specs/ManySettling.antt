@@ -16,9 +16,9 @@ use Rattle.ncp_transcript_many.specs.Crowd.{Crowd, is_there, host_at, between, a
 use Rattle.ncp_transcript_many.specs.ManyHappening.{ManyNoted}
 use Rattle.ncp_transcript_many.specs.ManyTranscript.{IsManySaid, Noted_many}
 use Rattle.ncp_transcript_many.specs.Pairs.{notes_between}
-use Rattle.ncp_proof_progress_machine.specs.HostsWork.{work}
-use Rattle.ncp_proof_progress_notes.specs.NotesWork.{notes_move, notes_allow}
-use Rattle.ncp_proof_progress_settled.specs.Settled.{is_held, IsStill, IsSettled}
+use Rattle.ncp_proof_progress.specs.HostsWork.{work}
+use Rattle.ncp_proof_settling.specs.NotesWork.{notes_move, notes_allow}
+use Rattle.ncp_proof_settling.specs.Settled.{is_held, IsStill, IsSettled}
 
 -- nothing of a host to another is ready, in transit or held
 abbrev pub IsStillTo : ℕ → ℕ → Crowd → Type 0

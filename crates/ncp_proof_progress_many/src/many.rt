@@ -4,12 +4,12 @@ ghost use Rattle.ncp_transcript_many.specs.declared.many_note.ManyNote.{ManyNote
 ghost use Rattle.ncp_transcript_many.specs.Crowd.{Crowd};
 ghost use Rattle.ncp_transcript_many.specs.ManyTranscript.{IsManyTranscript};
 ghost use Rattle.ncp_transcript_many.specs.Pairs.{ForEachTwo};
-ghost use Rattle.ncp_proof_progress_notes.specs.NotesWork.{MovesArePaidFor};
-ghost use Rattle.ncp_proof_progress_notes.specs.Resting.{IsLeftWaiting};
-ghost use Rattle.ncp_proof_progress_settled.specs.Settled.{EndsFinished};
+ghost use Rattle.ncp_proof_settling.specs.NotesWork.{MovesArePaidFor};
+ghost use Rattle.ncp_proof_settling.specs.Resting.{IsLeftWaiting};
+ghost use Rattle.ncp_proof_settling.specs.Settled.{EndsFinished};
 
-use ncp_proof_progress_notes::notes::{moves_are_paid_for, what_is_left_waits_for_something};
-use ncp_proof_progress_settled::settled::where_nothing_can_happen_two_are_finished;
+use ncp_proof_settling::notes::{moves_are_paid_for, what_is_left_waits_for_something};
+use ncp_proof_settling::settled::where_nothing_can_happen_two_are_finished;
 
 /// In every transcript of two to eight hosts, what moves between each two is paid for by the calls of their users
 /// for each other, and by the losses and deaths between them; and so is what the two can still bring about. So no

@@ -10,10 +10,10 @@ use Rattle.ncp_transcript_two.specs.Transcript.{IsTranscript}
 use Rattle.ncp_transcript_two.specs.Seen.{seen}
 use Rattle.ncp_transcript_two.proofs.Headlines.{of-model}
 use Rattle.ncp_proof_headline.proofs.HostsHeld.{Ever, ever, ever-swapped}
-use Rattle.ncp_proof_progress_idle.specs.Idle.{IsSettled}
-use Rattle.ncp_proof_progress_idle.proofs.Settled.{ever-idle}
-use Rattle.ncp_proof_progress_finished.proofs.AtRest.{none-going, none-coming}
-use Rattle.ncp_proof_progress_settled.proofs.OfModel.{settled-of}
+use Rattle.ncp_proof_progress.specs.Idle.{IsSettled}
+use Rattle.ncp_proof_progress.proofs.Settled.{ever-idle}
+use Rattle.ncp_proof_progress.proofs.AtRest.{none-going, none-coming}
+use Rattle.ncp_proof_settling.proofs.OfModel.{settled-of}
 use Rattle.ncp_proof_recovery.specs.Echoes.{NoneAwaits, EchoesAreAnswered}
 use Rattle.ncp_proof_recovery.proofs.Lines.{line}
 use Rattle.ncp_proof_recovery.proofs.EchoUnderway.{echoing-turned}

@@ -9,8 +9,8 @@ use Rattle.ncp_proof_machine.specs.Hosts.{World, Falls, Step, Sends, Sends_text,
 use Rattle.ncp_proof_machine.specs.HostRuns.{by, comes_up}
 use Rattle.ncp_proof_machine.specs.Moving.{put_if_any, as_text}
 use Rattle.ncp_proof_machine.proofs.Standing.{nothing_out}
-use Rattle.ncp_proof_progress_machine.specs.HostsWork.{moved_at, held_texts, one_if_any}
-use Rattle.ncp_proof_progress_idle.specs.Idle.{IsSettled}
+use Rattle.ncp_proof_progress.specs.HostsWork.{moved_at, held_texts, one_if_any}
+use Rattle.ncp_proof_progress.specs.Idle.{IsSettled}
 use Rattle.ncp_proof_recovery.specs.Recovery.{HaveRecovered}
 
 abbrev again : World

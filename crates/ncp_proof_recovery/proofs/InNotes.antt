@@ -27,10 +27,10 @@ use Rattle.ncp_transcript_two.proofs.SeenSteps.{Stand}
 use Rattle.ncp_transcript_two.proofs.SeenRuns.{DoesOn, event-does, stand-after, stands-at}
 use Rattle.ncp_transcript_two.proofs.Headlines.{new, stands}
 use Rattle.ncp_transcript_two.proofs.Vain.{said_at, run_before}
-use Rattle.ncp_proof_progress_idle.specs.Idle as model
-use Rattle.ncp_proof_progress_finished.specs.Finished.{IsFinished}
-use Rattle.ncp_proof_progress_finished.proofs.PairsFinished.{ever-finished}
-use Rattle.ncp_proof_progress_settled.proofs.OfModel.{settled-of}
+use Rattle.ncp_proof_progress.specs.Idle as model
+use Rattle.ncp_proof_progress.specs.Finished.{IsFinished}
+use Rattle.ncp_proof_progress.proofs.PairsFinished.{ever-finished}
+use Rattle.ncp_proof_settling.proofs.OfModel.{settled-of}
 use Rattle.ncp_proof_recovery.specs.Recovery.{disturbs, IsFresh}
 use Rattle.ncp_proof_recovery.specs.Notes.{is_call, tells_call, NothingIsAsked, reset_done, IsNew, ResetRecovers}
 use Rattle.ncp_proof_recovery.proofs.Recovering.{Recovers, side-recovers, reset-recovers}

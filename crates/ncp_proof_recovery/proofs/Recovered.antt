@@ -8,10 +8,10 @@ use Rattle.ncp_proof_resets.specs.Resets.{Side, This, That, is_up}
 use Rattle.ncp_proof_machine.specs.Hosts.{Node, World, swap, Event, Calls_reset, at, run_from, run, start}
 use Rattle.ncp_proof_machine.specs.HostRuns.{by}
 use Rattle.ncp_proof_headline.proofs.HostsHeld.{Ever, ever, ever-swapped}
-use Rattle.ncp_proof_progress_idle.specs.Idle.{IsSettled, IsIdle}
-use Rattle.ncp_proof_progress_finished.specs.Finished.{IsAtRest, IsFinished}
-use Rattle.ncp_proof_progress_finished.proofs.PairsFinished.{ever-finished}
-use Rattle.ncp_proof_progress_finished.proofs.AtRest.{none-going}
+use Rattle.ncp_proof_progress.specs.Idle.{IsSettled, IsIdle}
+use Rattle.ncp_proof_progress.specs.Finished.{IsAtRest, IsFinished}
+use Rattle.ncp_proof_progress.proofs.PairsFinished.{ever-finished}
+use Rattle.ncp_proof_progress.proofs.AtRest.{none-going}
 use Rattle.ncp_proof_recovery.specs.Recovery.{IsQuiet, IsFresh, HaveRecovered, host_at}
 use Rattle.ncp_proof_recovery.proofs.Lines.{line}
 use Rattle.ncp_proof_recovery.proofs.Anew.{Asked, Rises}

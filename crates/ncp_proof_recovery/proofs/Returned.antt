@@ -25,10 +25,10 @@ use Rattle.ncp_proof_headline.proofs.Lives.{live, fronts}
 use Rattle.ncp_proof_headline.proofs.Ties.{commands_of, turn_all}
 use Rattle.ncp_proof_headline.proofs.HostsJoined.{lives, up_alive, up_waits}
 use Rattle.ncp_proof_headline.proofs.HostsHeld.{Ever, ever, ever-swapped, x, y}
-use Rattle.ncp_proof_progress_idle.specs.Idle.{IsSettled, IsIdle}
-use Rattle.ncp_proof_progress_idle.proofs.Settled.{ever-idle}
-use Rattle.ncp_proof_progress_finished.proofs.AtRest.{none-going, none-coming, sends-live}
-use Rattle.ncp_proof_progress_settled.proofs.OfModel.{settled-of}
+use Rattle.ncp_proof_progress.specs.Idle.{IsSettled, IsIdle}
+use Rattle.ncp_proof_progress.proofs.Settled.{ever-idle}
+use Rattle.ncp_proof_progress.proofs.AtRest.{none-going, none-coming, sends-live}
+use Rattle.ncp_proof_settling.proofs.OfModel.{settled-of}
 use Rattle.ncp_proof_recovery.specs.CallingBack.{NoneIsCalledBack, NoneCallsBack, AllReturned, GvbsAreAnswered}
 use Rattle.ncp_proof_recovery.proofs.CallingBack.{Recalled}
 use Rattle.ncp_proof_recovery.proofs.CalledBack.{AllAnswer, answers-ever}

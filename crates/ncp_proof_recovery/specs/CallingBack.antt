@@ -12,7 +12,7 @@ use Rattle.ncp_transcript_two.specs.World.{World, swap}
 use Rattle.ncp_transcript_two.specs.declared.note.Note.{Note}
 use Rattle.ncp_transcript_two.specs.Between.{Hosts}
 use Rattle.ncp_transcript_two.specs.Seen.{seen}
-use Rattle.ncp_proof_progress_settled.specs.Settled.{IsSettled}
+use Rattle.ncp_proof_settling.specs.Settled.{IsSettled}
 
 -- the sender's end and the receiver's: a receiver's GVB is unanswered while recall is set. An end on its way
 -- out takes a GVB as late, and no RET comes: this profile's rule.

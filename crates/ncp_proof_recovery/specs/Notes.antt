@@ -11,7 +11,7 @@ use Rattle.ncp_transcript_two.specs.declared.note.Note.{Note}
 use Rattle.ncp_transcript_two.specs.declared.note.Note.TheVariants as notes
 use Rattle.ncp_transcript_two.specs.Between.{Hosts}
 use Rattle.ncp_transcript_two.specs.Seen.{seen, told_of}
-use Rattle.ncp_proof_progress_settled.specs.Settled.{IsSettled}
+use Rattle.ncp_proof_settling.specs.Settled.{IsSettled}
 
 -- a call that was done, other than one for what is held; a call that was refused tells nothing
 abbrev pub is_call : Told → Bool

@@ -1,7 +1,7 @@
 //! A GVB is answered.
 ghost use Rattle.std.specs.Prelude.{List};
 ghost use Rattle.ncp_proof_machine.specs.Hosts.{Event, run};
-ghost use Rattle.ncp_proof_progress_idle.specs.Idle.{IsSettled};
+ghost use Rattle.ncp_proof_progress.specs.Idle.{IsSettled};
 ghost use Rattle.ncp_transcript_two.specs.declared.note.Note.{Note};
 ghost use Rattle.ncp_transcript_two.specs.Between.{Hosts};
 ghost use Rattle.ncp_transcript_two.specs.Transcript.{IsTranscript};

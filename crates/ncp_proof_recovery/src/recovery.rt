@@ -4,7 +4,7 @@ ghost use Rattle.ncp_model.specs.Phase.{is_resetting};
 ghost use Rattle.ncp_proof_resets.specs.Resets.{Side, This, That};
 ghost use Rattle.ncp_proof_machine.specs.Hosts.{Event, Calls_reset, Falls, run};
 ghost use Rattle.ncp_proof_machine.specs.HostRuns.{by, comes_up};
-ghost use Rattle.ncp_proof_progress_idle.specs.Idle.{IsSettled};
+ghost use Rattle.ncp_proof_progress.specs.Idle.{IsSettled};
 ghost use Rattle.ncp_proof_recovery.specs.Recovery.{IsQuiet, host_at, HaveRecovered};
 
 /// A reset that is accepted recovers from whatever happened before it, goings down too: where nothing is asked for

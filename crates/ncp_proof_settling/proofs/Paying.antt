@@ -41,12 +41,12 @@ use Rattle.ncp_transcript_two.proofs.Runs.{moves-tie}
 use Rattle.ncp_transcript_two.proofs.SeenSteps.{Stand}
 use Rattle.ncp_transcript_two.proofs.SeenRuns.{DoesOn, event-does, stand-after}
 use Rattle.ncp_transcript_two.proofs.Headlines.{new, stands}
-use Rattle.ncp_proof_progress_machine.specs.HostsWork.{work, BothFit, one_if_held, held_texts}
-use Rattle.ncp_proof_progress_machine.proofs.HostsWork.{at-fit, at-paid, turned-fit, start-fits, start-work}
-use Rattle.ncp_proof_progress_notes.specs.NotesWork.{notes_move, notes_allow}
-use Rattle.ncp_proof_progress_notes.proofs.Leading.{on-data}
-use Rattle.ncp_proof_progress_notes.proofs.Running.{note-on, starts, from}
-use Rattle.ncp_proof_progress_settled.specs.Settled.{is_held}
+use Rattle.ncp_proof_progress.specs.HostsWork.{work, BothFit, one_if_held, held_texts}
+use Rattle.ncp_proof_progress.proofs.HostsWork.{at-fit, at-paid, turned-fit, start-fits, start-work}
+use Rattle.ncp_proof_settling.specs.NotesWork.{notes_move, notes_allow}
+use Rattle.ncp_proof_settling.proofs.Leading.{on-data}
+use Rattle.ncp_proof_settling.proofs.Running.{note-on, starts, from}
+use Rattle.ncp_proof_settling.specs.Settled.{is_held}
 use Rattle.ncp_proof_settling.specs.Settling.{had_at, ByItself, AllByThemselves, GoesOn, IsWithinWork}
 
 -- A wake moves one message at least where one is held.

@@ -41,9 +41,9 @@ use Rattle.ncp_transcript_two.proofs.OnePeer.{next-message}
 use Rattle.ncp_transcript_two.proofs.SeenSteps.{Stand}
 use Rattle.ncp_transcript_two.proofs.SeenRuns.{stand-after}
 use Rattle.ncp_transcript_two.proofs.Headlines.{stands, of-model}
-use Rattle.ncp_proof_progress_notes.proofs.Leading.{on-data}
-use Rattle.ncp_proof_progress_settled.specs.Settled.{is_held, IsStill}
-use Rattle.ncp_proof_progress_settled.proofs.OfModel.{a-link, not-ready}
+use Rattle.ncp_proof_settling.proofs.Leading.{on-data}
+use Rattle.ncp_proof_settling.specs.Settled.{is_held, IsStill}
+use Rattle.ncp_proof_settling.proofs.OfModel.{a-link, not-ready}
 use Rattle.ncp_proof_settling.specs.Settling.{had_at, flow_of, ByItself, GoesOrRestsAt, says_nothing, IsTried}
 
 -- The hosts of a transcript.

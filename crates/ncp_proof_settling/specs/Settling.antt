@@ -16,9 +16,9 @@ use Rattle.ncp_transcript_two.specs.Between.{Hosts, other, number_of, host_of, t
 use Rattle.ncp_transcript_two.specs.Happening.{Noted}
 use Rattle.ncp_transcript_two.specs.Transcript.{IsSaid, began, Noted_world}
 use Rattle.ncp_transcript_two.specs.Seen.{had_for, seen}
-use Rattle.ncp_proof_progress_machine.specs.HostsWork.{work}
-use Rattle.ncp_proof_progress_notes.specs.NotesWork.{notes_move, notes_allow}
-use Rattle.ncp_proof_progress_settled.specs.Settled.{is_held, IsStill, IsSettled}
+use Rattle.ncp_proof_progress.specs.HostsWork.{work}
+use Rattle.ncp_proof_settling.specs.NotesWork.{notes_move, notes_allow}
+use Rattle.ncp_proof_settling.specs.Settled.{is_held, IsStill, IsSettled}
 
 -- what the host of a side has for the other, and what it has in transit
 abbrev pub had_at : Side → Hosts → PeerState

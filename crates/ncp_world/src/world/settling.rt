@@ -5,8 +5,8 @@ ghost use Rattle.ncp_transcript_two.specs.OfRules.{histories_of};
 ghost use Rattle.ncp_transcript_two.specs.Transcript.{IsTranscript};
 ghost use Rattle.ncp_proof_promises.specs.Taking.{EachOutTaken};
 ghost use Rattle.ncp_statement.specs.Statement.{Headline};
-ghost use Rattle.ncp_proof_progress_notes.specs.NotesWork.{MovesArePaidFor};
-ghost use Rattle.ncp_proof_progress_settled.specs.Settled.{IsSettled, AreFinished, EndsFinished};
+ghost use Rattle.ncp_proof_settling.specs.NotesWork.{MovesArePaidFor};
+ghost use Rattle.ncp_proof_settling.specs.Settled.{IsSettled, AreFinished, EndsFinished};
 ghost use Rattle.ncp_proof_settling.specs.Settling.{GoesOrRests, GoesOrRestsAt, GoesOn, IsWithinWork, IsTried};
 
 use crate::hosts::other;

@@ -4,10 +4,10 @@ use Rattle.ncp_transcript_two.specs.Tie.{Tied}
 use Rattle.ncp_transcript_two.specs.Seen.{histories}
 use Rattle.ncp_transcript_two.specs.Watch.{no_histories}
 use Rattle.ncp_transcript_many.proofs.EachPair.{for-two}
-use Rattle.ncp_proof_progress_machine.specs.HostsWork.{work}
-use Rattle.ncp_proof_progress_notes.specs.NotesWork.{notes_move, notes_allow}
-use Rattle.ncp_proof_progress_notes.specs.Resting.{LeftWaits}
-use Rattle.ncp_proof_progress_settled.specs.Settled.{IsSettled, AreFinished}
+use Rattle.ncp_proof_progress.specs.HostsWork.{work}
+use Rattle.ncp_proof_settling.specs.NotesWork.{notes_move, notes_allow}
+use Rattle.ncp_proof_settling.specs.Resting.{LeftWaits}
+use Rattle.ncp_proof_settling.specs.Settled.{IsSettled, AreFinished}
 use Rattle.ncp_proof_progress_many.proofs.many.what_moves_between_two_of_many_is_paid_for.Goals as goal
 
 pub returns-clause-work : goal.returns-clause-work

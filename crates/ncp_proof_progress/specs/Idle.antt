@@ -1,0 +1,47 @@
+-- What keeps a host from being done: what a leaving end waits for, and what a reset waits for.
+use Rattle.std.specs.Prelude.{◌≡◌, ◌<◌, ℕ, true, false, [], length, Option, None, Some}
+use Rattle.ncp_model.specs.declared.pair.Pair.{Pair}
+use Rattle.ncp_model.specs.Pairs.{sends, receives}
+use Rattle.ncp_model.specs.End.{End}
+use Rattle.ncp_model.specs.Act.{answer, is_data_link}
+use Rattle.ncp_model.specs.Ends.{cut_in}
+use Rattle.ncp_proof_resets.specs.Delivery.{idle}
+use Rattle.ncp_proof_resets.specs.Resets.{Side}
+use Rattle.ncp_proof_machine.specs.Hosts.{Node, World, Step, quiet}
+use Rattle.ncp_proof_progress.specs.HostsWork.{OnLink, moved_at}
+
+-- A leaving sender has a text out; a leaving receiver has heard the CLS of its peer, and holds text (NIC 8246, CLS;
+-- that a CLS waits for these is this profile's rule).
+abbrev pub Leaving : Pair → End → Type 0
+Leaving pair e = record {
+  busy : e.leaving ≡ true → sends pair ≡ true → e.busy ≡ true;
+  shut : e.leaving ≡ true → receives pair ≡ true → e.cls ≡ true;
+  holds : e.leaving ≡ true → receives pair ≡ true → 0 < length e.stored;
+}
+
+abbrev pub LeavingAt : Pair → Option End → Type 0
+LeavingAt pair None = Unit {0}
+LeavingAt pair (Some e) = Leaving pair e
+
+-- An RST that is wanted and an RRP that is owed wait for a text that is out, and for nothing else (NIC 8246, RST and
+-- RRP; that they wait for it is this profile's rule).
+abbrev pub ResetsWait : Node → Type 0
+ResetsWait n = record {
+  want : quiet n ≡ true → n.host.phase.want ≡ false;
+  owe : quiet n ≡ true → n.host.phase.owe ≡ false;
+}
+
+-- Nothing moves any more: no step of either host goes with a message, and none is held.
+abbrev pub IsSettled : World → Type 0
+IsSettled w = (side : Side) (step : Step) → OnLink step → moved_at side step w ≡ 0
+
+-- No link has a message, no command waits, no text may go out, and no RST is wanted and no RRP owed.
+abbrev pub IsIdle : Node → Type 0
+IsIdle n = record {
+  control : n.control ≡ idle;
+  texts : (on : ℕ) → is_data_link on ≡ true → n.texts on ≡ idle;
+  waiting : n.host.phase.waiting ≡ [];
+  sendable : (on : ℕ) → is_data_link on ≡ true → answer (cut_in on n.ends) ≡ None;
+  want : n.host.phase.want ≡ false;
+  owe : n.host.phase.owe ≡ false;
+}

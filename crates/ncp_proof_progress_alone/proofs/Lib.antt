@@ -1,2 +1,0 @@
-pub mod HostWork
-mod RunWork

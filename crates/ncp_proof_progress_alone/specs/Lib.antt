@@ -1,3 +1,0 @@
-pub mod HostWork
-pub mod RunWork
-pub mod Rows

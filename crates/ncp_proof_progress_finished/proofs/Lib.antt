@@ -1,4 +1,0 @@
-mod Echoes
-pub mod AtRest
-pub mod PairsFinished
-mod Meaning

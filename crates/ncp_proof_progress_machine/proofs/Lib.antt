@@ -1,3 +1,0 @@
-mod LinkWork
-pub mod HostsWork
-mod Still

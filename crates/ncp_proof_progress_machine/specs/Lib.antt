@@ -1,2 +1,0 @@
-pub mod HostsWork
-pub mod WorkRuns

@@ -1,3 +1,0 @@
-pub mod OfModel
-pub mod Finished
-pub mod Beginning

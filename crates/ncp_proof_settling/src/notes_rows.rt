@@ -1,0 +1,37 @@
+//! What known notes move and allow.
+ghost use Rattle.std.specs.Prelude.{◌≡◌, ◌*◌, ◌/◌, ℕ, List, [], ◌∷◌, length, Bool, Some};
+ghost use Rattle.std.specs.FinMap.{get};
+ghost use Rattle.ncp_model.specs.End.{End};
+ghost use Rattle.ncp_model.specs.Peers.{Ask_to_send, Ask_to_receive, Close, Give, Take, Allocate, Call_back, Interrupt};
+ghost use Rattle.ncp_transcript.specs.declared.call.Call.{Call};
+ghost use Rattle.ncp_transcript.specs.declared.call.Call.TheVariants.{Reset, Echo, Wake};
+ghost use Rattle.ncp_transcript.specs.declared.note.HostNote.TheVariants.{Done, Refused};
+ghost use Rattle.ncp_transcript.specs.declared.note.HostNote.TheVariants as of_host;
+ghost use Rattle.ncp_transcript_two.specs.World.{World, Asks, Reply, Called};
+ghost use Rattle.ncp_transcript_two.specs.declared.side.Side.TheVariants.{A, B};
+ghost use Rattle.ncp_transcript_two.specs.declared.note.Note.TheVariants as notes;
+ghost use Rattle.ncp_transcript_two.specs.declared.note.Move.TheVariants as wanted;
+ghost use Rattle.ncp_transcript_two.specs.Between.{new_hosts};
+ghost use Rattle.ncp_proof_settling.specs.NotesWork.{told_allows, notes_move, notes_allow};
+
+use ncp_model::{CallFault, Pair};
+
+/// A reset that was done allows six, a refused one none; an echo six, a wake none. A message that goes out, is lost and
+/// is answered moves three times, and the loss allows three; a death allows four; and what could not happen moves and
+/// allows nothing.
+pub fn notes_move_and_allow_so()
+    ensures calls { (notes_allow (notes.Called A (Done (Reset 2)) ∷ notes.Called B (Done (Echo 1 65)) ∷ notes.Called A (Done (Wake 2)) ∷ []) (new_hosts 1 2) ≡ 12) × (notes_move (notes.Called A (Done (Reset 2)) ∷ []) ≡ 0) }
+    ensures refused { notes_allow (notes.Called A (Refused (Reset 2) CallFault.Busy) ∷ []) (new_hosts 1 2) ≡ 0 }
+    ensures lost { (notes_move (notes.Out A (of_host.Out []) ∷ notes.Lost A 0 ∷ notes.FoundDead B 0 ∷ []) ≡ 3) × (notes_allow (notes.Out A (of_host.Out []) ∷ notes.Lost A 0 ∷ notes.FoundDead B 0 ∷ []) (new_hosts 1 2) ≡ 7) }
+    ensures nothing { (notes_move (notes.Nothing A 0 wanted.Lose ∷ notes.Out A of_host.Nothing ∷ []) ≡ 0) × (notes_allow (notes.Nothing A 0 wanted.Lose ∷ []) (new_hosts 1 2) ≡ 0) }
+{}
+
+/// What calls of a connection allow when they were done: a request fifteen, a GVB nine, an ALL and an interrupt six,
+/// a close and a taking none. What is given allows six for each byte of the connection, whose size stands at the end.
+pub fn calls_allow_so()
+    ensures asks { (pair : Pair) (size room : ℕ) (r : Reply) (v : World) → (told_allows (Called (Asks pair (Ask_to_send size room)) r) v ≡ 15) × (told_allows (Called (Asks pair (Ask_to_receive room)) r) v ≡ 15) }
+    ensures allocation { (pair : Pair) (messages bits : ℕ) (r : Reply) (v : World) → (told_allows (Called (Asks pair (Allocate messages bits)) r) v ≡ 6) × (told_allows (Called (Asks pair (Call_back messages bits)) r) v ≡ 9) }
+    ensures interrupt { (pair : Pair) (r : Reply) (v : World) → told_allows (Called (Asks pair Interrupt) r) v ≡ 6 }
+    ensures free { (pair : Pair) (bytes : ℕ) (r : Reply) (v : World) → (told_allows (Called (Asks pair Close) r) v ≡ 0) × (told_allows (Called (Asks pair (Take bytes)) r) v ≡ 0) }
+    ensures give { (pair : Pair) (text : List Bool) (r : Reply) (v : World) (e : End) → get v.this.peer.ends pair ≡ Some e → told_allows (Called (Asks pair (Give text)) r) v ≡ 6 * (length text / e.size) }
+{}
