@@ -80,7 +80,7 @@ use Rattle.ncp_proof_umpire.proofs.PhaseSeen.{Seen, quiet_same}
 use Rattle.ncp_proof_umpire.proofs.PhaseSteps.{Unheard, none_heard}
 use Rattle.ncp_proof_umpire.proofs.ReadyPeers.{Ready}
 use Rattle.ncp_proof_umpire_two.specs.Files.{found_in, NothingFound}
-use Rattle.ncp_proof_umpire_two.proofs.Walk.{Shows, AllPass, all_pass}
+use Rattle.ncp_proof_umpire_two.proofs.Walk.{Shows, Steps, AllPass, all_pass}
 use Rattle.ncp_proof_umpire_two.proofs.Sides.{OfA, both_sides}
 use Rattle.ncp_proof_umpire_two.proofs.Ways.{Ways, turned_ways, ways_out, Comes_in, ways_in, Told, ways_answer, ways_lost, ways_dead, new_ways}
 use Rattle.ncp_proof_umpire_two.proofs.Between.{Joined, turned_joined, joined_after, Leaves, leaves, Written, written, comes_led, comes_near, AnswerLed, answer_leads, new_joined}
@@ -118,7 +118,7 @@ turn_both w umpire k = record {
 }
 
 -- no finding passes
-abbrev nothing : Finding → Bool
+abbrev pub nothing : Finding → Bool
 nothing finding = false
 
 as_none : (found : List Finding) → found ≡ [] → Pass nothing (found ++ [])
@@ -692,6 +692,10 @@ told w umpire link k = go (answer_kind (transit_of A link w)) refl (joined_after
 sides : OfA nothing Both
 sides = record { call = called; out = went; deliver = arrived; lose = lost; die = died; answer = told }
 
+-- each event of the two
+pub each_step : Steps nothing Both
+each_step = both_sides nothing Both turn_both sides
+
 -- ---- the beginning
 
 new_seen : (i : ℕ) (j : ℕ) → view_in (new_umpire false).views i j ≡ new_view false
@@ -717,7 +721,7 @@ new_toward v there here p q e f =
 new_had : (n : ℕ) → state_or_new (if n == n then Some new_state else None) ≡ new_state
 new_had n = ap (λ (b : Bool). state_or_new (if b then Some new_state else None)) (itself n)
 
-begins : (a b : ℕ) → a ≢ b → a < 256 → b < 256 → Both (new_hosts a b) (new_umpire false)
+pub begins : (a b : ℕ) → a ≢ b → a < 256 → b < 256 → Both (new_hosts a b) (new_umpire false)
 begins a b d k l = record {
   joined = new_joined a b d k l;
   ways = new_ways a b;
@@ -727,12 +731,12 @@ begins a b d k l = record {
   of_b = λ f. new_toward (swap (seen (new_hosts a b))) (view_in (new_umpire false).views a b) (view_in (new_umpire false).views b a) (new_had a) (new_had b) (new_seen a b) (new_seen b a);
 }
 
-no_pass : (found : List Finding) → Pass (λ (f : Finding). false) found → found ≡ []
+pub no_pass : (found : List Finding) → Pass (λ (f : Finding). false) found → found ≡ []
 no_pass [] p = refl
 no_pass (f ∷ found) p = absurd (cc p)
 
 none_passes : AllPass nothing
-none_passes = all_pass nothing Both (both_sides nothing Both turn_both sides) begins
+none_passes = all_pass nothing Both each_step begins
 
 pub none_found : NothingFound
 none_found a b given now differ k l steps = no_pass (found_in (new_umpire false) (world_file given now.notes (new_hosts a b))) (none_passes a b given now differ k l steps)

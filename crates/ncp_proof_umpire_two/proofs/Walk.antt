@@ -20,7 +20,7 @@ abbrev pub after_file : Umpire → List (ℕ × Way × List Bool) → Umpire
 after_file umpire [] = umpire
 after_file umpire (one ∷ more) = after_file (after_record umpire one.1 one.0 one.2) more
 
-found_both : (umpire : Umpire) (xs ys : List (ℕ × Way × List Bool)) → found_in umpire (xs ++ ys) ≡ found_in umpire xs ++ found_in (after_file umpire xs) ys
+pub found_both : (umpire : Umpire) (xs ys : List (ℕ × Way × List Bool)) → found_in umpire (xs ++ ys) ≡ found_in umpire xs ++ found_in (after_file umpire xs) ys
 found_both umpire [] ys = refl
 found_both umpire (x ∷ xs) ys =
     let here : List Finding = record_findings umpire x.1 x.0 x.2 in
@@ -47,7 +47,7 @@ walk passes I steps (event ∷ happened) (note ∷ noted) w umpire p k =
     (both passes (found_in umpire here) (found_in (after_file umpire here) rest) s.0 (walk passes I steps happened noted (after_note note w) (after_file umpire here) p.1 s.1))
 
 -- the notes of the steps
-steps_noted : (happened : List Event) (before now : Noted_world) → AreSteps happened before now → (all : List Note) × (now.notes ≡ before.notes ++ all) × AreNotes happened all before.hosts
+pub steps_noted : (happened : List Event) (before now : Noted_world) → AreSteps happened before now → (all : List Note) × (now.notes ≡ before.notes ++ all) × AreNotes happened all before.hosts
 steps_noted [] before now e = ([], ap (λ (w : Noted_world). w.notes) e ∙ sym (append-nil before.notes), tt)
 steps_noted (event ∷ happened) before now s =
     let rest = steps_noted happened s.0 now s.2 in
