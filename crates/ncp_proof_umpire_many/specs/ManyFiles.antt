@@ -1,0 +1,63 @@
+-- What passes the interfaces of two to eight hosts with the subnet between them, in one file, as `ncp record` writes it; and
+-- that an audit of it finds nothing.
+use Rattle.std.specs.Prelude.{◌≡◌, ◌≢◌, ◌<◌, ℕ, Bool, false, List, [], ◌∷◌, ◌++◌, map}
+use Rattle.ncp_leader.specs.declared.kinds.TheConstants.{RFNM, DESTINATION_DEAD, INCOMPLETE}
+use Rattle.ncp_subnet.specs.Messages.{answer_bits}
+use Rattle.ncp_terms.specs.declared.answer.Answer.{Answer}
+use Rattle.ncp_terms.specs.declared.answer.Answer.TheVariants as answers
+use Rattle.ncp_transcript.specs.declared.note.HostNote.{HostNote}
+use Rattle.ncp_transcript.specs.declared.note.HostNote.TheVariants as host_notes
+use Rattle.ncp_transcript_two.specs.declared.event.Event.{Event}
+use Rattle.ncp_transcript_two.specs.Between.{new_hosts}
+use Rattle.ncp_transcript_two.specs.Transcript.{Noted_world, new_world, AreSteps}
+use Rattle.ncp_transcript_many.specs.declared.many_note.ManyNote.{ManyNote}
+use Rattle.ncp_transcript_many.specs.declared.many_note.ManyNote.TheVariants as many
+use Rattle.ncp_transcript_many.specs.Crowd.{Crowd}
+use Rattle.ncp_transcript_many.specs.ManyHappening.{by_numbers}
+use Rattle.ncp_transcript_many.specs.ManyTranscript.{IsManyTranscript}
+use Rattle.ncp_umpire.specs.declared.way.Way.{Way}
+use Rattle.ncp_umpire.specs.declared.way.Way.TheVariants.{FromImp}
+use Rattle.ncp_umpire.specs.Judged.{new_umpire}
+use Rattle.ncp_proof_umpire.specs.Worlds.{goes_from, world_file}
+use Rattle.ncp_proof_umpire_two.specs.Files.{found_in}
+
+-- the type of an answer (BBN 1822, section 3)
+abbrev pub kind_of : Answer → ℕ
+kind_of answers.Rfnm = RFNM
+kind_of answers.Incomplete = INCOMPLETE
+kind_of answers.Dead = DESTINATION_DEAD
+
+-- what came to a host: bits, or an answer to its message to this peer on this link
+abbrev pub came_at : ℕ → HostNote → List (ℕ × Way × List Bool)
+came_at host (host_notes.In bits received) = (host, FromImp, bits) ∷ []
+came_at host (host_notes.Answered peer link answer received) = (host, FromImp, answer_bits (kind_of answer) peer link) ∷ []
+came_at host note = []
+
+-- what is recorded of a note: a message that went out, at its sender; one that came, at its receiver; an answer, at the host
+-- that it answers
+abbrev pub recorded : ManyNote → List (ℕ × Way × List Bool)
+recorded (many.Called host note) = []
+recorded (many.Out host note) = goes_from host note
+recorded (many.Came from to link note) = came_at to note
+recorded (many.Lost from to link) = []
+recorded (many.FoundDead from to link) = []
+recorded (many.Answered from to link note) = came_at from note
+recorded (many.Nothing event) = []
+
+-- of all notes, the first one first
+abbrev pub many_file : List ManyNote → List (ℕ × Way × List Bool)
+many_file [] = []
+many_file (note ∷ rest) = recorded note ++ many_file rest
+
+-- Two hosts alone are a world of two: the file of their notes, with their numbers in place of their sides, is what passes
+-- both interfaces with its events.
+abbrev pub FileOfTwo : Type 0
+FileOfTwo =
+    (a b : ℕ) (given : List Event) (now : Noted_world)
+    → a ≢ b → a < 256 → b < 256 → AreSteps given (new_world a b) now
+    → many_file (map (by_numbers a b) now.notes) ≡ world_file given now.notes (new_hosts a b)
+
+-- Of two to eight hosts with the subnet between them, whatever calls are made and whatever the subnet does in whatever order,
+-- nothing is found in the file of what passes all interfaces: against no host, and not against the subnet.
+abbrev pub NothingFoundAmongMany : Type 0
+NothingFoundAmongMany = (notes : List ManyNote) (now : Crowd) → IsManyTranscript notes now → found_in (new_umpire false) (many_file notes) ≡ []
