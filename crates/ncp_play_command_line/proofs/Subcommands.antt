@@ -1,20 +1,23 @@
 -- A program with one more subcommand, of what clap says of adding it.
-use Rattle.std.proofs.Common.{◌≡◌, ◌||◌, false, Result, ap, ◌∙◌}
-use Rattle.std.specs.Prelude.{IfOk}
+use Rattle.std.proofs.Common.{◌≡◌, ◌||◌, false, Result, Ok, Err, ap, ◌∙◌}
+use Rattle.std.specs.Prelude.{IfOk, IsOkAnd}
 use Rattle.std.specs.declared.alloc.AllocError.{AllocError}
 use Rattle.std.proofs.lemmas.Result.{IfOk-weaker}
-use Rattle.clap.specs.Built.{AddsArg, AddsSubcommand}
+use Rattle.clap.specs.Built.{AddsArg}
 use Rattle.clap.specs.Simple.{App, Shape, app_of, shape_of, with_rule, with_subcommand}
 use Rattle.clap.specs.Walk.{Rule, rule_of}
 use Rattle.clap.specs.declared.builder.arg.Arg.{Arg}
 use Rattle.clap.specs.declared.builder.command.Command.{Command}
 use Rattle.clap.specs.declared.builder.command.Command.TheViews.{out-Command}
 
--- one of this shape, which has no global argument
-pub has_subcommand : (result : Result Command AllocError) (program sub : Command) (shape : Shape) → (out-Command sub).has_globals ≡ false → shape_of sub ≡ shape
-    → IfOk result (AddsSubcommand program sub) → IfOk result (λ command. app_of command ≡ with_subcommand (app_of program) shape)
-has_subcommand result program sub shape local is told =
-    IfOk-weaker result (AddsSubcommand program sub) (λ command. app_of command ≡ with_subcommand (app_of program) shape) (λ command adds. adds.shape local ∙ ap (with_subcommand (app_of program)) is) told
+-- one of this shape, which has no global argument, if there was memory for it
+pub has_also : (result sub : Result Command AllocError) (program : Command) (shape : Shape) → IfOk sub (λ s. (out-Command s).has_globals ≡ false) → IfOk sub (λ s. shape_of s ≡ shape)
+    → IfOk result (λ command. IsOkAnd sub (λ s. (out-Command s).has_globals ≡ false → app_of command ≡ with_subcommand (app_of program) (shape_of s))) → IfOk result (λ command. app_of command ≡ with_subcommand (app_of program) shape)
+has_also result (Ok s) program shape local is told =
+    IfOk-weaker result (λ command. (out-Command s).has_globals ≡ false → app_of command ≡ with_subcommand (app_of program) (shape_of s)) (λ command. app_of command ≡ with_subcommand (app_of program) shape)
+    (λ command adds. adds local ∙ ap (with_subcommand (app_of program)) is) told
+has_also result (Err e) program shape local is told =
+    IfOk-weaker result (λ command. ⊥) (λ command. app_of command ≡ with_subcommand (app_of program) shape) (λ command none. absurd none) told
 
 -- and of a program that is known
 pub is_with : (result : Result Command AllocError) (program : Command) (app : App) (shape : Shape) → app_of program ≡ app

@@ -1,9 +1,9 @@
 //! The command line of the program `ncp`.
-ghost use Rattle.std.specs.Prelude.{◌≡◌, IfOk, map, option_map, false};
+ghost use Rattle.std.specs.Prelude.{◌≡◌, IfOk, IsOkAnd, map, option_map, false};
 ghost use Rattle.ncp_play_command_line.specs.CommandLine.{auditing, bare_program, bytes_asked, bytes_in, converting, explaining, flag_asked, following, flag_in, named, number_in, of_files, of_players, of_readers, of_recorders, order_in, order_of, program, reading, file_named, word_in, word_of};
 ghost use Rattle.clap.specs.Faults.{fault_of};
 ghost use Rattle.clap.specs.Kinds.{FailsBy};
-ghost use Rattle.clap.specs.Simple.{app_of, shape_of, subcommand_rows_of, with_subcommand};
+ghost use Rattle.clap.specs.Simple.{app_of, new_app, shape_of, subcommand_rows_of, with_subcommand};
 ghost use Rattle.clap.specs.Matches.{found_of};
 ghost use Rattle.clap.specs.declared.builder.command.Command.TheViews.{out-Command as fields_of};
 ghost use Rattle.clap.specs.Walk.{first_of, rows_of, rule_of};
@@ -136,6 +136,19 @@ fn file<'a>(alloc: Global) -> Arg<'a>
     )
 }
 
+// A subcommand without arguments.
+fn bare<'a>(
+    alloc: Global,
+    name: &'static str,
+    about: &'static str,
+    more: &'static str,
+) -> Command<'a>
+    ensures app { app_of result ≡ new_app name.now }
+    ensures local { (fields_of result).has_globals ≡ false }
+{
+    Command::new(alloc, name).about(about).after_help(more)
+}
+
 // A subcommand that reads a file.
 fn reading<'a>(
     alloc: Global,
@@ -146,10 +159,7 @@ fn reading<'a>(
     ensures shape { IfOk result (λ command. shape_of command ≡ reading name.now) }
     ensures local { IfOk result (λ command. (fields_of command).has_globals ≡ false) }
 {
-    Command::new(alloc, name)
-        .about(about)
-        .after_help(more)
-        .arg(file(alloc))
+    bare(alloc, name, about, more).arg(file(alloc))
 }
 
 // `convert`, with the number of a host that it wants.
@@ -163,9 +173,8 @@ fn converting<'a>(alloc: Global) -> Result<Command<'a>, AllocError>
         .required(true)
         .value_parser(clap::value_parser!(u8))
         .help("The number of the host at whose interface the messages stand");
-    Command::new(alloc, CONVERT)
-        .about("Turns a message file of one version into the other")
-        .after_help(CONVERTED)
+    let about = "Turns a message file of one version into the other";
+    bare(alloc, CONVERT, about, CONVERTED)
         .arg(at)?
         .arg(file(alloc))
 }
@@ -186,13 +195,11 @@ fn auditing<'a>(alloc: Global) -> Result<Command<'a>, AllocError>
     ensures shape { IfOk result (λ command. shape_of command ≡ auditing) }
     ensures local { IfOk result (λ command. (fields_of command).has_globals ≡ false) }
 {
-    let part = flag(alloc, PART, PART_HELP);
-    let standard = flag(alloc, STANDARD, "Leave out what only this program asks for");
-    Command::new(alloc, AUDIT)
-        .about("Says which rules the messages of a message file break, and which host did")
-        .after_help(AUDITED)
-        .arg(part)?
-        .arg(standard)?
+    let about = "Says which rules the messages of a message file break, and which host did";
+    let standard = "Leave out what only this program asks for";
+    bare(alloc, AUDIT, about, AUDITED)
+        .arg(flag(alloc, PART, PART_HELP))?
+        .arg(flag(alloc, STANDARD, standard))?
         .arg(file(alloc))
 }
 
@@ -214,11 +221,9 @@ fn following<'a>(alloc: Global) -> Result<Command<'a>, AllocError>
     ensures shape { IfOk result (λ command. shape_of command ≡ following) }
     ensures local { IfOk result (λ command. (fields_of command).has_globals ≡ false) }
 {
-    let part = flag(alloc, PART, PART_HELP);
-    Command::new(alloc, FOLLOW)
-        .about("Says what was said on each connection of a message file")
-        .after_help(FOLLOWED)
-        .arg(part)?
+    let about = "Says what was said on each connection of a message file";
+    bare(alloc, FOLLOW, about, FOLLOWED)
+        .arg(flag(alloc, PART, PART_HELP))?
         .arg(bytes(alloc))?
         .arg(file(alloc))
 }
@@ -231,10 +236,8 @@ fn explaining<'a>(alloc: Global) -> Result<Command<'a>, AllocError>
     let name = Arg::new(alloc, WORD).value_name("NAME").required(true).help(
         "The name of a fault, of a refusal or of a rule, as the program prints it",
     );
-    Command::new(alloc, EXPLAIN)
-        .about("Says what the name of a fault, of a refusal or of a rule means")
-        .after_help(EXPLAINED)
-        .arg(name)
+    let about = "Says what the name of a fault, of a refusal or of a rule means";
+    bare(alloc, EXPLAIN, about, EXPLAINED).arg(name)
 }
 
 // The program as clap knows it, with no subcommand yet.
@@ -247,6 +250,20 @@ fn bare_program<'a>(alloc: Global) -> Command<'a>
         .after_help(PROGRAM_HELP)
 }
 
+// The program with this subcommand too, if there was memory for it.
+fn and_also<'a>(
+    program: Command<'a>,
+    subcommand: Result<Command<'a>, AllocError>,
+) -> Result<Command<'a>, AllocError>
+    ensures { IfOk result (λ command. IsOkAnd subcommand.entry (λ sub. (fields_of sub).has_globals ≡ false →
+        app_of command ≡ with_subcommand (app_of program.entry) (shape_of sub))) }
+{
+    match subcommand {
+        Ok(subcommand) => program.subcommand(subcommand),
+        Err(error) => Err(error),
+    }
+}
+
 // The program with one more subcommand that reads a file.
 fn and_reading<'a>(
     program: Command<'a>,
@@ -257,35 +274,35 @@ fn and_reading<'a>(
 ) -> Result<Command<'a>, AllocError>
     ensures { IfOk result (λ command. app_of command ≡ with_subcommand (app_of program.entry) (reading name.now)) }
 {
-    program.subcommand(reading(alloc, name, about, more)?)
+    and_also(program, reading(alloc, name, about, more))
 }
 
 // The program with `convert` too.
 fn and_convert<'a>(program: Command<'a>, alloc: Global) -> Result<Command<'a>, AllocError>
     ensures { IfOk result (λ command. app_of command ≡ with_subcommand (app_of program.entry) converting) }
 {
-    program.subcommand(converting(alloc)?)
+    and_also(program, converting(alloc))
 }
 
 // The program with `audit` too.
 fn and_audit<'a>(program: Command<'a>, alloc: Global) -> Result<Command<'a>, AllocError>
     ensures { IfOk result (λ command. app_of command ≡ with_subcommand (app_of program.entry) auditing) }
 {
-    program.subcommand(auditing(alloc)?)
+    and_also(program, auditing(alloc))
 }
 
 // The program with `follow` too.
 fn and_follow<'a>(program: Command<'a>, alloc: Global) -> Result<Command<'a>, AllocError>
     ensures { IfOk result (λ command. app_of command ≡ with_subcommand (app_of program.entry) following) }
 {
-    program.subcommand(following(alloc)?)
+    and_also(program, following(alloc))
 }
 
 // The program with `explain` too.
 fn and_explain<'a>(program: Command<'a>, alloc: Global) -> Result<Command<'a>, AllocError>
     ensures { IfOk result (λ command. app_of command ≡ with_subcommand (app_of program.entry) explaining) }
 {
-    program.subcommand(explaining(alloc)?)
+    and_also(program, explaining(alloc))
 }
 
 // The program with the subcommands that read message files.
