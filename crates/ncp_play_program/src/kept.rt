@@ -12,6 +12,9 @@ const LINE: usize = 4096;
 // How many bytes of a script are kept at least, once so many were read: more than the program reads ahead, with a line.
 const HALF: usize = 65536;
 
+// How many bytes are looked at together for ends of lines: a processor compares them side by side.
+const FEW: usize = 128;
+
 /// Where a reader of a message file found a fault: behind so many records, and so many bytes of all that was read.
 #[derive(Clone, Copy, Drop)]
 pub(crate) struct Place {
@@ -35,9 +38,22 @@ pub(crate) struct Kept {
     newer: Vec<u8>,
 }
 
+// How many lines end in these few bytes, no more than a number of eight bits can count.
+fn ends_in_few(bytes: &[u8]) -> u8 {
+    let mut ended = 0u8;
+    for byte in bytes {
+        ended = ended.wrapping_add(u8::from(*byte == b'\n'));
+    }
+    ended
+}
+
 // How many lines end in these bytes.
 fn ends_in(bytes: &[u8]) -> usize {
-    bytes.iter().filter(|byte| **byte == b'\n').count()
+    let mut ended = 0usize;
+    for few in bytes.chunks(FEW) {
+        ended = ended.wrapping_add(usize::from(ends_in_few(few)));
+    }
+    ended
 }
 
 impl Kept {

@@ -142,6 +142,56 @@ where
     }
 }
 
+// What is read: the file that is named, if it can be opened, or standard input. Of a terminal standard error says so.
+fn origin_of<R, I, E>(
+    rt: &R,
+    file: Option<&str>,
+    words: &[String],
+    input: I,
+    errors: &mut E,
+) -> Option<Origin<I, R::File>>
+where
+    R: AllocGlobal + Files,
+    I: IsTerminal + Drop,
+    E: Sink,
+{
+    if let Some(path) = file {
+        return Some(Origin::Named(open(rt, path, errors)?));
+    }
+    if input.is_terminal() && reads(rt.alloc(), words) {
+        let _untold = put(errors, NOTICE);
+    }
+    Some(Origin::Standard(input))
+}
+
+// Does what words say with what is read, and answers the status with which the program ends.
+fn run_words<R, I, O, E>(
+    rt: &R,
+    words: &[String],
+    input: I,
+    output: &mut Output<O>,
+    errors: &mut E,
+) -> ExitCode
+where
+    R: AllocGlobal + Files + Print + Eprint,
+    I: Read + IsTerminal + Drop,
+    O: Write,
+    E: Sink,
+    requires clean { output.old.failed ≡ false }
+    ensures { exit_status result ≤ 2 }
+{
+    let alloc = rt.alloc();
+    let (file, is_script) = file_in(alloc, words);
+    let Some(origin) = origin_of(rt, file, words, input, errors) else {
+        return ExitCode::from(FAULT);
+    };
+    let mut source = Watched {
+        source: FromRead::new(origin),
+        kept: Kept::new(alloc, is_script),
+    };
+    perform(rt, words, &mut source, output, errors)
+}
+
 /// Does what the words of the command line say with what is read: the file that they name, or standard input. It answers
 /// the status with which the program ends.
 ///
@@ -155,32 +205,13 @@ where
     E: Write + Drop,
     ensures { exit_status result ≤ 2 }
 {
-    let words = match words_in(rt) {
-        Ok(words) => words,
-        Err(error) => {
-            let _untold = eprintln!(rt; "ncp: {error}");
-            return ExitCode::from(FAULT);
-        }
-    };
-    let alloc = rt.alloc();
     let mut output = Output::new(output);
     let mut errors = ToWrite::new(errors);
-    let (file, is_script) = file_in(alloc, words.as_slice());
-    let origin = match file {
-        Some(path) => match open(rt, path, &mut errors) {
-            Some(file) => Origin::Named(file),
-            None => return ExitCode::from(FAULT),
-        },
-        None => {
-            if input.is_terminal() && reads(alloc, words.as_slice()) {
-                let _untold = put(&mut errors, NOTICE);
-            }
-            Origin::Standard(input)
+    match words_in(rt) {
+        Ok(words) => run_words(rt, words.as_slice(), input, &mut output, &mut errors),
+        Err(error) => {
+            let _untold = eprintln!(rt; "ncp: {error}");
+            ExitCode::from(FAULT)
         }
-    };
-    let mut source = Watched {
-        source: FromRead::new(origin),
-        kept: Kept::new(alloc, is_script),
-    };
-    perform(rt, words.as_slice(), &mut source, &mut output, &mut errors)
+    }
 }

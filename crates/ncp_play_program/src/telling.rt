@@ -23,15 +23,20 @@ fn player_of(order: Order) -> Player {
     }
 }
 
-// A line as it can be shown on any terminal: other signs by their numbers, and no more than the first of them.
+// Adds a sign of a line as it can be shown on any terminal: another than those of ASCII by its number.
+fn push_sign(alloc: Global, text: &mut String, byte: u8) -> Result<(), AllocError> {
+    if byte.is_ascii_graphic() || byte == b' ' {
+        return text.push(char::from(byte));
+    }
+    let number = format!(in alloc; "\\x{byte:02x}")?;
+    text.push_str(number.as_str())
+}
+
+// A line as it can be shown on any terminal, and no more than the first of its signs.
 fn shown(alloc: Global, line: &[u8]) -> Result<String, AllocError> {
     let mut text = String::new(alloc);
     for byte in line.iter().take(SHOWN) {
-        if byte.is_ascii_graphic() || *byte == b' ' {
-            text.push(char::from(*byte))?;
-        } else {
-            text.push_str(format!(in alloc; "\\x{byte:02x}")?.as_str())?;
-        }
+        push_sign(alloc, &mut text, *byte)?;
     }
     if line.len() > SHOWN {
         text.push_str(" ..")?;
@@ -59,12 +64,22 @@ fn meaning_of(name: &str) -> &'static str {
     meaning(name).unwrap_or("")
 }
 
+// A text on a line of its own, indented.
+fn indented(alloc: Global, text: &str) -> Result<String, AllocError> {
+    format!(in alloc; "  {text}\n")
+}
+
+// A line as it is shown, and behind it what is wrong with it, each indented.
+fn shown_wrong(alloc: Global, line: &[u8], wrong: &str) -> Result<String, AllocError> {
+    let text = shown(alloc, line)?;
+    format!(in alloc; "  {text}\n  {wrong}\n")
+}
+
 // What is wrong with a line that asks for nothing.
 fn of_line(alloc: Global, order: Order, kept: &Kept, number: u32) -> Result<String, AllocError> {
     let line = kept.line(number)?;
-    let text = shown(alloc, line.as_slice())?;
     let wrong = wrong_line(alloc, player_of(order), kept.first(), line.as_slice())?;
-    format!(in alloc; "  {text}\n  {wrong}\n")
+    shown_wrong(alloc, line.as_slice(), wrong.as_str())
 }
 
 // What is wrong with the first line.
@@ -72,10 +87,9 @@ fn of_first_line(alloc: Global, order: Order, kept: &Kept) -> Result<String, All
     let first = kept.first();
     let wrong = wrong_first_line(alloc, player_of(order), first)?;
     if first.is_empty() {
-        return format!(in alloc; "  {wrong}\n");
+        return indented(alloc, wrong.as_str());
     }
-    let text = shown(alloc, first)?;
-    format!(in alloc; "  {text}\n  {wrong}\n")
+    shown_wrong(alloc, first, wrong.as_str())
 }
 
 // Where a fault of a message file was found, if that is known.
@@ -111,6 +125,17 @@ fn is_plain(head: &[u8]) -> bool {
     head.starts_with(b"NCPH") || head.starts_with(b"NCPI")
 }
 
+// What is wrong with the header of a message file.
+fn of_header(alloc: Global, order: Order, kept: &Kept) -> Result<String, AllocError> {
+    if wants_hosts(order) && is_plain(kept.first()) {
+        return format!(in alloc;
+            "  this is a file of version 1, which names no host: 'ncp convert --at H' makes one of version 2\n"
+        );
+    }
+    let wrong = wrong_header(alloc, kept.first())?;
+    indented(alloc, wrong.as_str())
+}
+
 // What is wrong with a message file.
 fn of_file(
     alloc: Global,
@@ -122,21 +147,15 @@ fn of_file(
     if order == Order::Host {
         return of_feed(alloc, kept, meant);
     }
-    if fault == FileFault::BadHeader && wants_hosts(order) && is_plain(kept.first()) {
-        return format!(in alloc;
-            "  this is a file of version 1, which names no host: 'ncp convert --at H' makes one of version 2\n"
-        );
-    }
     if fault == FileFault::BadHeader {
-        let wrong = wrong_header(alloc, kept.first())?;
-        return format!(in alloc; "  {wrong}\n");
+        return of_header(alloc, order, kept);
     }
     if fault == FileFault::WriteFailed {
-        return format!(in alloc; "  {meant}\n");
+        return indented(alloc, meant);
     }
     match place_in(alloc, kept)? {
         Some(place) => format!(in alloc; "  {place}: {meant}\n"),
-        None => format!(in alloc; "  {meant}\n"),
+        None => indented(alloc, meant),
     }
 }
 
@@ -151,37 +170,45 @@ pub(crate) fn explained(
         PlayFault::BadLine(number) => of_line(alloc, order, kept, number),
         PlayFault::BadHosts => of_first_line(alloc, order, kept),
         PlayFault::Feed(fault) => of_file(alloc, order, kept, fault),
-        other => {
-            let meant = meaning_of(other.name());
-            format!(in alloc; "  {meant}\n")
-        }
+        other => indented(alloc, meaning_of(other.name())),
     }
 }
 
-// All names, in the order of their table.
-fn all_names(alloc: Global) -> Result<String, AllocError> {
+// All names, in the order of their tables.
+fn all_names(alloc: Global) -> Result<Vec<&'static str>, AllocError> {
+    let mut names = Vec::new(alloc);
+    for table in &[NAMES, RULES, ENDS] {
+        for (name, _) in *table {
+            names.push(*name)?;
+        }
+    }
+    Ok(names)
+}
+
+// Names, each behind a space.
+fn listed(alloc: Global, names: &[&str]) -> Result<String, AllocError> {
     let mut text = String::new(alloc);
-    for (name, _) in NAMES.iter().chain(RULES.iter()).chain(ENDS.iter()) {
+    for name in names {
         text.push_str(" ")?;
         text.push_str(name)?;
     }
     Ok(text)
 }
 
+// What is said of the one of these names that was meant, where one is near.
+fn hint(alloc: Global, name: &str, names: &[&str]) -> Result<String, AllocError> {
+    match nearest(name, names) {
+        Some(near) => format!(in alloc; "; did you mean '{near}'?"),
+        None => Ok(String::new(alloc)),
+    }
+}
+
 // What is said of a name that is none.
 fn unknown(alloc: Global, name: &str) -> Result<String, AllocError> {
     let word = shown(alloc, name.as_bytes())?;
-    let names: Vec<&str> = NAMES
-        .iter()
-        .chain(RULES.iter())
-        .chain(ENDS.iter())
-        .map(|known| known.0)
-        .collect(alloc)?;
-    let near = match nearest(name, names.as_slice()) {
-        Some(near) => format!(in alloc; "; did you mean '{near}'?")?,
-        None => String::new(alloc),
-    };
-    let all = all_names(alloc)?;
+    let names = all_names(alloc)?;
+    let near = hint(alloc, name, names.as_slice())?;
+    let all = listed(alloc, names.as_slice())?;
     format!(in alloc;
         "'{word}' is no name of a fault, a refusal, a rule or an end{near}\nThe names are{all}\n"
     )
