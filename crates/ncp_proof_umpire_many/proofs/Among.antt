@@ -25,20 +25,20 @@ use Rattle.ncp_proof_umpire.specs.Worlds.{passes_between}
 use Rattle.ncp_proof_umpire_two.specs.Files.{found_in}
 use Rattle.ncp_proof_umpire_two.proofs.Walk.{after_file, found_both}
 use Rattle.ncp_proof_umpire_two.proofs.Both.{Both, nothing, each_step, begins, no_pass}
-use Rattle.ncp_proof_umpire_many.specs.ManyFiles.{recorded, many_file, NothingFoundAmongMany}
+use Rattle.ncp_proof_umpire_many.specs.ManyFiles.{passing, many_file, AllFit, RecordsFit, NothingFoundAmongMany}
 use Rattle.ncp_proof_umpire_many.proofs.Elsewhere.{IsOfOthers, record_spares, both_spared}
 use Rattle.ncp_proof_umpire_many.proofs.Named.{IsOff, IsOf, which}
-use Rattle.ncp_proof_umpire_many.proofs.Records.{AllName, passes_fit}
+use Rattle.ncp_proof_umpire_many.proofs.Records.{AllName, passes_fit, names_fit, fit_both}
 use Rattle.ncp_proof_umpire_many.proofs.Crowded.{Whole, whole_after, new_whole, OfTwo, About, about}
 
 -- ---- a note of the two
 
 record Went (m : Crowd) (umpire : Umpire) (w : Hosts) (n : ManyNote) : Type 0 where
   two : Note
-  none : found_in umpire (recorded n) ≡ []
-  names : AllName w.number_a w.number_b (recorded n)
+  none : found_in umpire (passing n) ≡ []
+  names : AllName w.number_a w.number_b (passing n)
   agrees : Agrees (after_many n m) (after_note two w)
-  both : Both (after_note two w) (after_file umpire (recorded n))
+  both : Both (after_note two w) (after_file umpire (passing n))
 
 went : (m : Crowd) (umpire : Umpire) (w : Hosts) (event : ManyEvent) (n : ManyNote) → Fine m → ManyNoted event n m → Agrees m w → Both w umpire → IsOf w.number_a w.number_b n → Went m umpire w n
 went m umpire w event n f noted g k of =
@@ -47,11 +47,11 @@ went m umpire w event n f noted g k of =
     let said : IsSaid two w = p.0.0 in
     let file : List (ℕ × Way × List Bool) = passes_between said.0 two w in
     let fits = passes_fit said.0 two w said.1 k.joined in
-    let is : file ≡ recorded n = sym (ap recorded of.2 ∙ fits.0) in
+    let is : file ≡ passing n = sym (ap passing of.2 ∙ fits.0) in
     let did = each_step said.0 two w umpire said.1 k in
     record {
       two = two;
-      none = no_pass (found_in umpire (recorded n)) (subst (λ (xs : List (ℕ × Way × List Bool)). Pass nothing (found_in umpire xs)) is did.0);
+      none = no_pass (found_in umpire (passing n)) (subst (λ (xs : List (ℕ × Way × List Bool)). Pass nothing (found_in umpire xs)) is did.0);
       names = subst (AllName w.number_a w.number_b) is fits.1;
       agrees = p.1;
       both = subst (λ (xs : List (ℕ × Way × List Bool)). Both (after_note two w) (after_file umpire xs)) is did.1;
@@ -98,8 +98,9 @@ record Among (m : Crowd) (umpire : Umpire) : Type 0 where
 
 -- what a note shows of the findings, and of others: its records leave each two that it does not name
 record Shown (m : Crowd) (umpire : Umpire) (n : ManyNote) : Type 0 where
-  none : found_in umpire (recorded n) ≡ []
-  leaves : (w : Hosts) → IsOff w.number_a w.number_b n → Both w umpire → Both w (after_file umpire (recorded n))
+  none : found_in umpire (passing n) ≡ []
+  fit : AllFit (passing n)
+  leaves : (w : Hosts) → IsOff w.number_a w.number_b n → Both w umpire → Both w (after_file umpire (passing n))
 
 module _ (m : Crowd) (umpire : Umpire) (event : ManyEvent) (n : ManyNote) (noted : ManyNoted event n m) (k : Among m umpire) where
   of_pair : (o : OfTwo m n) → Went m umpire (k.pairs o.c o.d o.there_c o.there_d o.differ).w n
@@ -121,6 +122,7 @@ module _ (m : Crowd) (umpire : Umpire) (event : ManyEvent) (n : ManyNote) (noted
       go : About m n → Shown m umpire n
       go (inl none) = record {
         none = ap (found_in umpire) none;
+        fit = subst AllFit (sym none) tt;
         leaves = λ w off x. subst (λ (xs : List (ℕ × Way × List Bool)). Both w (after_file umpire xs)) (sym none) x;
       }
       go (inr o) =
@@ -128,17 +130,18 @@ module _ (m : Crowd) (umpire : Umpire) (event : ManyEvent) (n : ManyNote) (noted
           let did = of_pair o in
           record {
             none = did.none;
+            fit = names_fit p.w.number_a p.w.number_b (passing n) p.both.joined.stand.fits_a p.both.joined.stand.fits_b did.names;
             leaves = λ w off x.
-                others_leave w p.w.number_a p.w.number_b (recorded n) umpire p.both.joined.stand.fits_a p.both.joined.stand.fits_b
+                others_leave w p.w.number_a p.w.number_b (passing n) umpire p.both.joined.stand.fits_a p.both.joined.stand.fits_b
                 (λ i j. off.forth o.c o.d o.named (sym p.is_a ∙ i) (sym p.is_b ∙ j))
                 (λ i j. off.back o.c o.d o.named (sym p.is_a ∙ i) (sym p.is_b ∙ j))
                 did.names x;
           }
 
-  pair_after : (a b : ℕ) → Pair m umpire a b → Pair (after_many n m) (after_file umpire (recorded n)) a b
+  pair_after : (a b : ℕ) → Pair m umpire a b → Pair (after_many n m) (after_file umpire (passing n)) a b
   pair_after a b p = go (which p.w.number_a p.w.number_b n)
     where
-      go : IsOff p.w.number_a p.w.number_b n ⊎ IsOf p.w.number_a p.w.number_b n → Pair (after_many n m) (after_file umpire (recorded n)) a b
+      go : IsOff p.w.number_a p.w.number_b n ⊎ IsOf p.w.number_a p.w.number_b n → Pair (after_many n m) (after_file umpire (passing n)) a b
       go (inl off) = record {
         w = p.w;
         is_a = p.is_a;
@@ -156,7 +159,7 @@ module _ (m : Crowd) (umpire : Umpire) (event : ManyEvent) (n : ManyNote) (noted
             both = did.both;
           }
 
-  among_after : Among (after_many n m) (after_file umpire (recorded n))
+  among_after : Among (after_many n m) (after_file umpire (passing n))
   among_after = record {
     fine = fine-after m k.fine event n noted;
     whole = whole_after event n m noted k.whole;
@@ -170,9 +173,15 @@ module _ (m : Crowd) (umpire : Umpire) (event : ManyEvent) (n : ManyNote) (noted
 walk : (notes : List ManyNote) (m : Crowd) (umpire : Umpire) → IsManyRun notes m → Among m umpire → found_in umpire (many_file notes) ≡ []
 walk [] m umpire r k = refl
 walk (n ∷ notes) m umpire r k =
-    found_both umpire (recorded n) (many_file notes)
-    ∙ ap (λ (xs : List Finding). xs ++ found_in (after_file umpire (recorded n)) (many_file notes)) (shown m umpire r.0.0 n r.0.1 k).none
-    ∙ walk notes (after_many n m) (after_file umpire (recorded n)) r.1 (among_after m umpire r.0.0 n r.0.1 k)
+    found_both umpire (passing n) (many_file notes)
+    ∙ ap (λ (xs : List Finding). xs ++ found_in (after_file umpire (passing n)) (many_file notes)) (shown m umpire r.0.0 n r.0.1 k).none
+    ∙ walk notes (after_many n m) (after_file umpire (passing n)) r.1 (among_after m umpire r.0.0 n r.0.1 k)
+
+walk_fits : (notes : List ManyNote) (m : Crowd) (umpire : Umpire) → IsManyRun notes m → Among m umpire → AllFit (many_file notes)
+walk_fits [] m umpire r k = tt
+walk_fits (n ∷ notes) m umpire r k =
+    fit_both (passing n) (many_file notes) (shown m umpire r.0.0 n r.0.1 k).fit
+    (walk_fits notes (after_many n m) (after_file umpire (passing n)) r.1 (among_after m umpire r.0.0 n r.0.1 k))
 
 all_begin : (ns : List ℕ) → are_hosts ns ≡ true → ((n : ℕ) → is_one_of n ns ≡ true → n < 256) → Among (new_crowd ns) (new_umpire false)
 all_begin ns good fits = record {
@@ -192,3 +201,6 @@ all_begin ns good fits = record {
 
 pub none_found : NothingFoundAmongMany
 none_found notes now t = walk notes (new_crowd (numbers_in now)) (new_umpire false) t.run (all_begin (numbers_in now) t.hosts t.fits)
+
+pub all_fit : RecordsFit
+all_fit notes now t = walk_fits notes (new_crowd (numbers_in now)) (new_umpire false) t.run (all_begin (numbers_in now) t.hosts t.fits)

@@ -26,7 +26,7 @@ use Rattle.ncp_transcript_many.proofs.ByItself.{two-there, said-at}
 use Rattle.ncp_transcript_many.proofs.Crowds.{many-new, new-numbers, numbers-after}
 use Rattle.ncp_transcript_many.proofs.NoteKinds.{Kinds, each-kind}
 use Rattle.ncp_transcript_many.proofs.Others.{other-of, not-other, others-distinct}
-use Rattle.ncp_proof_umpire_many.specs.ManyFiles.{recorded}
+use Rattle.ncp_proof_umpire_many.specs.ManyFiles.{passing}
 
 -- ---- the peers of each
 
@@ -64,7 +64,7 @@ pub record OfTwo (m : Crowd) (n : ManyNote) : Type 0 where
 
 -- nothing is recorded, or the note is of two
 abbrev pub About : Crowd → ManyNote → Type 0
-About m n = (recorded n ≡ []) ⊎ OfTwo m n
+About m n = (passing n ≡ []) ⊎ OfTwo m n
 
 differs : (c d : ℕ) → not (c == d) ≡ true → c ≢ d
 differs c d e same = let nay : true ≡ false = sym e ∙ ap not (eq-eqb c d same) in absurd (cc)

@@ -1,6 +1,7 @@
 -- What passes the interfaces of two to eight hosts with the subnet between them, in one file, as `ncp record` writes it; and
 -- that an audit of it finds nothing.
-use Rattle.std.specs.Prelude.{◌≡◌, ◌≢◌, ◌<◌, ℕ, Bool, false, List, [], ◌∷◌, ◌++◌, map}
+use Rattle.std.specs.Prelude.{◌≡◌, ◌≢◌, ◌≤◌, ◌<◌, ℕ, Bool, false, List, [], ◌∷◌, ◌++◌, length, map}
+use Rattle.ncp_bits.specs.declared.bits.TheConstants.{MAX_BITS}
 use Rattle.ncp_leader.specs.declared.kinds.TheConstants.{RFNM, DESTINATION_DEAD, INCOMPLETE}
 use Rattle.ncp_subnet.specs.Messages.{answer_bits}
 use Rattle.ncp_terms.specs.declared.answer.Answer.{Answer}
@@ -22,32 +23,40 @@ use Rattle.ncp_proof_umpire.specs.Worlds.{goes_from, world_file}
 use Rattle.ncp_proof_umpire_two.specs.Files.{found_in}
 
 -- the type of an answer (BBN 1822, section 3)
-abbrev pub kind_of : Answer → ℕ
-kind_of answers.Rfnm = RFNM
-kind_of answers.Incomplete = INCOMPLETE
-kind_of answers.Dead = DESTINATION_DEAD
+abbrev pub answer_type : Answer → ℕ
+answer_type answers.Rfnm = RFNM
+answer_type answers.Incomplete = INCOMPLETE
+answer_type answers.Dead = DESTINATION_DEAD
 
 -- what came to a host: bits, or an answer to its message to this peer on this link
 abbrev pub came_at : ℕ → HostNote → List (ℕ × Way × List Bool)
 came_at host (host_notes.In bits received) = (host, FromImp, bits) ∷ []
-came_at host (host_notes.Answered peer link answer received) = (host, FromImp, answer_bits (kind_of answer) peer link) ∷ []
+came_at host (host_notes.Answered peer link answer received) = (host, FromImp, answer_bits (answer_type answer) peer link) ∷ []
 came_at host note = []
 
 -- what is recorded of a note: a message that went out, at its sender; one that came, at its receiver; an answer, at the host
 -- that it answers
-abbrev pub recorded : ManyNote → List (ℕ × Way × List Bool)
-recorded (many.Called host note) = []
-recorded (many.Out host note) = goes_from host note
-recorded (many.Came from to link note) = came_at to note
-recorded (many.Lost from to link) = []
-recorded (many.FoundDead from to link) = []
-recorded (many.Answered from to link note) = came_at from note
-recorded (many.Nothing event) = []
+abbrev pub passing : ManyNote → List (ℕ × Way × List Bool)
+passing (many.Called host note) = []
+passing (many.Out host note) = goes_from host note
+passing (many.Came from to link note) = came_at to note
+passing (many.Lost from to link) = []
+passing (many.FoundDead from to link) = []
+passing (many.Answered from to link note) = came_at from note
+passing (many.Nothing event) = []
 
 -- of all notes, the first one first
 abbrev pub many_file : List ManyNote → List (ℕ × Way × List Bool)
 many_file [] = []
-many_file (note ∷ rest) = recorded note ++ many_file rest
+many_file (note ∷ rest) = passing note ++ many_file rest
+
+-- each record has its place in a message file: the number of its host is one byte, and its message has at most 8,192 bits
+abbrev pub AllFit : List (ℕ × Way × List Bool) → Type 0
+AllFit [] = Unit {0}
+AllFit (one ∷ more) = (one.0 < 256) × (length one.2 ≤ MAX_BITS) × AllFit more
+
+abbrev pub RecordsFit : Type 0
+RecordsFit = (notes : List ManyNote) (now : Crowd) → IsManyTranscript notes now → AllFit (many_file notes)
 
 -- Two hosts alone are a world of two: the file of their notes, with their numbers in place of their sides, is what passes
 -- both interfaces with its events.

@@ -7,7 +7,7 @@ ghost use Rattle.ncp_transcript.specs.declared.note.HostNote.TheVariants as of_h
 ghost use Rattle.ncp_umpire.specs.declared.way.Way.TheVariants.{ToImp, FromImp};
 ghost use Rattle.ncp_transcript_many.specs.declared.many_note.ManyNote.TheVariants as many;
 ghost use Rattle.ncp_transcript_many.specs.Examples.{rst_with, row_notes};
-ghost use Rattle.ncp_proof_umpire_many.specs.ManyFiles.{recorded, many_file, FileOfTwo, NothingFoundAmongMany};
+ghost use Rattle.ncp_proof_umpire_many.specs.ManyFiles.{passing, many_file, FileOfTwo, RecordsFit, NothingFoundAmongMany};
 
 /// An audit of the file of two to eight hosts with the subnet between them finds nothing: by no rule, at no interface, against
 /// no host and not against the subnet, whatever calls are made and whatever the subnet does, in whatever order.
@@ -19,13 +19,19 @@ pub fn nothing_is_found_among_many()
 /// host that it answers, with its type; what is lost, and what was wanted in vain, leaves nothing.
 pub fn each_record_stands_where_it_passes()
     ensures file { many_file row_notes ≡ (1, ToImp, rst_with 2) ∷ (1, ToImp, rst_with 3) ∷ (3, FromImp, rst_with 1) ∷ [] }
-    ensures ready { recorded (many.Answered 1 3 0 (of_host.Answered 3 0 Rfnm received.Answered)) ≡ (1, FromImp, answer_bits 5 3 0) ∷ [] }
-    ensures dead { recorded (many.Answered 1 3 2 (of_host.Answered 3 2 Dead received.Answered)) ≡ (1, FromImp, answer_bits 7 3 2) ∷ [] }
-    ensures incomplete { recorded (many.Answered 3 1 2 (of_host.Answered 1 2 Incomplete received.Answered)) ≡ (3, FromImp, answer_bits 9 1 2) ∷ [] }
-    ensures lost { (from to link : ℕ) → recorded (many.Lost from to link) ≡ [] }
+    ensures ready { passing (many.Answered 1 3 0 (of_host.Answered 3 0 Rfnm received.Answered)) ≡ (1, FromImp, answer_bits 5 3 0) ∷ [] }
+    ensures dead { passing (many.Answered 1 3 2 (of_host.Answered 3 2 Dead received.Answered)) ≡ (1, FromImp, answer_bits 7 3 2) ∷ [] }
+    ensures incomplete { passing (many.Answered 3 1 2 (of_host.Answered 1 2 Incomplete received.Answered)) ≡ (3, FromImp, answer_bits 9 1 2) ∷ [] }
+    ensures lost { (from to link : ℕ) → passing (many.Lost from to link) ≡ [] }
 {}
 
 /// The file of two hosts is one of these: what is recorded of their notes is what passes their interfaces with their events.
 pub fn the_file_of_two_is_one_of_many()
     ensures { FileOfTwo }
+{}
+
+/// Each record has its place in a message file: the number of its host is one byte, and its message has at most 8,192 bits. So
+/// the file can be written, and is read again as it is.
+pub fn each_record_has_its_place_in_a_file()
+    ensures { RecordsFit }
 {}
