@@ -22,9 +22,9 @@ use Rattle.ncp_transcript_many.proofs.EachPair.{a-stays, b-stays}
 use Rattle.ncp_transcript_many.proofs.Starting.{new-fine, new-agrees}
 use Rattle.ncp_transcript_many.proofs.Stepping.{fine-after, paired}
 use Rattle.ncp_proof_umpire.specs.Worlds.{passes_between}
-use Rattle.ncp_proof_umpire_two.specs.Files.{found_in}
-use Rattle.ncp_proof_umpire_two.proofs.Walk.{after_file, found_both}
-use Rattle.ncp_proof_umpire_two.proofs.Both.{Both, nothing, each_step, begins, no_pass}
+use Rattle.ncp_proof_umpire_many.specs.Files.{found_in}
+use Rattle.ncp_proof_umpire_many.proofs.Walk.{after_file, found_both}
+use Rattle.ncp_proof_umpire_many.proofs.Both.{Both, nothing, each_step, begins, no_pass}
 use Rattle.ncp_proof_umpire_many.specs.ManyFiles.{passing, many_file, AllFit, RecordsFit, NothingFoundAmongMany}
 use Rattle.ncp_proof_umpire_many.proofs.Elsewhere.{IsOfOthers, record_spares, both_spared}
 use Rattle.ncp_proof_umpire_many.proofs.Named.{IsOff, IsOf, which}

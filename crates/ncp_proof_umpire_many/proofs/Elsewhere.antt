@@ -29,11 +29,11 @@ use Rattle.ncp_umpire.specs.Views.{new_view}
 use Rattle.ncp_umpire.specs.Judged.{has_seen, sees, view_of, slot_of, same_of, view_after_out, fresh_out, after_out, with_answer, after_answer, judges_coming, with_coming, after_in, turn_at, after_read, after_said, after_event, after_record}
 use Rattle.ncp_proof_umpire.proofs.PhaseSeen.{view_length, Seen}
 use Rattle.ncp_proof_umpire.proofs.Shown.{Shows, after_answering, after_coming}
-use Rattle.ncp_proof_umpire_two.proofs.Tells.{Tells, keys_apart, others_go}
-use Rattle.ncp_proof_umpire_two.proofs.OneWay.{Sound, OneWay, seen_stays, sound_sees, sound_said}
-use Rattle.ncp_proof_umpire_two.proofs.OwnSide.{At}
-use Rattle.ncp_proof_umpire_two.proofs.Toward.{Toward}
-use Rattle.ncp_proof_umpire_two.proofs.Both.{Both}
+use Rattle.ncp_proof_umpire_many.proofs.Tells.{Tells, keys_apart, others_go}
+use Rattle.ncp_proof_umpire_many.proofs.OneWay.{Sound, OneWay, seen_stays, sound_sees, sound_said}
+use Rattle.ncp_proof_umpire_many.proofs.OwnSide.{At}
+use Rattle.ncp_proof_umpire_many.proofs.Toward.{Toward}
+use Rattle.ncp_proof_umpire_many.proofs.Both.{Both}
 
 -- ---- one way
 

@@ -29,7 +29,7 @@ use Rattle.ncp_umpire.specs.declared.way.Way.{Way}
 use Rattle.ncp_umpire.specs.declared.way.Way.TheVariants.{FromImp}
 use Rattle.ncp_transcript_many.specs.ManyHappening.{by_numbers}
 use Rattle.ncp_proof_umpire.specs.Worlds.{comes_to, goes_from, passes_between}
-use Rattle.ncp_proof_umpire_two.proofs.Between.{Joined, turned_joined, joined_after, Leaves, leaves, Written, written, comes_as, comes_led, AnswerLed, answer_leads}
+use Rattle.ncp_proof_umpire_many.proofs.Between.{Joined, turned_joined, joined_after, Leaves, leaves, Written, written, comes_as, comes_led, AnswerLed, answer_leads}
 use Rattle.ncp_proof_umpire_many.specs.ManyFiles.{answer_type, came_at, passing, AllFit}
 
 -- ---- a record of the two

@@ -20,7 +20,7 @@ use Rattle.ncp_umpire.specs.declared.way.Way.{Way}
 use Rattle.ncp_umpire.specs.declared.way.Way.TheVariants.{FromImp}
 use Rattle.ncp_umpire.specs.Judged.{new_umpire}
 use Rattle.ncp_proof_umpire.specs.Worlds.{goes_from, world_file}
-use Rattle.ncp_proof_umpire_two.specs.Files.{found_in}
+use Rattle.ncp_proof_umpire_many.specs.Files.{found_in}
 
 -- the type of an answer (BBN 1822, section 3)
 abbrev pub answer_type : Answer → ℕ

@@ -11,8 +11,8 @@ use Rattle.ncp_umpire.specs.declared.view.View.{View}
 use Rattle.ncp_umpire.specs.Views.{is_waiting}
 use Rattle.ncp_proof_umpire.proofs.Phased.{Phased}
 use Rattle.ncp_proof_umpire.proofs.PhaseSteps.{Unheard}
-use Rattle.ncp_proof_umpire_two.proofs.PeerSeen.{Beside}
-use Rattle.ncp_proof_umpire_two.proofs.Counts.{line, Counts, within_of}
+use Rattle.ncp_proof_umpire_many.proofs.PeerSeen.{Beside}
+use Rattle.ncp_proof_umpire_many.proofs.Counts.{line, Counts, within_of}
 
 -- the first message says an RST or an RRP first; where none is on the line, none went out
 abbrev pub Opens : List Command → Bool → Type 0

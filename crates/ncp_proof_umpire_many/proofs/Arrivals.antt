@@ -19,12 +19,12 @@ use Rattle.ncp_proof_umpire.proofs.HostSlots.{answer_here, answer_there}
 use Rattle.ncp_proof_umpire.proofs.Phased.{Phased}
 use Rattle.ncp_proof_umpire.proofs.PhaseSteps.{Unheard}
 use Rattle.ncp_proof_umpire.proofs.PhaseSeen.{quiet_same}
-use Rattle.ncp_proof_umpire_two.proofs.PeerSeen.{Beside, Within, starts, AllHeard}
-use Rattle.ncp_proof_umpire_two.proofs.Counts.{line, Counts, within_of, beside_of, recount}
-use Rattle.ncp_proof_umpire_two.proofs.Bare.{control_answered}
-use Rattle.ncp_proof_umpire_two.proofs.Toward.{Opens, Toward, peer_waits, quiet_waits}
-use Rattle.ncp_proof_umpire_two.proofs.OwnOut.{Alike, beside_alike}
-use Rattle.ncp_proof_umpire_two.proofs.Moves.{not_zero}
+use Rattle.ncp_proof_umpire_many.proofs.PeerSeen.{Beside, Within, starts, AllHeard}
+use Rattle.ncp_proof_umpire_many.proofs.Counts.{line, Counts, within_of, beside_of, recount}
+use Rattle.ncp_proof_umpire_many.proofs.Bare.{control_answered}
+use Rattle.ncp_proof_umpire_many.proofs.Toward.{Opens, Toward, peer_waits, quiet_waits}
+use Rattle.ncp_proof_umpire_many.proofs.OwnOut.{Alike, beside_alike}
+use Rattle.ncp_proof_umpire_many.proofs.Moves.{not_zero}
 
 both_ways_off : (b : Bool) → b ≡ true → b ≡ false → ⊥
 both_ways_off true e f = absurd (cc f)

@@ -36,10 +36,10 @@ use Rattle.ncp_umpire.specs.Views.{is_waiting}
 use Rattle.ncp_proof_umpire.proofs.Phased.{Phased}
 use Rattle.ncp_proof_umpire.proofs.PhaseSteps.{Unheard, none_heard, Stands}
 use Rattle.ncp_proof_umpire.proofs.PhaseSeen.{quiet_filled, quiet_zero}
-use Rattle.ncp_proof_umpire_two.proofs.PeerSeen.{Beside, Sent}
-use Rattle.ncp_proof_umpire_two.proofs.Counts.{line, Counts, recount}
-use Rattle.ncp_proof_umpire_two.proofs.Toward.{Opens, Toward, not_up, none_waits, first_reset, front_none}
-use Rattle.ncp_proof_umpire_two.proofs.OwnOut.{Alike, beside_alike}
+use Rattle.ncp_proof_umpire_many.proofs.PeerSeen.{Beside, Sent}
+use Rattle.ncp_proof_umpire_many.proofs.Counts.{line, Counts, recount}
+use Rattle.ncp_proof_umpire_many.proofs.Toward.{Opens, Toward, not_up, none_waits, first_reset, front_none}
+use Rattle.ncp_proof_umpire_many.proofs.OwnOut.{Alike, beside_alike}
 
 -- ---- what a message on link 0 says
 

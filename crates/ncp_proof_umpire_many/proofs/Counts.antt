@@ -21,7 +21,7 @@ use Rattle.ncp_transcript_two.proofs.Reaching.{of-reached}
 use Rattle.ncp_transcript_two.proofs.Underway.{underway-is}
 use Rattle.ncp_umpire.specs.declared.view.View.{View}
 use Rattle.ncp_umpire.specs.Views.{is_waiting}
-use Rattle.ncp_proof_umpire_two.proofs.PeerSeen.{Beside, Within}
+use Rattle.ncp_proof_umpire_many.proofs.PeerSeen.{Beside, Within}
 
 -- the commands of the message that went out and has not come
 abbrev pub line : PeerState → Subnet → List Command

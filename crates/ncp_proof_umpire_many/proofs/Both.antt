@@ -79,24 +79,24 @@ use Rattle.ncp_proof_umpire.proofs.PhaseLists.{itself, replicated}
 use Rattle.ncp_proof_umpire.proofs.PhaseSeen.{Seen, quiet_same}
 use Rattle.ncp_proof_umpire.proofs.PhaseSteps.{Unheard, none_heard}
 use Rattle.ncp_proof_umpire.proofs.ReadyPeers.{Ready}
-use Rattle.ncp_proof_umpire_two.specs.Files.{found_in, NothingFound}
-use Rattle.ncp_proof_umpire_two.proofs.Walk.{Shows, Steps, AllPass, all_pass}
-use Rattle.ncp_proof_umpire_two.proofs.Sides.{OfA, both_sides}
-use Rattle.ncp_proof_umpire_two.proofs.Ways.{Ways, turned_ways, ways_out, Comes_in, ways_in, Told, ways_answer, ways_lost, ways_dead, new_ways}
-use Rattle.ncp_proof_umpire_two.proofs.Between.{Joined, turned_joined, joined_after, Leaves, leaves, Written, written, comes_led, comes_near, AnswerLed, answer_leads, new_joined}
-use Rattle.ncp_proof_umpire_two.proofs.PeerSeen.{Beside, AllHeard, all_heard, in_time}
-use Rattle.ncp_proof_umpire_two.proofs.Counts.{Counts, counts, line}
-use Rattle.ncp_proof_umpire_two.proofs.Bare.{noted, resets_heard}
-use Rattle.ncp_proof_umpire_two.proofs.Toward.{Opens, Toward, nothing_else}
-use Rattle.ncp_proof_umpire_two.proofs.AsRead.{control_of, laid_alike}
-use Rattle.ncp_proof_umpire_two.proofs.OwnSide.{At}
-use Rattle.ncp_proof_umpire_two.proofs.OwnSide as own
-use Rattle.ncp_proof_umpire_two.proofs.OwnOut.{Alike, beside_alike}
-use Rattle.ncp_proof_umpire_two.proofs.OwnOut as goes
-use Rattle.ncp_proof_umpire_two.proofs.Moves.{Keeps, this_called, that_called, goes_on, again_there, again_here, text_there, text_here, commands_read, commands_there, commands_here}
-use Rattle.ncp_proof_umpire_two.proofs.Arrivals.{goes_lost, lost_there, lost_here, is_told, told_there, told_here, comes_on, before_all, still_all, calm_all, starts_all, heard_there, heard_here, began_before, no_wait, text_heard_there, text_heard_here}
-use Rattle.ncp_proof_umpire_two.proofs.Coming.{Control, control, Text, a_text, received_slots, came_to}
-use Rattle.ncp_proof_umpire_two.proofs.Meets as meets
+use Rattle.ncp_proof_umpire_many.specs.Files.{found_in, NothingFound}
+use Rattle.ncp_proof_umpire_many.proofs.Walk.{Shows, Steps, AllPass, all_pass}
+use Rattle.ncp_proof_umpire_many.proofs.Sides.{OfA, both_sides}
+use Rattle.ncp_proof_umpire_many.proofs.Ways.{Ways, turned_ways, ways_out, Comes_in, ways_in, Told, ways_answer, ways_lost, ways_dead, new_ways}
+use Rattle.ncp_proof_umpire_many.proofs.Between.{Joined, turned_joined, joined_after, Leaves, leaves, Written, written, comes_led, comes_near, AnswerLed, answer_leads, new_joined}
+use Rattle.ncp_proof_umpire_many.proofs.PeerSeen.{Beside, AllHeard, all_heard, in_time}
+use Rattle.ncp_proof_umpire_many.proofs.Counts.{Counts, counts, line}
+use Rattle.ncp_proof_umpire_many.proofs.Bare.{noted, resets_heard}
+use Rattle.ncp_proof_umpire_many.proofs.Toward.{Opens, Toward, nothing_else}
+use Rattle.ncp_proof_umpire_many.proofs.AsRead.{control_of, laid_alike}
+use Rattle.ncp_proof_umpire_many.proofs.OwnSide.{At}
+use Rattle.ncp_proof_umpire_many.proofs.OwnSide as own
+use Rattle.ncp_proof_umpire_many.proofs.OwnOut.{Alike, beside_alike}
+use Rattle.ncp_proof_umpire_many.proofs.OwnOut as goes
+use Rattle.ncp_proof_umpire_many.proofs.Moves.{Keeps, this_called, that_called, goes_on, again_there, again_here, text_there, text_here, commands_read, commands_there, commands_here}
+use Rattle.ncp_proof_umpire_many.proofs.Arrivals.{goes_lost, lost_there, lost_here, is_told, told_there, told_here, comes_on, before_all, still_all, calm_all, starts_all, heard_there, heard_here, began_before, no_wait, text_heard_there, text_heard_here}
+use Rattle.ncp_proof_umpire_many.proofs.Coming.{Control, control, Text, a_text, received_slots, came_to}
+use Rattle.ncp_proof_umpire_many.proofs.Meets as meets
 
 pub record Both (w : Hosts) (umpire : Umpire) : Type 0 where
   pub joined : Joined w

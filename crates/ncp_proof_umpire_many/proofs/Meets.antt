@@ -22,10 +22,10 @@ use Rattle.ncp_umpire.specs.Phases.{early_finding, items_findings, after_items}
 use Rattle.ncp_umpire.specs.Judged.{by_host, sees, view_of, knows_zero, unsent_finding, after_in, turn_at, read_findings, after_read, said_findings, message_findings, after_said, record_findings, after_record}
 use Rattle.ncp_umpire.proofs.Following.{in_is, said_keeps}
 use Rattle.ncp_proof_umpire.proofs.PhaseSeen.{view_same}
-use Rattle.ncp_proof_umpire_two.proofs.Ways.{in_found}
-use Rattle.ncp_proof_umpire_two.proofs.AsRead.{control_of, control_found, control_view, text_found, text_view, all_untold, untold_text, not_told, zero_none, is_told, in_views, in_full}
-use Rattle.ncp_proof_umpire_two.proofs.PeerSeen.{AllHeard}
-use Rattle.ncp_proof_umpire_two.proofs.OwnOut.{Alike}
+use Rattle.ncp_proof_umpire_many.proofs.Ways.{in_found}
+use Rattle.ncp_proof_umpire_many.proofs.AsRead.{control_of, control_found, control_view, text_found, text_view, all_untold, untold_text, not_told, zero_none, is_told, in_views, in_full}
+use Rattle.ncp_proof_umpire_many.proofs.PeerSeen.{AllHeard}
+use Rattle.ncp_proof_umpire_many.proofs.OwnOut.{Alike}
 
 -- commands that come, as they were heard
 pub record HeardSo (cs : List Command) (h : Phase) (y rest : List Command) (v now : View) : Type 0 where

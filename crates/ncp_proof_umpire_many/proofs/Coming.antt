@@ -23,7 +23,7 @@ use Rattle.ncp_transcript_two.proofs.Links.{Comes, delivered, away}
 use Rattle.ncp_transcript_two.proofs.Comings.{control-heard}
 use Rattle.ncp_transcript_two.proofs.OnePeer.{had-received, noted-message}
 use Rattle.ncp_transcript_two.proofs.Slots.{message-slots}
-use Rattle.ncp_proof_umpire_two.proofs.Between.{Joined}
+use Rattle.ncp_proof_umpire_many.proofs.Between.{Joined}
 
 pub record Control (w : Hosts) (m : List Bool) : Type 0 where
   pub cs : List Command

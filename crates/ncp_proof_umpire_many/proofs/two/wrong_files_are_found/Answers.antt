@@ -2,7 +2,7 @@ use Rattle.std.proofs.Common.{refl}
 use Rattle.ncp_numbers.specs.Bytes.{bytes_of, byte_of}
 use Rattle.ncp_numbers.specs.Numbers.{number_of}
 use Rattle.ncp_control.specs.Reading.{command_with, command_at, commands_within}
-use Rattle.ncp_proof_umpire_two.proofs.two.wrong_files_are_found.Goals as goal
+use Rattle.ncp_proof_umpire_many.proofs.two.wrong_files_are_found.Goals as goal
 
 pub returns-clause-everywhere : goal.returns-clause-everywhere
 unfolding number_of

@@ -5,8 +5,8 @@ ghost use Rattle.ncp_umpire.specs.declared.finding.Rule.TheVariants as rule;
 ghost use Rattle.ncp_umpire.specs.declared.finding.Thing.TheVariants as thing;
 ghost use Rattle.ncp_umpire.specs.Judged.{new_umpire, by_host, by_imp};
 ghost use Rattle.ncp_proof_umpire.specs.Examples.{both_short};
-ghost use Rattle.ncp_proof_umpire_two.specs.Files.{found_in, NothingFound};
-ghost use Rattle.ncp_proof_umpire_two.specs.Examples.{stray_answer, answered, resets_come};
+ghost use Rattle.ncp_proof_umpire_many.specs.Files.{found_in, NothingFound};
+ghost use Rattle.ncp_proof_umpire_many.specs.Examples.{stray_answer, answered, resets_come};
 
 /// An audit of the file of two hosts with the subnet between them finds nothing: by no rule, at neither interface, against
 /// neither host and not against the subnet, whatever calls are made and whatever the subnet does, in whatever order.

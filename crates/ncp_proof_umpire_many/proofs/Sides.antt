@@ -15,7 +15,7 @@ use Rattle.ncp_transcript_two.proofs.SeenRuns.{turned}
 use Rattle.ncp_umpire.specs.declared.finding.Finding.{Finding}
 use Rattle.ncp_umpire.specs.declared.umpire.Umpire.{Umpire}
 use Rattle.ncp_proof_umpire.specs.Worlds.{comes_to, goes_from, passes_between}
-use Rattle.ncp_proof_umpire_two.proofs.Walk.{after_file, Shows, Steps}
+use Rattle.ncp_proof_umpire_many.proofs.Walk.{after_file, Shows, Steps}
 
 pub record OfA (passes : Finding → Bool) (I : Hosts → Umpire → Type 0) : Type 0 where
   pub call : (w : Hosts) (umpire : Umpire) (call : Call) (note : Note) → IsCalled A call note w → I w umpire → I (after_note note w) umpire

@@ -13,7 +13,7 @@ use Rattle.ncp_umpire.specs.declared.way.Way.{Way}
 use Rattle.ncp_umpire.specs.Judged.{new_umpire, record_findings, after_record}
 use Rattle.ncp_umpire.proofs.Passing.{Pass, both}
 use Rattle.ncp_proof_umpire.specs.Worlds.{passes_between, world_file}
-use Rattle.ncp_proof_umpire_two.specs.Files.{found_in}
+use Rattle.ncp_proof_umpire_many.specs.Files.{found_in}
 
 -- what is known behind all records
 abbrev pub after_file : Umpire → List (ℕ × Way × List Bool) → Umpire

@@ -29,8 +29,8 @@ use Rattle.ncp_umpire.proofs.Following.{out_is, said_keeps}
 use Rattle.ncp_proof_umpire.proofs.Fresh.{New, is_new}
 use Rattle.ncp_proof_umpire.proofs.PhaseSeen.{view_same, view_length}
 use Rattle.ncp_proof_umpire.proofs.Shown.{Shows}
-use Rattle.ncp_proof_umpire_two.proofs.PeerSeen.{Beside, Sent, all_sent}
-use Rattle.ncp_proof_umpire_two.proofs.AsRead.{items, control_of, text_view, is_told}
+use Rattle.ncp_proof_umpire_many.proofs.PeerSeen.{Beside, Sent, all_sent}
+use Rattle.ncp_proof_umpire_many.proofs.AsRead.{items, control_of, text_view, is_told}
 
 -- the same is seen of both
 pub record Alike (v now : View) : Type 0 where

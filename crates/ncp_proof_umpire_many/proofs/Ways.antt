@@ -26,8 +26,8 @@ use Rattle.ncp_umpire.specs.declared.views.TheConstants.{VIEWS}
 use Rattle.ncp_umpire.specs.Judged.{new_umpire, sees, fresh_out, after_out, answer_findings, with_answer, after_answer, unsent_finding, after_in, turn_at, message_findings, event_findings, record_findings, after_record}
 use Rattle.ncp_umpire.proofs.Following.{out_is, in_is, answer_is}
 use Rattle.ncp_proof_umpire.proofs.PhaseLists.{replicated}
-use Rattle.ncp_proof_umpire_two.proofs.Tells.{Tells}
-use Rattle.ncp_proof_umpire_two.proofs.OneWay.{Sound, OneWay, But, seen_now, seen_stays, sound_sees, sees_way, sound_out, out_way, out_far, sound_said, said_way, sound_in, unsent_none, in_way, in_far, sound_answer, answer_none, answer_way, answer_far, lost_way}
+use Rattle.ncp_proof_umpire_many.proofs.Tells.{Tells}
+use Rattle.ncp_proof_umpire_many.proofs.OneWay.{Sound, OneWay, But, seen_now, seen_stays, sound_sees, sees_way, sound_out, out_way, out_far, sound_said, said_way, sound_in, unsent_none, in_way, in_far, sound_answer, answer_none, answer_way, answer_far, lost_way}
 
 -- of the messages of each of two hosts to the other
 pub record Ways (a b : ℕ) (s : Subnet) (umpire : Umpire) : Type 0 where

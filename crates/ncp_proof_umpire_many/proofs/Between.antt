@@ -45,7 +45,7 @@ use Rattle.ncp_transcript_two.proofs.SeenMoves.{sent-led, leader-parts}
 use Rattle.ncp_transcript_two.proofs.SeenRuns.{stand-after, DoesOn, turned, stand-turned, event-does}
 use Rattle.ncp_umpire.specs.Events.{is_answer}
 use Rattle.ncp_umpire.specs.Slots.{same_but_host}
-use Rattle.ncp_proof_umpire_two.proofs.Near.{near}
+use Rattle.ncp_proof_umpire_many.proofs.Near.{near}
 
 pub record Joined (w : Hosts) : Type 0 where
   pub stand : Stand w

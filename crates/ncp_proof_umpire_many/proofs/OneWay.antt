@@ -22,8 +22,8 @@ use Rattle.ncp_umpire.specs.Judged.{by_imp, has_seen, view_of, knows_zero, slot_
 use Rattle.ncp_proof_umpire.proofs.KeptOne.{Apart}
 use Rattle.ncp_proof_umpire.proofs.PhaseSeen.{view_length}
 use Rattle.ncp_proof_umpire.proofs.Shown.{after_answering, after_coming}
-use Rattle.ncp_proof_umpire_two.proofs.Tells.{Tells, keys_apart, not_out, after_going, others_go, coming, answered}
-use Rattle.ncp_proof_umpire_two.proofs.Crowd.{read_stays, crowd_set}
+use Rattle.ncp_proof_umpire_many.proofs.Tells.{Tells, keys_apart, not_out, after_going, others_go, coming, answered}
+use Rattle.ncp_proof_umpire_many.proofs.Crowd.{read_stays, crowd_set}
 
 -- the file does not begin in the middle
 pub record Sound (umpire : Umpire) : Type 0 where

@@ -1,5 +1,0 @@
-use Rattle.ncp_proof_umpire_two.proofs.Both.{none_found}
-use Rattle.ncp_proof_umpire_two.proofs.two.nothing_is_found.Goals as goal
-
-pub returns : goal.returns
-returns c = none_found
