@@ -1,5 +1,5 @@
 -- Hosts that are played, behind a note more or a mark more.
-use Rattle.std.proofs.Common.{◌≡◌, ◌≤◌, ℕ, ◌+◌, Bool, true, false, zero, suc, ◌-◌, ◌<◌, ◌^◌, List, [], ◌∷◌, ◌++◌, length, Option, Some, None, sym, ap, ◌∙◌, subst, arith}
+use Rattle.std.proofs.Common.{◌≡◌, ◌≤◌, ℕ, Result, Ok, Err, OnErr, ◌+◌, Bool, true, false, suc, ◌-◌, ◌<◌, ◌^◌, List, [], ◌∷◌, ◌++◌, length, Some, None, sym, ap, ◌∙◌, subst, arith}
 use Rattle.ncp_transcript_two.specs.declared.event.Event.{Event}
 use Rattle.ncp_transcript_two.specs.declared.note.Note.{Note}
 use Rattle.ncp_transcript_two.specs.Between.{after_note}
@@ -16,11 +16,16 @@ use Rattle.ncp_play_scene.specs.Rules.{any_refusal}
 use Rattle.ncp_play_world_lines.specs.declared.settling.Deed.TheVariants.{Event as Does, Settle}
 use Rattle.ncp_play_world_lines.specs.declared.settling.Trace.TheVariants.{Noted, Settled}
 use Rattle.ncp_play_world.specs.declared.marks.Mark.{Mark}
-use Rattle.ncp_play_world.specs.Traces.{Staged, traces_of, notes_marked, last_marked, marked_place, place_of_line, IsLast}
+use Rattle.ncp_play_world.specs.Traces.{traces_of, notes_marked, last_marked, marked_place, place_of_line, IsLast}
 use Rattle.ncp_play_world.specs.WorldRules.{StagedWorld, WorldPart, world_traced, world_rules, is_refusal}
 use Rattle.ncp_play_world.specs.ManyRules.{StagedMany, ManyPart, many_traced, many_rules, is_many_refusal}
 use Rattle.ncp_play_world.proofs.Traces.{traces_note, traces_mark, notes_marked_more, one_more, length-traces, notes_again, any_in, settled_last, noted_last, none_last}
 use Rattle.ncp_play_world.proofs.Places.{place_is}
+
+-- what stays after an error
+pub on_err : {A E P : Type 0} (r : Result A E) → P → OnErr r P
+on_err (Ok x) p = tt
+on_err (Err e) p = p
 
 -- one mark more
 abbrev pub marked : List Mark → ℕ → ℕ → List Mark
@@ -78,6 +83,33 @@ module _ (w : Noted_world) (marks : List Mark) (since : ℕ) (all : notes_marked
       let longer = notes_marked_more marks (record { behind = since; many = left }) in
       let items = ap notes_marked e in
       omega (arith, all, same, longer, items, none)
+
+  -- and behind a note more
+  pub event_all : (event : Event) (next : Noted_world) (others : List Mark) (behind : ℕ) → IsStep event w next → others ≡ marks → behind ≡ since + 1 → notes_marked others + behind ≡ length next.notes
+  event_all event next others behind step e one =
+      let longer = one_more next.notes w.notes step.0 step.2 in
+      let items = ap notes_marked e in
+      omega (arith, all, longer, items, one)
+
+  pub on_all : (more : Bool) (next : Noted_world) (others : List Mark) (behind : ℕ) → more ≡ true → GoesOrRests more w next → others ≡ marks → behind ≡ since + 1 → notes_marked others + behind ≡ length next.notes
+  on_all more next others behind is on e one =
+      let once = subst (λ (b : Bool). GoesOrRests b w next) is on in
+      let longer = one_more next.notes w.notes once.0 once.3 in
+      let items = ap notes_marked e in
+      omega (arith, all, longer, items, one)
+
+  -- or where nothing came
+  pub still_all : (more : Bool) (next : Noted_world) (others : List Mark) (behind : ℕ) → more ≡ false → GoesOrRests more w next → others ≡ marks → behind ≡ since → notes_marked others + behind ≡ length next.notes
+  still_all more next others behind is on e same =
+      let rests = subst (λ (b : Bool). GoesOrRests b w next) is on in
+      let notes = ap (λ (x : Noted_world). length x.notes) rests.0 in
+      let items = ap notes_marked e in
+      omega (arith, all, notes, items, same)
+
+  pub still_staged : (more : Bool) (next : Noted_world) (others : List Mark) → more ≡ false → GoesOrRests more w next → others ≡ marks → staged next others ≡ before
+  still_staged more next others is on e =
+      let rests = subst (λ (b : Bool). GoesOrRests b w next) is on in
+      ap (λ (ms : List Mark). staged next ms) e ∙ ap (λ (x : Noted_world). staged x marks) rests.0 ∙ was
 
   pub same_staged : (next : Noted_world) → next ≡ w → staged next marks ≡ before
   same_staged next same = ap (λ (x : Noted_world). staged x marks) same ∙ was
@@ -142,6 +174,33 @@ module _ (w : Noted_many) (marks : List Mark) (since : ℕ) (all : notes_marked 
       let longer = notes_marked_more marks (record { behind = since; many = left }) in
       let items = ap notes_marked e in
       omega (arith, all, same, longer, items, none)
+
+  -- and behind a note more
+  pub many_event_all : (event : ManyEvent) (next : Noted_many) (others : List Mark) (behind : ℕ) → IsManyStep event w next → others ≡ marks → behind ≡ since + 1 → notes_marked others + behind ≡ length next.notes
+  many_event_all event next others behind step e one =
+      let longer = one_more next.notes w.notes step.0 step.2 in
+      let items = ap notes_marked e in
+      omega (arith, all, longer, items, one)
+
+  pub many_on_all : (more : Bool) (next : Noted_many) (others : List Mark) (behind : ℕ) → more ≡ true → ManyGoOrRest more w next → others ≡ marks → behind ≡ since + 1 → notes_marked others + behind ≡ length next.notes
+  many_on_all more next others behind is on e one =
+      let once = subst (λ (b : Bool). ManyGoOrRest b w next) is on in
+      let longer = one_more next.notes w.notes once.0 once.3 in
+      let items = ap notes_marked e in
+      omega (arith, all, longer, items, one)
+
+  -- or where nothing came
+  pub many_still_all : (more : Bool) (next : Noted_many) (others : List Mark) (behind : ℕ) → more ≡ false → ManyGoOrRest more w next → others ≡ marks → behind ≡ since → notes_marked others + behind ≡ length next.notes
+  many_still_all more next others behind is on e same =
+      let rests = subst (λ (b : Bool). ManyGoOrRest b w next) is on in
+      let notes = ap (λ (x : Noted_many). length x.notes) rests.0 in
+      let items = ap notes_marked e in
+      omega (arith, all, notes, items, same)
+
+  pub many_still_staged : (more : Bool) (next : Noted_many) (others : List Mark) → more ≡ false → ManyGoOrRest more w next → others ≡ marks → staged_many next others ≡ before
+  many_still_staged more next others is on e =
+      let rests = subst (λ (b : Bool). ManyGoOrRest b w next) is on in
+      ap (λ (ms : List Mark). staged_many next ms) e ∙ ap (λ (x : Noted_many). staged_many x marks) rests.0 ∙ was
 
   pub same_staged_many : (next : Noted_many) → next ≡ w → staged_many next marks ≡ before
   same_staged_many next same = ap (λ (x : Noted_many). staged_many x marks) same ∙ was
