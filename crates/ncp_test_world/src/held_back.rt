@@ -9,7 +9,7 @@ use crate::wanted::{Wanted, says};
 use ncp_bits::{BitStore, PackedStore, PlainStore};
 use ncp_host::{Received, Record, Took};
 use ncp_transcript::HostNote;
-use ncp_world::{Note, Side};
+use ncp_world::{Event, Note, Side};
 use std::alloc::Global;
 use std::process::Abort;
 use std::test::Fail;
@@ -84,12 +84,13 @@ const WAYS: [(Side, u8); 3] = [(Side::A, 0), (Side::B, 0), (Side::A, LINK)];
 /// How often each host is asked for output.
 const ROUNDS: usize = 8;
 
+fn is_of_a(side: Side) -> bool {
+    matches!(side, Side::A)
+}
+
 fn is_on(held: Option<Held>, side: Side, link: u8) -> bool {
     match held {
-        Some(held) => {
-            held.link == link
-                && matches!((held.side, side), (Side::A, Side::A) | (Side::B, Side::B))
-        }
+        Some(held) => held.link == link && is_of_a(held.side) == is_of_a(side),
         None => false,
     }
 }
@@ -140,6 +141,21 @@ fn happens<S: BitStore>(rt: &impl Abort, tried: &mut Tried<S>, past: Past, held:
     go_on(rt, tried, Some(held));
 }
 
+/// The first events of a script.
+fn begins<S: BitStore>(rt: &impl Abort, tried: &mut Tried<S>, events: &[Event], count: usize) {
+    assert!(rt; count <= events.len());
+    for event in &events[..count] {
+        tried.does(rt, event);
+    }
+}
+
+/// The message that was held back comes, and the messages go on.
+fn comes<S: BitStore>(rt: &impl Abort, tried: &mut Tried<S>, held: Held) {
+    tried.does(rt, &deliver(held.side, held.link));
+    tried.does(rt, &answer(held.side, held.link));
+    go_on(rt, tried, None);
+}
+
 /// The script up to this message, what it is held back past, and then all the rest: the message
 /// comes, the user of the receiver takes what is there, and the messages go on.
 fn held_back<S: BitStore>(
@@ -150,14 +166,9 @@ fn held_back<S: BitStore>(
 ) -> Result<Tried<S>, Fail> {
     let events = events_of(rt, alloc, Script::OneConnection)?;
     let mut tried: Tried<S> = Tried::new(alloc)?;
-    assert!(rt; held.after <= events.len());
-    for event in &events[..held.after] {
-        tried.does(rt, event);
-    }
+    begins(rt, &mut tried, &events, held.after);
     happens(rt, &mut tried, past, held);
-    tried.does(rt, &deliver(held.side, held.link));
-    tried.does(rt, &answer(held.side, held.link));
-    go_on(rt, &mut tried, None);
+    comes(rt, &mut tried, held);
     Ok(tried)
 }
 

@@ -2,7 +2,7 @@
 use crate::events::{RECEIVER, SENDER, Script, events_of};
 use crate::tried::Tried;
 use ncp_bits::{BitStore, PackedStore, PlainStore};
-use ncp_world::{Amount, Ledger, Side};
+use ncp_world::{Amount, Event, Ledger, Side};
 use std::alloc::Global;
 use std::process::Abort;
 use std::test::Fail;
@@ -95,52 +95,44 @@ const RETURNED: Ledger = Ledger {
     ret: NONE,
 };
 
-/// The ledgers of a script, each with how many events there are when it is the ledger first. There is none before.
-type Ledgers = &'static [(usize, Ledger)];
+/// The ledgers of a script: after so many events this one, and then the next.
+type Ledgers = &'static [(usize, Option<Ledger>)];
 
 const SCRIPTS: &[(Script, Ledgers)] = &[
     (
         Script::OneConnection,
         &[
-            (14, OPENED),
-            (16, ALLOWING),
-            (18, COUNTED),
-            (21, WITH_TEXT),
-            (22, BEHIND_TEXT),
+            (13, None),
+            (2, Some(OPENED)),
+            (2, Some(ALLOWING)),
+            (3, Some(COUNTED)),
+            (1, Some(WITH_TEXT)),
+            (5, Some(BEHIND_TEXT)),
         ],
     ),
     (
         Script::LostTwice,
         &[
-            (14, OPENED),
-            (16, ALLOWING),
-            (18, COUNTED),
-            (21, WITH_TEXT),
-            (28, BEHIND_TEXT),
+            (13, None),
+            (2, Some(OPENED)),
+            (2, Some(ALLOWING)),
+            (3, Some(COUNTED)),
+            (7, Some(WITH_TEXT)),
+            (5, Some(BEHIND_TEXT)),
         ],
     ),
     (
         Script::CalledBack,
         &[
-            (14, OPENED),
-            (16, ALLOWING),
-            (18, COUNTED),
-            (22, RETURNING),
-            (25, RETURNED),
+            (13, None),
+            (2, Some(OPENED)),
+            (2, Some(ALLOWING)),
+            (4, Some(COUNTED)),
+            (3, Some(RETURNING)),
+            (2, Some(RETURNED)),
         ],
     ),
 ];
-
-/// The ledger after so many events.
-fn wanted(ledgers: &[(usize, Ledger)], events: usize) -> Option<Ledger> {
-    let mut found = None;
-    for (first, ledger) in ledgers {
-        if *first <= events {
-            found = Some(*ledger);
-        }
-    }
-    found
-}
 
 /// Whether the ledger of the sender is what is wanted, and there is none elsewhere.
 fn has_ledger<S: BitStore>(tried: &Tried<S>, wanted: Option<Ledger>) -> bool {
@@ -149,14 +141,52 @@ fn has_ledger<S: BitStore>(tried: &Tried<S>, wanted: Option<Ledger>) -> bool {
         && tried.ledger(Side::B, RECEIVER).is_none()
 }
 
-/// After each event of each script the ledger of the sender is what is wanted, and there is none elsewhere.
+/// The ledger after each of so many events is what is wanted.
+fn goes_on<S: BitStore>(
+    rt: &impl Abort,
+    tried: &mut Tried<S>,
+    events: &[Event],
+    wanted: Option<Ledger>,
+) {
+    for event in events {
+        tried.does(rt, event);
+        assert!(rt; has_ledger(tried, wanted));
+    }
+}
+
+/// After each of these events the ledger is what is wanted.
+fn are_kept<S: BitStore>(
+    rt: &impl Abort,
+    tried: &mut Tried<S>,
+    events: &[Event],
+    ledgers: Ledgers,
+) {
+    let mut left = events;
+    for (count, wanted) in ledgers {
+        assert!(rt; *count <= left.len());
+        let (now, rest) = left.split_at(*count);
+        goes_on(rt, tried, now, *wanted);
+        left = rest;
+    }
+    assert!(rt; left.is_empty());
+}
+
+/// After each event of a script the ledger of the sender is what is wanted, and there is none elsewhere.
+fn is_kept<S: BitStore>(
+    rt: &impl Abort,
+    alloc: Global,
+    script: Script,
+    ledgers: Ledgers,
+) -> Result<(), Fail> {
+    let events = events_of(rt, alloc, script)?;
+    let mut tried: Tried<S> = Tried::new(alloc)?;
+    are_kept(rt, &mut tried, &events, ledgers);
+    Ok(())
+}
+
 fn ledgers<S: BitStore>(rt: &impl Abort, alloc: Global) -> Result<(), Fail> {
     for (script, ledgers) in SCRIPTS {
-        let mut tried: Tried<S> = Tried::new(alloc)?;
-        for event in &events_of(rt, alloc, *script)? {
-            tried.does(rt, event);
-            assert!(rt; has_ledger(&tried, wanted(ledgers, tried.notes().len())));
-        }
+        is_kept::<S>(rt, alloc, *script, ledgers)?;
     }
     Ok(())
 }

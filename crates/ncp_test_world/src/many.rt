@@ -1,6 +1,6 @@
 //! Worked runs of two to eight hosts.
 use crate::many_tried::ManyTried;
-use crate::refused::is_same;
+use crate::refused::is_same_at;
 use crate::wanted::bits_of;
 use ncp_bits::{BitStore, PackedStore, PlainStore};
 use ncp_host::{CallFault, Flags, Pair, Received, Took};
@@ -258,8 +258,8 @@ const ABSENT: [ManyEvent; 6] = [
 
 /// Whether each note says what is wanted, and there are no others.
 fn are_same(alloc: Global, notes: &[ManyNote], wanted: &[ManyNote]) -> Result<bool, Fail> {
-    for (note, other) in notes.iter().zip(wanted.iter()) {
-        if !is_same(alloc, note, other)? {
+    for place in 0..wanted.len() {
+        if !is_same_at(alloc, notes, wanted, place)? {
             return Ok(false);
         }
     }
@@ -307,12 +307,22 @@ const ABSENT_NOTES: [ManyNote; 6] = [
     },
 ];
 
+/// What three hosts note of these events.
+fn expect_notes(
+    rt: &impl Abort,
+    alloc: Global,
+    events: &[ManyEvent],
+    wanted: &[ManyNote],
+) -> Result<(), Fail> {
+    let tried: ManyTried<PackedStore> = ManyTried::run(alloc, &THREE, events)?;
+    assert!(rt; are_same(alloc, tried.notes(), wanted)?);
+    Ok(())
+}
+
 /// Each is noted as nothing, with the event.
 #[test]
 fn absent_hosts_do_nothing(rt: HostRuntime) -> Result<(), Fail> {
-    let tried: ManyTried<PackedStore> = ManyTried::run(rt.alloc(), &THREE, &ABSENT)?;
-    assert!(rt; are_same(rt.alloc(), tried.notes(), &ABSENT_NOTES)?);
-    Ok(())
+    expect_notes(&rt, rt.alloc(), &ABSENT, &ABSENT_NOTES)
 }
 
 /// A reset of a peer that is no host, and a message that did not go out.
@@ -346,15 +356,30 @@ const UNKNOWN_NOTES: [ManyNote; 2] = [
     },
 ];
 
+/// All these events happen, one by one.
+fn all_happen<S: BitStore>(rt: &impl Abort, tried: &mut ManyTried<S>, events: &[ManyEvent]) {
+    for event in events {
+        tried.does(rt, event);
+    }
+}
+
+/// What three hosts note of these events, one by one.
+fn expect_each(
+    rt: &impl Abort,
+    alloc: Global,
+    events: &[ManyEvent],
+    wanted: &[ManyNote],
+) -> Result<(), Fail> {
+    let mut tried: ManyTried<PackedStore> = ManyTried::new(alloc, &THREE)?;
+    all_happen(rt, &mut tried, events);
+    assert!(rt; are_same(alloc, tried.notes(), wanted)?);
+    Ok(())
+}
+
 /// A peer that is no host is judged by the call, and so is an event with no message.
 #[test]
 fn unknown_peers_are_refused_by_the_call(rt: HostRuntime) -> Result<(), Fail> {
-    let mut tried: ManyTried<PackedStore> = ManyTried::new(rt.alloc(), &THREE)?;
-    for event in &UNKNOWN {
-        tried.does(&rt, event);
-    }
-    assert!(rt; are_same(rt.alloc(), tried.notes(), &UNKNOWN_NOTES)?);
-    Ok(())
+    expect_each(&rt, rt.alloc(), &UNKNOWN, &UNKNOWN_NOTES)
 }
 
 /// Two hosts that are up open a connection, on which the first sends.
@@ -413,14 +438,19 @@ fn say_pair(rt: &impl Abort, notes: &[ManyNote]) -> bool {
         && told(&notes[3], 2, 1, UP)
 }
 
+/// What they do is noted so.
+fn pair_is_noted<S: BitStore>(rt: &impl Abort, tried: &mut ManyTried<S>) -> bool {
+    let before = tried.notes().len();
+    pair_goes_on(rt, tried);
+    let notes = tried.notes();
+    before <= notes.len() && say_pair(rt, &notes[before..])
+}
+
 /// What two of three note of each other as they come up.
 #[test]
 fn two_of_three_come_up(rt: HostRuntime) -> Result<(), Fail> {
     let mut tried = connected(&rt, rt.alloc())?;
-    let before = tried.notes().len();
-    pair_goes_on(&rt, &mut tried);
-    let notes = tried.notes();
-    assert!(rt; before <= notes.len() && say_pair(&rt, &notes[before..]));
+    assert!(rt; pair_is_noted(&rt, &mut tried));
     Ok(())
 }
 
@@ -459,13 +489,18 @@ fn send_text<S: BitStore>(
     Ok(())
 }
 
+/// Whether the text to a third comes behind a reset of two.
+fn text_outlasts_reset<S: BitStore>(rt: &impl Abort, tried: &mut ManyTried<S>) -> bool {
+    come_up(rt, tried, 2, 1);
+    are_up(tried, 1, 2) && are_up(tried, 1, 3) && text_comes(rt, tried)
+}
+
 /// Two hosts reset while the text of one of them to a third is out. It comes.
 #[test]
 fn a_reset_of_two_leaves_the_text_to_a_third(rt: HostRuntime) -> Result<(), Fail> {
     let mut tried = connected(&rt, rt.alloc())?;
     send_text(&rt, rt.alloc(), &mut tried)?;
-    come_up(&rt, &mut tried, 2, 1);
-    assert!(rt; are_up(&tried, 1, 2) && are_up(&tried, 1, 3) && text_comes(&rt, &mut tried));
+    assert!(rt; text_outlasts_reset(&rt, &mut tried));
     Ok(())
 }
 
@@ -499,16 +534,21 @@ fn connect_all<S: BitStore>(rt: &impl Abort, tried: &mut ManyTried<S>) {
     }
 }
 
+/// Each of eight is connected with each.
+fn expect_all_connected<S: BitStore>(rt: &impl Abort, tried: &ManyTried<S>) {
+    for one in 1..9 {
+        for other in one + 1..9 {
+            assert!(rt; are_connected(tried, one, other), "{one} with {other}");
+        }
+    }
+}
+
 /// Each of eight hosts is connected with each.
 #[test]
 fn eight_hosts_are_connected(rt: HostRuntime) -> Result<(), Fail> {
     let hosts = [1, 2, 3, 4, 5, 6, 7, 8];
     let mut tried: ManyTried<PackedStore> = ManyTried::new(rt.alloc(), &hosts)?;
     connect_all(&rt, &mut tried);
-    for one in 1..9 {
-        for other in one + 1..9 {
-            assert!(rt; are_connected(&tried, one, other), "{one} with {other}");
-        }
-    }
+    expect_all_connected(&rt, &tried);
     Ok(())
 }

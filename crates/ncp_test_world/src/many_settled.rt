@@ -16,14 +16,18 @@ fn reset(host: u8, peer: u8) -> ManyEvent {
 }
 
 // Host 1 resets with 2 and with 3: both come up with it, each by six events, and not with each other.
-fn three_come_up<S: BitStore>(rt: &impl Abort, alloc: Global) -> Result<(), Fail> {
-    let mut tried: ManyTried<S> = ManyTried::new(alloc, &THREE)?;
+fn come_up<S: BitStore>(rt: &impl Abort, tried: &mut ManyTried<S>) {
     assert!(rt; tried.settles(rt) == 0);
     tried.does(rt, &reset(1, 2));
     tried.does(rt, &reset(1, 3));
     assert!(rt; tried.settles(rt) == 12 && tried.settles(rt) == 0);
     assert!(rt; tried.is_up(1, 2) && tried.is_up(2, 1) && tried.is_up(1, 3) && tried.is_up(3, 1));
     assert!(rt; !tried.is_up(2, 3) && !tried.is_up(3, 2));
+}
+
+fn three_come_up<S: BitStore>(rt: &impl Abort, alloc: Global) -> Result<(), Fail> {
+    let mut tried: ManyTried<S> = ManyTried::new(alloc, &THREE)?;
+    come_up(rt, &mut tried);
     Ok(())
 }
 

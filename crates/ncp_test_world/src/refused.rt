@@ -26,6 +26,19 @@ pub(super) fn is_same<T: Debug>(alloc: Global, one: &T, other: &T) -> Result<boo
     Ok(text_of(alloc, one)? == text_of(alloc, other)?)
 }
 
+/// Whether there are notes at a place of two lists, which say the same.
+pub(super) fn is_same_at<T: Debug>(
+    alloc: Global,
+    notes: &[T],
+    others: &[T],
+    place: usize,
+) -> Result<bool, AllocError> {
+    match (notes.get(place), others.get(place)) {
+        (Some(note), Some(other)) => is_same(alloc, note, other),
+        _ => Ok(false),
+    }
+}
+
 /// Whether a note says that a call was refused for want of memory.
 fn wants_memory(note: &HostNote) -> bool {
     matches!(
@@ -89,12 +102,17 @@ fn is_made_again<H: Hosts>(rt: &impl Abort, alloc: Global) -> Result<bool, Fail>
     Ok(refused)
 }
 
-/// Whether the last note says that a call was refused for want of memory.
-fn wants_at_last<H: Hosts>(hosts: &H) -> bool {
-    match hosts.transcript().last() {
+/// Whether a note says that a call was refused for want of memory.
+fn wants_at<H: Hosts>(hosts: &H, place: usize) -> bool {
+    match hosts.transcript().get(place) {
         Some(note) => H::is_wanting(note),
         None => false,
     }
+}
+
+/// Whether the last note says so.
+fn wants_at_last<H: Hosts>(hosts: &H) -> bool {
+    wants_at(hosts, hosts.transcript().len().saturating_sub(1))
 }
 
 /// Does an event, and once more where memory is refused: then nothing happened, but that the refusal of a call is
@@ -123,25 +141,34 @@ fn does<H: Hosts>(rt: &impl Abort, hosts: &mut H, event: &H::Event) -> bool {
 
 /// Whether the last of two lists of notes say the same.
 fn end_alike<H: Hosts>(alloc: Global, one: &H, other: &H) -> Result<bool, AllocError> {
-    match (one.transcript().last(), other.transcript().last()) {
-        (Some(note), Some(again)) => is_same(alloc, note, again),
-        _ => Ok(false),
-    }
+    let last = one.transcript().len().saturating_sub(1);
+    is_same_at(alloc, one.transcript(), other.transcript(), last)
 }
 
-/// Does all events twice, which note the same. Whether memory was refused.
-fn steps<H: Hosts>(rt: &impl Abort, alloc: Global, events: &[H::Event]) -> Result<bool, Fail> {
-    let (mut one, _refused) = made::<H>(rt, alloc)?;
-    let (mut other, _refused) = made::<H>(rt, alloc)?;
+/// Does all events at two hosts, which note the same. Whether memory was refused.
+fn step_alike<H: Hosts>(
+    rt: &impl Abort,
+    alloc: Global,
+    one: &mut H,
+    other: &mut H,
+    events: &[H::Event],
+) -> Result<bool, AllocError> {
     let mut refused = false;
     for event in events {
-        let first = does(rt, &mut one, event);
-        let second = does(rt, &mut other, event);
+        let first = does(rt, one, event);
+        let second = does(rt, other, event);
         refused = refused || first || second;
-        assert!(rt; end_alike(alloc, &one, &other)?);
+        assert!(rt; end_alike(alloc, one, other)?);
     }
     assert!(rt; one.readings() == other.readings());
     Ok(refused)
+}
+
+/// Does all events twice. Whether memory was refused.
+fn steps<H: Hosts>(rt: &impl Abort, alloc: Global, events: &[H::Event]) -> Result<bool, Fail> {
+    let (mut one, _refused) = made::<H>(rt, alloc)?;
+    let (mut other, _refused) = made::<H>(rt, alloc)?;
+    Ok(step_alike(rt, alloc, &mut one, &mut other, events)?)
 }
 
 /// Compares the notes of two runs, of which each noted each event. Whether one of them notes a call that was refused:
@@ -154,11 +181,11 @@ fn notes_refusal<H: Hosts>(
     other: &H,
 ) -> Result<bool, AllocError> {
     assert!(rt; one.transcript().len() == count && other.transcript().len() == count);
-    for (note, again) in one.transcript().iter().zip(other.transcript().iter()) {
-        if H::is_wanting(note) || H::is_wanting(again) {
+    for place in 0..count {
+        if wants_at(one, place) || wants_at(other, place) {
             return Ok(true);
         }
-        assert!(rt; is_same(alloc, note, again)?);
+        assert!(rt; is_same_at(alloc, one.transcript(), other.transcript(), place)?);
     }
     Ok(false)
 }

@@ -1,7 +1,7 @@
 //! Worked runs, each over either store: all events, and what each of their notes says.
 use crate::events::{LINK, Script, events_of};
 use crate::tried::{A, B, Tried};
-use crate::wanted::{Wanted, say};
+use crate::wanted::{Wanted, say, say_from};
 use ncp_bits::{BitStore, PackedStore, PlainStore};
 use ncp_host::{End, Received, Record, Took};
 use ncp_terms::Answer;
@@ -67,9 +67,8 @@ const BEGINNING: [Wanted<'static>; 21] = [
 /// The notes of the beginning, and these behind them.
 fn begins_and_says<S: BitStore>(rt: &impl Abort, tried: &Tried<S>, wanted: &[Wanted<'_>]) {
     let notes = tried.notes();
-    assert!(rt; notes.len() >= 21);
-    say(rt, &notes[..21], &BEGINNING);
-    say(rt, &notes[21..], wanted);
+    say_from(rt, notes, 0, &BEGINNING);
+    say(rt, notes, BEGINNING.len(), wanted);
 }
 
 /// The record of the sender when the text was answered.

@@ -32,16 +32,27 @@ const OPENED: &[Wanted<'static>] = &[
 ];
 
 // A new world is settled. Three calls come up and open a connection.
-fn calls_open<S: BitStore>(rt: &impl Abort, alloc: Global) -> Result<(), Fail> {
-    let mut tried: Tried<S> = Tried::new(alloc)?;
+fn opens<S: BitStore>(rt: &impl Abort, tried: &mut Tried<S>) {
     assert!(rt; tried.settles(rt) == 0);
     tried.does(rt, &RESET_A);
     assert!(rt; tried.settles(rt) == 6);
     tried.does(rt, &ASK_SEND);
     tried.does(rt, &ASK_RECEIVE);
     assert!(rt; tried.settles(rt) == 6 && tried.settles(rt) == 0);
-    say(rt, tried.notes(), OPENED);
+    say(rt, tried.notes(), 0, OPENED);
+}
+
+fn calls_open<S: BitStore>(rt: &impl Abort, alloc: Global) -> Result<(), Fail> {
+    let mut tried: Tried<S> = Tried::new(alloc)?;
+    opens(rt, &mut tried);
     Ok(())
+}
+
+// What is settled says so.
+fn settles_so<S: BitStore>(rt: &impl Abort, tried: &mut Tried<S>, wanted: &[Wanted<'_>]) {
+    let before = tried.notes().len();
+    assert!(rt; tried.settles(rt) == wanted.len() && tried.settles(rt) == 0);
+    say(rt, tried.notes(), before, wanted);
 }
 
 // Behind the beginning, whose text is on its way, these acts; what is settled then says so.
@@ -53,11 +64,7 @@ fn goes_on<S: BitStore>(
 ) -> Result<(), Fail> {
     let events = beginning(rt, alloc, acts)?;
     let mut tried: Tried<S> = Tried::run(alloc, &events)?;
-    let before = tried.notes().len();
-    assert!(rt; tried.settles(rt) == wanted.len() && tried.settles(rt) == 0);
-    let notes = tried.notes();
-    assert!(rt; before <= notes.len());
-    say(rt, &notes[before..], wanted);
+    settles_so(rt, &mut tried, wanted);
     Ok(())
 }
 

@@ -42,8 +42,15 @@ fn after<S: BitStore>(
 /// Whether a note of side A says that this could not happen.
 fn is_nothing(note: &Note) -> bool {
     match note {
-        Note::Nothing { side, link, .. } => matches!(side, Side::A) && *link == 0,
-        Note::Out { side, note } => matches!(side, Side::A) && matches!(note, HostNote::Nothing),
+        Note::Nothing {
+            side: Side::A,
+            link: 0,
+            ..
+        }
+        | Note::Out {
+            side: Side::A,
+            note: HostNote::Nothing,
+        } => true,
         _ => false,
     }
 }
@@ -70,9 +77,9 @@ fn can<S: BitStore>(
     possible: [bool; 4],
     goes: bool,
 ) -> Result<(), Fail> {
-    for (wanted, can) in MOVES.iter().zip(possible.iter()) {
+    for place in 0..MOVES.len() {
         let tried: Tried<S> = after(rt, alloc, moves)?;
-        happens(rt, tried, &event_of(*wanted), *can);
+        happens(rt, tried, &event_of(MOVES[place]), possible[place]);
     }
     let tried: Tried<S> = after(rt, alloc, moves)?;
     happens(rt, tried, &out(Side::A), goes);

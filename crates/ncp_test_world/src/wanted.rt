@@ -29,11 +29,7 @@ pub(super) enum Wanted<'a> {
 }
 
 pub(super) fn bits_of(rt: &impl Abort, bytes: &[u8]) -> Bits {
-    let mut bits = Bits::new();
-    for byte in bytes {
-        bits.push_number(u64::from(*byte), 8).expect(rt, "room");
-    }
-    bits
+    Bits::from_bytes(bytes, bytes.len().saturating_mul(8)).expect(rt, "room")
 }
 
 fn is_same(rt: &impl Abort, message: &Message, bytes: &[u8]) -> bool {
@@ -86,10 +82,19 @@ pub(super) fn says(rt: &impl Abort, note: &Note, wanted: &Wanted<'_>) -> bool {
     }
 }
 
-/// Each note says what is wanted, and there are no others.
-pub(super) fn say(rt: &impl Abort, notes: &[Note], wanted: &[Wanted<'_>]) {
-    assert!(rt; notes.len() == wanted.len());
-    for (note, what) in notes.iter().zip(wanted.iter()) {
-        assert!(rt; says(rt, note, what));
+/// Each note from this place on says what is wanted, as far as there is something wanted.
+pub(super) fn say_from(rt: &impl Abort, notes: &[Note], first: usize, wanted: &[Wanted<'_>]) {
+    for place in 0..wanted.len() {
+        let is_said = match notes.get(first.saturating_add(place)) {
+            Some(note) => says(rt, note, &wanted[place]),
+            None => false,
+        };
+        assert!(rt; is_said);
     }
+}
+
+/// From this place on the notes say what is wanted, and there are no others.
+pub(super) fn say(rt: &impl Abort, notes: &[Note], first: usize, wanted: &[Wanted<'_>]) {
+    assert!(rt; notes.len() == first.saturating_add(wanted.len()));
+    say_from(rt, notes, first, wanted);
 }
