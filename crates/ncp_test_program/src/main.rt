@@ -1,12 +1,14 @@
 //! Stored runs of the program `ncp`: each subcommand with each status that it has, and with a closed input and a closed
-//! output, over bytes in memory. After them stands a worked use of the players, and then the program itself plays the
-//! script that its command line names, and leaves with its status.
+//! output, over bytes in memory. After them stand a worked use of the players and one of two hosts, and then the program
+//! itself plays the script that its command line names, and leaves with its status.
 #![tactic(auto)]
 
+mod letter;
 mod runs;
 mod worked;
 
 use anyhow::Result;
+use letter::print_letter;
 use ncp_play_program::{obey, run};
 use ncp_player::{MemorySink, MemorySource};
 use runs::{EACH, RUNS};
@@ -40,8 +42,22 @@ fn print_bytes(rt: &HostRuntime, bytes: &[u8]) -> Result<()> {
     Ok(())
 }
 
-// Carries out a run whose n-th read or n-th write may fail, and prints its words, what it wrote, what it told, and its
-// status.
+// Prints the words of a run, what it wrote, what it told, and its status.
+fn print_end(
+    rt: &HostRuntime,
+    words: &[&str],
+    written: &[u8],
+    told: &[u8],
+    status: u8,
+) -> Result<()> {
+    println!(rt; "{}", words.join(rt.alloc(), " ")?)?;
+    print_bytes(rt, written)?;
+    print_bytes(rt, told)?;
+    println!(rt; "status {status}")?;
+    Ok(())
+}
+
+// Carries out a run whose n-th read or n-th write may fail, and prints how it ends.
 fn print_run(
     rt: &HostRuntime,
     words: &[&str],
@@ -53,14 +69,10 @@ fn print_run(
     let mut sink = MemorySink::new(rt.alloc(), ROOM, failing_write)?;
     let mut errors = MemorySink::new(rt.alloc(), ROOM, None)?;
     let status = obey(rt, words, &mut source, &mut sink, &mut errors);
-    println!(rt; "{}", words.join(rt.alloc(), " ")?)?;
-    print_bytes(rt, sink.bytes())?;
-    print_bytes(rt, errors.bytes())?;
-    println!(rt; "status {status}")?;
-    Ok(())
+    print_end(rt, words, sink.bytes(), errors.bytes(), status)
 }
 
-// All runs, each subcommand with a closed input and with a closed output, and the worked use of the players.
+// All runs, each subcommand with a closed input and with a closed output, and the worked uses.
 fn print_all(rt: &HostRuntime) -> Result<()> {
     for (words, input) in RUNS {
         print_run(rt, words, input, None, None)?;
@@ -75,6 +87,8 @@ fn print_all(rt: &HostRuntime) -> Result<()> {
     }
     println!(rt; "the players")?;
     use_players(rt)?;
+    println!(rt; "a letter")?;
+    print_letter(rt)?;
     println!(rt; "by itself")?;
     Ok(())
 }

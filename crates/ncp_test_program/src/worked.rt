@@ -11,7 +11,7 @@ use ncp_player::{
     FileFault, MemorySink, MemorySource, Order, check, convert, order, play_host, play_world,
     record_world, show, status,
 };
-use std::alloc::AllocError;
+use std::alloc::{AllocError, Global};
 
 /// Room for what a call writes.
 const ROOM: usize = 4096;
@@ -124,11 +124,22 @@ fn play_one(rt: &HostRuntime) -> Result<()> {
     Ok(())
 }
 
+// The host of the conversion that some words ask for.
+fn host_of(alloc: Global, words: &[&str]) -> Option<u8> {
+    let read = order(alloc, words);
+    let host = match &read {
+        Ok(Order::Convert(at)) => Some(*at),
+        _ => None,
+    };
+    drop(read);
+    host
+}
+
 // Prints which order some words are.
 fn read_words(rt: &HostRuntime) -> Result<()> {
-    match order(rt.alloc(), WORDS) {
-        Ok(Order::Convert(at)) => println!(rt; "convert at {at}")?,
-        _ => println!(rt; "another order, or none")?,
+    match host_of(rt.alloc(), WORDS) {
+        Some(at) => println!(rt; "convert at {at}")?,
+        None => println!(rt; "another order, or none")?,
     }
     Ok(())
 }

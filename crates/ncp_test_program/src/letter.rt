@@ -1,12 +1,18 @@
-//! A run of two hosts in which a text is given and taken.
+//! A letter from one host to another, over the public crates alone: two hosts and the subnet between them are run, and
+//! what the users of the second took is printed. That it is a beginning of what was given is in the contract of
+//! [`carry`], by the clause `headline` of `World::step`.
 ghost use Rattle.std.specs.Prelude.{IfOk};
 ghost use Rattle.ncp_statement.specs.Statement.{TakesGoOn, WithinAllowance};
 
+use anyhow::Result;
 use ncp_bits::{Bits, PackedStore};
 use ncp_host::Pair;
-use ncp_transcript::{Call, Message};
-use ncp_world::{Event, Side, World};
+use ncp_transcript::{Call, HostNote, Message};
+use ncp_world::{Event, Note, Side, World};
 use std::alloc::{AllocError, Global};
+
+/// The letter. Only the first two letters are allowed for, as on the first evening of the network.
+const TEXT: &[u8] = b"LOGIN";
 
 /// The numbers of the two hosts.
 const A: u8 = 1;
@@ -95,15 +101,16 @@ const BEFORE: [Happens; 9] = [
     Happens::Passes(Side::B, CONTROL_LINK),
 ];
 
+fn step(world: &mut World<PackedStore>, event: Event) -> Result<(), AllocError> {
+    let answer = world.step(&event);
+    drop(event);
+    answer
+}
+
 fn pass(world: &mut World<PackedStore>, side: Side, link: u8) -> Result<(), AllocError> {
-    for event in &[
-        Event::Out { side },
-        Event::Deliver { side, link },
-        Event::Answer { side, link },
-    ] {
-        world.step(event)?;
-    }
-    Ok(())
+    step(world, Event::Out { side })?;
+    step(world, Event::Deliver { side, link })?;
+    step(world, Event::Answer { side, link })
 }
 
 fn all_happen(world: &mut World<PackedStore>, all: &[Happens]) -> Result<(), AllocError> {
@@ -116,30 +123,75 @@ fn all_happen(world: &mut World<PackedStore>, all: &[Happens]) -> Result<(), All
     Ok(())
 }
 
+fn come_up(world: &mut World<PackedStore>) -> Result<(), AllocError> {
+    let before = BEFORE;
+    let answer = all_happen(world, &before);
+    drop(before);
+    answer
+}
+
 /// The text is given.
 fn give(alloc: Global, world: &mut World<PackedStore>, text: &Bits) -> Result<(), AllocError> {
     let text = Message::from_bits(alloc, text)?;
-    world.step(&Event::Call {
-        side: Side::A,
-        call: Call::Give {
-            peer: B,
-            pair: SENDER,
-            text,
-        },
-    })
+    let call = Call::Give {
+        peer: B,
+        pair: SENDER,
+        text,
+    };
+    let side = Side::A;
+    step(world, Event::Call { side, call })
+}
+
+/// The connection opens, and the text goes all its way.
+fn send(alloc: Global, world: &mut World<PackedStore>, text: &Bits) -> Result<(), AllocError> {
+    come_up(world)?;
+    give(alloc, world, text)?;
+    pass(world, Side::A, LINK)
 }
 
 /// A new world, in which the hosts come up, a connection opens, a text is given at host 1, and what came of it is taken
 /// at host 2. Whatever `take` answered there goes on in what had been given (`goes_on`), and is never more than was
 /// allowed (`within`).
-pub(crate) fn carry(alloc: Global, text: &Bits) -> Result<World<PackedStore>, AllocError>
+fn carry(alloc: Global, text: &Bits) -> Result<World<PackedStore>, AllocError>
     ensures goes_on { IfOk result (λ world. TakesGoOn world.notes) }
     ensures within { IfOk result (λ world. WithinAllowance world.notes) }
 {
     let mut world = World::new(alloc, A, B)?;
-    all_happen(&mut world, &BEFORE)?;
-    give(alloc, &mut world, text)?;
-    pass(&mut world, Side::A, LINK)?;
-    world.step(&TAKE)?;
+    send(alloc, &mut world, text)?;
+    let take = TAKE;
+    let taken = world.step(&take);
+    drop(take);
+    taken?;
     Ok(world)
+}
+
+// Prints the whole bytes of a text as letters.
+fn print_text(rt: &HostRuntime, text: &Bits) -> Result<()> {
+    for place in 0..text.len() / 8 {
+        let letter = text.number(8 * place, 8) as u8;
+        print!(rt; "{}", char::from(letter))?;
+    }
+    println!(rt)?;
+    Ok(())
+}
+
+// Prints the texts that were taken.
+fn print_taken(rt: &HostRuntime, notes: &[Note]) -> Result<()> {
+    for note in notes {
+        if let Note::Called {
+            note: HostNote::Took { text, .. },
+            ..
+        } = note
+        {
+            print_text(rt, &text.to_bits())?;
+        }
+    }
+    Ok(())
+}
+
+/// The letter is carried, and what was taken of it is printed.
+pub(crate) fn print_letter(rt: &HostRuntime) -> Result<()> {
+    let text = Bits::from_bytes(TEXT, 8 * TEXT.len())?;
+    let world = carry(rt.alloc(), &text)?;
+    print_taken(rt, world.transcript())
 }
