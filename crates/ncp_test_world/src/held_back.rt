@@ -84,7 +84,8 @@ const WAYS: [(Side, u8); 3] = [(Side::A, 0), (Side::B, 0), (Side::A, LINK)];
 /// How often each host is asked for output.
 const ROUNDS: usize = 8;
 
-fn is_of_a(side: Side) -> bool {
+/// Whether a side is the first.
+pub(super) fn is_of_a(side: Side) -> bool {
     matches!(side, Side::A)
 }
 

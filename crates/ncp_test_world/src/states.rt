@@ -1,5 +1,6 @@
 //! Each thing that may happen to a message, and an output, in each state of the subnet and the slot.
 use crate::events::{RESET_A, out};
+use crate::held_back::is_of_a;
 use crate::tried::Tried;
 use ncp_bits::{BitStore, PackedStore, PlainStore};
 use ncp_transcript::HostNote;
@@ -39,18 +40,15 @@ fn after<S: BitStore>(
     Ok(tried)
 }
 
+fn is_quiet(note: &HostNote) -> bool {
+    matches!(note, HostNote::Nothing)
+}
+
 /// Whether a note of side A says that this could not happen.
 fn is_nothing(note: &Note) -> bool {
     match note {
-        Note::Nothing {
-            side: Side::A,
-            link: 0,
-            ..
-        }
-        | Note::Out {
-            side: Side::A,
-            note: HostNote::Nothing,
-        } => true,
+        Note::Nothing { side, link, .. } => is_of_a(*side) && *link == 0,
+        Note::Out { side, note } => is_of_a(*side) && is_quiet(note),
         _ => false,
     }
 }
