@@ -1,4 +1,4 @@
-//! A host, a host with its transcript, and what they stand on, as tests of what the crates below show to everybody:
+//! A host, a host with its transcript, what they stand on, and hosts with a subnet (`world`), as tests of what the crates below show to everybody:
 //! that calls succeed, that memory is asked for where it is needed, that definitions mean what the worked examples
 //! mean, and the texts and numbers of the faults. They stand in a crate of their own, since a crate with tests is
 //! proved twice.
@@ -26,3 +26,5 @@ mod refused;
 mod slot;
 #[cfg(test)]
 mod subnet;
+#[cfg(test)]
+mod world;
