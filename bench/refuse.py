@@ -14,17 +14,17 @@ HERE = os.path.dirname(os.path.abspath(__file__))
 TOP = os.path.dirname(HERE)
 # A call, the crate whose tests make it, and these tests. A test sees what stands where it is refused memory, and prints it.
 CALLS = [
-    ("BitStore::with_room", "ncp_test_files", ["refused::with_room"]),
+    ("BitStore::with_room", "ncp_test_play", ["files::refused::with_room"]),
     ("Slots::new", "ncp_test_host", ["refused::slots_new"]),
     ("run_link", "ncp_test_host", ["refused::running_a_link"]),
-    ("Table::new", "ncp_test_files", ["refused::table_new"]),
-    ("order", "ncp_test_files", ["refused::reading_an_order"]),
+    ("Table::new", "ncp_test_play", ["files::refused::table_new"]),
+    ("order", "ncp_test_play", ["files::refused::reading_an_order"]),
     ("Host::new", "ncp_test_host", ["refused::host_new"]),
     ("ask_send", "ncp_test_host", ["refused::ask_send"]),
     ("ask_receive", "ncp_test_host", ["refused::ask_receive"]),
     ("Alone::step", "ncp_test_host", ["alone::examples_are_noted"]),
-    ("Auditor::new", "ncp_test_files", ["audits::refused::auditor_new"]),
-    ("Follower::new", "ncp_test_files", ["follows::refused::follower_new"]),
+    ("Auditor::new", "ncp_test_play", ["files::audits::refused::auditor_new"]),
+    ("Follower::new", "ncp_test_play", ["files::follows::refused::follower_new"]),
     ("World::new", "ncp_test_host", ["world::refused::world::world_new"]),
     ("World::step", "ncp_test_host", ["world::refused::world::world_step"]),
     ("World::settle", "ncp_test_host", ["world::refused::world::world_settle"]),

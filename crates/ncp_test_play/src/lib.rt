@@ -1,5 +1,5 @@
 //! What scripts say (`script`), the worked lines of notes and faults, feeds (`feed`), whole scripts of one host, and of
-//! two and more (`world`), and what is told of mistakes (`mistakes`), as tests of what the crates below show to
+//! two and more (`world`), what is told of mistakes (`mistakes`), and message files (`files`), as tests of what the crates below show to
 //! everybody. They stand in a crate of their own, since a crate with tests is proved twice.
 #![tactic(auto)]
 
@@ -9,6 +9,8 @@ mod bytewise;
 mod faults;
 #[cfg(test)]
 mod feed;
+#[cfg(test)]
+mod files;
 #[cfg(test)]
 mod limits;
 #[cfg(test)]
