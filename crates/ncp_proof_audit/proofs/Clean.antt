@@ -1,0 +1,195 @@
+-- What is recorded of many hosts is read again, and nothing is found in it.
+use Rattle.std.proofs.Common.{◌≡◌, ℕ, Bool, true, false, not, ◌&&◌, List, [], ◌∷◌, ◌++◌, map, option_to_list, All, Option, None, refl, sym, ap, ◌∙◌, subst}
+use Rattle.std.proofs.lemmas.List.Elements.{All-nil, All-cons}
+use Rattle.std.specs.List.{flat_map, list_any}
+use Rattle.ncp_play_files.specs.declared.file.Direction.{Direction}
+use Rattle.ncp_play_files.specs.declared.file.Direction.TheVariants as goes
+use Rattle.ncp_play_files.specs.declared.file.FileFault.{FileFault}
+use Rattle.ncp_play_files.specs.declared.version.Version.TheVariants.{Two}
+use Rattle.ncp_play_files.specs.Versions.{Recorded, placed, next_in, IsOf, bytes_of_record, file_bytes}
+use Rattle.ncp_play_files.specs.File.{HoldsBy}
+use Rattle.ncp_play_files.proofs.Contents.{by_once}
+use Rattle.ncp_play_files.proofs.Again.{holds_written}
+use Rattle.ncp_play_page.specs.Lines.{number_after}
+use Rattle.ncp_play_audit.specs.FindingLines.{is_told, told_line}
+use Rattle.ncp_play_audit.specs.Audited.{audit_lines, is_clean, AuditedAs, HasVerdict}
+use Rattle.ncp_play_script.specs.declared.first_lines.TwoHosts.{TwoHosts}
+use Rattle.ncp_play_world_lines.specs.Recorded.{record_of, records_of, file_of_notes, record_of_many, records_of_many, file_of_many_notes}
+use Rattle.ncp_transcript.specs.declared.note.HostNote.{HostNote}
+use Rattle.ncp_transcript.specs.declared.note.HostNote.TheVariants as of_host
+use Rattle.ncp_transcript_many.specs.declared.many_note.ManyNote.{ManyNote}
+use Rattle.ncp_transcript_many.specs.declared.many_note.ManyNote.TheVariants as many
+use Rattle.ncp_transcript_two.specs.declared.side.Side.TheVariants.{A, B}
+use Rattle.ncp_transcript_two.specs.declared.note.Note.{Note}
+use Rattle.ncp_transcript_two.specs.declared.note.Note.TheVariants as two
+use Rattle.ncp_transcript_two.specs.Between.{Hosts}
+use Rattle.ncp_transcript_two.specs.Transcript.{IsTranscript}
+use Rattle.ncp_transcript_many.specs.Crowd.{Crowd, crowd_of}
+use Rattle.ncp_transcript_many.specs.ManyHappening.{by_numbers}
+use Rattle.ncp_transcript_many.proofs.TwoOfMany.{two-by-numbers}
+use Rattle.ncp_transcript_many.specs.ManyTranscript.{IsManyTranscript}
+use Rattle.ncp_terms.specs.declared.answer.Answer.TheVariants as answers
+use Rattle.ncp_umpire.specs.declared.finding.Finding.{Finding}
+use Rattle.ncp_umpire.specs.declared.umpire.Umpire.{Umpire}
+use Rattle.ncp_umpire.specs.declared.way.Way.{Way}
+use Rattle.ncp_umpire.specs.declared.way.Way.TheVariants.{ToImp, FromImp}
+use Rattle.ncp_umpire.specs.Judged.{new_umpire, record_findings, after_record}
+use Rattle.ncp_proof_umpire.specs.Worlds.{goes_from}
+use Rattle.ncp_proof_umpire_many.specs.Files.{found_in}
+use Rattle.ncp_proof_umpire_many.specs.ManyFiles.{came_at, passing, many_file, AllFit}
+use Rattle.ncp_proof_umpire_many.proofs.Among.{none_found, all_fit}
+
+-- ---- the two forms of a record
+
+abbrev direction_of : Way → Direction
+direction_of ToImp = goes.ToImp
+direction_of FromImp = goes.FromImp
+
+abbrev as_record : ℕ × Way × List Bool → Recorded
+as_record one = record { passage = placed (direction_of one.1) one.0; message = one.2 }
+
+abbrev as_records : List (ℕ × Way × List Bool) → List Recorded
+as_records [] = []
+as_records (one ∷ more) = as_record one ∷ as_records more
+
+joined : (xs ys : List (ℕ × Way × List Bool)) → as_records (xs ++ ys) ≡ as_records xs ++ as_records ys
+joined [] ys = refl
+joined (x ∷ xs) ys = ap (λ (rs : List Recorded). as_record x ∷ rs) (joined xs ys)
+
+out_is : (host : ℕ) (note : HostNote) → option_to_list (record_of_many (many.Out host note)) ≡ as_records (goes_from host note)
+out_is host (of_host.Out message) = refl
+out_is host (of_host.Refused call fault) = refl
+out_is host (of_host.Done call) = refl
+out_is host (of_host.Took peer pair bytes text) = refl
+out_is host (of_host.State peer pair told) = refl
+out_is host (of_host.Phase peer flags) = refl
+out_is host (of_host.Echoed peer byte) = refl
+out_is host (of_host.Errors peer errors) = refl
+out_is host (of_host.Counts peer counts) = refl
+out_is host (of_host.Waiting peer place command) = refl
+out_is host (of_host.Kept peer link message) = refl
+out_is host (of_host.Ignored ignored) = refl
+out_is host of_host.Nothing = refl
+out_is host (of_host.In message received) = refl
+out_is host (of_host.Answered peer link answer received) = refl
+
+came_is : (from to link : ℕ) (note : HostNote) → option_to_list (record_of_many (many.Came from to link note)) ≡ as_records (came_at to note)
+came_is from to link (of_host.Out message) = refl
+came_is from to link (of_host.Refused call fault) = refl
+came_is from to link (of_host.Done call) = refl
+came_is from to link (of_host.Took peer pair bytes text) = refl
+came_is from to link (of_host.State peer pair told) = refl
+came_is from to link (of_host.Phase peer flags) = refl
+came_is from to link (of_host.Echoed peer byte) = refl
+came_is from to link (of_host.Errors peer errors) = refl
+came_is from to link (of_host.Counts peer counts) = refl
+came_is from to link (of_host.Waiting peer place command) = refl
+came_is from to link (of_host.Kept peer on message) = refl
+came_is from to link (of_host.Ignored ignored) = refl
+came_is from to link of_host.Nothing = refl
+came_is from to link (of_host.In message received) = refl
+came_is from to link (of_host.Answered peer on answers.Rfnm received) = refl
+came_is from to link (of_host.Answered peer on answers.Incomplete received) = refl
+came_is from to link (of_host.Answered peer on answers.Dead received) = refl
+
+one_is : (n : ManyNote) → option_to_list (record_of_many n) ≡ as_records (passing n)
+one_is (many.Called host note) = refl
+one_is (many.Out host note) = out_is host note
+one_is (many.Came from to link note) = came_is from to link note
+one_is (many.Lost from to link) = refl
+one_is (many.FoundDead from to link) = refl
+one_is (many.Answered from to link note) = came_is to from link note
+one_is (many.Nothing event) = refl
+
+all_are : (notes : List ManyNote) → records_of_many notes ≡ as_records (many_file notes)
+all_are [] = refl
+all_are (n ∷ notes) =
+    ap (λ (rs : List Recorded). rs ++ records_of_many notes) (one_is n)
+    ∙ ap (λ (rs : List Recorded). as_records (passing n) ++ rs) (all_are notes)
+    ∙ sym (joined (passing n) (many_file notes))
+
+-- ---- it is read again
+
+fit_all : (file : List (ℕ × Way × List Bool)) → AllFit file → All (IsOf Two) (as_records file)
+fit_all [] k = All-nil (IsOf Two)
+fit_all (one ∷ more) k = All-cons (IsOf Two) (as_record one) (as_records more) (one.0, refl, k.1) (fit_all more k.2)
+
+-- ---- nothing is found in it
+
+empty_front : (xs ys : List Finding) → xs ++ ys ≡ [] → (xs ≡ []) × (ys ≡ [])
+empty_front [] ys e = (refl, e)
+empty_front (x ∷ xs) ys e = absurd (cc e)
+
+clean : (standard : Bool) (file : List (ℕ × Way × List Bool)) (umpire : Umpire) (number : ℕ) → found_in umpire file ≡ [] → (audit_lines standard umpire number (as_records file) ≡ []) × (is_clean standard umpire (as_records file) ≡ true)
+clean standard [] umpire number e = (refl, refl)
+clean standard ((host, ToImp, bits) ∷ more) umpire number e =
+    let p = empty_front (record_findings umpire ToImp host bits) (found_in (after_record umpire ToImp host bits) more) e in
+    let rest = clean standard more (after_record umpire ToImp host bits) (number_after number) p.1 in (
+      ap (λ (fs : List Finding). flat_map (told_line standard number host) fs ++ audit_lines standard (after_record umpire ToImp host bits) (number_after number) (as_records more)) p.0 ∙ rest.0,
+      ap (λ (fs : List Finding). not (list_any (is_told standard) fs) && is_clean standard (after_record umpire ToImp host bits) (as_records more)) p.0 ∙ rest.1,
+    )
+clean standard ((host, FromImp, bits) ∷ more) umpire number e =
+    let p = empty_front (record_findings umpire FromImp host bits) (found_in (after_record umpire FromImp host bits) more) e in
+    let rest = clean standard more (after_record umpire FromImp host bits) (number_after number) p.1 in (
+      ap (λ (fs : List Finding). flat_map (told_line standard number host) fs ++ audit_lines standard (after_record umpire FromImp host bits) (number_after number) (as_records more)) p.0 ∙ rest.0,
+      ap (λ (fs : List Finding). not (list_any (is_told standard) fs) && is_clean standard (after_record umpire FromImp host bits) (as_records more)) p.0 ∙ rest.1,
+    )
+
+-- ---- both
+
+module _ (standard : Bool) (notes : List ManyNote) (now : Crowd) (t : IsManyTranscript notes now) where
+  held : HoldsBy (next_in Two) (flat_map bytes_of_record (records_of_many notes)) (records_of_many notes) None
+  held = holds_written Two (records_of_many notes) (subst (All (IsOf Two)) (sym (all_are notes)) (fit_all (many_file notes) (all_fit notes now t)))
+
+  found : (audit_lines standard (new_umpire false) 1 (as_records (many_file notes)) ≡ []) × (is_clean standard (new_umpire false) (as_records (many_file notes)) ≡ true)
+  found = clean standard (many_file notes) (new_umpire false) 1 (none_found notes now t)
+
+  pub no_line : (text : List ℕ) (fault : Option FileFault) → AuditedAs standard (new_umpire false) (file_of_many_notes notes) text fault → (text ≡ []) × (fault ≡ None)
+  no_line text fault a =
+      let once = by_once (next_in Two) (flat_map bytes_of_record (records_of_many notes)) a.0 (records_of_many notes) fault None a.1 held in
+      (a.2 ∙ ap (audit_lines standard (new_umpire false) 1) (once.0 ∙ all_are notes) ∙ found.0, once.1)
+
+  pub good_verdict : (good : Bool) → HasVerdict standard (new_umpire false) (file_of_many_notes notes) good → good ≡ true
+  good_verdict good v =
+      let once = by_once (next_in Two) (flat_map bytes_of_record (records_of_many notes)) v.0 (records_of_many notes) None None v.2 held in
+      v.3 ∙ ap (is_clean standard (new_umpire false)) (once.0 ∙ all_are notes) ∙ found.1
+
+-- ---- two hosts
+
+same_record : (hosts : TwoHosts) (n : Note) → record_of hosts n ≡ record_of_many (by_numbers hosts.a hosts.b n)
+same_record hosts (two.Called A note) = refl
+same_record hosts (two.Called B note) = refl
+same_record hosts (two.Out A note) = refl
+same_record hosts (two.Out B note) = refl
+same_record hosts (two.Came A link note) = refl
+same_record hosts (two.Came B link note) = refl
+same_record hosts (two.Lost A link) = refl
+same_record hosts (two.Lost B link) = refl
+same_record hosts (two.FoundDead A link) = refl
+same_record hosts (two.FoundDead B link) = refl
+same_record hosts (two.Answered A link note) = refl
+same_record hosts (two.Answered B link note) = refl
+same_record hosts (two.Nothing A link wanted) = refl
+same_record hosts (two.Nothing B link wanted) = refl
+
+same_records : (hosts : TwoHosts) (notes : List Note) → records_of hosts notes ≡ records_of_many (map (by_numbers hosts.a hosts.b) notes)
+same_records hosts [] = refl
+same_records hosts (n ∷ notes) =
+    ap (λ (o : Option Recorded). option_to_list o ++ records_of hosts notes) (same_record hosts n)
+    ∙ ap (λ (rs : List Recorded). option_to_list (record_of_many (by_numbers hosts.a hosts.b n)) ++ rs) (same_records hosts notes)
+
+module _ (standard : Bool) (notes : List Note) (w : Hosts) (t : IsTranscript notes w) where
+  abbrev hosts : TwoHosts
+  hosts = record { a = w.number_a; b = w.number_b }
+
+  abbrev all : List ManyNote
+  all = map (by_numbers w.number_a w.number_b) notes
+
+  same_file : file_of_notes hosts notes ≡ file_of_many_notes all
+  same_file = ap (file_bytes Two) (same_records hosts notes)
+
+  pub no_line_of_two : (text : List ℕ) (fault : Option FileFault) → AuditedAs standard (new_umpire false) (file_of_notes hosts notes) text fault → (text ≡ []) × (fault ≡ None)
+  no_line_of_two text fault a = no_line standard all (crowd_of w) (two-by-numbers notes w t) text fault (subst (λ (bytes : List ℕ). AuditedAs standard (new_umpire false) bytes text fault) same_file a)
+
+  pub good_verdict_of_two : (good : Bool) → HasVerdict standard (new_umpire false) (file_of_notes hosts notes) good → good ≡ true
+  good_verdict_of_two good v = good_verdict standard all (crowd_of w) (two-by-numbers notes w t) good (subst (λ (bytes : List ℕ). HasVerdict standard (new_umpire false) bytes good) same_file v)

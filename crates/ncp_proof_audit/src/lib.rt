@@ -1,0 +1,9 @@
+//! What `ncp record` writes of two to eight hosts, `ncp audit` reads whole, and finds nothing in it. The law is the contract of
+//! a function that does nothing.
+//!
+//! - *Use:* the two ends of a pipe, `ncp record | ncp audit`, as bytes.
+//! - *Proved:* the law of `recorded`.
+//! - *Tests:* recordings of scripts are audited in `files/audits` of `ncp_test_play`.
+#![tactic(auto)]
+
+pub mod recorded;
