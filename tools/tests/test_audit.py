@@ -63,20 +63,26 @@ class TestSums(unittest.TestCase):
         with open(f"{self.top}/{name}", "w", encoding="utf-8") as file:
             file.write(text)
 
-    def sum_with(self, data):
-        """The sum of the crate that cites, where the other declares this."""
-        self.write("crates/data/src/number.rt", data)
+    def sum_with(self, crate, data):
+        """The sum of the crate that cites, where this one declares this."""
+        self.write(f"crates/{crate}/src/number.rt", data)
         loader = importlib.machinery.SourceFileLoader("audit", f"{self.top}/tools/audit")
         audit = importlib.util.module_from_spec(importlib.util.spec_from_loader(loader.name, loader))
         loader.exec_module(audit)
         return audit.sum_of("sample")
 
     def test_of_cited_code_what_it_declares_counts(self):
-        was = self.sum_with(DATA)
+        was = self.sum_with("data", DATA)
 
-        self.assertEqual(self.sum_with(DATA.replace("number / 2", "number >> 1")), was)
-        self.assertNotEqual(self.sum_with(DATA.replace("value: u8", "value: u16")), was)
-        self.assertNotEqual(self.sum_with(DATA.replace("= 8", "= 9")), was)
+        self.assertEqual(self.sum_with("data", DATA.replace("number / 2", "number >> 1")), was)
+        self.assertNotEqual(self.sum_with("data", DATA.replace("value: u8", "value: u16")), was)
+        self.assertNotEqual(self.sum_with("data", DATA.replace("= 8", "= 9")), was)
+
+    def test_of_its_own_code_all_counts_also_where_its_definitions_cite_it(self):
+        self.write("crates/sample/specs/Numbers.antt", CITING.replace("data", "sample"))
+        was = self.sum_with("sample", DATA)
+
+        self.assertNotEqual(self.sum_with("sample", DATA.replace("number / 2", "number >> 1")), was)
 
 
 @unittest.skipUnless(shutil.which("rt"), "the toolchain is not on the path")
