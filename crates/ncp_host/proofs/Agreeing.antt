@@ -21,18 +21,8 @@ use Rattle.ncp_model.proofs.PairOrder.{pairs_exact, pairs_total}
 use Rattle.ncp_model.proofs.EndsAfter.{after-at, after-elsewhere}
 use Rattle.ncp_model.proofs.LinksLead.{itself, led, command-led, cut-led, answered-led}
 use Rattle.ncp_model.proofs.Lookups.{any-none, leads-there}
-use Rattle.ncp_host.proofs.Steady.{is_busy, is_still, stays-busy, stays-heard, NewLink, new-link, freed}
-
-abbrev pub hears : ℕ → Pair → Ends → Bool
-hears on p m = passes (hears_link on) p (get m p)
-
--- the text of a pair's end is in a slot
-abbrev pub IsOut : Ends → LinkSlots → Pair → Type 0
-IsOut m slots p = (on : ℕ) × ((on ≡ 0) → ⊥) × (hears on p m ≡ true) × (is_empty (slot_at slots on) ≡ false)
-
-pub record Agree (m : Ends) (slots : LinkSlots) : Type 0 where
-  pub one : (on : ℕ) (p q : Pair) → hears on p m ≡ true → hears on q m ≡ true → p ≡ q
-  pub out : (p : Pair) → is_busy (get m p) ≡ true → IsOut m slots p
+use Rattle.ncp_host.specs.Soundness.{is_busy, hears, IsOut, Agree}
+use Rattle.ncp_host.proofs.Steady.{is_still, stays-busy, stays-heard, NewLink, new-link, freed}
 
 pub agree-empty : (slots : LinkSlots) → Agree no_ends slots
 agree-empty slots = record {

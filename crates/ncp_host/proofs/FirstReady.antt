@@ -21,15 +21,15 @@ use Rattle.ncp_model.proofs.LinksLead.{led}
 use Rattle.ncp_host.specs.PeerState.{PeerState, new_state, control_link, calls, calls_echo, calls_reset, calls_wake}
 use Rattle.ncp_host.specs.Hearing.{is_kind, after_bits}
 use Rattle.ncp_host.specs.Output.{control_message, text_message, output_by, output_on, first_or, first_output, next_of}
-use Rattle.ncp_host.specs.Host.{Host, state_of, at_peer, new_host}
+use Rattle.ncp_host.specs.Host.{Host, state_of, at_peer}
 use Rattle.ncp_host.specs.Arrivals.{after_with, after_from, one_other}
-use Rattle.ncp_host.specs.Turns.{message_in_turn, after_turn, first_message, first_goes, next_output}
+use Rattle.ncp_host.specs.Turns.{message_in_turn, after_turn, first_message, first_goes}
 use Rattle.ncp_host.specs.Readiness.{has_text, is_ready_by, is_ready, NoLinkReady, IsFirstLink, IsNext}
-use Rattle.ncp_host.specs.Running.{Step, Calls, Resets, Echoes, Wakes, Receives, Sends, after_step, after_steps, HasLived}
-use Rattle.ncp_host.proofs.Steady.{is_busy}
-use Rattle.ncp_host.proofs.Agreeing.{Agree, IsOut, hears}
-use Rattle.ncp_host.proofs.Sound.{IsSound, sound-calls, sound-echo, sound-reset, sound-wakes, sound-bits, sound-output, sound-new}
-use Rattle.ncp_host.proofs.Short.{IsFit, some_go, fit-calls, fit-echo, fit-reset, fit-bits, fit-output, fit-new}
+use Rattle.ncp_host.specs.Running.{Step, Calls, Resets, Echoes, Wakes, Receives, Sends, after_step}
+pub use Rattle.ncp_host.specs.Soundness.{IsWell, AreWell}
+use Rattle.ncp_host.specs.Soundness.{is_busy, Agree, IsOut, hears}
+use Rattle.ncp_host.proofs.Sound.{sound-calls, sound-echo, sound-reset, sound-wakes, sound-bits, sound-output, sound-new}
+use Rattle.ncp_host.proofs.Short.{some_go, fit-calls, fit-echo, fit-reset, fit-bits, fit-output, fit-new}
 use Rattle.ncp_host.proofs.Outputs.{first_none, first_more}
 use Rattle.ncp_host.proofs.Turns.{message_cons, message_nil, after_cons, after_nil}
 
@@ -118,10 +118,6 @@ cut_goes number on s a empty = go (sender_on on m) refl
 says : (number : ℕ) (cs : List Command) → goes (control_message number cs) ≡ nat_lt 0 (length cs)
 says number [] = refl
 says number (c ∷ cs) = grind arith
-
--- what is out is in its slot, and what waits can go out
-abbrev pub IsWell : PeerState → Type 0
-IsWell s = IsSound s × IsFit s
 
 -- a message goes out on a link where the link is ready
 pub goes_where_ready : (number on : ℕ) (s : PeerState) → IsWell s → goes (output_on number on s) ≡ is_ready on s
@@ -215,10 +211,6 @@ module _ (number : ℕ) (s : PeerState) (h : IsWell s) where
 
 -- The peers in their order.
 
-abbrev pub AreWell : List (ℕ × PeerState) → Type 0
-AreWell [] = Unit {0}
-AreWell (p ∷ ps) = IsWell p.1 × AreWell ps
-
 pub is_next : (ps : List (ℕ × PeerState)) → AreWell ps → IsNext (message_in_turn ps) ps
 is_next [] h = subst (λ (o : Option (List Bool)). IsNext o []) (sym message_nil) tt
 is_next (p ∷ ps) h = subst (λ (o : Option (List Bool)). IsNext o (p ∷ ps)) (sym (message_cons p ps)) (go (next_of p.0 p.1) (next_to p.0 p.1 h.0) (message_in_turn ps) (is_next ps h.1))
@@ -228,7 +220,7 @@ is_next (p ∷ ps) h = subst (λ (o : Option (List Bool)). IsNext o (p ∷ ps)) 
     go None n (Some message) r = inr (n, r)
     go (Some out) n rest r = inl (out.0, n.0, n.1)
 
--- Whatever a host lives through.
+-- Each step of a host leaves it so.
 
 changed-well : (ps : List (ℕ × PeerState)) (number : ℕ) (f : PeerState → PeerState) → ((s : PeerState) → IsWell s → IsWell (f s)) → AreWell ps → AreWell (at_peer number f ps)
 changed-well [] number f k h = tt
@@ -255,7 +247,7 @@ received-well (Ok leader) bits h s = go (is_kind leader.kind) (state_of h leader
     go true (Some x) = changed-well h.peers leader.host (after_bits leader bits) (λ x k. (sound-bits leader bits x k.0, fit-bits leader bits x k.1)) s
     go false o = s
 
-step-well : (step : Step) (h : Host) → AreWell h.peers → AreWell (after_step step h).peers
+pub step-well : (step : Step) (h : Host) → AreWell h.peers → AreWell (after_step step h).peers
 step-well (Calls number pair call) h s = changed-well h.peers number (calls pair call) (λ x k. (sound-calls pair call x.peer x.slots k.0, fit-calls pair call x.peer k.1)) s
 step-well (Resets number) h s = changed-well h.peers number calls_reset (λ x k. (sound-reset _ x.peer x.slots k.0, fit-reset _ x.peer k.1)) s
 step-well (Echoes number byte) h s = changed-well h.peers number (calls_echo byte) (λ x k. (sound-echo byte x.peer x.slots k.0, fit-echo byte x.peer k.1)) s
@@ -263,13 +255,6 @@ step-well (Wakes number) h s = changed-well h.peers number calls_wake (λ x k. (
 step-well (Receives bits) h s = received-well (leader_in bits) bits h s
 step-well Sends h s = turn-well h.peers s
 
-steps-well : (steps : List Step) (h : Host) → AreWell h.peers → AreWell (after_steps steps h).peers
-steps-well [] h s = s
-steps-well (step ∷ steps) h s = steps-well steps (after_step step h) (step-well step h s)
-
-new-well : (ns : List ℕ) → AreWell (map (λ n. (n, new_state)) ns)
+pub new-well : (ns : List ℕ) → AreWell (map (λ n. (n, new_state)) ns)
 new-well [] = tt
 new-well (n ∷ ns) = ((sound-new, fit-new), new-well ns)
-
-pub lived-next : (h : Host) → HasLived h → IsNext (next_output h) h.peers
-lived-next h l = is_next h.peers (subst (λ (x : Host). AreWell x.peers) (sym l.3) (steps-well l.2 (new_host l.0 l.1) (new-well l.1)))

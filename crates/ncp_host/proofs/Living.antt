@@ -1,56 +1,55 @@
--- A host lives on by each step.
-use Rattle.std.proofs.Common.{◌≡◌, ℕ, List, Bool, [], ◌∷◌, ◌++◌, length, replicate, Result, Ok, refl, sym, ap, subst, ◌∙◌}
+-- What is true of a host is true after each step.
+use Rattle.std.proofs.Common.{◌≡◌, ℕ, List, Bool, true, length, replicate, Result, Ok, refl, sym, ap, subst, ◌∙◌}
 use Rattle.std.specs.List.{zip}
 use Rattle.ncp_leader.specs.declared.leader.Leader.{Leader}
 use Rattle.ncp_leader.specs.declared.leader.Short.{Short}
 use Rattle.ncp_leader.specs.Leader.{leader_in}
 use Rattle.ncp_host.specs.declared.counts.Ignored.{Ignored}
 use Rattle.std.proofs.lemmas.List.{length-replicate}
-use Rattle.ncp_host.specs.Counting.{none_ignored}
 use Rattle.ncp_host.specs.PeerState.{PeerState, new_state}
-use Rattle.ncp_host.specs.Host.{Host, new_host}
+use Rattle.ncp_host.specs.Host.{Host, are_peers}
 use Rattle.ncp_host.specs.Arrivals.{after_with, after_hearing}
 use Rattle.ncp_host.specs.Turns.{after_turn}
 use Rattle.ncp_host.proofs.Peering.{new_beside}
-use Rattle.ncp_host.specs.Running.{Step, Receives, Sends, after_step, after_steps, HasLived, IsKept}
+use Rattle.ncp_host.specs.Running.{Step, Receives, Sends, after_step, IsKept}
+use Rattle.ncp_host.specs.Soundness.{AreWell}
+use Rattle.ncp_host.proofs.FirstReady.{step-well, new-well}
 
-one_more : (steps : List Step) (step : Step) (h : Host) → after_steps (steps ++ step ∷ []) h ≡ after_step step (after_steps steps h)
-one_more [] step h = refl
-one_more (first ∷ steps) step h = one_more steps step (after_step first h)
-
-pub lives_on : (step : Step) (before now : Host) → HasLived before → now ≡ after_step step before → HasLived now
-lives_on step before now l is = (l.0, l.1, l.2 ++ step ∷ [], is ∙ ap (after_step step) l.3 ∙ sym (one_more l.2 step (new_host l.0 l.1)))
+pub lives_on : (step : Step) (before now : Host) → AreWell before.peers → now ≡ after_step step before → AreWell now.peers
+lives_on step before now well is = subst (λ (h : Host). AreWell h.peers) (sym is) (step-well step before well)
 
 abbrev host_of : ℕ → List ℕ → List PeerState → Ignored → Host
 host_of me ns ss ignored = record { me = me; peers = zip ns ss; ignored = ignored }
 
-module _ (me : ℕ) (ns : List ℕ) (ss : List PeerState) (ignored : Ignored) (kept : IsKept me ns ss ignored) where
-  pub kept_on : (step : Step) (before : Host) (now : List PeerState) (ignored_now : Ignored) → host_of me ns ss ignored ≡ before → length now ≡ length ss → host_of me ns now ignored_now ≡ after_step step before → IsKept me ns now ignored_now
+module _ (me : ℕ) (ns : List ℕ) (ss : List PeerState) (ignored : Ignored) (kept : IsKept me ns ss) where
+  pub kept_on : (step : Step) (before : Host) (now : List PeerState) (ignored_now : Ignored) → host_of me ns ss ignored ≡ before → length now ≡ length ss → host_of me ns now ignored_now ≡ after_step step before → IsKept me ns now
   kept_on step before now ignored_now is long happened = record {
     beside = long ∙ kept.beside;
-    lived = lives_on step before (host_of me ns now ignored_now) (subst HasLived is kept.lived) happened;
+    peers = kept.peers;
+    well = lives_on step before (host_of me ns now ignored_now) (subst (λ (h : Host). AreWell h.peers) is kept.well) happened;
   }
 
   -- bits came that have a leader
   pub heard : (leader : Leader) (bits : List Bool) (before : Host) (now : List PeerState) (ignored_now : Ignored) → ◌≡◌ {A = Result Leader Short} (Ok leader) (leader_in bits)
-      → host_of me ns ss ignored ≡ before → length now ≡ length ss → host_of me ns now ignored_now ≡ after_hearing leader bits before → IsKept me ns now ignored_now
+      → host_of me ns ss ignored ≡ before → length now ≡ length ss → host_of me ns now ignored_now ≡ after_hearing leader bits before → IsKept me ns now
   heard leader bits before now ignored_now there is long happened = kept_on (Receives bits) before now ignored_now is long (happened ∙ ap (λ (r : Result Leader Short). after_with r bits before) there)
 
   -- what is next went out, if anything was
-  pub sent : (ns_there : List ℕ) (ss_there after now : List PeerState) → ns_there ≡ ns → ss_there ≡ ss → zip ns_there after ≡ after_turn (zip ns_there ss_there) → length after ≡ length ss_there → now ≡ after → IsKept me ns now ignored
+  pub sent : (ns_there : List ℕ) (ss_there after now : List PeerState) → ns_there ≡ ns → ss_there ≡ ss → zip ns_there after ≡ after_turn (zip ns_there ss_there) → length after ≡ length ss_there → now ≡ after → IsKept me ns now
   sent ns_there ss_there after now same_ns same_ss turned long is =
       let turned_here : zip ns after ≡ after_turn (zip ns ss) =
       ap (λ (xs : List ℕ). zip xs after) (sym same_ns) ∙ turned ∙ ap (λ (xs : List ℕ). after_turn (zip xs ss_there)) same_ns ∙ ap (λ (xs : List PeerState). after_turn (zip ns xs)) same_ss in
       kept_on Sends (host_of me ns ss ignored) now ignored refl (ap (λ (xs : List PeerState). length xs) is ∙ long ∙ ap (λ (xs : List PeerState). length xs) same_ss)
       (ap (λ (xs : List PeerState). host_of me ns xs ignored) is ∙ ap (λ (ps : List (ℕ × PeerState)). let h : Host = record { me = me; peers = ps; ignored = ignored } in h) turned_here)
 
--- a new host has lived through nothing
-pub new_kept : (me : ℕ) (peers ns : List ℕ) (ss : List PeerState) (ignored : Ignored) → ns ≡ peers → ss ≡ replicate (length peers) new_state → ignored ≡ none_ignored → IsKept me ns ss ignored
-new_kept me peers ns ss ignored is new none =
-    subst (λ (xs : List ℕ). IsKept me xs ss ignored) (sym is) (subst (λ (xs : List PeerState). IsKept me peers xs ignored) (sym new) (subst (λ (i : Ignored). IsKept me peers (replicate (length peers) new_state) i) (sym none) first))
+-- a new host is well
+pub new_kept : (me : ℕ) (peers ns : List ℕ) (ss : List PeerState) → are_peers me peers ≡ true → ns ≡ peers → ss ≡ replicate (length peers) new_state → IsKept me ns ss
+new_kept me peers ns ss good is new =
+    subst (λ (xs : List ℕ). IsKept me xs ss) (sym is) (subst (λ (xs : List PeerState). IsKept me peers xs) (sym new) first)
   where
-    first : IsKept me peers (replicate (length peers) new_state) none_ignored
+    first : IsKept me peers (replicate (length peers) new_state)
     first = record {
       beside = length-replicate (length peers) new_state;
-      lived = (me, peers, [], ap (λ (ps : List (ℕ × PeerState)). let h : Host = record { me = me; peers = ps; ignored = none_ignored } in h) (new_beside peers new_state));
+      peers = good;
+      well = subst AreWell (sym (new_beside peers new_state)) (new-well peers);
     }

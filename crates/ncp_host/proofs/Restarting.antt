@@ -21,7 +21,8 @@ use Rattle.ncp_host.specs.Counting.{one_more}
 use Rattle.ncp_host.specs.Output.{links}
 use Rattle.ncp_host.specs.Host.{Host, state_in, state_of, at_peer, changed}
 use Rattle.ncp_host.specs.Arrivals.{after_with, after_from, after_received}
-use Rattle.ncp_host.specs.Running.{Receives, HasLived}
+use Rattle.ncp_host.specs.Running.{Receives}
+use Rattle.ncp_host.specs.Soundness.{AreWell}
 use Rattle.ncp_host.specs.Restarting.{incomplete_leader, incomplete_bits, is_out, incomplete_comes, incompletes_come, gives_up, gives_up_all, restarts, IsGivenUp}
 use Rattle.ncp_host.proofs.Living.{lives_on}
 use Rattle.ncp_host.proofs.Arriving.{is_stray, is_no_stray, not_done, answer_heard}
@@ -160,15 +161,15 @@ none_come number (on ∷ ons) h none =
     ∙ ap (incompletes_come number ons) (ap (λ (x : Option PeerState). if is_out on x then after_received (incomplete_bits number on) h else h) none)
     ∙ none_come number ons h none
 
--- a host lives on
-pub lives_restarted : (number : ℕ) (ons : List ℕ) (h : Host) → HasLived h → HasLived (incompletes_come number ons h)
-lives_restarted number [] h lived = subst HasLived (sym (come_none number h)) lived
-lives_restarted number (on ∷ ons) h lived =
-    subst HasLived (sym (come_more number on ons h)) (lives_restarted number ons (incomplete_comes number on h) (go (is_out on (state_of h number))))
+-- what is true of a host is true then
+pub lives_restarted : (number : ℕ) (ons : List ℕ) (h : Host) → AreWell h.peers → AreWell (incompletes_come number ons h).peers
+lives_restarted number [] h well = subst (λ (x : Host). AreWell x.peers) (sym (come_none number h)) well
+lives_restarted number (on ∷ ons) h well =
+    subst (λ (x : Host). AreWell x.peers) (sym (come_more number on ons h)) (lives_restarted number ons (incomplete_comes number on h) (go (is_out on (state_of h number))))
   where
-    go : (b : Bool) → HasLived (if b then after_received (incomplete_bits number on) h else h)
-    go true = lives_on (Receives (incomplete_bits number on)) h _ lived refl
-    go false = lived
+    go : (b : Bool) → AreWell (if b then after_received (incomplete_bits number on) h else h).peers
+    go true = lives_on (Receives (incomplete_bits number on)) h _ well refl
+    go false = well
 
 -- what becomes of the slots, and of all else
 abbrev taken_on : ℕ → PeerState → LinkSlots

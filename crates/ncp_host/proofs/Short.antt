@@ -42,23 +42,12 @@ use Rattle.ncp_host.specs.PeerState.{PeerState, control_link, frees_on, is_answe
 use Rattle.ncp_host.specs.Counting.{one_more}
 use Rattle.ncp_host.specs.Hearing.{hears, hears_all, hears_last, hears_text, control_size, control_after, text_after, is_wrong_link, message_after, regular, answer_of, after_bits}
 use Rattle.ncp_host.specs.Output.{after_by, after_output}
+use Rattle.ncp_host.specs.Soundness.{IsShort, IsFit}
 use Rattle.ncp_host.proofs.EachWaiting.{Each, EachWaits, each_of_both}
 use Rattle.ncp_host.proofs.EachWaiting as each
 
--- an ERR has ten bytes of data at most; all others have their few fields
-abbrev is_short : Command → Bool
-is_short (commands.Err code bytes) = nat_le (length bytes) 10
-is_short c = true
-
-abbrev IsShort : Command → Type 0
-IsShort c = is_short c ≡ true
-
 abbrev AreShort : List Command → Type 0
 AreShort cs = Each IsShort cs
-
--- what waits for a peer
-abbrev pub IsFit : PeerState → Type 0
-IsFit s = EachWaits IsShort s.peer.phase
 
 -- ---- they go out
 

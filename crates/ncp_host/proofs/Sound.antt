@@ -34,12 +34,9 @@ use Rattle.ncp_host.specs.Counting.{one_more}
 use Rattle.ncp_host.specs.PeerState.{PeerState, new_state, calls_wake, control_link, frees_on, is_answered, answer_taken, answer_comes}
 use Rattle.ncp_host.specs.Hearing.{hears, hears_all, hears_last, hears_text, control_size, control_after, text_after, is_wrong_link, message_after, regular, answer_of, after_bits}
 use Rattle.ncp_host.specs.Output.{after_by, after_made, after_output}
+use Rattle.ncp_host.specs.Soundness.{Agree, Sound, IsSound}
 use Rattle.ncp_host.proofs.Steady.{is_still}
-use Rattle.ncp_host.proofs.Agreeing.{Agree, IsTold, StaysFull, agree-empty, agree-full, agree-put, agree-hears, agree-text, agree-cut, agree-emptied, agree-freed}
-
-pub record Sound (p : Peer) (slots : LinkSlots) : Type 0 where
-  pub ends : Agree p.ends slots
-  pub down : up p.phase ≡ false → p.ends ≡ no_ends
+use Rattle.ncp_host.proofs.Agreeing.{IsTold, StaysFull, agree-empty, agree-full, agree-put, agree-hears, agree-text, agree-cut, agree-emptied, agree-freed}
 
 sound-cleared : (q : Phase) (p : Peer) (slots : LinkSlots) → Sound (cleared q p) slots
 sound-cleared q p slots = record { ends = agree-empty slots; down = λ u. refl }
@@ -135,9 +132,6 @@ sound-text on head of_size text p slots s = go (up p.phase)
     go false = s
 
 -- What a host has for a peer.
-
-abbrev pub IsSound : PeerState → Type 0
-IsSound s = Sound s.peer s.slots
 
 pub sound-new : IsSound new_state
 sound-new = record { ends = agree-empty no_slots; down = λ u. refl }

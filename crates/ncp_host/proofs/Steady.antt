@@ -12,11 +12,7 @@ use Rattle.ncp_model.specs.Texts.{Rfnm, Incomplete, Dead}
 use Rattle.ncp_model.specs.Leading.{passes}
 use Rattle.ncp_model.specs.Happenings.{Happening, happens}
 use Rattle.ncp_model.specs.Happenings as all
-
--- a text of the end is out
-abbrev pub is_busy : Option End → Bool
-is_busy None = false
-is_busy (Some e) = e.busy
+use Rattle.ncp_host.specs.Soundness.{is_busy}
 
 -- no text of the end goes out
 abbrev pub is_still : Happening → Bool

@@ -1,4 +1,4 @@
-use Rattle.std.proofs.Common.{◌≡◌, ℕ, List, ◌++◌, ap, ◌∙◌}
+use Rattle.std.proofs.Common.{◌≡◌, ℕ, List, ◌++◌, sym, ap, ◌∙◌}
 use Rattle.std.specs.Box.{boxed_slice_items}
 use Rattle.std.specs.List.{zip}
 use Rattle.ncp_host.specs.PeerState.{PeerState, new_state}
@@ -18,9 +18,9 @@ returns-in-Ok-clause-new g c =
     ∙ ap (λ (ss : List PeerState). with_peers (zip c.args.peers.now ss)) c.in-Ok.ensures
     ∙ ap with_peers (new_beside c.args.peers.now new_state)
 
--- it is new, and has lived through nothing
+-- what is true of a host is true of a new one
 pub invariant_of-result : goal.invariant_of-result
 invariant_of-result g c =
     let extended : c.try_extend_from_slice.new.self.items ≡ c.new-numbers.result.items ++ c.args.peers.now = rw c.unwrap.ensures at c.try_extend_from_slice.ensures.ok in
     let is : c.try_extend_from_slice.new.self.items ≡ c.args.peers.now = extended ∙ ap (λ (ns : List ℕ). ns ++ c.args.peers.now) c.new-numbers.ensures in
-    new_kept c.args.me c.args.peers.now c.try_extend_from_slice.new.self.items (boxed_slice_items c.in-Ok.peers) c.none.result is c.in-Ok.ensures c.none.ensures
+    new_kept c.args.me c.args.peers.now c.try_extend_from_slice.new.self.items (boxed_slice_items c.in-Ok.peers) (sym c.are_peers.ensures ∙ c.if-not-are_peers.false) is c.in-Ok.ensures

@@ -5,9 +5,10 @@ use Rattle.std.specs.Vec.{with_items}
 use Rattle.std.proofs.lemmas.List.{with_items_is}
 use Rattle.ncp_host.specs.PeerState.{PeerState}
 use Rattle.ncp_host.specs.Readiness.{IsNext}
-use Rattle.ncp_host.specs.Running.{HasLived}
+use Rattle.ncp_host.specs.Host.{Host}
+use Rattle.ncp_host.specs.Soundness.{AreWell}
 use Rattle.ncp_host.specs.Turns.{message_in_turn, next_output}
-use Rattle.ncp_host.proofs.FirstReady.{lived-next}
+use Rattle.ncp_host.proofs.FirstReady.{is_next}
 use Rattle.ncp_host.proofs.Living.{sent}
 use Rattle.ncp_host.proofs.host.Host.next_output.Goals as goal
 
@@ -21,7 +22,7 @@ returns-clause-message g c =
 pub returns-clause-first_ready : goal.returns-clause-first_ready
 returns-clause-first_ready g c =
     let told : ◌≡◌ {A = Option (List Bool)} c.first_output.result (next_output c.args.self.now) = returns-clause-message g c in
-    subst (λ (o : Option (List Bool)). IsNext o c.args.self.now.peers) (sym told) (lived-next c.args.self.now (subst HasLived c.self.view_is c.self.invariant.lived))
+    subst (λ (o : Option (List Bool)). IsNext o c.args.self.now.peers) (sym told) (is_next c.args.self.now.peers (subst (λ (h : Host). AreWell h.peers) c.self.view_is c.self.invariant.well))
 
 pub invariant_of-self : goal.invariant_of-self
 invariant_of-self g c =

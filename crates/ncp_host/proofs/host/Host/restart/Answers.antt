@@ -2,7 +2,8 @@ use Rattle.std.proofs.Common.{Ok, Err, refl, sym, ap, subst, ◌∙◌, arith}
 use Rattle.std.specs.Box.{boxed_slice_items}
 use Rattle.std.proofs.lemmas.Result.{err_from_is_err_and}
 use Rattle.ncp_host.specs.Output.{links}
-use Rattle.ncp_host.specs.Running.{HasLived}
+use Rattle.ncp_host.specs.Host.{Host}
+use Rattle.ncp_host.specs.Soundness.{AreWell}
 use Rattle.ncp_host.specs.Restarting.{restarts}
 use Rattle.ncp_host.proofs.Calling.{answered, became, known, lives_as, unknown, not_known}
 use Rattle.ncp_host.proofs.Restarting.{all_come, none_come, lives_restarted}
@@ -42,5 +43,5 @@ invariant_of-self g c =
     lives_as c.self.inside.me c.self.inside.numbers.items (boxed_slice_items c.self.inside.peers) c.self.inside.ignored c.args.peer c.in_ok-place.place c.index_mut.result.now c.index_mut.result.now
     c.args.self.now c.as_slice.result.now c.deref.result.now c.self.view_is c.as_slice.ensures.value c.deref.ensures.value c.in_ok-place.ensures.found c.in_ok-place.ensures.inside c.index_mut.ensures.value
     restarts c.restart.new.self c.restart.ensures
-    (subst HasLived (all_come c.args.peer links c.args.self.now c.index_mut.result.now (omega arith) refl there) (lives_restarted c.args.peer links c.args.self.now (subst HasLived c.self.view_is c.self.invariant.lived)))
+    (subst (λ (h : Host). AreWell h.peers) (all_come c.args.peer links c.args.self.now c.index_mut.result.now (omega arith) refl there) (lives_restarted c.args.peer links c.args.self.now (subst (λ (h : Host). AreWell h.peers) c.self.view_is c.self.invariant.well)))
     c.self.invariant
