@@ -20,6 +20,7 @@ CALLS = [
     ("Table::new", "ncp_test_play", ["files::refused::table_new"]),
     ("order", "ncp_test_play", ["files::refused::reading_an_order"]),
     ("Host::new", "ncp_test_host", ["refused::host_new"]),
+    ("Host::copy", "ncp_test_host", ["refused::host_copy"]),
     ("ask_send", "ncp_test_host", ["refused::ask_send"]),
     ("ask_receive", "ncp_test_host", ["refused::ask_receive"]),
     ("Alone::step", "ncp_test_host", ["alone::examples_are_noted"]),

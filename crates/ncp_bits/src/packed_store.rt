@@ -84,6 +84,15 @@ impl BitStore for PackedStore {
         })
     }
 
+    fn copy(&self, alloc: Global) -> Result<Self, AllocError> {
+        Ok(PackedStore {
+            bytes: BoxedSlice::from_slice(alloc, self.bytes.as_slice())?,
+            from: self.from,
+            len: self.len,
+            capacity: self.capacity,
+        })
+    }
+
     fn len(&self) -> usize {
         self.len
     }

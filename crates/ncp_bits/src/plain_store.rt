@@ -61,6 +61,13 @@ impl BitStore for PlainStore {
         })
     }
 
+    fn copy(&self, alloc: Global) -> Result<Self, AllocError> {
+        Ok(PlainStore {
+            cells: BoxedSlice::from_slice(alloc, self.cells.as_slice())?,
+            len: self.len,
+        })
+    }
+
     fn len(&self) -> usize {
         self.len
     }

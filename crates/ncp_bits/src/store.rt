@@ -11,7 +11,7 @@ use thiserror::Error;
 #[error("no room for these bits")]
 pub struct NoRoom;
 
-/// Bits in order, up to a capacity. The room is made by `with_room`. No other call gets an allocator, and no store
+/// Bits in order, up to a capacity. The room is made by `with_room` and `copy`. No other call gets an allocator, and no store
 /// of this crate keeps one: its room is a boxed slice, which cannot grow.
 pub trait BitStore: Drop + Sized {
     /// The bits, oldest first.
@@ -24,6 +24,11 @@ pub trait BitStore: Drop + Sized {
     fn with_room(alloc: Global, bits: usize) -> Result<Self, AllocError>
         ensures held { IfOk result (λ store. held store ≡ []) }
         ensures capacity { IfOk result (λ store. capacity store ≡ bits) };
+
+    /// Another store with the same bits, and room for as many.
+    fn copy(&self, alloc: Global) -> Result<Self, AllocError>
+        ensures held { IfOk result (λ store. held store ≡ held self.now) }
+        ensures capacity { IfOk result (λ store. capacity store ≡ capacity self.now) };
 
     /// How many bits it holds.
     fn len(&self) -> usize

@@ -10,3 +10,4 @@ pub mod Tables
 pub mod Requests
 pub mod Same
 pub mod Listing
+pub mod Copying

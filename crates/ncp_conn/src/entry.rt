@@ -10,6 +10,7 @@ ghost use Rattle.ncp_conn.specs.Listing.{is_before};
 
 mod allocation;
 mod closing;
+mod copying;
 mod interrupts;
 mod requests;
 mod texts;

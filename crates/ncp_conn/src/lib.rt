@@ -34,9 +34,9 @@
 //! `table/asking.rt` can have a store made. Who is there, and where a link leads, is read by `table/readers.rt`.
 //!
 //! - *Proved:* each call's answer, and the table after it, are those of the act at the entry that it names (clauses
-//!   `answer`, `table`, and `done` of the asks); a refusal changes nothing (`err`). Only `Table::new`, `ask_send` and
-//!   `ask_receive` take memory.
-//! - *Tests:* `files/table` of `ncp_test_play`; want of memory in its `refused`.
+//!   `answer`, `table`, and `done` of the asks); a refusal changes nothing (`err`). Only `Table::new`, `copy`,
+//!   `ask_send` and `ask_receive` take memory.
+//! - *Tests:* `table` of `ncp_test_files`; want of memory in its `refused`.
 #![tactic(auto)]
 
 mod entries;

@@ -39,6 +39,13 @@ impl LinkSet {
         }
     }
 
+    /// Another set of the same links.
+    pub fn copy(&self) -> Self
+        ensures { result ≡ self.now }
+    {
+        LinkSet { bits: self.bits }
+    }
+
     /// Puts a link in.
     pub fn insert(&mut self, link: u8)
         requires { link ≤ LAST_LINK }

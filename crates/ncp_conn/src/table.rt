@@ -53,8 +53,8 @@ impl<S: BitStore> Model for Table<S> {
 }
 
 impl<S: BitStore> Table<S> {
-    /// No connections. Later calls but `ask_send` and `ask_receive` take no memory, and these only
-    /// for the store.
+    /// No connections. Later calls but `ask_send`, `ask_receive` and `copy` take no memory, and the first
+    /// two only for the store.
     pub fn new(alloc: Global) -> Result<Self, AllocError>
         ensures { IfOk result (λ table. table ≡ no_ends) }
     {
@@ -62,6 +62,17 @@ impl<S: BitStore> Table<S> {
             stores: Stores::new(alloc),
             entries: Entries::new(alloc)?,
         })
+    }
+
+    /// Another table with the same connections, with copies of what they store.
+    pub fn copy(&self, alloc: Global) -> Result<Self, AllocError>
+        ensures { IfOk result (λ table. table ≡ self.now) }
+    {
+        let mut copy = Table::new(alloc)?;
+        for (_, entry) in self.entries.slab.iter().rev() {
+            copy.enter(entry.copy(alloc)?);
+        }
+        Ok(copy)
     }
 
     /// Removes all connections.

@@ -57,6 +57,17 @@ impl<S: BitStore> Association<S> {
         })
     }
 
+    /// The same once more.
+    pub(crate) fn copy(&self, alloc: Global) -> Result<Self, AllocError>
+        ensures { IfOk result (λ association. association ≡ self.now) }
+    {
+        Ok(Association {
+            phase: self.phase.copy(alloc)?,
+            table: self.table.copy(alloc)?,
+            echoes: self.echoes.copy(alloc)?,
+        })
+    }
+
     /// Whether the host is up with the peer.
     pub(crate) fn is_up(&self) -> bool
         ensures { result ≡ up self.now.phase }

@@ -8,7 +8,7 @@ use circular_buffer::{HeapCircularBuffer, Iter};
 use std::alloc::{AllocError, Global};
 use std::marker::Model;
 
-/// A ring whose room is made at once: none of its calls but `with_capacity` takes memory. The buffer
+/// A ring whose room is made at once: none of its calls but `with_capacity` and `copy` takes memory. The buffer
 /// itself, which can be given more room and lends its allocator, is out of reach outside this file.
 #[derive(Drop)]
 pub(crate) struct FixedRing<T> {
@@ -87,5 +87,18 @@ impl<T: Drop> FixedRing<T> {
         ensures items { self.new ≡ buffer (drop 1 self.old.items) self.old.capacity }
     {
         self.ring.pop_front()
+    }
+}
+
+impl<T: Copy> FixedRing<T> {
+    /// Another ring with the same items, and room for as many.
+    pub(crate) fn copy(&self, alloc: Global) -> Result<Self, AllocError>
+        ensures { IfOk result (λ ring. ring ≡ self.now) }
+    {
+        let mut copy = FixedRing::with_capacity(alloc, self.ring.capacity())?;
+        for item in self.ring.iter() {
+            copy.push_back(*item);
+        }
+        Ok(copy)
     }
 }

@@ -19,7 +19,7 @@
 //!
 //! - *Proved:* over any list of events exactly one accepted answer stands between two messages handed out on a link,
 //!   and what goes out after Incomplete Transmission is the same message (`laws::run_link`, clauses `between` and
-//!   `again`). Only `Slots::new` and `run_link` take memory.
+//!   `again`). Only `Slots::new`, `Slots::copy` and `run_link` take memory.
 //! - *Tests:* `slot` of `ncp_test_host`; want of memory in its `refused`.
 #![tactic(auto)]
 

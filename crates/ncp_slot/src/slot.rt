@@ -111,6 +111,18 @@ impl Slot<Bits> {
         }
     }
 
+    /// Another slot with a copy of the message, if there is one.
+    pub(crate) fn copy(&self) -> Self
+        ensures { result ≡ self.now }
+    {
+        match self {
+            Slot::Empty => Slot::Empty,
+            Slot::Ready(message) => Slot::Ready(message.whole().to_bits()),
+            Slot::Travelling(message) => Slot::Travelling(message.whole().to_bits()),
+            Slot::Held(message) => Slot::Held(message.whole().to_bits()),
+        }
+    }
+
     /// Hands out a copy of the message that is to go out, if there is one.
     pub(crate) fn hand(&mut self) -> Option<Bits>
         ensures handed { result ≡ ready_message self.old }

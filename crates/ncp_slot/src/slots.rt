@@ -68,7 +68,7 @@ fn all_empty(slots: &[Slot<Bits>]) -> bool
 }
 
 /// The slots of a host's links to one peer, link 0 and links [`FIRST_DATA_LINK`] to [`LAST_LINK`].
-/// Their room is made by [`Slots::new`]. No other call takes memory, by the type: a boxed slice cannot
+/// Their room is made by [`Slots::new`] and [`Slots::copy`]. No other call takes memory, by the type: a boxed slice cannot
 /// grow, and lends no allocator.
 #[derive(Debug, Drop)]
 pub struct Slots {
@@ -91,7 +91,7 @@ impl Model for Slots {
 }
 
 impl Slots {
-    /// Empty slots, one for each link that has one. It alone takes memory, once.
+    /// Empty slots, one for each link that has one.
     pub fn new(alloc: Global) -> Result<Slots, AllocError>
         ensures each { IfOk result (λ slots. (link : ℕ) → slot_at slots link ≡ Slot.Empty) }
         ensures all { IfOk result (λ slots. slots ≡ no_slots) }
@@ -102,6 +102,19 @@ impl Slots {
         }
         Ok(Slots {
             slots: slots.into_boxed_slice(),
+        })
+    }
+
+    /// Other slots with copies of the messages.
+    pub fn copy(&self, alloc: Global) -> Result<Slots, AllocError>
+        ensures { IfOk result (λ slots. slots ≡ self.now) }
+    {
+        let mut copies = Vec::with_capacity(alloc, SLOTS)?;
+        for place in 0..SLOTS {
+            copies.push_reserved(self.slots[place].copy());
+        }
+        Ok(Slots {
+            slots: copies.into_boxed_slice(),
         })
     }
 

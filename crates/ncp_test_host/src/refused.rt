@@ -68,6 +68,39 @@ fn asks_to_receive<S: BitStore>(rt: &impl Abort, alloc: Global) -> Result<bool, 
     Ok(true)
 }
 
+/// Whether a copy was refused: the host is then as it was. What happens to a copy leaves the host as it is.
+fn copies<S: BitStore>(rt: &impl Abort, alloc: Global) -> Result<bool, Fail> {
+    let mut host = up::<S>(rt, alloc)?;
+    if asks(&mut host).is_err() {
+        asks(&mut host)?;
+    }
+    let known = host.state(PEER, INWARD);
+    let Ok(mut copy) = host.copy(alloc) else {
+        assert!(rt; known.is_ok() && host.state(PEER, INWARD) == known);
+        return Ok(true);
+    };
+    assert!(rt; known.is_ok() && copy.state(PEER, INWARD) == known);
+    copy.reset(PEER)?;
+    assert!(rt; copy.state(PEER, INWARD) == Err(CallFault::NoEntry));
+    assert!(rt; host.state(PEER, INWARD) == known && host.phase(PEER) == Ok(UP));
+    Ok(false)
+}
+
+/// Socket 2 is to receive from socket 3.
+fn asks<S: BitStore>(host: &mut Host<S>) -> Result<(), CallFault> {
+    host.ask_receive(PEER, INWARD.local, INWARD.remote, ROOM)
+}
+
+#[test]
+fn host_copy(rt: HostRuntime) -> Result<(), Fail> {
+    let one = copies::<PlainStore>(&rt, rt.alloc())?;
+    let other = copies::<PackedStore>(&rt, rt.alloc())?;
+    if one || other {
+        println!(rt; "refused: OutOfMemory, no copy, and the host is as it was")?;
+    }
+    Ok(())
+}
+
 #[test]
 fn host_new(rt: HostRuntime) -> Result<(), Fail> {
     let (_plain, one) = made::<PlainStore>(rt.alloc())?;
