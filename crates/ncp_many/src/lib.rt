@@ -12,7 +12,7 @@
 //!
 //! - *Proved:* after each event the headline of each two hosts (`Many::step`, clause `headline`), as `ncp_world` has it
 //!   of two. Numbers that are no hosts are `BadHosts` (`Many::new`, clauses `good` and `bad`).
-//! - *Tests:* `world/many` of `ncp_test_host`.
+//! - *Tests:* `many` of `ncp_test_world`.
 #![tactic(auto)]
 
 mod crowd;

@@ -2,7 +2,7 @@
 //!
 //! - *Use:* `ncp audit examples/broken.ncp`.
 //! - *Proved:* the lines are those of the findings, up to the first fault of the file (`audit`, clause `told`).
-//! - *Tests:* `files/audits` of `ncp_test_play`, and `examples/broken.audit`.
+//! - *Tests:* `audits` of `ncp_test_files`, and `examples/broken.audit`.
 #![tactic(auto)]
 
 mod auditing;

@@ -4,7 +4,7 @@
 //! - *Use:* `order(alloc, &words)` of `ncp convert --at 7` is `Order::Convert(7)`; `request` has the file too.
 //! - *Proved:* the order is what `clap` finds by the rules of `specs/CommandLine.antt` (`request`, clauses `named` and
 //!   `kinds`).
-//! - *Tests:* `files/command_line` of `ncp_test_play`; worked command lines in `laws`.
+//! - *Tests:* `command_line` of `ncp_test_files`; worked command lines in `laws`.
 #![tactic(auto)]
 
 mod command_line;

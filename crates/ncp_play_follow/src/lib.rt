@@ -4,7 +4,7 @@
 //! - *Use:* `ncp follow examples/capture.ncp`, and `ncp follow --bytes 1 examples/capture.ncp`.
 //! - *Proved:* the lines are those of the connections that the records show, up to the first fault of the file, and the
 //!   bytes those of the text (`follow` and `follow_text`, clause `told`).
-//! - *Tests:* `files/follows` of `ncp_test_play`.
+//! - *Tests:* `follows` of `ncp_test_files`.
 #![tactic(auto)]
 
 mod connection_line;

@@ -8,7 +8,7 @@
 //! - *Proved:* a page has the bytes that were pushed, and what does not fit is written first (`Page::make_room`,
 //!   clauses `ok` and `room`); a window has what was read and not used up (`Window::need`, clauses `moved` and
 //!   `there`).
-//! - *Tests:* `said` of `ncp_test_play`, and the files of `files` of `ncp_test_play`.
+//! - *Tests:* `said` of `ncp_test_play`, and the files of `ncp_test_files`.
 #![tactic(auto)]
 
 mod counter;

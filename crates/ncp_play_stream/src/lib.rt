@@ -8,7 +8,7 @@
 //! - *Proved:* what a `Source` gives is the front of what is left, and what a `Sink` takes is written behind the rest
 //!   (the clauses of `read` and `write`); a failure leaves its mark (`mark`). With bytes in memory all is known; of a
 //!   real stream only the count of reads and writes.
-//! - *Tests:* `pieces` and `files/streams` of `ncp_test_play`.
+//! - *Tests:* `pieces` and `streams` of `ncp_test_files`.
 #![tactic(auto)]
 
 pub mod laws;

@@ -3,7 +3,7 @@
 //!
 //! - *Use:* the two ends of a pipe, `ncp record | ncp audit`, as bytes.
 //! - *Proved:* the law of `recorded`.
-//! - *Tests:* recordings of scripts are audited in `files/audits` of `ncp_test_play`.
+//! - *Tests:* recordings of scripts are audited in `audits` of `ncp_test_files`.
 #![tactic(auto)]
 
 pub mod recorded;

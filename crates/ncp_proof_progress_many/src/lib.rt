@@ -3,7 +3,7 @@
 //! - *Use:* `Many::step` has it as its clauses `paid` and `finished`, `Many::settle` as its clause `within`.
 //! - *Proved:* `many::what_moves_between_two_of_many_is_paid_for` and
 //!   `settling::what_happens_among_many_is_within_the_work`, from the same of two hosts.
-//! - *Tests:* those of the two hosts below; `world/many_settled` of `ncp_test_host`.
+//! - *Tests:* those of the two hosts below; `many_settled` of `ncp_test_world`.
 #![tactic(auto)]
 
 pub mod many;

@@ -6,7 +6,7 @@
 //!   was left (`settling::what_happens_by_itself_is_within_the_work`); where no message is ready, in transit or held, all
 //!   is finished (`settled::where_nothing_can_happen_two_are_finished`). Bits of any peer bring at most two messages for
 //!   each command, and one for a fault or a text (`host::no_peer_makes_a_host_send_for_ever`).
-//! - *Tests:* `rows`, `notes_rows`, `host_rows`; `world/settled` of `ncp_test_host` plays it.
+//! - *Tests:* `rows`, `notes_rows`, `host_rows`; `settled` of `ncp_test_world` plays it.
 #![tactic(auto)]
 
 pub mod host;

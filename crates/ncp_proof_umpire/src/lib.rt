@@ -4,7 +4,7 @@
 //! - *Use:* what `ncp audit` says against a host rests on it.
 //! - *Proved:* the laws of `alarms`: by all rules, in any file, and in that of two hosts with the subnet; and by the rules of
 //!   leaders and of links whatever numbers calls have.
-//! - *Tests:* what is found of wrong hosts is in `files/audits` of `ncp_test_play`.
+//! - *Tests:* what is found of wrong hosts is in `audits` of `ncp_test_files`.
 #![tactic(auto)]
 
 pub mod alarms;

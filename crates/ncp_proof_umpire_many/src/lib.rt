@@ -4,7 +4,7 @@
 //! - *Use:* what `ncp audit` says of a file that `ncp record` wrote rests on it.
 //! - *Proved:* the laws of `two` and of `many`: no host is blamed at any interface, by no rule, and the subnet is not; the
 //!   file of two is that of a world of two; and each record has its place in a message file.
-//! - *Tests:* what is found of wrong hosts and of a wrong subnet is in `files/audits` of `ncp_test_play`.
+//! - *Tests:* what is found of wrong hosts and of a wrong subnet is in `audits` of `ncp_test_files`.
 #![tactic(auto)]
 
 pub mod many;

@@ -5,7 +5,7 @@
 //!   `comes` or `answers`.
 //! - *Proved:* the note says what the rules say of the host before, and host and subnet are what that leaves (clauses
 //!   `note`, `host`, `subnet`); after want of memory all is kept (`err`, `kept`).
-//! - *Tests:* `world/states` of `ncp_test_host`: each thing that may happen to a message, in each state.
+//! - *Tests:* `states` of `ncp_test_world`: each thing that may happen to a message, in each state.
 #![tactic(auto)]
 
 mod fitting;

@@ -19,7 +19,7 @@
 //! - *Proved:* a message is delivered at most once and answered once: by RFNM where it came, and otherwise not
 //!   (`laws::each_message_is_answered_once`); it comes with its bits, but for the sender's number in place of the
 //!   destination's (`deliver`, clause `message`).
-//! - *Tests:* `subnet` of `ncp_test_host`, and of its `world` among hosts.
+//! - *Tests:* `subnet` of `ncp_test_host`, and of `ncp_test_world` among hosts.
 #![tactic(auto)]
 
 mod addressed;

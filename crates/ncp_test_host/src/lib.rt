@@ -1,7 +1,6 @@
-//! A host, a host with its transcript, what they stand on, and hosts with a subnet (`world`), as tests of what the crates
-//! below show to everybody: that calls succeed, that memory is asked for where it is needed, that definitions mean what
-//! the worked examples mean, and the texts and numbers of the faults. They stand in a crate of their own, since a crate
-//! with tests is proved twice.
+//! A host, a host with its transcript, and what they stand on, as tests of what the crates below show to everybody: that
+//! calls succeed, that memory is asked for where it is needed, that definitions mean what the worked examples mean, and
+//! the texts and numbers of the faults. They stand in a crate of their own, since a crate with tests is proved twice.
 //!
 //! `host/steps.rt` has what an example does to a host, as values; `host/tried.rt` goes through them.
 #![tactic(auto)]
@@ -26,5 +25,3 @@ mod refused;
 mod slot;
 #[cfg(test)]
 mod subnet;
-#[cfg(test)]
-mod world;

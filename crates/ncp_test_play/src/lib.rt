@@ -1,6 +1,6 @@
 //! What scripts say (`script`), the worked lines of notes and faults, feeds (`feed`), whole scripts of one host, and of
-//! two and more (`world`), what is told of mistakes (`mistakes`), and message files (`files`), as tests of what the crates
-//! below show to everybody. They stand in a crate of their own, since a crate with tests is proved twice.
+//! two and more (`world`), and what is told of mistakes (`mistakes`), as tests of what the crates below show to everybody.
+//! They stand in a crate of their own, since a crate with tests is proved twice.
 #![tactic(auto)]
 
 #[cfg(test)]
@@ -9,8 +9,6 @@ mod bytewise;
 mod faults;
 #[cfg(test)]
 mod feed;
-#[cfg(test)]
-mod files;
 #[cfg(test)]
 mod limits;
 #[cfg(test)]

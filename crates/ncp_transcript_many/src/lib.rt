@@ -5,7 +5,7 @@
 //!   that of the two hosts that its event names.
 //! - *Proved:* the notes that name both hosts of a pair are a transcript of two hosts
 //!   (`each_pair::each_pair_is_a_world_of_two`), so each pair keeps the headline (`the_headline_of_each_pair`).
-//! - *Tests:* worked notes of three hosts in `examples`; `world/many` of `ncp_test_host`.
+//! - *Tests:* worked notes of three hosts in `examples`; `many` of `ncp_test_world`.
 #![tactic(auto)]
 
 pub mod each_pair;

@@ -6,7 +6,7 @@
 //! - *Proved:* each transcript is a run of the model's two hosts (`transcripts::transcripts_are_of_the_model`), so it
 //!   keeps what is proved of these (`transcripts_keep_the_headline`); the subnet is honest (`transcripts_are_honest`).
 //!   What a user reads is in `ncp_statement`.
-//! - *Tests:* worked notes in `examples`, which a wrong definition makes false; `world` of `ncp_test_host` plays worlds.
+//! - *Tests:* worked notes in `examples`, which a wrong definition makes false; `ncp_test_world` plays worlds.
 #![tactic(auto)]
 
 pub mod arrivals;

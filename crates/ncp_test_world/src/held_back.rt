@@ -1,11 +1,11 @@
 //! Each message of the first script, held back while the connection is closed, a host resets, or the
 //! connection is closed and asked for again.
-use crate::world::events::{
+use crate::events::{
     ASK_RECEIVE, ASK_SEND, CLOSE_A, CLOSE_B, LINK, RECEIVER, RESET_A, RESET_B, SENDER, Script,
     TAKE, answer, deliver, events_of, out,
 };
-use crate::world::tried::{A, B, Tried};
-use crate::world::wanted::{Wanted, says};
+use crate::tried::{A, B, Tried};
+use crate::wanted::{Wanted, says};
 use ncp_bits::{BitStore, PackedStore, PlainStore};
 use ncp_host::{Received, Record, Took};
 use ncp_transcript::HostNote;

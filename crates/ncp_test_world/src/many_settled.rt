@@ -1,6 +1,6 @@
 //! Two to eight hosts that settle.
-use crate::world::many::THREE;
-use crate::world::many_tried::ManyTried;
+use crate::many::THREE;
+use crate::many_tried::ManyTried;
 use ncp_bits::{BitStore, PackedStore};
 use ncp_many::ManyEvent;
 use ncp_transcript::Call;

@@ -1,7 +1,7 @@
 //! Worked runs, each over either store: all events, and what each of their notes says.
-use crate::world::events::{LINK, Script, events_of};
-use crate::world::tried::{A, B, Tried};
-use crate::world::wanted::{Wanted, say, say_from};
+use crate::events::{LINK, Script, events_of};
+use crate::tried::{A, B, Tried};
+use crate::wanted::{Wanted, say, say_from};
 use ncp_bits::{BitStore, PackedStore, PlainStore};
 use ncp_host::{End, Received, Record, Took};
 use ncp_terms::Answer;

@@ -1,10 +1,10 @@
 //! Worlds that settle: what happens by itself behind calls, losses and deaths, and how many events it is.
-use crate::world::events::{ASK_RECEIVE, ASK_SEND, Act, LINK, RESET_A, beginning};
-use crate::world::scripts::{
+use crate::events::{ASK_RECEIVE, ASK_SEND, Act, LINK, RESET_A, beginning};
+use crate::scripts::{
     ADMITTED, CONTROL, RRP, RRP_CAME, RST, RST_CAME, RTS, RTS_CAME, STR, STR_CAME, TEXT, TEXT_CAME,
 };
-use crate::world::tried::Tried;
-use crate::world::wanted::{Wanted, say};
+use crate::tried::Tried;
+use crate::wanted::{Wanted, say};
 use ncp_bits::{BitStore, PackedStore, PlainStore};
 use ncp_terms::Answer;
 use ncp_world::Side;

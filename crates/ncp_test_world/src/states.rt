@@ -1,7 +1,7 @@
 //! Each thing that may happen to a message, and an output, in each state of the subnet and the slot.
-use crate::world::events::{RESET_A, out};
-use crate::world::held_back::is_of_a;
-use crate::world::tried::Tried;
+use crate::events::{RESET_A, out};
+use crate::held_back::is_of_a;
+use crate::tried::Tried;
 use ncp_bits::{BitStore, PackedStore, PlainStore};
 use ncp_transcript::HostNote;
 use ncp_world::{Event, Move, Note, Side};

@@ -1,8 +1,8 @@
 //! Two hosts with their subnet.
 use super::{Hosts, is_made_again, runs, settle_alike, steps, tell, wants_memory};
-use crate::world::events::{RESET_A, Script, events_of};
-use crate::world::reading::Reading;
-use crate::world::tried::{A, B, Tried};
+use crate::events::{RESET_A, Script, events_of};
+use crate::reading::Reading;
+use crate::tried::{A, B, Tried};
 use ncp_bits::{BitStore, PackedStore, PlainStore};
 use ncp_world::{Event, Note, Side};
 use std::alloc::{AllocError, Global};

@@ -1,6 +1,6 @@
 //! Copies of events among many hosts.
-use crate::world::refused::is_same;
-use crate::world::wanted::bits_of;
+use crate::refused::is_same;
+use crate::wanted::bits_of;
 use ncp_host::Pair;
 use ncp_many::ManyEvent;
 use ncp_transcript::{Call, Message};

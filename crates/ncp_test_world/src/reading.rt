@@ -1,5 +1,5 @@
 //! What the readers of a host answer.
-use crate::world::events::{LINK, RECEIVER, SENDER};
+use crate::events::{LINK, RECEIVER, SENDER};
 use ncp_bits::BitStore;
 use ncp_host::{CallFault, Counts, Flags, Host, Ignored, Record};
 

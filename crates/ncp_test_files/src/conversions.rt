@@ -1,6 +1,6 @@
 //! Files of one version as files of the other.
 
-use crate::files::shown::converted;
+use crate::shown::converted;
 use ncp_play_files::FileFault;
 use ncp_play_stream::{MemorySink, MemorySource};
 use std::alloc::Global;

@@ -1,6 +1,6 @@
 //! The events of the first script, and how events are written.
-use crate::world::tried::{A, B};
-use crate::world::wanted::bits_of;
+use crate::tried::{A, B};
+use crate::wanted::bits_of;
 use ncp_host::Pair;
 use ncp_transcript::{Call, Message};
 use ncp_world::{Event, Side};

@@ -1,6 +1,6 @@
 //! Files, with what is shown of them and what is checked.
 
-use crate::files::shown::{checked, shown};
+use crate::shown::{checked, shown};
 use ncp_play_files::FileFault;
 use ncp_play_stream::{MemorySink, MemorySource};
 use std::alloc::{AllocError, Global};

@@ -1,9 +1,9 @@
 //! Files that are converted, with each read and each write failing in turn.
 
-use crate::files::conversions::{ANSWERS, PLACED};
-use crate::files::failures::{read_bytewise, write_piecemeal};
-use crate::files::shown::converted;
-use crate::files::streams::is_front;
+use crate::conversions::{ANSWERS, PLACED};
+use crate::failures::{read_bytewise, write_piecemeal};
+use crate::shown::converted;
+use crate::streams::is_front;
 use ncp_play_files::FileFault;
 use ncp_play_stream::{MemorySink, MemorySource};
 use std::alloc::Global;

@@ -1,6 +1,6 @@
 //! That the adapters to readers and writers pass on each failure once, and move all that they can.
 
-use crate::files::shown::{checked, shown};
+use crate::shown::{checked, shown};
 use ncp_play_files::FileFault;
 use ncp_play_stream::{
     Failed, FromRead, LEAST_PIECE, MemorySink, MemorySource, Sink, Source, ToWrite,

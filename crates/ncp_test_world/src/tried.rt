@@ -1,5 +1,5 @@
 //! A world whose calls tell the prover nothing.
-use crate::world::reading::{Reading, reading_of};
+use crate::reading::{Reading, reading_of};
 use ncp_bits::BitStore;
 use ncp_host::{Pair, Record};
 use ncp_world::{Event, Ledger, Note, Side, World, run};

@@ -1,9 +1,9 @@
 //! Three hosts with their subnet.
 use super::{Hosts, is_made_again, runs, settle_alike, steps, tell, wants_memory};
-use crate::world::many::{RECEIVER, SENDER, THREE};
-use crate::world::many_tried::ManyTried;
-use crate::world::reading::Reading;
-use crate::world::wanted::bits_of;
+use crate::many::{RECEIVER, SENDER, THREE};
+use crate::many_tried::ManyTried;
+use crate::reading::Reading;
+use crate::wanted::bits_of;
 use ncp_bits::{BitStore, Bits, PackedStore, PlainStore};
 use ncp_many::{ManyEvent, ManyFault, ManyNote};
 use ncp_transcript::{Call, Message};

@@ -1,5 +1,5 @@
 //! Two to eight hosts whose calls tell the prover nothing.
-use crate::world::reading::{Reading, reading_of};
+use crate::reading::{Reading, reading_of};
 use ncp_bits::BitStore;
 use ncp_host::Pair;
 use ncp_many::{Many, ManyEvent, ManyFault, ManyNote};

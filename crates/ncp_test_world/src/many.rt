@@ -1,7 +1,7 @@
 //! Worked runs of two to eight hosts.
-use crate::world::many_tried::ManyTried;
-use crate::world::refused::is_same_at;
-use crate::world::wanted::bits_of;
+use crate::many_tried::ManyTried;
+use crate::refused::is_same_at;
+use crate::wanted::bits_of;
 use ncp_bits::{BitStore, PackedStore, PlainStore};
 use ncp_host::{CallFault, Flags, Pair, Received, Took};
 use ncp_many::{MAX_HOSTS, ManyEvent, ManyFault, ManyNote};

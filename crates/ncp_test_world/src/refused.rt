@@ -5,7 +5,7 @@
 mod many;
 mod world;
 
-use crate::world::reading::Reading;
+use crate::reading::Reading;
 use ncp_host::CallFault;
 use ncp_transcript::HostNote;
 use std::alloc::{AllocError, Global};

@@ -1,6 +1,6 @@
 //! The ledger after each event of a script.
-use crate::world::events::{RECEIVER, SENDER, Script, events_of};
-use crate::world::tried::Tried;
+use crate::events::{RECEIVER, SENDER, Script, events_of};
+use crate::tried::Tried;
 use ncp_bits::{BitStore, PackedStore, PlainStore};
 use ncp_world::{Amount, Event, Ledger, Side};
 use std::alloc::Global;

@@ -1,9 +1,9 @@
 //! Runs of 5,000 events, with ample memory: each is answered Ok, however many stand noted before it.
-use crate::world::events::{Act, LINK, SENDER, allocated, push};
-use crate::world::many::THREE;
-use crate::world::many_tried::ManyTried;
-use crate::world::tried::{A, B, Tried};
-use crate::world::wanted::{Wanted, bits_of, says};
+use crate::events::{Act, LINK, SENDER, allocated, push};
+use crate::many::THREE;
+use crate::many_tried::ManyTried;
+use crate::tried::{A, B, Tried};
+use crate::wanted::{Wanted, bits_of, says};
 use ncp_bits::{BitStore, PackedStore};
 use ncp_many::ManyEvent;
 use ncp_transcript::{Alone, Call, Input, Message};

@@ -1,8 +1,8 @@
 //! Reads and writes that fail, each in turn.
 
-use crate::files::conversions::PLACED;
-use crate::files::shown::{checked, shown};
-use crate::files::streams::{Bytewise, Piecemeal, is_front};
+use crate::conversions::PLACED;
+use crate::shown::{checked, shown};
+use crate::streams::{Bytewise, Piecemeal, is_front};
 use ncp_play_files::FileFault;
 use ncp_play_stream::{MemorySink, MemorySource, Sink, Source};
 use std::alloc::Global;
