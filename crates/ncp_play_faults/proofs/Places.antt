@@ -9,6 +9,11 @@ at_place f [] i d h = absurd (omega arith)
 at_place f (x ∷ xs) zero d h = refl
 at_place f (x ∷ xs) (suc i) d h = at_place f xs i d (omega arith)
 
+-- and of none there is no first
+pub none_there : {X Y : Type 0} (f : X → Y) (xs : List X) (y : Y) → length xs < 1 → slice_get (map f xs) 0 ≡ Some y → ⊥
+none_there f [] y h e = absurd cc
+none_there f (x ∷ xs) y h e = absurd (omega arith)
+
 -- what holds of none of the first i, and not of the next
 pub none_more : {X Y : Type 0} (P : Y → Type 0) (f : X → Y) (xs : List X) (i : ℕ) (d : X) → i < length xs → All P (take i (map f xs)) → P (f (get_or xs i d)) → All P (take (i + 1) (map f xs))
 none_more P f xs i d h before here = All-more P (map f xs) i (f d) (rw length-map h) before (rw (get_or-map f xs i d (f d) h) here)

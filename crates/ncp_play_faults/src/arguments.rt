@@ -22,6 +22,16 @@ pub(crate) fn number_in(word: &str, most: u32) -> Option<u32> {
     }
 }
 
+/// What is wrong, if there was memory to say it.
+pub(crate) fn told(text: Result<String, AllocError>) -> Result<Option<String>, AllocError> {
+    Ok(Some(text?))
+}
+
+/// What is wrong, with how the line is written behind it.
+pub(crate) fn and_form(alloc: Global, wrong: String, form: &str) -> Result<String, AllocError> {
+    format!(in alloc; "{wrong}: {form}")
+}
+
 /// What is wrong with a number, if something is.
 pub(crate) fn wrong_number(
     alloc: Global,
@@ -33,11 +43,11 @@ pub(crate) fn wrong_number(
         return Ok(None);
     }
     if has_digits(word) {
-        return Ok(Some(format!(in alloc; "{name} is {word}, and is at most {most}")?));
+        return told(format!(in alloc; "{name} is {word}, and is at most {most}"));
     }
-    Ok(Some(format!(in alloc;
+    told(format!(in alloc;
         "{name} is '{word}', and has to be a number from 0 to {most} in decimal digits"
-    )?))
+    ))
 }
 
 // Whether a bit behind the last one of `bits` is set in the byte of these two digits.
@@ -64,19 +74,19 @@ fn last_digits(digits: &str) -> &str {
 fn wrong_digits(alloc: Global, bits: u32, digits: &str) -> Result<Option<String>, AllocError> {
     let wanted = u64::from(bits).div_ceil(8) * 2;
     if !digits.bytes().all(|byte| byte.is_ascii_hexdigit()) {
-        return Ok(Some(format!(in alloc; "'{digits}' is not hexadecimal")?));
+        return told(format!(in alloc; "'{digits}' is not hexadecimal"));
     }
     if digits.len() as u64 != wanted {
         let there = digits.len();
-        return Ok(Some(format!(in alloc;
+        return told(format!(in alloc;
             "{bits} bits are {wanted} hexadecimal digits, and here are {there}"
-        )?));
+        ));
     }
     if has_spare_bit(bits, last_digits(digits)) {
         let spare = 8 - bits % 8;
-        return Ok(Some(format!(in alloc;
+        return told(format!(in alloc;
             "the last {spare} bits of '{digits}' are spare, and have to be zero"
-        )?));
+        ));
     }
     Ok(None)
 }
@@ -92,13 +102,13 @@ fn wrong_bits(
     };
     match digits {
         Some(digits) if bits == 0 => {
-            Ok(Some(format!(in alloc; "0 bits have no digits, and here is '{digits}'")?))
+            told(format!(in alloc; "0 bits have no digits, and here is '{digits}'"))
         }
         Some(digits) => wrong_digits(alloc, bits, digits),
         None if bits == 0 => Ok(None),
         None => {
             let wanted = u64::from(bits).div_ceil(8) * 2;
-            Ok(Some(format!(in alloc; "{bits} bits need {wanted} hexadecimal digits behind them")?))
+            told(format!(in alloc; "{bits} bits need {wanted} hexadecimal digits behind them"))
         }
     }
 }
@@ -175,7 +185,7 @@ pub(crate) fn wrong_arguments(
         at = at.saturating_add(used);
     }
     match words.get(at) {
-        Some(word) => Ok(Some(format!(in alloc; "'{word}' is one word too many")?)),
+        Some(word) => told(format!(in alloc; "'{word}' is one word too many")),
         None => Ok(None),
     }
 }

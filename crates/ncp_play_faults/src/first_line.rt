@@ -4,7 +4,7 @@ ghost use Rattle.std.specs.String.{string_bytes};
 ghost use Rattle.ncp_play_faults.specs.Spelling.{strange_byte, byte_told, IsWellSpelled};
 ghost use Rattle.ncp_play_faults.specs.Telling.{first_word, heads, first_line_wanted, is_message_file, has_mark, message_file_told, mark_told, TellsNoHead};
 
-use crate::arguments::{number_in, wrong_number};
+use crate::arguments::{and_form, number_in, told, wrong_number};
 use crate::near::nearest;
 use crate::spelling::misspelled;
 use crate::usage::{BYTE, Player};
@@ -74,10 +74,30 @@ fn wrong_numbers(alloc: Global, words: &[&str]) -> Result<Option<String>, AllocE
             .take(place)
             .any(|other| number_in(other, BYTE) == number)
         {
-            return Ok(Some(format!(in alloc; "host {word} is named twice")?));
+            return told(format!(in alloc; "host {word} is named twice"));
         }
     }
     Ok(None)
+}
+
+// What is wrong with a socket of a sender that is to be watched, if something is.
+fn wrong_socket(
+    alloc: Global,
+    name: &str,
+    word: Option<&&str>,
+) -> Result<Option<String>, AllocError> {
+    match word {
+        Some(word) => wrong_number(alloc, name, u32::MAX, word),
+        None => told(format!(in alloc; "{name} is missing")),
+    }
+}
+
+// What is wrong with the first of its sockets that has something wrong.
+fn wrong_sockets(alloc: Global, words: &[&str]) -> Result<Option<String>, AllocError> {
+    match wrong_socket(alloc, "LOCAL", words.get(1))? {
+        Some(wrong) => Ok(Some(wrong)),
+        None => wrong_socket(alloc, "REMOTE", words.get(2)),
+    }
 }
 
 // What is wrong with a sender that is to be watched.
@@ -86,13 +106,8 @@ fn wrong_watch(alloc: Global, words: &[&str]) -> Result<String, AllocError> {
     if side != "a" && side != "b" {
         return format!(in alloc; "SIDE is '{side}', and has to be a or b: {WATCHED}");
     }
-    for (place, name) in [(1, "LOCAL"), (2, "REMOTE")] {
-        let Some(word) = words.get(place) else {
-            return format!(in alloc; "{name} is missing: {WATCHED}");
-        };
-        if let Some(wrong) = wrong_number(alloc, name, u32::MAX, word)? {
-            return format!(in alloc; "{wrong}: {WATCHED}");
-        }
+    if let Some(wrong) = wrong_sockets(alloc, words)? {
+        return and_form(alloc, wrong, WATCHED);
     }
     match words.get(3) {
         Some(word) => format!(in alloc; "'{word}' is one word too many: {WATCHED}"),
@@ -104,7 +119,7 @@ fn wrong_watch(alloc: Global, words: &[&str]) -> Result<String, AllocError> {
 fn wrong_two(alloc: Global, words: &[&str]) -> Result<String, AllocError> {
     let hosts = words.get(..2).unwrap_or(words);
     if let Some(wrong) = wrong_numbers(alloc, hosts)? {
-        return format!(in alloc; "{wrong}: {TWO}");
+        return and_form(alloc, wrong, TWO);
     }
     if hosts.len() < 2 {
         return format!(in alloc; "two hosts have to be named: {TWO}");
@@ -124,7 +139,7 @@ fn wrong_many(alloc: Global, words: &[&str]) -> Result<String, AllocError> {
         return format!(in alloc; "only with two hosts a sender can be watched: {WATCHED}");
     }
     if let Some(wrong) = wrong_numbers(alloc, words)? {
-        return format!(in alloc; "{wrong}: {MORE}");
+        return and_form(alloc, wrong, MORE);
     }
     let count = words.len();
     format!(in alloc; "there are two to {MOST} hosts, and here are {count}: {MORE}")
@@ -133,7 +148,7 @@ fn wrong_many(alloc: Global, words: &[&str]) -> Result<String, AllocError> {
 // What is wrong with `host`.
 fn wrong_one(alloc: Global, words: &[&str]) -> Result<String, AllocError> {
     if let Some(wrong) = wrong_numbers(alloc, words)? {
-        return format!(in alloc; "{wrong}: {ONE}");
+        return and_form(alloc, wrong, ONE);
     }
     let peers = words.len().saturating_sub(1);
     format!(in alloc; "a host has one to {MOST} peers, and here are {peers}: {ONE}")

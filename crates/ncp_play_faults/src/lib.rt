@@ -5,8 +5,8 @@
 //! - *Proved:* the word that is suggested is the first of the known ones that is near, and none is suggested only if
 //!   none is (`nearest`, clauses `found` and `none`); a name means the text beside it (`meaning`), and has one meaning
 //!   (`laws::each_name_has_one_meaning`); which words scripts have (`verbs`); what is told of a header (`wrong_header`),
-//!   of a strange byte, of a word that is no verb, and of a first line that begins with no word of its own (`wrong_line`,
-//!   `wrong_first_line`). That a text names a mistake in an argument is only tested.
+//!   of a strange byte, of a word that is no verb in a script of one host, and of a first line that begins with no word of
+//!   its own (`wrong_line`, `wrong_first_line`). What else is told of a line, as of an argument, is only tested.
 //! - *Tests:* `mistakes` of `ncp_test_play`; words that are near, and words that are not, in `laws`.
 #![tactic(auto)]
 
@@ -24,6 +24,6 @@ mod words;
 pub use first_line::wrong_first_line;
 pub use header::wrong_header;
 pub use line::wrong_line;
-pub use names::{NAMES, meaning};
+pub use names::{Meaning, NAMES, meaning, text_beside};
 pub use near::nearest;
 pub use usage::{Player, verbs};

@@ -5,7 +5,7 @@ ghost use Rattle.ncp_play_faults.specs.Spelling.{strange_byte, byte_told, IsWell
 ghost use Rattle.ncp_play_faults.specs.Telling.{first_word, TellsNoVerb};
 ghost use Rattle.ncp_play_faults.specs.Verbs.{all_verbs};
 
-use crate::arguments::{written, wrong_arguments};
+use crate::arguments::{and_form, written, wrong_arguments};
 use crate::near::nearest;
 use crate::spelling::misspelled;
 use crate::usage::{
@@ -91,7 +91,7 @@ fn wrong_form(
     match wrong_arguments(alloc, form.leading, form.usage, arguments)? {
         Some(wrong) => {
             let usage = written(alloc, form.leading, form.usage)?;
-            format!(in alloc; "{wrong}: {usage}")
+            and_form(alloc, wrong, usage.as_str())
         }
         None if verb == "feed" => {
             format!(in alloc; "behind 'feed' a line feed has to stand, and then a message file")

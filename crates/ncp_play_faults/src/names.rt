@@ -123,8 +123,8 @@ pub const NAMES: &[Meaning] = &[
     ),
 ];
 
-// The text beside the first name of these that is this one.
-fn text_beside(names: &'static [Meaning], name: &str) -> Option<&'static str>
+/// The text beside the first name of these that is this one.
+pub fn text_beside(names: &'static [Meaning], name: &str) -> Option<&'static str>
     ensures known { IfSome result (λ text. Contains {X = List ℕ × List ℕ} (map (λ entry. (entry.0.now, entry.1.now)) names.now) (name.now, text.now)) }
     ensures unknown { IfNone result (All {X = List ℕ × List ℕ} (λ entry. entry.0 ≢ name.now) (map (λ entry. (entry.0.now, entry.1.now)) names.now)) }
 {

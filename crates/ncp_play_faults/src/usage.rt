@@ -15,7 +15,7 @@ pub enum Player {
 }
 
 /// What a line of a script is about.
-#[derive(Clone, Copy, Debug, Drop, PartialEq, Eq)]
+#[derive(Clone, Copy, Drop, PartialEq, Eq)]
 pub(crate) enum Scene {
     /// One host.
     Host,
@@ -26,7 +26,7 @@ pub(crate) enum Scene {
 }
 
 /// An argument of a line: a number by its name and its greatest value, or bits.
-#[derive(Clone, Copy, Debug, Drop)]
+#[derive(Clone, Copy, Drop)]
 pub(crate) enum Argument {
     Number(&'static str, u32),
     Bits,
