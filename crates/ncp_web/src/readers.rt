@@ -191,30 +191,68 @@ fn say_many(number: u32, note: &ManyNote, sink: &mut MemorySink) -> Result<(), F
     }
 }
 
-// What a line of a script of two hosts would be answered that reads a host, as the next note.
-fn ask_two(alloc: Global, two: &TwoStage, line: &[u8], sink: &mut MemorySink) -> Result<(), Refusal>
+// What an event of two hosts would be answered that reads a host, as the next note.
+fn answer_two(two: &TwoStage, event: &Event, sink: &mut MemorySink) -> Result<(), Refusal>
     requires empty { sink.old.written ≡ [] }
-    ensures { Asks (asked_of_two two.now.hosts (world_line_of two.now.first.hosts (words_of line.now))) result sink.new.written }
+    ensures { Asks (asked_of_two two.now.hosts (Some event.now)) result sink.new.written }
 {
-    let event = match world_line(alloc, two.first.hosts, &mut Words::new(line)) {
-        Ok(Some(event)) => event,
-        Ok(None) => return Err(Refusal::NoLine),
-        Err(_) => return Err(Refusal::NoMemory),
-    };
     let Event::Call { side, call } = event else {
         return Err(Refusal::NoLine);
     };
-    let Some(note) = reading(two.hosts.world().host(side), &call) else {
+    let Some(note) = reading(two.hosts.world().host(*side), call) else {
         return Err(Refusal::NoLine);
     };
     let number = number_of(two.hosts.told().saturating_add(1));
-    match say_two(number, &Note::Called { side, note }, sink) {
+    let note = Note::Called { side: *side, note };
+    let said = say_two(number, &note, sink);
+    drop(note);
+    match said {
         Ok(()) => Ok(()),
         Err(_) => Err(Refusal::Full),
     }
 }
 
-// The same of two to eight hosts.
+// What a line of a script of two hosts would be answered that reads a host.
+fn ask_two(alloc: Global, two: &TwoStage, line: &[u8], sink: &mut MemorySink) -> Result<(), Refusal>
+    requires empty { sink.old.written ≡ [] }
+    ensures { Asks (asked_of_two two.now.hosts (world_line_of two.now.first.hosts (words_of line.now))) result sink.new.written }
+{
+    match world_line(alloc, two.first.hosts, &mut Words::new(line)) {
+        Ok(Some(event)) => {
+            let answer = answer_two(two, &event, sink);
+            drop(event);
+            answer
+        }
+        Ok(None) => Err(Refusal::NoLine),
+        Err(_) => Err(Refusal::NoMemory),
+    }
+}
+
+// What an event of two to eight hosts would be answered that reads a host, as the next note.
+fn answer_many(stage: &ManyStage, event: &ManyEvent, sink: &mut MemorySink) -> Result<(), Refusal>
+    requires empty { sink.old.written ≡ [] }
+    ensures { Asks (asked_of_many stage.now.hosts (Some event.now)) result sink.new.written }
+{
+    let ManyEvent::Call { host, call } = event else {
+        return Err(Refusal::NoLine);
+    };
+    let Some(asked) = stage.hosts.many().host(*host) else {
+        return Err(Refusal::NoLine);
+    };
+    let Some(note) = reading(asked, call) else {
+        return Err(Refusal::NoLine);
+    };
+    let number = number_of(stage.hosts.told().saturating_add(1));
+    let note = ManyNote::Called { host: *host, note };
+    let said = say_many(number, &note, sink);
+    drop(note);
+    match said {
+        Ok(()) => Ok(()),
+        Err(_) => Err(Refusal::Full),
+    }
+}
+
+// What a line of a script of two to eight hosts would be answered that reads a host.
 fn ask_many(
     alloc: Global,
     stage: &ManyStage,
@@ -224,24 +262,14 @@ fn ask_many(
     requires empty { sink.old.written ≡ [] }
     ensures { Asks (asked_of_many stage.now.hosts (many_line_of stage.now.first (words_of line.now))) result sink.new.written }
 {
-    let event = match many_line(alloc, stage.first.numbers(), &mut Words::new(line)) {
-        Ok(Some(event)) => event,
-        Ok(None) => return Err(Refusal::NoLine),
-        Err(_) => return Err(Refusal::NoMemory),
-    };
-    let ManyEvent::Call { host, call } = event else {
-        return Err(Refusal::NoLine);
-    };
-    let Some(asked) = stage.hosts.many().host(host) else {
-        return Err(Refusal::NoLine);
-    };
-    let Some(note) = reading(asked, &call) else {
-        return Err(Refusal::NoLine);
-    };
-    let number = number_of(stage.hosts.told().saturating_add(1));
-    match say_many(number, &ManyNote::Called { host, note }, sink) {
-        Ok(()) => Ok(()),
-        Err(_) => Err(Refusal::Full),
+    match many_line(alloc, stage.first.numbers(), &mut Words::new(line)) {
+        Ok(Some(event)) => {
+            let answer = answer_many(stage, &event, sink);
+            drop(event);
+            answer
+        }
+        Ok(None) => Err(Refusal::NoLine),
+        Err(_) => Err(Refusal::NoMemory),
     }
 }
 
