@@ -1,3 +1,4 @@
 pub mod FindingLines
 pub mod Audited
 pub mod AuditSteps
+pub mod Rules

@@ -1,7 +1,8 @@
 //! `audit`: the findings of the umpire on a message file of version 2, line by line.
 //!
 //! - *Use:* `ncp audit examples/broken.ncp`.
-//! - *Proved:* the lines are those of the findings, up to the first fault of the file (`audit`, clause `told`).
+//! - *Proved:* the lines are those of the findings, up to the first fault of the file (`audit`, clause `told`). A rule asks
+//!   for what stands beside its name (`rule_meaning`), and has one text (`each_rule_has_one_meaning`).
 //! - *Tests:* `audits` of `ncp_test_files`, and `examples/broken.audit`.
 #![tactic(auto)]
 
@@ -12,4 +13,4 @@ mod rules;
 
 pub use auditing::{Auditor, audit};
 pub use finding_line::LONGEST_FINDING;
-pub use rules::{RULES, rule_meaning};
+pub use rules::{RULES, each_rule_has_one_meaning, rule_meaning};

@@ -3,3 +3,4 @@ pub mod FollowedFiles
 pub mod FollowSteps
 pub mod FollowedTexts
 pub mod TextSteps
+pub mod Ends

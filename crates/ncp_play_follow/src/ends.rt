@@ -1,4 +1,8 @@
 //! What the words behind `by=` mean.
+ghost use Rattle.std.specs.Prelude.{◌≢◌, All, AllPairs, Contains, IfNone, IfSome};
+ghost use Rattle.ncp_play_follow.specs.Ends.{ends};
+
+use ncp_play_faults::text_beside;
 
 /// How a connection ended, in the words that `ncp follow` prints behind `by=`, and what each means.
 pub const ENDS: &[(&str, &str)] = &[
@@ -33,11 +37,14 @@ pub const ENDS: &[(&str, &str)] = &[
 ];
 
 /// What a word behind `by=` means, if it is one.
-pub fn end_meaning(name: &str) -> Option<&'static str> {
-    for (known, text) in ENDS {
-        if *known == name {
-            return Some(*text);
-        }
-    }
-    None
+pub fn end_meaning(name: &str) -> Option<&'static str>
+    ensures known { IfSome result (λ text. Contains ends (name.now, text.now)) }
+    ensures unknown { IfNone result (All (λ entry. entry.0 ≢ name.now) ends) }
+{
+    text_beside(ENDS, name)
 }
+
+/// Each word behind `by=` stands in the table once, so it has one meaning.
+pub fn each_end_has_one_meaning()
+    ensures { AllPairs (λ one other. one.0 ≢ other.0) ends }
+{}

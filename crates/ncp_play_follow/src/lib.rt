@@ -3,7 +3,8 @@
 //!
 //! - *Use:* `ncp follow examples/capture.ncp`, and `ncp follow --bytes 1 examples/capture.ncp`.
 //! - *Proved:* the lines are those of the connections that the records show, up to the first fault of the file, and the
-//!   bytes those of the text (`follow` and `follow_text`, clause `told`).
+//!   bytes those of the text (`follow` and `follow_text`, clause `told`). A word behind `by=` means the text beside it
+//!   (`end_meaning`), and has one meaning (`each_end_has_one_meaning`).
 //! - *Tests:* `follows` of `ncp_test_files`.
 #![tactic(auto)]
 
@@ -15,6 +16,6 @@ mod text;
 mod words;
 
 pub use connection_line::LONGEST_CONNECTION;
-pub use ends::{ENDS, end_meaning};
+pub use ends::{ENDS, each_end_has_one_meaning, end_meaning};
 pub use following::follow;
 pub use text::follow_text;

@@ -1,0 +1,7 @@
+-- The words behind `by=`, with what each means.
+use Rattle.std.specs.Prelude.{ℕ, List, map}
+use Rattle.ncp_play_follow.specs.declared.ends.TheConstants.{ENDS}
+
+-- each word with the text beside it
+abbrev pub ends : List (List ℕ × List ℕ)
+ends = map (λ entry. (entry.0.now, entry.1.now)) ENDS.now
