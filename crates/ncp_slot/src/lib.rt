@@ -24,6 +24,7 @@
 #![tactic(auto)]
 
 pub mod laws;
+mod place;
 mod slot;
 mod slots;
 

@@ -1,9 +1,7 @@
 //! `Slot`.
-ghost use Rattle.std.specs.Prelude.{◌≡◌, ◌↔◌, IsTrue, IfSome, OnOk, IsOk};
-ghost use Rattle.std.specs.Option.{option_copied};
-ghost use Rattle.ncp_slot.specs.Slot.{put_in, handed_out, answered, woken, ready_message, kept_message, is_empty, is_ready, is_travelling, is_held};
+ghost use Rattle.std.specs.Prelude.{◌≡◌, ◌↔◌, IsTrue, IsOk};
+ghost use Rattle.ncp_slot.specs.Slot.{handed_out, answered, woken, is_empty, is_ready, is_travelling, is_held};
 
-use ncp_bits::Bits;
 use ncp_terms::Answer;
 use std::mem;
 use thiserror::Error;
@@ -53,6 +51,23 @@ impl<M: Drop> Slot<M> {
         }
     }
 
+    /// The message that is to go out goes out. Whether there is one.
+    pub(crate) fn depart(&mut self) -> bool
+        ensures ready { result ≡ is_ready self.old }
+        ensures slot { self.new ≡ handed_out self.old }
+    {
+        match mem::replace(self, Slot::Empty) {
+            Slot::Ready(message) => {
+                *self = Slot::Travelling(message);
+                true
+            }
+            other => {
+                *self = other;
+                false
+            }
+        }
+    }
+
     /// Makes a message ready that is held, if there is one.
     pub(crate) fn wake(&mut self)
         ensures { self.new ≡ woken self.old }
@@ -61,16 +76,6 @@ impl<M: Drop> Slot<M> {
             Slot::Held(message) => Slot::Ready(message),
             other => other,
         };
-    }
-
-    /// The message that is not taken yet, if there is one.
-    pub(crate) fn kept(&self) -> Option<&M>
-        ensures { option_copied result ≡ kept_message self.now }
-    {
-        match self {
-            Slot::Empty => None,
-            Slot::Ready(message) | Slot::Travelling(message) | Slot::Held(message) => Some(message),
-        }
     }
 
     /// Whether there is no message.
@@ -95,49 +100,16 @@ impl<M: Drop> Slot<M> {
     }
 }
 
-impl Slot<Bits> {
-    /// Keeps a copy of a message, to go out. Busy where there is a message.
-    pub(crate) fn put(&mut self, bits: &Bits) -> Result<(), Busy>
-        ensures variant { IsOk result ↔ (self.old ≡ Slot.Empty) }
-        ensures slot { self.new ≡ put_in bits.now self.old }
-        ensures ok { OnOk result (self.new ≡ Slot.Ready bits.now) }
-    {
-        match self {
-            Slot::Empty => {
-                *self = Slot::Ready(bits.whole().to_bits());
-                Ok(())
-            }
-            Slot::Ready(_) | Slot::Travelling(_) | Slot::Held(_) => Err(Busy),
-        }
-    }
-
-    /// Another slot with a copy of the message, if there is one.
+impl Slot<()> {
+    /// A slot that stands the same.
     pub(crate) fn copy(&self) -> Self
         ensures { result ≡ self.now }
     {
         match self {
             Slot::Empty => Slot::Empty,
-            Slot::Ready(message) => Slot::Ready(message.whole().to_bits()),
-            Slot::Travelling(message) => Slot::Travelling(message.whole().to_bits()),
-            Slot::Held(message) => Slot::Held(message.whole().to_bits()),
-        }
-    }
-
-    /// Hands out a copy of the message that is to go out, if there is one.
-    pub(crate) fn hand(&mut self) -> Option<Bits>
-        ensures handed { result ≡ ready_message self.old }
-        ensures slot { self.new ≡ handed_out self.old }
-        ensures some { IfSome result (λ message. self.new ≡ Slot.Travelling message) }
-    {
-        match mem::replace(self, Slot::Empty) {
-            Slot::Ready(message) => {
-                *self = Slot::Travelling(message.whole().to_bits());
-                Some(message)
-            }
-            other => {
-                *self = other;
-                None
-            }
+            Slot::Ready(()) => Slot::Ready(()),
+            Slot::Travelling(()) => Slot::Travelling(()),
+            Slot::Held(()) => Slot::Held(()),
         }
     }
 }

@@ -5,6 +5,7 @@ ghost use Rattle.std.specs.Option.{option_copied};
 ghost use Rattle.ncp_slot.specs.Slot.{put_in, handed_out, answered, woken, ready_message, kept_message, is_empty, is_ready, is_travelling, is_held};
 ghost use Rattle.ncp_slot.specs.Slots.{HasSlot, no_slots, slot_at, with_slot, all_woken, OthersStay, IsReady, IsHeld, IsFirstReady, IsQuiet, is_quiet, link_at};
 
+use crate::place::Place;
 use crate::slot::{Busy, Slot, Stray};
 use ncp_bits::Bits;
 use ncp_terms::Answer;
@@ -52,7 +53,7 @@ fn link_of(place: usize) -> u8
 }
 
 // Makes each message that is held ready.
-fn wake_each(slots: &mut [Slot<Bits>])
+fn wake_each(slots: &mut [Place])
     ensures { slots.new ≡ map woken slots.old }
 {
     for slot in slots.iter_mut() {
@@ -61,7 +62,7 @@ fn wake_each(slots: &mut [Slot<Bits>])
 }
 
 // Whether there is no message in these slots.
-fn all_empty(slots: &[Slot<Bits>]) -> bool
+fn all_empty(slots: &[Place]) -> bool
     ensures { result ≡ list_all is_empty slots.now }
 {
     slots.iter().all(|slot| slot.is_empty())
@@ -72,7 +73,7 @@ fn all_empty(slots: &[Slot<Bits>]) -> bool
 /// grow, and lends no allocator.
 #[derive(Debug, Drop)]
 pub struct Slots {
-    slots: BoxedSlice<Slot<Bits>, Global>,
+    slots: BoxedSlice<Place, Global>,
 }
 
 impl Model for Slots {
@@ -98,7 +99,7 @@ impl Slots {
     {
         let mut slots = Vec::with_capacity(alloc, SLOTS)?;
         for _place in 0..SLOTS {
-            slots.push_reserved(Slot::Empty);
+            slots.push_reserved(Place::empty());
         }
         Ok(Slots {
             slots: slots.into_boxed_slice(),
@@ -145,6 +146,19 @@ impl Slots {
         self.slots[place_of(link)].hand()
     }
 
+    /// The message that is to go out on a link goes out, as by [`Slots::hand`]. Nothing is copied:
+    /// [`Slots::kept`] lends it. Whether there is one; where there is none nothing changes.
+    pub fn depart(&mut self, link: u8) -> bool
+        requires { HasSlot link }
+        ensures ready { IsTrue result ↔ IsReady self.old link }
+        ensures slot { slot_at self.new link ≡ handed_out (slot_at self.old link) }
+        ensures others { OthersStay self.old self.new link }
+        ensures slots { self.new ≡ with_slot self.old link (handed_out (slot_at self.old link)) }
+        ensures none { result ≡ false → self.new ≡ self.old }
+    {
+        self.slots[place_of(link)].depart()
+    }
+
     /// Keeps a copy of a message that goes out at once on a link whose slot is empty: [`Slots::put`] and
     /// then [`Slots::hand`], without a second copy. It is kept until it is taken.
     pub fn send(&mut self, link: u8, bits: &Bits)
@@ -152,7 +166,7 @@ impl Slots {
         requires empty { slot_at self.old link ≡ Slot.Empty }
         ensures { self.new ≡ with_slot self.old link (Slot.Travelling bits.now) }
     {
-        self.slots[place_of(link)] = Slot::Travelling(bits.whole().to_bits());
+        self.slots[place_of(link)].send(bits);
     }
 
     /// Takes the subnet's answer to the message that went out on a link. After Ready For Next

@@ -10,7 +10,7 @@ pub loop-place-preserved : goal.loop-place-preserved
 loop-place-preserved c = record {
   len = omega arith;
   room = omega arith;
-  empty = c.push_reserved.ensures.items ∙ ap (λ (items : List LinkSlot). items ++ Empty ∷ []) c.loop-place.invariant.empty ∙ replicate-append-replicate c.loop-place._place 1 Empty;
+  empty = c.push_reserved.ensures.items ∙ ap (λ (items : List LinkSlot). items ++ c.empty.result ∷ []) c.loop-place.invariant.empty ∙ ap (λ (slot : LinkSlot). replicate c.loop-place._place Empty ++ slot ∷ []) c.empty.ensures ∙ replicate-append-replicate c.loop-place._place 1 Empty;
 }
 
 pub invariant_of-result : goal.invariant_of-result

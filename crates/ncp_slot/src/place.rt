@@ -1,0 +1,175 @@
+//! `Place`.
+ghost use Rattle.std.specs.Prelude.{◌≡◌, ◌↔◌, IsTrue, IfSome, OnOk, IsOk};
+ghost use Rattle.std.specs.Option.{option_copied};
+ghost use Rattle.ncp_slot.specs.Slot.{put_in, handed_out, answered, woken, ready_message, kept_message, is_empty, is_ready, is_travelling, is_held, filled};
+
+use crate::slot::{Busy, Slot, Stray};
+use ncp_bits::{Bits, Part};
+use ncp_terms::Answer;
+use std::fmt;
+use std::marker::Model;
+
+// Writes bits over others. It costs a copy of those that come.
+fn write_over(bits: &mut Bits, part: Part<'_>)
+    ensures { bits.new ≡ part.entry }
+{
+    // A part is short enough.
+    let _len = part.len();
+    bits.copy_from_bytes(&[], 0).unwrap();
+    bits.append(part).unwrap();
+}
+
+/// The place of a slot: how it stands, and room for a message, which is written where it stays. What an empty slot
+/// had before is not looked at.
+#[derive(Drop)]
+pub(crate) struct Place {
+    slot: Slot<()>,
+    message: Bits,
+}
+
+impl Model for Place {
+    ghost use Rattle.ncp_slot.specs.Slots.{LinkSlot, coded_slot};
+    ghost use Rattle.ncp_slot.specs.Slot.{filled};
+
+    ghost Value = { LinkSlot };
+
+    ghost coded = { coded_slot };
+
+    ghost view = { λ place. filled place.message place.slot };
+}
+
+impl Place {
+    /// A place with no message.
+    pub(crate) fn empty() -> Self
+        ensures { result ≡ Slot.Empty }
+    {
+        Place {
+            slot: Slot::Empty,
+            message: Bits::new(),
+        }
+    }
+
+    /// Another place with a copy of the message, if there is one.
+    pub(crate) fn copy(&self) -> Self
+        ensures { result ≡ self.now }
+    {
+        let mut place = Place::empty();
+        if let Some(message) = self.kept() {
+            write_over(&mut place.message, message.whole());
+        }
+        place.slot = self.slot.copy();
+        place
+    }
+
+    // Keeps a copy of a message, in a slot that stands so.
+    fn fill(&mut self, slot: Slot<()>, bits: &Bits)
+        ensures { self.new ≡ filled bits.now slot }
+    {
+        write_over(&mut self.message, bits.whole());
+        self.slot = slot;
+    }
+
+    /// Keeps a copy of a message, to go out. Busy where there is a message.
+    pub(crate) fn put(&mut self, bits: &Bits) -> Result<(), Busy>
+        ensures variant { IsOk result ↔ (self.old ≡ Slot.Empty) }
+        ensures slot { self.new ≡ put_in bits.now self.old }
+        ensures ok { OnOk result (self.new ≡ Slot.Ready bits.now) }
+    {
+        if !self.is_empty() {
+            return Err(Busy);
+        }
+        self.fill(Slot::Ready(()), bits);
+        Ok(())
+    }
+
+    /// Keeps a copy of a message that goes out at once. What was there is gone.
+    pub(crate) fn send(&mut self, bits: &Bits)
+        ensures { self.new ≡ Slot.Travelling bits.now }
+    {
+        self.fill(Slot::Travelling(()), bits);
+    }
+
+    /// The message that is to go out goes out. Whether there is one.
+    pub(crate) fn depart(&mut self) -> bool
+        ensures ready { result ≡ is_ready self.old }
+        ensures slot { self.new ≡ handed_out self.old }
+    {
+        self.slot.depart()
+    }
+
+    /// Hands out a copy of the message that is to go out, if there is one.
+    pub(crate) fn hand(&mut self) -> Option<Bits>
+        ensures handed { result ≡ ready_message self.old }
+        ensures slot { self.new ≡ handed_out self.old }
+        ensures some { IfSome result (λ message. self.new ≡ Slot.Travelling message) }
+    {
+        if self.depart() {
+            Some(self.message.whole().to_bits())
+        } else {
+            None
+        }
+    }
+
+    /// Takes the answer to the message that went out. Stray where none is unanswered.
+    pub(crate) fn answer(&mut self, answer: Answer) -> Result<(), Stray>
+        ensures variant { IsOk result ↔ IsTrue (is_travelling self.old) }
+        ensures slot { self.new ≡ answered answer self.old }
+    {
+        self.slot.answer(answer)
+    }
+
+    /// Makes a message ready that is held, if there is one.
+    pub(crate) fn wake(&mut self)
+        ensures { self.new ≡ woken self.old }
+    {
+        self.slot.wake();
+    }
+
+    /// The message that is not taken yet, if there is one.
+    pub(crate) fn kept(&self) -> Option<&Bits>
+        ensures { option_copied result ≡ kept_message self.now }
+    {
+        if self.slot.is_empty() {
+            None
+        } else {
+            Some(&self.message)
+        }
+    }
+
+    /// Whether there is no message.
+    pub(crate) fn is_empty(&self) -> bool
+        ensures { result ≡ is_empty self.now }
+    {
+        self.slot.is_empty()
+    }
+
+    /// Whether there is a message that is to go out.
+    pub(crate) fn is_ready(&self) -> bool
+        ensures { result ≡ is_ready self.now }
+    {
+        self.slot.is_ready()
+    }
+
+    /// Whether there is a message that is held.
+    pub(crate) fn is_held(&self) -> bool
+        ensures { result ≡ is_held self.now }
+    {
+        self.slot.is_held()
+    }
+
+    // The slot, with its message lent.
+    fn lent(&self) -> Slot<&Bits> {
+        match self.slot {
+            Slot::Empty => Slot::Empty,
+            Slot::Ready(()) => Slot::Ready(&self.message),
+            Slot::Travelling(()) => Slot::Travelling(&self.message),
+            Slot::Held(()) => Slot::Held(&self.message),
+        }
+    }
+}
+
+impl fmt::Debug for Place {
+    fn fmt<W: fmt::Write>(&self, f: &mut fmt::Formatter<W>) -> fmt::Result {
+        self.lent().fmt(f)
+    }
+}
