@@ -6,6 +6,7 @@
  * `at` is null has no host, and is answered NCP_NO_HOST by these too, behind what they say of bits and buffers; so a `net`
  * NCP_NO_SUBNET. */
 uint32_t ncp_embed_new(struct ncp_host *handle, uint8_t me, const uint8_t *peers, size_t peers_len);
+uint32_t ncp_embed_copy(struct ncp_host *handle, struct ncp_host *copy);
 void ncp_embed_free(struct ncp_host *handle);
 uint32_t ncp_embed_receive(struct ncp_host *handle, const uint8_t *bytes, size_t bytes_len, size_t bits, struct ncp_arrived *arrived);
 uint32_t ncp_embed_next_output(struct ncp_host *handle, uint8_t *out, size_t out_len, size_t *bits);
@@ -56,6 +57,13 @@ uint32_t ncp_new(struct ncp_host *host, uint8_t me, const uint8_t *peers, size_t
     if (host == NULL) return NCP_NO_HOST;
     if (peers == NULL) return NCP_NO_POINTER;
     return ncp_embed_new(host, me, peers, count);
+}
+
+uint32_t ncp_copy(struct ncp_host *host, struct ncp_host *copy)
+{
+    if (!ncp_is_made(host)) return NCP_NO_HOST;
+    if (copy == NULL) return NCP_NO_POINTER;
+    return host == copy ? NCP_DONE : ncp_embed_copy(host, copy);
 }
 
 void ncp_free(struct ncp_host *host)

@@ -15,7 +15,8 @@
  *
  * What the caller has to uphold, and nothing checks:
  * - A `struct ncp_host` and a `struct ncp_subnet` are NCP_EMPTY before their first use. Later their content
- *   is what these functions left there: it may be moved to another place, but of two copies only one is used.
+ *   is what these functions left there: it may be moved to another place, but of two copies of the struct only
+ *   one is used (ncp_copy makes a second host).
  * - One call at a time for each host and each subnet, also of those that only read. Each may move to another
  *   thread where what orders the calls, as a lock or a join, stands between them.
  * - A pointer that is not null leads to as much memory as the length beside it says, or to one of its
@@ -72,7 +73,7 @@ enum {
     NCP_SHORT_BYTES = 42,    /* fewer bytes than the bits take */
     NCP_SPARE_NOT_ZERO = 43, /* a spare bit of the last byte used is set */
 
-    /* By ncp_new and ncp_subnet_new: 64 and the number of the refusal. */
+    /* By ncp_new, ncp_copy and ncp_subnet_new: 64 and the number of the refusal. */
     NCP_NEW_BAD_PEERS = 65,
     NCP_NEW_OUT_OF_MEMORY = 66,
 
@@ -222,6 +223,12 @@ bool ncp_is_made(const struct ncp_host *host);
  * Refused, in this order: NCP_NEW_BAD_PEERS (not one to eight, not distinct, or one is `me`),
  * NCP_NEW_OUT_OF_MEMORY. */
 uint32_t ncp_new(struct ncp_host *host, uint8_t me, const uint8_t *peers, size_t count);
+
+/* Makes `copy` another host in the same state. What happens to one of the two from then on leaves the other as
+ * it is: so a copy can be asked what would happen, or kept to go back to. A host that was in `copy` before is freed
+ * where NCP_DONE is answered. `copy` need not have one, and the copy is freed on its own.
+ * Refused: NCP_NEW_OUT_OF_MEMORY; then `copy` stays what it was. */
+uint32_t ncp_copy(struct ncp_host *host, struct ncp_host *copy);
 
 /* Frees the host, if there is one. `host` is then NCP_EMPTY. */
 void ncp_free(struct ncp_host *host);

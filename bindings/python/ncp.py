@@ -131,7 +131,7 @@ _HANDLE, _BYTES, _SIZE, _BUFFER = POINTER(_Handle), c_char_p, c_size_t, POINTER(
 _PEER, _AT, _WAY = (c_uint8,), (c_uint8, c_uint32, c_uint32), (c_uint8, c_uint8, c_uint8)
 # The functions by their parameters behind the host, or the subnet.
 _CALLS = {
-    "new": (c_uint8, _BYTES, _SIZE), "receive": (_BYTES, _SIZE, _SIZE, POINTER(_Arrived)), "next_output": (_BUFFER, _SIZE, POINTER(_SIZE)),
+    "new": (c_uint8, _BYTES, _SIZE), "copy": (_HANDLE,), "receive": (_BYTES, _SIZE, _SIZE, POINTER(_Arrived)), "next_output": (_BUFFER, _SIZE, POINTER(_SIZE)),
     "reset": _PEER, "ask_send": (*_AT, c_uint8, c_uint32), "ask_receive": (*_AT, c_uint32), "give": (*_AT, _BYTES, _SIZE, _SIZE),
     "take": (*_AT, c_uint32, _BUFFER, _SIZE, POINTER(_SIZE)), "allocate": (*_AT, c_uint16, c_uint32), "call_back": (*_AT, c_uint8, c_uint8),
     "interrupt": _AT, "close": _AT, "echo": (*_PEER, c_uint8), "wake": _PEER, "restart": _PEER, "state": (*_AT, POINTER(Connection)),
@@ -265,6 +265,15 @@ class Host(_Handled):
         self.me, self.peers = me, tuple(peers)
         self._seen, self._known = {}, {}
         self._do("new", me, bytes(self.peers), len(self.peers))
+
+    def copy(self):
+        """Another host in the same state, with what was seen for `events`: what happens to one leaves the other as it is."""
+        copy = Host.__new__(Host)
+        _Handled.__init__(copy)
+        copy.me, copy.peers, copy._seen = self.me, self.peers, dict(self._seen)
+        copy._known = {key: Connection.from_buffer_copy(seen) for key, seen in self._known.items()}
+        self._do("copy", byref(copy._handle))
+        return copy
 
     # Messages.
 

@@ -55,6 +55,23 @@ class Binding(unittest.TestCase):
         with self.assertRaises(ncp.NoHost):
             host.reset(2)
 
+    def test_a_copy_is_another_host(self):
+        host = up_with(2)
+        host.ask_receive(2, 2, 3, room=64)
+        list(host.events())
+        copy = host.copy()
+        self.assertEqual((copy.me, copy.peers, list(copy.events())), (1, (2,), []))
+        self.assertEqual(copy.connections(2), host.connections(2))
+        # What is refused there is not refused here.
+        copy.receive(bytes.fromhex("000200000008000900" "03" "00000003" "00000002"))
+        self.assertEqual([it.what for it in copy.events()], ["refused"])
+        self.assertEqual((list(host.events()), host.state(2, 2, 3).asked), ([], True))
+        host.free()
+        self.assertEqual([it.data.hex() for it in copy.outputs()],
+                         ["000200000008001300" "01" "00000002" "00000003" "02" "03" "00000002" "00000003"])  # an RTS and a CLS
+        with self.assertRaises(ncp.NoHost):
+            host.copy()
+
     def test_what_arrived(self):
         host = ncp.Host(1, [2])
         host.reset(2)

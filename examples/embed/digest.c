@@ -1,6 +1,6 @@
 /* Random calls and messages, valid and not, at two hosts and the network between them: `digest COUNT` makes so
  * many steps and prints a digest of all that was answered, where there was a step. The program of crates/ncp_test_digest
- * does the same through the library itself, and prints the same. */
+ * does the same through the library itself, and prints the same: there a host lives on, and here its copies go on for it. */
 #include "ncp.h"
 #include <stdio.h>
 #include <stdlib.h>
@@ -247,12 +247,25 @@ static void step(void)
     else carry(on);
 }
 
+/* The copy of a host takes its place: what is answered from then on is to be what it would have answered. */
+static bool give_way(struct ncp_host *host)
+{
+    struct ncp_host copy = NCP_EMPTY;
+    if (ncp_copy(host, &copy) != NCP_DONE) return false;
+    ncp_free(host);
+    *host = copy;
+    return true;
+}
+
 int main(int argc, char **argv)
 {
     static const uint8_t peers_of_a[] = {B, C, 4, 5, 6, 7, 8, 9}, peers_of_b[] = {A}; /* as many as can be, and one */
     unsigned long count = argc > 1 ? strtoul(argv[1], NULL, 10) : 0;
     if (ncp_new(&hosts[0], A, peers_of_a, sizeof peers_of_a) != NCP_DONE || ncp_new(&hosts[1], B, peers_of_b, 1) != NCP_DONE) return 1;
-    for (unsigned long made = 0; made < count; made++) step();
+    for (unsigned long made = 1; made <= count; made++) {
+        step();
+        if (made % 100 == 0 && !give_way(&hosts[made / 100 % 2])) return 1;
+    }
     if (count > 0) printf("%016llx\n", (unsigned long long)digest);
     ncp_free(&hosts[0]);
     ncp_free(&hosts[1]);

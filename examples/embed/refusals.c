@@ -53,8 +53,10 @@ static void no_host(struct ncp_host *host)
     struct ncp_counted counted;
     struct ncp_discarded discarded;
     struct ncp_noted noted;
+    struct ncp_host copy = NCP_EMPTY;
     uint32_t local, remote;
     ncp_free(host);
+    IS(NCP_NO_HOST, ncp_copy(host, &copy));
     IS(NCP_NO_HOST, ncp_receive(host, out, sizeof out, 32, &arrived));
     IS(NCP_NO_HOST, ncp_next_output(host, out, sizeof out, &size));
     IS(NCP_NO_HOST, ncp_reset(host, PEER));
@@ -169,6 +171,7 @@ static void no_pointer(struct ncp_host *host)
     uint32_t local, remote;
     char *text = (char *)out;
     IS(NCP_NO_POINTER, ncp_new(host, ME, NULL, 1));
+    IS(NCP_NO_POINTER, ncp_copy(host, NULL));
     IS(NCP_NO_POINTER, ncp_receive(host, NULL, 4, 32, &arrived));
     IS(NCP_NO_POINTER, ncp_receive(host, out, sizeof out, 32, NULL));
     IS(NCP_NO_POINTER, ncp_next_output(host, NULL, sizeof out, &size));
@@ -325,6 +328,29 @@ static void no_memory(void)
     IS(0, 1);
 }
 
+/* The same of a copy. The host stays what it was, and so does what stood in the place of the copy. */
+static void no_copy(struct ncp_host *host)
+{
+    struct ncp_host copy = NCP_EMPTY;
+    IS(NCP_DONE, ncp_copy(host, host));
+    for (long had = 0; had < 64; had++) {
+        uint32_t answered;
+        left = had;
+        answered = ncp_copy(host, &copy);
+        left = -1;
+        if (answered == NCP_DONE) {
+            IS(1, had > 0);
+            IS(NCP_DONE, ncp_reset(&copy, PEER));
+            IS(NCP_BUSY, ncp_reset(&copy, PEER));
+            ncp_free(&copy);
+            return;
+        }
+        IS(NCP_NEW_OUT_OF_MEMORY, answered);
+        IS(0, ncp_is_made(&copy));
+    }
+    IS(0, 1);
+}
+
 /* A host that has sent its RST comes up, and asks where there is no memory for the room. */
 static void no_room_for_text(struct ncp_host *host)
 {
@@ -453,6 +479,7 @@ int main(void)
     IS(NCP_NEW_BAD_PEERS, ncp_new(&host, ME, peers, 0));
     no_host(&host);
     IS(NCP_DONE, ncp_new(&host, ME, peers, 1));
+    no_copy(&host);
     IS(NCP_DONE, ncp_reset(&host, PEER));
     no_pointer(&host);
     short_buffers(&host);

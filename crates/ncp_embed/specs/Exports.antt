@@ -20,11 +20,17 @@ use Rattle.ncp_conn.specs.declared.record.End.TheVariants.{Receive}
 use Rattle.ncp_embed.specs.declared.handle.held.Held.{Held}
 use Rattle.ncp_embed.specs.declared.told.Arrived.{Arrived}
 use Rattle.ncp_embed.specs.declared.codes.TheConstants.{DONE, NO_HOST, NOTHING}
-use Rattle.ncp_embed.specs.Codes.{code_of, fault_code, bits_code}
+use Rattle.ncp_host.specs.declared.fault.HostFault.TheVariants.{OutOfMemory}
+use Rattle.ncp_embed.specs.Codes.{code_of, fault_code, host_code, bits_code}
 use Rattle.ncp_embed.specs.Told.{arrived_of}
 
 abbrev pub held : Host → Held
 held h = record { host = h }
+
+-- a host is copied, or there is no memory for it
+abbrev pub IsCopyCode : Option Held → ℕ → Type 0
+IsCopyCode None code = code ≡ NO_HOST
+IsCopyCode (Some at) code = (code ≡ DONE) ⊎ (code ≡ host_code OutOfMemory)
 
 abbrev pub pair_of : ℕ → ℕ → Pair
 pair_of here there = record { local = here; remote = there }

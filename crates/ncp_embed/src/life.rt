@@ -4,10 +4,10 @@ ghost use Rattle.std.specs.declared.option.Option.TheVariants.{None, Some};
 ghost use Rattle.ncp_host.specs.Host.{new_host, are_peers};
 ghost use Rattle.ncp_host.specs.declared.fault.HostFault.TheVariants.{BadPeers, OutOfMemory};
 ghost use Rattle.ncp_embed.specs.Codes.{host_code};
-ghost use Rattle.ncp_embed.specs.Exports.{held};
+ghost use Rattle.ncp_embed.specs.Exports.{held, IsCopyCode};
 
-use crate::codes::{DONE, host_code};
-use crate::handle::{Handle, Held, put};
+use crate::codes::{DONE, NO_HOST, host_code};
+use crate::handle::{Handle, Held, put, take};
 use ncp_host::{Host, HostFault};
 use std::alloc::Global;
 
@@ -26,6 +26,31 @@ pub extern "C" fn ncp_embed_new(alloc: Global, handle: &mut Handle, me: u8, peer
     match Box::new(alloc, Held { host }) {
         Ok(held) => {
             put(handle, held);
+            DONE
+        }
+        Err(_) => host_code(HostFault::OutOfMemory),
+    }
+}
+
+/// `Host::copy` of the host of a handle, in the place of the host that the other had.
+#[unsafe(no_mangle)]
+pub extern "C" fn ncp_embed_copy(alloc: Global, handle: &mut Handle, copy: &mut Handle) -> u32
+    ensures host { handle.new.host ≡ handle.old.host }
+    ensures made { result ≡ DONE → copy.new.host ≡ handle.old.host }
+    ensures kept { result ≢ DONE → copy.new.host ≡ copy.old.host }
+    ensures code { IsCopyCode handle.old.host result }
+{
+    let Some(held) = take(alloc, handle) else {
+        return NO_HOST;
+    };
+    let copied = held.host.copy(alloc);
+    put(handle, held);
+    let Ok(host) = copied else {
+        return host_code(HostFault::OutOfMemory);
+    };
+    match Box::new(alloc, Held { host }) {
+        Ok(held) => {
+            put(copy, held);
             DONE
         }
         Err(_) => host_code(HostFault::OutOfMemory),

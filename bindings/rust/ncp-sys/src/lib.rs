@@ -109,6 +109,7 @@ pub struct ncp_changes {
 extern "C" {
     pub fn ncp_is_made(host: *const ncp_host) -> bool;
     pub fn ncp_new(host: *mut ncp_host, me: u8, peers: *const u8, count: usize) -> u32;
+    pub fn ncp_copy(host: *mut ncp_host, copy: *mut ncp_host) -> u32;
     pub fn ncp_free(host: *mut ncp_host);
     pub fn ncp_receive(host: *mut ncp_host, bytes: *const u8, len: usize, bits: usize, arrived: *mut ncp_arrived) -> u32;
     pub fn ncp_next_output(host: *mut ncp_host, out: *mut u8, len: usize, bits: *mut usize) -> u32;

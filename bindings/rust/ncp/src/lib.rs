@@ -166,13 +166,26 @@ impl Drop for Host {
 }
 
 impl Host {
+    // A handle that has no host yet.
+    fn none() -> Host {
+        Host { handle: UnsafeCell::new(sys::ncp_host { at: core::ptr::null_mut() }) }
+    }
+
     /// Refused, in this order: `BadPeers` (not one to eight, not distinct, or one is `me`), `OutOfMemory`.
     pub fn new(me: u8, peers: &[u8]) -> Result<Host, Refusal> {
-        let host = Host { handle: UnsafeCell::new(sys::ncp_host { at: core::ptr::null_mut() }) };
+        let host = Host::none();
         // SAFETY: in all calls here the handle has a host, or is empty as here, and no other call has it at the time; pointers lead
         // to as much as the length beside them says, and none overlap.
         done(unsafe { sys::ncp_new(host.handle.get(), me, peers.as_ptr(), peers.len()) })?;
         Ok(host)
+    }
+
+    /// Another host in the same state. What happens to one of the two from then on leaves the other as it is. It is no `Clone`, since
+    /// it can be refused: `OutOfMemory`.
+    pub fn try_clone(&self) -> Result<Host, Refusal> {
+        let copy = Host::none();
+        done(unsafe { sys::ncp_copy(self.handle.get(), copy.handle.get()) })?;
+        Ok(copy)
     }
 
     /// A message that came from the IMP, with its leader. Refused: `TooLong`, `ShortBytes`, `SpareNotZero`.

@@ -32,6 +32,22 @@ fn refusals_have_their_names() {
 }
 
 #[test]
+fn a_copy_is_another_host() {
+    let mut host = up();
+    host.ask_receive(At { local: 2, remote: 3, ..AT }, 64).unwrap();
+    let mut copy = host.try_clone().unwrap();
+    assert_eq!(copy.connection_at(2, 0), host.connection_at(2, 0));
+    // The peer refuses there what it was asked: here it is still asked.
+    copy.receive(&[0, 2, 0, 0, 0, 8, 0, 9, 0, 3, 0, 0, 0, 3, 0, 0, 0, 2]).unwrap();
+    assert_eq!(copy.connection_at(2, 0), Ok(None));
+    assert!(host.connection_at(2, 0).unwrap().is_some());
+    drop(host);
+    // An RTS and a CLS.
+    let out = [0, 2, 0, 0, 0, 8, 0, 19, 0, 1, 0, 0, 0, 2, 0, 0, 0, 3, 2, 3, 0, 0, 0, 2, 0, 0, 0, 3];
+    assert_eq!(copy.next_output(&mut BUFFER.clone()), Some(Bits::from(&out)));
+}
+
+#[test]
 fn what_arrived_and_what_is_told() {
     let mut host = Host::new(1, &[2]).unwrap();
     let mut buffer = BUFFER;
