@@ -7,6 +7,9 @@ use std::simd::prelude::*;
 // How many bytes are written at once.
 const BLOCK: usize = 16;
 
+// How many bytes two blocks have.
+const PAIR: usize = 2 * BLOCK;
+
 // The digits, each at the place of its number.
 const DIGITS: [u8; 16] = *b"0123456789abcdef";
 
@@ -72,8 +75,21 @@ fn write_each(out: &mut [u8], bytes: &[u8])
     }
 }
 
-/// Writes bytes in hexadecimal, block by block. The last block ends with the bytes, and so it can begin in the one before
-/// it. Where there is no block, the bytes are written one by one.
+// Writes the digits of the two blocks of bytes that begin at a place.
+#[inline(always)]
+fn write_pair(out: &mut [u8], bytes: &[u8], at: usize)
+    requires room { length out.old ≡ 2 * length bytes.now }
+    requires inside { at + PAIR ≤ length bytes.now }
+    requires front { take (2 * at) out.old ≡ hex_of (take at bytes.now) }
+    ensures room { length out.new ≡ length out.old }
+    ensures digits { take (2 * (at + PAIR)) out.new ≡ hex_of (take (at + PAIR) bytes.now) }
+{
+    write_block(out, bytes, at);
+    write_block(out, bytes, at + BLOCK);
+}
+
+/// Writes bytes in hexadecimal, two blocks at a time. The last block ends with the bytes, and so it can begin in the one
+/// before it. Where there is no block, the bytes are written one by one.
 pub(crate) fn write_hex(out: &mut [u8], bytes: &[u8])
     requires { length out.old ≡ 2 * length bytes.now }
     ensures { out.new ≡ hex_of bytes.now }
@@ -81,9 +97,12 @@ pub(crate) fn write_hex(out: &mut [u8], bytes: &[u8])
     if bytes.len() < BLOCK {
         return write_each(out, bytes);
     }
-    let last = bytes.len() - BLOCK;
-    for block in 0..last.div_ceil(BLOCK) {
-        write_block(out, bytes, BLOCK * block);
+    let pairs = bytes.len() / PAIR;
+    for pair in 0..pairs {
+        write_pair(out, bytes, PAIR * pair);
     }
-    write_block(out, bytes, last);
+    if bytes.len() % PAIR > BLOCK {
+        write_block(out, bytes, PAIR * pairs);
+    }
+    write_block(out, bytes, bytes.len() - BLOCK);
 }

@@ -23,5 +23,5 @@ pub use counter::Counter;
 pub use field::push_field;
 pub use inlet::Inlet;
 pub use outlet::Outlet;
-pub use page::{LONGEST_LONG, LONGEST_NUMBER, PAGE_SIZE, Page};
+pub use page::{BLOCK, LONGEST_LONG, LONGEST_NUMBER, PAGE_SIZE, Page};
 pub use window::{WINDOW_SIZE, Window};

@@ -10,6 +10,7 @@ use crate::hex::write_hex;
 use itoa::write_digits;
 use ncp_play_stream::{Failed, LEAST_PIECE, Sink};
 use std::marker::Model;
+use std::simd::prelude::*;
 
 /// How many bytes a page has room for.
 pub const PAGE_SIZE: usize = 16384;
@@ -19,6 +20,9 @@ pub const LONGEST_NUMBER: usize = 10;
 
 /// How many digits the longest number of 64 bits has.
 pub const LONGEST_LONG: usize = 20;
+
+/// How many bytes a block has, of which [`Page::push_front`] appends a beginning.
+pub const BLOCK: usize = 32;
 
 /// A page of bytes that are not yet written. What is appended has to find room: [`Page::make_room`]
 /// makes it.
@@ -55,18 +59,53 @@ fn put_all<W: Sink>(sink: &mut W, piece: &[u8]) -> Result<(), Failed>
     Ok(())
 }
 
-// The numbers below 100, two bytes for each; behind one digit stands a space.
-const SHORT_NUMBERS: [u8; 200] =
-    *b"0 1 2 3 4 5 6 7 8 9 101112131415161718192021222324252627282930313233343536373839404142434445464748495051525354555657585960616263646566676869707172737475767778798081828384858687888990919293949596979899";
+// How many numbers a byte can be.
+const BYTES: usize = 256;
 
-// The two bytes of a number below 100.
+// How many bytes the digits of such a number are given.
+const BYTE_DIGITS: usize = 4;
+
+// The digits of each of these numbers, and spaces behind them.
+const BYTE_NUMBERS: [u8; BYTES * BYTE_DIGITS] =
+    *b"0   1   2   3   4   5   6   7   8   9   10  11  12  13  14  15  \
+    16  17  18  19  20  21  22  23  24  25  26  27  28  29  30  31  \
+    32  33  34  35  36  37  38  39  40  41  42  43  44  45  46  47  \
+    48  49  50  51  52  53  54  55  56  57  58  59  60  61  62  63  \
+    64  65  66  67  68  69  70  71  72  73  74  75  76  77  78  79  \
+    80  81  82  83  84  85  86  87  88  89  90  91  92  93  94  95  \
+    96  97  98  99  100 101 102 103 104 105 106 107 108 109 110 111 \
+    112 113 114 115 116 117 118 119 120 121 122 123 124 125 126 127 \
+    128 129 130 131 132 133 134 135 136 137 138 139 140 141 142 143 \
+    144 145 146 147 148 149 150 151 152 153 154 155 156 157 158 159 \
+    160 161 162 163 164 165 166 167 168 169 170 171 172 173 174 175 \
+    176 177 178 179 180 181 182 183 184 185 186 187 188 189 190 191 \
+    192 193 194 195 196 197 198 199 200 201 202 203 204 205 206 207 \
+    208 209 210 211 212 213 214 215 216 217 218 219 220 221 222 223 \
+    224 225 226 227 228 229 230 231 232 233 234 235 236 237 238 239 \
+    240 241 242 243 244 245 246 247 248 249 250 251 252 253 254 255 ";
+
+// The digits of a number of a byte, and spaces behind them.
 #[inline(always)]
-fn short_digits(number: u64) -> (u8, u8)
-    requires { number < 100 }
-    ensures { take (length (decimal number)) (result.0 ∷ result.1 ∷ []) ≡ decimal number }
+fn byte_digits(number: u8) -> u8x4
+    ensures digits { take (length (decimal number)) result ≡ decimal number }
+    ensures whole { length result ≡ BYTE_DIGITS }
 {
-    let place = number as usize * 2;
-    (SHORT_NUMBERS[place], SHORT_NUMBERS[place + 1])
+    let at = BYTE_DIGITS * usize::from(number);
+    u8x4::from_array([
+        BYTE_NUMBERS[at],
+        BYTE_NUMBERS[at + 1],
+        BYTE_NUMBERS[at + 2],
+        BYTE_NUMBERS[at + 3],
+    ])
+}
+
+// How many digits a number of a byte has: it is found with no branch.
+#[inline(always)]
+fn count_byte_digits(number: u8) -> usize
+    ensures digits { result ≡ length (decimal number) }
+    ensures few { result < BYTE_DIGITS }
+{
+    1 + usize::from(number > 9) + usize::from(number > 99)
 }
 
 /// How many digits a number has in decimal.
@@ -81,8 +120,10 @@ pub(crate) fn count_digits(number: u64) -> usize
         3
     } else if number < 10_000 {
         4
-    } else {
+    } else if number < 100_000_000 {
         4 + count_digits(number / 10_000)
+    } else {
+        8 + count_digits(number / 100_000_000)
     }
 }
 
@@ -138,6 +179,19 @@ impl Page {
         self.len += 1;
     }
 
+    /// Appends the first bytes of a block. There has to be room for the whole block, which is copied in two moves.
+    #[inline(always)]
+    pub fn push_front(&mut self, block: &[u8; BLOCK], count: usize)
+        requires count { count ≤ BLOCK }
+        requires room { length self.old + BLOCK ≤ PAGE_SIZE }
+        ensures bytes { self.new ≡ self.old ++ take count block.now }
+        ensures len { length self.new ≡ length self.old + count }
+    {
+        let at = self.len;
+        u8x32::from_array(*block).copy_to_slice(&mut self.bytes[at..]);
+        self.len = at + count;
+    }
+
     // Appends the digits of a number in decimal, of which there are so many.
     #[inline(always)]
     fn push_counted(&mut self, number: u64, count: usize)
@@ -150,36 +204,38 @@ impl Page {
         self.len = end;
     }
 
-    // Appends the digits of a number below 100. Two bytes are written, and the second one stays where it is a digit.
+    // Appends the digits of a number of a byte: four bytes are written, and those stay that are digits.
     #[inline(always)]
-    fn push_short(&mut self, number: u64)
-        requires short { number < 100 }
-        requires room { length self.old + 2 ≤ PAGE_SIZE }
+    fn push_byte(&mut self, number: u8)
+        requires { length self.old + BYTE_DIGITS ≤ PAGE_SIZE }
         ensures { self.new ≡ self.old ++ decimal number }
     {
-        let (first, second) = short_digits(number);
         let at = self.len;
-        self.bytes[at] = first;
-        self.bytes[at + 1] = second;
-        self.len += 1 + usize::from(number > 9);
+        byte_digits(number).copy_to_slice(&mut self.bytes[at..]);
+        self.len = at + count_byte_digits(number);
     }
 
-    // Appends the digits of a number in decimal. Most numbers are short: where the count is known, the
-    // digits are written with no further question. It stays out of the lines, which have many numbers.
+    // Appends the digits of a number that may be long. It stays out of the lines, which have many numbers.
     #[inline(never)]
+    fn push_long_digits(&mut self, number: u64)
+        requires { length self.old + length (decimal number) ≤ PAGE_SIZE }
+        ensures { self.new ≡ self.old ++ decimal number }
+    {
+        self.push_counted(number, count_digits(number));
+    }
+
+    // Appends the digits of a number in decimal. Most numbers are of a byte: they are written in the lines, with no
+    // branch where it is known that they are.
+    #[inline(always)]
     fn push_digits(&mut self, number: u64)
-        requires pair { length self.old + 2 ≤ PAGE_SIZE }
+        requires short { length self.old + BYTE_DIGITS ≤ PAGE_SIZE }
         requires room { length self.old + length (decimal number) ≤ PAGE_SIZE }
         ensures { self.new ≡ self.old ++ decimal number }
     {
-        if number < 100 {
-            self.push_short(number);
-        } else if number < 1000 {
-            self.push_counted(number, 3);
-        } else if number < 10_000 {
-            self.push_counted(number, 4);
+        if number < BYTES as u64 {
+            self.push_byte(number as u8);
         } else {
-            self.push_counted(number, count_digits(number));
+            self.push_long_digits(number);
         }
     }
 
