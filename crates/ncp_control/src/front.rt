@@ -64,6 +64,7 @@ fn data_in(text: &Part<'_>, place: usize) -> [u8; ERROR_DATA]
 
 // The RTS, STR or CLS whose bytes are there.
 #[tactic(auto, unfolding(crate::specs::Reading::command_with))]
+#[inline(always)]
 fn sockets_in(text: &Part<'_>, opcode: u8) -> Command
     requires some { 1 ≤ opcode }
     requires few { opcode ≤ 3 }
@@ -90,6 +91,7 @@ fn sockets_in(text: &Part<'_>, opcode: u8) -> Command
 
 // The ALL, GVB or RET whose bytes are there.
 #[tactic(auto, unfolding(crate::specs::Reading::command_with))]
+#[inline(always)]
 fn allocation_in(text: &Part<'_>, opcode: u8) -> Command
     requires some { 4 ≤ opcode }
     requires few { opcode ≤ 6 }
@@ -117,6 +119,7 @@ fn allocation_in(text: &Part<'_>, opcode: u8) -> Command
 
 // The command with an opcode, whose bytes are there.
 #[tactic(auto, unfolding(crate::specs::Reading::command_with))]
+#[inline(always)]
 fn command_in(text: &Part<'_>, opcode: u8) -> Command
     requires whole { length text.now % 8 ≡ 0 }
     requires long { IfSome (size_of opcode) (λ size. 8 * size ≤ length text.now) }
@@ -181,6 +184,7 @@ pub(crate) fn fault_at(text: &Part<'_>, place: usize) -> CommandFault
 }
 
 /// The command that begins a text, and the text behind it; else the fault at its front.
+#[inline(always)]
 pub(crate) fn read_front<'a>(text: &Part<'a>) -> Result<(Command, Part<'a>), CommandFault>
     requires whole { length text.now % 8 ≡ 0 }
     requires some { 0 < length text.now }

@@ -22,101 +22,95 @@ const LONGEST_WORDS: usize = 100;
 // How many bytes the line of a text has at most.
 const LONGEST_TEXT_LINE: usize = LONGEST_LINE + MAX_BITS / 4;
 
-// How many bytes the name of a field has at most.
-const LONGEST_NAME: usize = 10;
+// How many bytes stand in front of the number of a command that has one alone: its indent and its name, and the name of
+// the number, which has four letters.
+const BEFORE_NUMBER: usize = 11;
 
-// Appends a command's name and its only field. It is inlined, so that the field's name is of a known
-// length and copied in one or two moves.
+// Appends the words of a command with one field behind its indent. It is inlined, so that what stands in front of the
+// number is of a known length and copied in one or two moves.
 #[inline(always)]
-fn push_one(page: &mut Page, name: &[u8; 3], word: &[u8], number: u8)
-    requires word { length word.now ≤ LONGEST_NAME }
-    requires room { length page.old + LONGEST_WORDS ≤ PAGE_SIZE }
-    ensures bytes { page.new ≡ page.old ++ (name.now ++ field word.now number) }
+fn push_one(page: &mut Page, words: &[u8; BEFORE_NUMBER], number: u8)
+    requires { length page.old + LONGEST_WORDS ≤ PAGE_SIZE }
+    ensures bytes { page.new ≡ page.old ++ field words.now number }
     ensures len { length page.new ≤ length page.old + LONGEST_WORDS }
 {
-    page.push_text(name);
-    push_field(page, word, u32::from(number));
+    push_field(page, words, u32::from(number));
 }
 
-// Appends the words of an RTS.
+// Appends the words of an RTS behind their indent.
 fn push_rts(page: &mut Page, receive: u32, send: u32, link: u8)
     requires { length page.old + LONGEST_WORDS ≤ PAGE_SIZE }
-    ensures bytes { page.new ≡ page.old ++ command_words (Command.Rts receive send link) }
+    ensures bytes { page.new ≡ page.old ++ (codes "  " ++ command_words (Command.Rts receive send link)) }
     ensures len { length page.new ≤ length page.old + LONGEST_WORDS }
 {
-    page.push_text(b"RTS");
-    push_field(page, b" receive=", receive);
+    push_field(page, b"  RTS receive=", receive);
     push_field(page, b" send=", send);
     push_field(page, b" link=", u32::from(link));
 }
 
-// Appends the words of an STR.
+// Appends the words of an STR behind their indent.
 fn push_str(page: &mut Page, send: u32, receive: u32, size: u8)
     requires { length page.old + LONGEST_WORDS ≤ PAGE_SIZE }
-    ensures bytes { page.new ≡ page.old ++ command_words (Command.Str send receive size) }
+    ensures bytes { page.new ≡ page.old ++ (codes "  " ++ command_words (Command.Str send receive size)) }
     ensures len { length page.new ≤ length page.old + LONGEST_WORDS }
 {
-    page.push_text(b"STR");
-    push_field(page, b" send=", send);
+    push_field(page, b"  STR send=", send);
     push_field(page, b" receive=", receive);
     push_field(page, b" size=", u32::from(size));
 }
 
-// Appends the words of a CLS.
+// Appends the words of a CLS behind their indent.
 fn push_cls(page: &mut Page, my: u32, your: u32)
     requires { length page.old + LONGEST_WORDS ≤ PAGE_SIZE }
-    ensures bytes { page.new ≡ page.old ++ command_words (Command.Cls my your) }
+    ensures bytes { page.new ≡ page.old ++ (codes "  " ++ command_words (Command.Cls my your)) }
     ensures len { length page.new ≤ length page.old + LONGEST_WORDS }
 {
-    page.push_text(b"CLS");
-    push_field(page, b" my=", my);
+    push_field(page, b"  CLS my=", my);
     push_field(page, b" your=", your);
 }
 
-// Appends the name and the amounts of an ALL or a RET.
-fn push_amounts(page: &mut Page, name: &[u8; 3], link: u8, messages: u16, bits: u32)
+// Appends the amounts of an ALL or a RET behind the words up to its link.
+fn push_amounts(page: &mut Page, words: &[u8; BEFORE_NUMBER], link: u8, messages: u16, bits: u32)
     requires { length page.old + LONGEST_WORDS ≤ PAGE_SIZE }
-    ensures bytes { page.new ≡ page.old ++ (name.now ++ field (codes " link=") link ++ field (codes " messages=") messages ++ field (codes " bits=") bits) }
+    ensures bytes { page.new ≡ page.old ++ (field words.now link ++ field (codes " messages=") messages ++ field (codes " bits=") bits) }
     ensures len { length page.new ≤ length page.old + LONGEST_WORDS }
 {
-    page.push_text(name);
-    push_field(page, b" link=", u32::from(link));
+    push_field(page, words, u32::from(link));
     push_field(page, b" messages=", u32::from(messages));
     push_field(page, b" bits=", bits);
 }
 
-// Appends the words of a GVB.
+// Appends the words of a GVB behind their indent.
 fn push_gvb(page: &mut Page, link: u8, fm: u8, fb: u8)
     requires { length page.old + LONGEST_WORDS ≤ PAGE_SIZE }
-    ensures bytes { page.new ≡ page.old ++ command_words (Command.Gvb link fm fb) }
+    ensures bytes { page.new ≡ page.old ++ (codes "  " ++ command_words (Command.Gvb link fm fb)) }
     ensures len { length page.new ≤ length page.old + LONGEST_WORDS }
 {
-    page.push_text(b"GVB");
-    push_field(page, b" link=", u32::from(link));
+    push_field(page, b"  GVB link=", u32::from(link));
     push_field(page, b" fm=", u32::from(fm));
     push_field(page, b" fb=", u32::from(fb));
 }
 
-// Appends a name of three letters, a code and data.
-fn push_error(page: &mut Page, name: &[u8; 3], code: u8, bytes: &[u8; ERROR_DATA])
+// Appends a code and data behind the words up to the code.
+fn push_error(page: &mut Page, words: &[u8; BEFORE_NUMBER], code: u8, bytes: &[u8; ERROR_DATA])
     requires { length page.old + LONGEST_WORDS ≤ PAGE_SIZE }
-    ensures bytes { page.new ≡ page.old ++ (name.now ++ field (codes " code=") code ++ codes " data=" ++ hex_of bytes.now) }
+    ensures bytes { page.new ≡ page.old ++ (field words.now code ++ codes " data=" ++ hex_of bytes.now) }
     ensures len { length page.new ≤ length page.old + LONGEST_WORDS }
 {
-    page.push_text(name);
-    push_field(page, b" code=", u32::from(code));
+    push_field(page, words, u32::from(code));
     page.push_text(b" data=");
     page.push_hex(bytes);
 }
 
-// Appends a command's name and fields.
+// Appends a command's name and fields behind their indent.
+#[inline(always)]
 fn push_command(page: &mut Page, command: &Command)
     requires { length page.old + LONGEST_WORDS ≤ PAGE_SIZE }
-    ensures bytes { page.new ≡ page.old ++ command_words command.now }
+    ensures bytes { page.new ≡ page.old ++ (codes "  " ++ command_words command.now) }
     ensures len { length page.new ≤ length page.old + LONGEST_WORDS }
 {
     match *command {
-        Command::Nop => page.push_text(b"NOP"),
+        Command::Nop => page.push_text(b"  NOP"),
         Command::Rts {
             receive,
             send,
@@ -132,38 +126,40 @@ fn push_command(page: &mut Page, command: &Command)
             link,
             messages,
             bits,
-        } => push_amounts(page, b"ALL", link, messages, bits),
+        } => push_amounts(page, b"  ALL link=", link, messages, bits),
         Command::Gvb { link, fm, fb } => push_gvb(page, link, fm, fb),
         Command::Ret {
             link,
             messages,
             bits,
-        } => push_amounts(page, b"RET", link, messages, bits),
-        Command::Inr { link } => push_one(page, b"INR", b" link=", link),
-        Command::Ins { link } => push_one(page, b"INS", b" link=", link),
-        Command::Eco { byte } => push_one(page, b"ECO", b" data=", byte),
-        Command::Erp { byte } => push_one(page, b"ERP", b" data=", byte),
-        Command::Err { code, ref bytes } => push_error(page, b"ERR", code, bytes),
-        Command::Rst => page.push_text(b"RST"),
-        Command::Rrp => page.push_text(b"RRP"),
+        } => push_amounts(page, b"  RET link=", link, messages, bits),
+        Command::Inr { link } => push_one(page, b"  INR link=", link),
+        Command::Ins { link } => push_one(page, b"  INS link=", link),
+        Command::Eco { byte } => push_one(page, b"  ECO data=", byte),
+        Command::Erp { byte } => push_one(page, b"  ERP data=", byte),
+        Command::Err { code, bytes } => push_error(page, b"  ERR code=", code, &bytes),
+        Command::Rst => page.push_text(b"  RST"),
+        Command::Rrp => page.push_text(b"  RRP"),
     }
 }
 
 /// Appends the line of a command, or of the fault behind the last one. There has to be room for
 /// [`LONGEST_LINE`].
+// It stands in the loop over commands, so that what is read of a command is said with no copy of it.
+#[inline(always)]
 pub fn push_item(page: &mut Page, item: &Result<Command, CommandFault>)
     requires { length page.old + LONGEST_LINE ≤ PAGE_SIZE }
     ensures { page.new ≡ page.old ++ item_line item.now }
 {
-    page.push_text(b"  ");
     match item {
         Ok(command) => push_command(page, command),
-        Err(fault) => push_error(page, b"bad", fault.code, &fault.bytes),
+        Err(fault) => push_error(page, b"  bad code=", fault.code, &fault.bytes),
     }
     page.push(b'\n');
 }
 
 // Says a line for each command of a control text, and one for its fault.
+// Room is made behind each line: so a command is said right where it is read, with one branch by its name.
 fn say_commands<W: Sink>(out: &mut Outlet<'_, W>, text: Part<'_>) -> Result<(), Failed>
     requires { length text % 8 ≡ 0 }
     ensures told { SaysOrBreaks W.Sink out.old (control_lines (bytes_of text.entry)) result out.new }
@@ -171,9 +167,10 @@ fn say_commands<W: Sink>(out: &mut Outlet<'_, W>, text: Part<'_>) -> Result<(), 
     ensures mark { write_failed W.Sink out.new ≡ (write_failed W.Sink out.old || is_err result) }
     ensures same_outlet { SameOutlet out.old out.new }
 {
+    out.make_room(LONGEST_LINE)?;
     for item in Commands::new(text) {
-        out.make_room(LONGEST_LINE)?;
         push_item(out.page, &item);
+        out.make_room(LONGEST_LINE)?;
     }
     Ok(())
 }

@@ -1,11 +1,12 @@
 //! The first line of a record.
-ghost use Rattle.std.specs.Prelude.{◌≡◌, ◌+◌, ◌≤◌, ◌++◌, length, Some, decimal};
-ghost use Rattle.ncp_play_files.specs.Lines.{kind_name, extras, summary, way_words, passage_words};
+ghost use Rattle.std.specs.Prelude.{◌≡◌, ◌+◌, ◌≤◌, ◌++◌, length, take, Some, None, IfSome, decimal};
+ghost use Rattle.ncp_play_files.specs.declared.file.Direction.TheVariants.{ToImp, FromImp};
+ghost use Rattle.ncp_play_files.specs.Lines.{nameless, kind_name, type_words, extras, summary, way_words, passage_words};
 
 use crate::file::Direction;
 use crate::version::Passage;
 use ncp_leader::{DESTINATION_DEAD, INCOMPLETE, Leader, REGULAR, RFNM, Short};
-use ncp_play_page::{Counter, LONGEST_NUMBER, PAGE_SIZE, Page, push_field};
+use ncp_play_page::{BLOCK, Counter, LONGEST_NUMBER, PAGE_SIZE, Page, push_field};
 
 /// How many bytes a line has at most, but for a text in hexadecimal.
 pub const LONGEST_LINE: usize = 128;
@@ -22,26 +23,69 @@ const LONGEST_PASSAGE: usize = 24;
 // How many bytes stand behind the number and the passage of a record at most.
 const LONGEST_SUMMARY: usize = LONGEST_LINE - LONGEST_NUMBER - LONGEST_PASSAGE;
 
-// How many bytes the longest name of a type has.
-const LONGEST_KIND: usize = 15;
+// How many bytes the longest name of a type has, with what stands before and behind it, or the block that it stands in.
+const LONGEST_TYPE: usize = BLOCK;
 
 // How many bytes the longest flags and low field have.
 const LONGEST_EXTRAS: usize = 32;
 
-// Appends the name of a type.
-fn push_kind(page: &mut Page, direction: Direction, kind: u8)
-    requires { length page.old + LONGEST_KIND ≤ PAGE_SIZE }
-    ensures bytes { page.new ≡ page.old ++ kind_name direction kind }
-    ensures len { length page.new ≤ length page.old + LONGEST_KIND }
+// The name of a type that a host's message can have, with what stands before and behind it, and how many bytes that is.
+// Spaces fill the block. A table is made of the match, so that there is no branch by the type.
+fn words_to_imp(kind: u8) -> Option<(&'static [u8; BLOCK], usize)>
+    ensures some { IfSome result (λ words. take words.1 words.0.now ≡ type_words ToImp kind) }
+    ensures none { result ≡ None → kind_name ToImp kind ≡ nameless kind }
+    ensures count { IfSome result (λ words. words.1 ≤ BLOCK) }
 {
-    match (direction, kind) {
-        (_, REGULAR) => page.push_text(b"regular"),
-        (_, NOP) => page.push_text(b"nop"),
-        (Direction::FromImp, GOING_DOWN) => page.push_text(b"going-down"),
-        (Direction::FromImp, RFNM) => page.push_text(b"rfnm"),
-        (Direction::FromImp, DESTINATION_DEAD) => page.push_text(b"dead"),
-        (Direction::FromImp, INCOMPLETE) => page.push_text(b"incomplete"),
-        _ => push_field(page, b"type-", u32::from(kind)),
+    match kind {
+        REGULAR => Some((b" regular host=                  ", 14)),
+        NOP => Some((b" nop host=                      ", 10)),
+        _ => None,
+    }
+}
+
+// As `words_to_imp`, of an IMP's message.
+fn words_from_imp(kind: u8) -> Option<(&'static [u8; BLOCK], usize)>
+    ensures some { IfSome result (λ words. take words.1 words.0.now ≡ type_words FromImp kind) }
+    ensures none { result ≡ None → kind_name FromImp kind ≡ nameless kind }
+    ensures count { IfSome result (λ words. words.1 ≤ BLOCK) }
+{
+    match kind {
+        REGULAR => Some((b" regular host=                  ", 14)),
+        GOING_DOWN => Some((b" going-down host=               ", 17)),
+        NOP => Some((b" nop host=                      ", 10)),
+        RFNM => Some((b" rfnm host=                     ", 11)),
+        DESTINATION_DEAD => Some((b" dead host=                     ", 11)),
+        INCOMPLETE => Some((b" incomplete host=               ", 17)),
+        _ => None,
+    }
+}
+
+// The words of a type that has a name.
+#[inline(always)]
+fn words_of(direction: Direction, kind: u8) -> Option<(&'static [u8; BLOCK], usize)>
+    ensures some { IfSome result (λ words. take words.1 words.0.now ≡ type_words direction kind) }
+    ensures none { result ≡ None → kind_name direction kind ≡ nameless kind }
+    ensures count { IfSome result (λ words. words.1 ≤ BLOCK) }
+{
+    match direction {
+        Direction::ToImp => words_to_imp(kind),
+        Direction::FromImp => words_from_imp(kind),
+    }
+}
+
+// Appends the name of a type, with what stands before and behind it.
+#[inline(always)]
+fn push_type(page: &mut Page, direction: Direction, kind: u8)
+    requires { length page.old + LONGEST_TYPE ≤ PAGE_SIZE }
+    ensures bytes { page.new ≡ page.old ++ type_words direction kind }
+    ensures len { length page.new ≤ length page.old + LONGEST_TYPE }
+{
+    match words_of(direction, kind) {
+        Some((words, count)) => page.push_front(words, count),
+        None => {
+            push_field(page, b" type-", u32::from(kind));
+            page.push_text(b" host=");
+        }
     }
 }
 
@@ -63,9 +107,8 @@ fn push_leader(page: &mut Page, direction: Direction, leader: &Leader)
     requires { length page.old + LONGEST_SUMMARY ≤ PAGE_SIZE }
     ensures { page.new ≡ page.old ++ summary direction (Ok leader.now) }
 {
-    page.push(b' ');
-    push_kind(page, direction, leader.kind);
-    push_field(page, b" host=", u32::from(leader.host));
+    push_type(page, direction, leader.kind);
+    page.push_decimal(u32::from(leader.host));
     push_field(page, b" link=", u32::from(leader.link));
     push_extras(page, leader);
     page.push(b'\n');

@@ -1,4 +1,4 @@
-use Rattle.std.proofs.Common.{◌≡◌, ◌≤◌, ◌++◌}
+use Rattle.std.proofs.Common.{◌≡◌, ◌≤◌, ◌+◌, ◌++◌, length}
 use Rattle.ncp_play_page.specs.Outlets.{SameOutlet, write_failed, credit, SaysAll}
 use Rattle.std.specs.List.{flat_map}
 use Rattle.ncp_play_files.specs.Lines.{item_line}
@@ -11,6 +11,7 @@ invariant-loop-item g l =
       can : (goal.iterator-loop-item g).can_next l.item-iterator;
       ends : (goal.iterator-loop-item g).is_finite l.item-iterator;
       items : l.yielded ++ l.item-iterator ≡ l.initial.item-iterator;
+      room : length l.out.page.now + 128 ≤ 16384;
       said : SaysAll w l.initial.out (flat_map item_line l.yielded) l.out;
       writes : credit w l.initial.out ≤ credit w l.out;
       mark : write_failed w l.out ≡ write_failed w l.initial.out;
