@@ -57,8 +57,7 @@ impl<'a> Iterator for Commands<'a> {
 
     ghost remaining = { item_count (λ items. items) };
 
-    // It stands in the loops over commands, with all that reads one: so what a loop does with a command stands where that
-    // command is read, and no command is copied.
+    // It stands in the loops over commands, with all that reads one: they then have no call for each of them.
     #[inline(always)]
     fn next(&mut self) -> Option<Result<Command, CommandFault>> {
         if self.text.is_empty() {

@@ -145,7 +145,7 @@ fn push_command(page: &mut Page, command: &Command)
 
 /// Appends the line of a command, or of the fault behind the last one. There has to be room for
 /// [`LONGEST_LINE`].
-// It stands in the loop over commands, so that what is read of a command is said with no copy of it.
+// It stands in the loop over commands, which then has no call for each of them.
 #[inline(always)]
 pub fn push_item(page: &mut Page, item: &Result<Command, CommandFault>)
     requires { length page.old + LONGEST_LINE ≤ PAGE_SIZE }
@@ -159,7 +159,7 @@ pub fn push_item(page: &mut Page, item: &Result<Command, CommandFault>)
 }
 
 // Says a line for each command of a control text, and one for its fault.
-// Room is made behind each line: so a command is said right where it is read, with one branch by its name.
+// Room is made behind each line, so that nothing stands between a command that is read and what is said of it.
 fn say_commands<W: Sink>(out: &mut Outlet<'_, W>, text: Part<'_>) -> Result<(), Failed>
     requires { length text % 8 ≡ 0 }
     ensures told { SaysOrBreaks W.Sink out.old (control_lines (bytes_of text.entry)) result out.new }
