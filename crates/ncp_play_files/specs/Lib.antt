@@ -3,6 +3,7 @@ pub mod Versions
 pub mod Reasons
 pub mod Results
 pub mod Lines
+pub mod TypeWords
 pub mod Writing
 pub mod Shown
 pub mod Converted

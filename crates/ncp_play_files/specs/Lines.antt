@@ -43,10 +43,6 @@ kind_name direction kind =
     else if kind == 4 then codes "nop"
     else name_toward direction kind
 
--- the name of a type, with what stands before and behind it
-abbrev pub type_words : Direction → ℕ → List ℕ
-type_words direction kind = codes " " ++ kind_name direction kind ++ codes " host="
-
 -- flags and low field, where one of them is set
 abbrev pub extras : Leader → List ℕ
 extras leader =

@@ -1,7 +1,8 @@
 //! The first line of a record.
 ghost use Rattle.std.specs.Prelude.{◌≡◌, ◌+◌, ◌≤◌, ◌++◌, length, take, Some, None, IfSome, decimal};
 ghost use Rattle.ncp_play_files.specs.declared.file.Direction.TheVariants.{ToImp, FromImp};
-ghost use Rattle.ncp_play_files.specs.Lines.{nameless, kind_name, type_words, extras, summary, way_words, passage_words};
+ghost use Rattle.ncp_play_files.specs.Lines.{nameless, kind_name, extras, summary, way_words, passage_words};
+ghost use Rattle.ncp_play_files.specs.TypeWords.{type_words};
 
 use crate::file::Direction;
 use crate::version::Passage;

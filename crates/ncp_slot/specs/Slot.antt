@@ -78,10 +78,3 @@ is_held Empty = false
 is_held (Ready message) = false
 is_held (Travelling message) = false
 is_held (Held message) = true
-
--- a slot that stands so, with this message (this profile)
-abbrev pub filled : {M : Type 0} → M → Slot (Unit {0}) → Slot M
-filled message Empty = Empty
-filled message (Ready none) = Ready message
-filled message (Travelling none) = Travelling message
-filled message (Held none) = Held message

@@ -1,7 +1,8 @@
 //! `Place`.
 ghost use Rattle.std.specs.Prelude.{◌≡◌, ◌↔◌, IsTrue, IfSome, OnOk, IsOk};
 ghost use Rattle.std.specs.Option.{option_copied};
-ghost use Rattle.ncp_slot.specs.Slot.{put_in, handed_out, answered, woken, ready_message, kept_message, is_empty, is_ready, is_travelling, is_held, filled};
+ghost use Rattle.ncp_slot.specs.Slot.{put_in, handed_out, answered, woken, ready_message, kept_message, is_empty, is_ready, is_travelling, is_held};
+ghost use Rattle.ncp_slot.specs.Places.{filled};
 
 use crate::slot::{Busy, Slot, Stray};
 use ncp_bits::{Bits, Part};
@@ -29,7 +30,7 @@ pub(crate) struct Place {
 
 impl Model for Place {
     ghost use Rattle.ncp_slot.specs.Slots.{LinkSlot, coded_slot};
-    ghost use Rattle.ncp_slot.specs.Slot.{filled};
+    ghost use Rattle.ncp_slot.specs.Places.{filled};
 
     ghost Value = { LinkSlot };
 

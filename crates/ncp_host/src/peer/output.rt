@@ -3,7 +3,8 @@ ghost use Rattle.std.specs.Prelude.{◌≡◌, ◌≢◌, ◌<◌, false, is_som
 ghost use Rattle.ncp_host.specs.PeerState.{control_link};
 ghost use Rattle.ncp_slot.specs.declared.slot.Slot.{Slot};
 ghost use Rattle.ncp_slot.specs.Slots.{HasSlot, slot_at, with_slot};
-ghost use Rattle.ncp_host.specs.Output.{output_on, after_output_on, link_on, next_of, after_next};
+ghost use Rattle.ncp_host.specs.Output.{output_on, after_output_on, next_of, after_next};
+ghost use Rattle.ncp_host.specs.Sending.{link_on};
 ghost use Rattle.ncp_host.specs.Silence.{IsSilent, SilentFrom, lower_of};
 
 use crate::peer::{CONTROL_LINK, CONTROL_SIZE, Peer};

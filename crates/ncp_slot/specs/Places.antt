@@ -1,0 +1,10 @@
+-- A place of a link keeps its message apart from how its slot stands.
+use Rattle.ncp_slot.specs.declared.slot.Slot.{Slot}
+use Rattle.ncp_slot.specs.declared.slot.Slot.TheVariants.{Empty, Ready, Travelling, Held}
+
+-- a slot that stands so, with this message (this profile)
+abbrev pub filled : {M : Type 0} → M → Slot (Unit {0}) → Slot M
+filled message Empty = Empty
+filled message (Ready none) = Ready message
+filled message (Travelling none) = Travelling message
+filled message (Held none) = Held message
