@@ -46,6 +46,16 @@ pub fn half(number: u8) -> u8 {
     number / 2
 }
 """
+# A field that is seen, and one behind a view.
+VIEWED = """pub struct Number {
+    pub value: u8,
+    room: Vec<u8>,
+}
+
+impl Model for Number {
+    ghost Value = { ℕ };
+}
+"""
 CITING = "use Rattle.data.specs.declared.number.Number.{Number}\n"
 
 
@@ -77,6 +87,14 @@ class TestSums(unittest.TestCase):
         self.assertEqual(self.sum_with("data", DATA.replace("number / 2", "number >> 1")), was)
         self.assertNotEqual(self.sum_with("data", DATA.replace("value: u8", "value: u16")), was)
         self.assertNotEqual(self.sum_with("data", DATA.replace("= 8", "= 9")), was)
+
+    def test_of_cited_data_with_a_view_hidden_fields_do_not_count(self):
+        was = self.sum_with("data", VIEWED)
+
+        self.assertEqual(self.sum_with("data", VIEWED.replace("Vec<u8>", "Box<u8>")), was)
+        self.assertNotEqual(self.sum_with("data", VIEWED.replace("value: u8", "value: u16")), was)
+        without = VIEWED.replace("Model", "Clone")
+        self.assertNotEqual(self.sum_with("data", without.replace("Vec<u8>", "Box<u8>")), self.sum_with("data", without))
 
     def test_of_its_own_code_all_counts_also_where_its_definitions_cite_it(self):
         self.write("crates/sample/specs/Numbers.antt", CITING.replace("data", "sample"))
