@@ -2,8 +2,7 @@
 ghost use Rattle.std.specs.Prelude.{◌≡◌, ℕ, ◌+◌, ◌*◌, ◌≤◌, ◌||◌, List, OnOk};
 ghost use Rattle.ncp_play_page.specs.Inlets.{SameInlet, left_in, reads_left, read_failed, slack, Brings, PaidBy};
 ghost use Rattle.ncp_play_page.specs.Outlets.{SameOutlet, written_by, write_failed, credit};
-ghost use Rattle.ncp_play_stream.specs.Pieces.{reads_beyond, lost_pieces, Paid};
-ghost use Rattle.ncp_play_stream.specs.Streams.{Ahead};
+ghost use Rattle.ncp_play_stream.specs.Pieces.{lost_pieces};
 ghost use Rattle.ncp_play_files.specs.Results.{is_read_failed as is_file_read_failed, is_write_failed as is_file_write_failed};
 ghost use Rattle.ncp_play_files.specs.Steps.{LetsOut};
 ghost use Rattle.ncp_play_notes.specs.Faults.{is_read_failed, is_write_failed};
@@ -17,7 +16,7 @@ use crate::sending::send_all;
 use ncp_bits::BitStore;
 use ncp_play_files::{Direction, FileFault, HEADER, read_header};
 use ncp_play_notes::{Heading, PlayFault};
-use ncp_play_page::{Inlet, Outlet, Page, Window};
+use ncp_play_page::{Inlet, Outlet, Window};
 use ncp_play_stream::{LEAST_PIECE, Sink, Source};
 use ncp_transcript::Alone;
 
@@ -92,31 +91,31 @@ fn feed_file<S: BitStore, R: Source, W: Sink>(
 pub fn feed<S: BitStore, R: Source, W: Sink>(
     alone: &mut Alone<S>,
     heading: &mut Heading,
-    window: &mut Window,
-    source: &mut R,
-    page: &mut Page,
-    sink: &mut W,
+    input: &mut Inlet<'_, R>,
+    out: &mut Outlet<'_, W>,
 ) -> Result<(), PlayFault>
     // Of bytes that are told, each message before the first fault came, and without a fault the host was
     // asked for output until it had none.
-    ensures events { (bytes : List ℕ) → Ahead window.old (R.left source.old) bytes → FeedDoes bytes alone.old result alone.new (R.left source.new) }
+    ensures events { (bytes : List ℕ) → Brings R.Source input.old bytes
+        → FeedDoes bytes alone.old result alone.new (left_in R.Source input.new) }
 
     // The lines of all notes are told, those of earlier inputs too, and nothing else.
-    ensures told { (was : List ℕ) (first : Beginning) → Tells was first alone.old.notes heading.old page.old (W.written sink.old)
-        → TellsAs was first alone.new.notes result heading.new page.new (W.written sink.new) }
+    ensures told { (was : List ℕ) (first : Beginning)
+        → Tells was first alone.old.notes heading.old out.old.page.now (written_by W.Sink out.old)
+        → TellsAs was first alone.new.notes result heading.new out.new.page.now (written_by W.Sink out.new) }
 
     // Reading and writing are blamed exactly where they failed.
-    ensures source_mark { R.has_failed source.new ≡ (R.has_failed source.old || is_read_failed result) }
-    ensures sink_mark { W.has_failed sink.new ≡ (W.has_failed sink.old || is_write_failed result) }
+    ensures source_mark { read_failed R.Source input.new ≡ (read_failed R.Source input.old || is_read_failed result) }
+    ensures sink_mark { write_failed W.Sink out.new ≡ (write_failed W.Sink out.old || is_write_failed result) }
 
     // Bytes are read, and lines written, in pieces; and lines once more for each read.
-    ensures reads { reads_beyond R.gives_all (R.reads source.old) (R.left source.old) ≤ reads_beyond R.gives_all (R.reads source.new) (R.left source.new) + 1 }
-    ensures writes { Paid W.takes_all (W.writes sink.old) (W.written sink.old) (R.reads source.old) (W.writes sink.new) (W.written sink.new) (R.reads source.new) (lost_pieces (is_write_failed result) + 2 * LEAST_PIECE) }
+    ensures reads { slack R.Source input.old ≤ slack R.Source input.new + 1 }
+    ensures writes { PaidBy R.Source W.Sink out.old input.old out.new input.new (λ _. lost_pieces (is_write_failed result) + 2 * LEAST_PIECE) }
+    ensures same_inlet { SameInlet input.old input.new }
+    ensures same_outlet { SameOutlet out.old out.new }
 {
-    let mut input = Inlet { window, source };
-    let mut out = Outlet { page, sink };
-    match let_out_before_header(input.window, &mut out) {
-        Ok(()) => feed_file(alone, heading, &mut input, &mut out),
+    match let_out_before_header(input.window, out) {
+        Ok(()) => feed_file(alone, heading, input, out),
         Err(_) => Err(PlayFault::WriteFailed),
     }
 }

@@ -43,7 +43,7 @@ fn hear_next<S: BitStore, R: Source, W: Sink>(
     let mut message = Bits::new();
     match read_record(input, &mut message) {
         Ok(true) => {
-            play_input(alone, &Input::In(message), heading, out.page, out.sink)?;
+            play_input(alone, &Input::In(message), heading, out)?;
             Ok(true)
         }
         Ok(false) => Ok(false),

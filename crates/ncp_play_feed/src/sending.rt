@@ -38,7 +38,7 @@ fn send_next<S: BitStore, W: Sink>(
     ensures writes { credit W.Sink out.old ≤ credit W.Sink out.new + lost_pieces (is_write_failed result) }
     ensures same_outlet { SameOutlet out.old out.new }
 {
-    play_input(alone, &Input::Out, heading, out.page, out.sink)?;
+    play_input(alone, &Input::Out, heading, out)?;
     let notes = alone.transcript();
     Ok(is_out(&notes[notes.len() - 1]))
 }

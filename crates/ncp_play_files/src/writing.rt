@@ -1,8 +1,8 @@
 //! Headers and records of message files, written.
 ghost use Rattle.std.specs.Prelude.{◌≡◌, ◌+◌, ◌≤◌, ◌||◌, ◌++◌, length, is_err};
+ghost use Rattle.ncp_play_page.specs.Outlets.{SameOutlet, write_failed, credit, SaysOrBreaks};
 ghost use Rattle.ncp_numbers.specs.Bytes.{bytes_of};
-ghost use Rattle.ncp_play_stream.specs.Pieces.{bytes_and_writes, lost_pieces};
-ghost use Rattle.ncp_play_stream.specs.Streams.{SaysTextOrBeginning};
+ghost use Rattle.ncp_play_stream.specs.Pieces.{lost_pieces};
 ghost use Rattle.ncp_play_files.specs.File.{record_bytes};
 ghost use Rattle.ncp_play_files.specs.Versions.{byte_of, header_of, passage_bytes, bytes_at};
 
@@ -10,7 +10,7 @@ use crate::file::Direction;
 use crate::version::{HEADER, Passage, Version};
 use byteorder::{BigEndian, ByteOrder};
 use ncp_bits::{Bits, MAX_BITS};
-use ncp_play_page::{PAGE_SIZE, Page};
+use ncp_play_page::{Outlet, PAGE_SIZE, Page};
 use ncp_play_stream::{Failed, Sink};
 
 // How many bytes the bits of a message take at most.
@@ -93,16 +93,16 @@ fn push_message(page: &mut Page, passage: Passage, message: &Bits)
 ///
 /// After a failed write a beginning of what was said is written. It allocates nothing.
 pub fn say_message<W: Sink>(
-    page: &mut Page,
-    sink: &mut W,
+    out: &mut Outlet<'_, W>,
     passage: Passage,
     message: &Bits,
 ) -> Result<(), Failed>
-    ensures told { SaysTextOrBeginning page.old (W.written sink.old) (bytes_at passage message.now) result page.new (W.written sink.new) }
-    ensures writes { bytes_and_writes W.takes_all (W.writes sink.old) (W.written sink.old) ≤ bytes_and_writes W.takes_all (W.writes sink.new) (W.written sink.new) + lost_pieces (is_err result) }
-    ensures mark { W.has_failed sink.new ≡ (W.has_failed sink.old || is_err result) }
+    ensures told { SaysOrBreaks W.Sink out.old (bytes_at passage message.now) result out.new }
+    ensures writes { credit W.Sink out.old ≤ credit W.Sink out.new + lost_pieces (is_err result) }
+    ensures mark { write_failed W.Sink out.new ≡ (write_failed W.Sink out.old || is_err result) }
+    ensures same_outlet { SameOutlet out.old out.new }
 {
-    page.make_room(sink, LONGEST_PLACED)?;
-    push_message(page, passage, message);
+    out.make_room(LONGEST_PLACED)?;
+    push_message(out.page, passage, message);
     Ok(())
 }

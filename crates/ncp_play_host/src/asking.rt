@@ -1,14 +1,13 @@
 //! What the next line of a script of one host asks for.
-ghost use Rattle.std.specs.Prelude.{◌≡◌, ℕ, List, ◌<◌, ◌||◌, IfOk, true, false};
-ghost use Rattle.ncp_play_stream.specs.Streams.{Ahead};
-ghost use Rattle.ncp_play_page.specs.Windows.{effort};
+ghost use Rattle.std.specs.Prelude.{◌≡◌, ℕ, List, ◌||◌, IfOk, true, false};
+ghost use Rattle.ncp_play_reader.specs.LentScripts.{SameScript, ScriptBrings, ReadsOn, script_left, is_cut_off};
 ghost use Rattle.ncp_play_notes.specs.Faults.{is_read_failed, is_write_failed};
 ghost use Rattle.ncp_play_host.specs.Asking.{IsPlayedAs, AsksNext, goes_on};
 ghost use Rattle.ncp_play_script.specs.Scripts.{Line, Course};
 ghost use Rattle.ncp_transcript.specs.declared.input.Input.{Input as Asks};
 
 use ncp_play_notes::PlayFault;
-use ncp_play_reader::{Lines, NextLine, next_played};
+use ncp_play_reader::{NextLine, Script, next_played};
 use ncp_play_script::{HostLine, Words, host_line};
 use ncp_play_stream::Source;
 use ncp_transcript::Input;
@@ -32,7 +31,8 @@ fn asked_by_words(
     number: u32,
     ended: bool,
 ) -> Result<NextAsked, PlayFault>
-    ensures told { (line : Line) (course : Course Asks) → line.ended ≡ ended → IsPlayedAs number line words.old course result }
+    ensures told { (line : Line) (course : Course Asks)
+        → line.ended ≡ ended → IsPlayedAs number line words.old course result }
     ensures ended { IfOk result (λ next. goes_on next ≡ true → ended ≡ true) }
     ensures read { is_read_failed result ≡ false }
     ensures write { is_write_failed result ≡ false }
@@ -48,19 +48,21 @@ fn asked_by_words(
 /// Reads the next line that is not skipped, and answers what it asks for.
 pub(crate) fn next_asked<S: Source>(
     alloc: Global,
-    lines: &mut Lines,
-    source: &mut S,
+    script: &mut Script<'_, S>,
 ) -> Result<NextAsked, PlayFault>
-    ensures told { (bytes : List ℕ) → Ahead lines.old.window (S.left source.old) bytes → AsksNext lines.old.number bytes result lines.new (S.left source.new) }
-    ensures effort { IfOk result (λ next. goes_on next ≡ true → effort (S.reads source.new) lines.new.window < effort (S.reads source.old) lines.old.window) }
-    ensures mark { S.has_failed source.new ≡ (S.has_failed source.old || is_read_failed result) }
+    ensures told { (bytes : List ℕ)
+        → ScriptBrings S.Source script.old bytes
+        → AsksNext script.old.lines.now.number bytes result script.new.lines.now (script_left S.Source script.new) }
+    ensures effort { IfOk result (λ next. goes_on next ≡ true → ReadsOn S.Source script.old script.new) }
+    ensures mark { is_cut_off S.Source script.new ≡ (is_cut_off S.Source script.old || is_read_failed result) }
     ensures other { is_write_failed result ≡ false }
+    ensures same_script { SameScript script.old script.new }
 {
-    match next_played(lines, source) {
+    match next_played(script.lines, script.source) {
         Ok(NextLine::Over) => Ok(NextAsked::Over),
         Ok(NextLine::TooLong(number)) => Err(PlayFault::LineTooLong(number)),
         Ok(NextLine::Played { number, ended }) => {
-            let mut words = Words::new(lines.line.text(ended));
+            let mut words = Words::new(script.lines.line.text(ended));
             asked_by_words(alloc, &mut words, number, ended)
         }
         Err(_) => Err(PlayFault::ReadFailed),

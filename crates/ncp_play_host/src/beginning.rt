@@ -37,7 +37,8 @@ pub(crate) fn begin<S: BitStore, R: Source>(
     source: &mut R,
 ) -> Result<(Alone<S>, bool), PlayFault>
     requires { lines.old.number ≡ 1 }
-    ensures told { (bytes : List ℕ) → Ahead lines.old.window (R.left source.old) bytes → Begins bytes result lines.new (R.left source.new) }
+    ensures told { (bytes : List ℕ)
+        → Ahead lines.old.window (R.left source.old) bytes → Begins bytes result lines.new (R.left source.new) }
     ensures mark { R.has_failed source.new ≡ (R.has_failed source.old || is_read_failed result) }
     ensures other { is_write_failed result ≡ false }
 {

@@ -1,7 +1,7 @@
 //! The lines of a script of one host, played one after the other.
-ghost use Rattle.std.specs.Prelude.{◌≡◌, ℕ, List, ◌<◌, ◌||◌, None, IfOk};
-ghost use Rattle.ncp_play_stream.specs.Streams.{Ahead};
-ghost use Rattle.ncp_play_page.specs.Windows.{effort};
+ghost use Rattle.std.specs.Prelude.{◌≡◌, ℕ, List, ◌||◌, None, IfOk};
+ghost use Rattle.ncp_play_page.specs.Outlets.{SameOutlet, written_by, write_failed};
+ghost use Rattle.ncp_play_reader.specs.LentScripts.{SameScript, ScriptBrings, ReadsOn, script_left, is_cut_off};
 ghost use Rattle.ncp_play_notes.specs.Faults.{is_read_failed, is_write_failed};
 ghost use Rattle.ncp_play_notes.specs.Playing.{Does, Tells, TellsAs};
 ghost use Rattle.ncp_play_notes.specs.declared.heading.Heading.{Heading as Beginning};
@@ -10,8 +10,8 @@ ghost use Rattle.ncp_play_host.specs.Doing.{NextDoes, LinesDo};
 use crate::asking::{NextAsked, next_asked};
 use ncp_bits::BitStore;
 use ncp_play_notes::{Heading, PlayFault, play_input};
-use ncp_play_page::Page;
-use ncp_play_reader::{Lines, let_out};
+use ncp_play_page::Outlet;
+use ncp_play_reader::{Lines, Script, let_out};
 use ncp_play_stream::{Sink, Source};
 use ncp_transcript::{Alone, Input};
 use std::alloc::Global;
@@ -31,15 +31,17 @@ fn play_on<S: BitStore, W: Sink>(
     input: &Input,
     heading: &mut Heading,
     lines: &Lines,
-    page: &mut Page,
-    sink: &mut W,
+    out: &mut Outlet<'_, W>,
 ) -> Result<(), PlayFault>
     ensures events { Does input.now alone.old result alone.new }
-    ensures told { (was : List ℕ) (first : Beginning) → Tells was first alone.old.notes heading.old page.old (W.written sink.old) → TellsAs was first alone.new.notes result heading.new page.new (W.written sink.new) }
-    ensures mark { W.has_failed sink.new ≡ (W.has_failed sink.old || is_write_failed result) }
+    ensures told { (was : List ℕ) (first : Beginning)
+        → Tells was first alone.old.notes heading.old out.old.page.now (written_by W.Sink out.old)
+        → TellsAs was first alone.new.notes result heading.new out.new.page.now (written_by W.Sink out.new) }
+    ensures mark { write_failed W.Sink out.new ≡ (write_failed W.Sink out.old || is_write_failed result) }
+    ensures same_outlet { SameOutlet out.old out.new }
 {
-    match play_input(alone, input, heading, page, sink) {
-        Ok(()) => match let_out(lines, page, sink) {
+    match play_input(alone, input, heading, out) {
+        Ok(()) => match let_out(lines, out) {
             Ok(()) => Ok(()),
             Err(_) => Err(PlayFault::WriteFailed),
         },
@@ -52,22 +54,25 @@ fn play_next<S: BitStore, R: Source, W: Sink>(
     alloc: Global,
     alone: &mut Alone<S>,
     heading: &mut Heading,
-    lines: &mut Lines,
-    source: &mut R,
-    page: &mut Page,
-    sink: &mut W,
+    script: &mut Script<'_, R>,
+    out: &mut Outlet<'_, W>,
 ) -> Result<Option<LinesEnd>, PlayFault>
-    ensures events { (bytes : List ℕ) → Ahead lines.old.window (R.left source.old) bytes → NextDoes lines.old.number bytes alone.old result alone.new lines.new (R.left source.new) }
-    ensures told { (was : List ℕ) (first : Beginning) → Tells was first alone.old.notes heading.old page.old (W.written sink.old) → TellsAs was first alone.new.notes result heading.new page.new (W.written sink.new) }
-    ensures effort { IfOk result (λ end. end ≡ None → effort (R.reads source.new) lines.new.window < effort (R.reads source.old) lines.old.window) }
-    ensures source_mark { R.has_failed source.new ≡ (R.has_failed source.old || is_read_failed result) }
-    ensures sink_mark { W.has_failed sink.new ≡ (W.has_failed sink.old || is_write_failed result) }
+    ensures events { (bytes : List ℕ) → ScriptBrings R.Source script.old bytes
+        → NextDoes script.old.lines.now.number bytes alone.old result alone.new script.new.lines.now (script_left R.Source script.new) }
+    ensures told { (was : List ℕ) (first : Beginning)
+        → Tells was first alone.old.notes heading.old out.old.page.now (written_by W.Sink out.old)
+        → TellsAs was first alone.new.notes result heading.new out.new.page.now (written_by W.Sink out.new) }
+    ensures effort { IfOk result (λ end. end ≡ None → ReadsOn R.Source script.old script.new) }
+    ensures source_mark { is_cut_off R.Source script.new ≡ (is_cut_off R.Source script.old || is_read_failed result) }
+    ensures sink_mark { write_failed W.Sink out.new ≡ (write_failed W.Sink out.old || is_write_failed result) }
+    ensures same_script { SameScript script.old script.new }
+    ensures same_outlet { SameOutlet out.old out.new }
 {
-    match next_asked(alloc, lines, source)? {
+    match next_asked(alloc, script)? {
         NextAsked::Over => Ok(Some(LinesEnd::Over)),
         NextAsked::FeedBehind => Ok(Some(LinesEnd::FeedBehind)),
         NextAsked::Does { input, ended } => {
-            play_on(alone, &input, heading, lines, page, sink)?;
+            play_on(alone, &input, heading, script.lines, out)?;
             Ok(if ended { None } else { Some(LinesEnd::Over) })
         }
     }
@@ -78,18 +83,21 @@ pub(crate) fn play_lines<S: BitStore, R: Source, W: Sink>(
     alloc: Global,
     alone: &mut Alone<S>,
     heading: &mut Heading,
-    lines: &mut Lines,
-    source: &mut R,
-    page: &mut Page,
-    sink: &mut W,
+    script: &mut Script<'_, R>,
+    out: &mut Outlet<'_, W>,
 ) -> Result<LinesEnd, PlayFault>
-    ensures events { (bytes : List ℕ) → Ahead lines.old.window (R.left source.old) bytes → LinesDo lines.old.number bytes alone.old result alone.new lines.new.window (R.left source.new) }
-    ensures told { (was : List ℕ) (first : Beginning) → Tells was first alone.old.notes heading.old page.old (W.written sink.old) → TellsAs was first alone.new.notes result heading.new page.new (W.written sink.new) }
-    ensures source_mark { R.has_failed source.new ≡ (R.has_failed source.old || is_read_failed result) }
-    ensures sink_mark { W.has_failed sink.new ≡ (W.has_failed sink.old || is_write_failed result) }
+    ensures events { (bytes : List ℕ) → ScriptBrings R.Source script.old bytes
+        → LinesDo script.old.lines.now.number bytes alone.old result alone.new script.new.lines.now.window (script_left R.Source script.new) }
+    ensures told { (was : List ℕ) (first : Beginning)
+        → Tells was first alone.old.notes heading.old out.old.page.now (written_by W.Sink out.old)
+        → TellsAs was first alone.new.notes result heading.new out.new.page.now (written_by W.Sink out.new) }
+    ensures source_mark { is_cut_off R.Source script.new ≡ (is_cut_off R.Source script.old || is_read_failed result) }
+    ensures sink_mark { write_failed W.Sink out.new ≡ (write_failed W.Sink out.old || is_write_failed result) }
+    ensures same_script { SameScript script.old script.new }
+    ensures same_outlet { SameOutlet out.old out.new }
 {
     loop {
-        if let Some(end) = play_next(alloc, alone, heading, lines, source, page, sink)? {
+        if let Some(end) = play_next(alloc, alone, heading, script, out)? {
             return Ok(end);
         }
     }

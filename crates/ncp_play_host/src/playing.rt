@@ -1,6 +1,7 @@
 //! `play_host`: a script of one host, played.
 ghost use Rattle.std.specs.Prelude.{◌≡◌, ℕ, List, ◌||◌, [], Some, true, false};
-ghost use Rattle.ncp_play_stream.specs.Streams.{Ahead, SaidSoFar};
+ghost use Rattle.ncp_play_page.specs.Outlets.{SameOutlet, written_by, write_failed, HasSaid};
+ghost use Rattle.ncp_play_reader.specs.LentScripts.{SameScript, ScriptBrings, script_left, is_cut_off};
 ghost use Rattle.ncp_play_notes.specs.Faults.{is_read_failed, is_write_failed};
 ghost use Rattle.ncp_play_notes.specs.Playing.{TellsAs};
 ghost use Rattle.ncp_play_notes.specs.declared.heading.Heading.{Heading as Beginning};
@@ -11,8 +12,8 @@ use crate::lines::{LinesEnd, play_lines};
 use ncp_bits::BitStore;
 use ncp_play_feed::feed;
 use ncp_play_notes::{Heading, PlayFault, Speaker};
-use ncp_play_page::Page;
-use ncp_play_reader::Lines;
+use ncp_play_page::{Inlet, Outlet, Page};
+use ncp_play_reader::{Lines, Script};
 use ncp_play_stream::{Sink, Source};
 use ncp_transcript::{Alone, HostNote};
 use std::alloc::Global;
@@ -29,16 +30,20 @@ fn play_behind<S: BitStore, R: Source, W: Sink>(
     alloc: Global,
     alone: &mut Alone<S>,
     ended: bool,
-    lines: &mut Lines,
-    source: &mut R,
-    page: &mut Page,
-    sink: &mut W,
+    script: &mut Script<'_, R>,
+    out: &mut Outlet<'_, W>,
 ) -> Result<(), PlayFault>
-    ensures events { (bytes : List ℕ) → Ahead lines.old.window (R.left source.old) bytes → (ended ≡ false → bytes ≡ []) → BehindDoes lines.old.number bytes alone.old result alone.new (R.left source.new) }
+    ensures events { (bytes : List ℕ) → ScriptBrings R.Source script.old bytes
+        → (ended ≡ false → bytes ≡ [])
+        → BehindDoes script.old.lines.now.number bytes alone.old result alone.new (script_left R.Source script.new) }
     ensures whole { ended ≡ false → is_read_failed result ≡ false }
-    ensures told { (was : List ℕ) → alone.old.notes ≡ [] → SaidSoFar was page.old (W.written sink.old) [] → (heading : Beginning) × TellsAs was first_heading alone.new.notes result heading page.new (W.written sink.new) }
-    ensures source_mark { R.has_failed source.new ≡ (R.has_failed source.old || is_read_failed result) }
-    ensures sink_mark { W.has_failed sink.new ≡ (W.has_failed sink.old || is_write_failed result) }
+    ensures told { (was : List ℕ) → alone.old.notes ≡ []
+        → HasSaid W.Sink was out.old []
+        → (heading : Beginning) × TellsAs was first_heading alone.new.notes result heading out.new.page.now (written_by W.Sink out.new) }
+    ensures source_mark { is_cut_off R.Source script.new ≡ (is_cut_off R.Source script.old || is_read_failed result) }
+    ensures sink_mark { write_failed W.Sink out.new ≡ (write_failed W.Sink out.old || is_write_failed result) }
+    ensures same_script { SameScript script.old script.new }
+    ensures same_outlet { SameOutlet out.old out.new }
 {
     if !ended {
         return Ok(());
@@ -47,9 +52,15 @@ fn play_behind<S: BitStore, R: Source, W: Sink>(
         number: 1,
         speaker: Speaker::Host,
     };
-    match play_lines(alloc, alone, &mut heading, lines, source, page, sink)? {
+    match play_lines(alloc, alone, &mut heading, script, out)? {
         LinesEnd::Over => Ok(()),
-        LinesEnd::FeedBehind => feed(alone, &mut heading, &mut lines.window, source, page, sink),
+        LinesEnd::FeedBehind => {
+            let mut input = Inlet {
+                window: &mut script.lines.window,
+                source: &mut *script.source,
+            };
+            feed(alone, &mut heading, &mut input, out)
+        }
     }
 }
 
@@ -57,16 +68,22 @@ fn play_behind<S: BitStore, R: Source, W: Sink>(
 fn play_script<S: BitStore, R: Source, W: Sink>(
     alloc: Global,
     source: &mut R,
-    page: &mut Page,
-    sink: &mut W,
+    out: &mut Outlet<'_, W>,
 ) -> Result<bool, PlayFault>
-    ensures told { (bytes : List ℕ) (was : List ℕ) → R.left source.old ≡ Some bytes → SaidSoFar was page.old (W.written sink.old) [] → Says bytes was result (R.left source.new) page.new (W.written sink.new) }
+    ensures told { (bytes : List ℕ) (was : List ℕ) → R.left source.old ≡ Some bytes
+        → HasSaid W.Sink was out.old []
+        → Says bytes was result (R.left source.new) out.new.page.now (written_by W.Sink out.new) }
     ensures source_mark { R.has_failed source.new ≡ (R.has_failed source.old || is_read_failed result) }
-    ensures sink_mark { W.has_failed sink.new ≡ (W.has_failed sink.old || is_write_failed result) }
+    ensures sink_mark { write_failed W.Sink out.new ≡ (write_failed W.Sink out.old || is_write_failed result) }
+    ensures same_outlet { SameOutlet out.old out.new }
 {
     let mut lines = Lines::new();
     let (mut alone, ended) = begin::<S, R>(alloc, &mut lines, source)?;
-    let played = play_behind(alloc, &mut alone, ended, &mut lines, source, page, sink);
+    let mut script = Script {
+        lines: &mut lines,
+        source,
+    };
+    let played = play_behind(alloc, &mut alone, ended, &mut script, out);
     let good = !has_refusal(alone.transcript());
     played?;
     Ok(good)
@@ -102,11 +119,15 @@ pub fn play_host<S: BitStore, R: Source, W: Sink>(
     ensures blamed { R.has_failed source.new ≡ true → (is_read_failed result || is_write_failed result) ≡ true }
 {
     let mut page = Page::new();
-    let played = play_script::<S, R, W>(alloc, source, &mut page, sink);
-    if sink.failed() {
+    let mut out = Outlet {
+        page: &mut page,
+        sink,
+    };
+    let played = play_script::<S, R, W>(alloc, source, &mut out);
+    if out.sink.failed() {
         return played;
     }
-    match page.flush(sink) {
+    match out.flush() {
         Ok(()) => played,
         Err(_) => Err(PlayFault::WriteFailed),
     }

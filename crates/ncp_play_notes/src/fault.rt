@@ -77,7 +77,8 @@ impl PlayFault {
 
     /// Writes what a program prints on standard error: `ncp: line 3: BadLine`, or `ncp: BadHosts`.
     pub fn tell<W: Sink>(self, sink: &mut W) -> Result<(), Failed>
-        ensures told { (was : List ℕ) → W.written sink.old ≡ Some was → Wrote was (fault_line self) result (W.written sink.new) }
+        ensures told { (was : List ℕ)
+            → W.written sink.old ≡ Some was → Wrote was (fault_line self) result (W.written sink.new) }
         ensures mark { W.has_failed sink.new ≡ (W.has_failed sink.old || is_err result) }
     {
         let mut page = Page::new();

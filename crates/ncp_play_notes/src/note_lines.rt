@@ -1,8 +1,7 @@
 //! The lines of a note.
 ghost use Rattle.std.specs.Prelude.{◌≡◌, ◌+◌, ◌≤◌, ◌||◌, ◌++◌, length, is_err};
 ghost use Rattle.ncp_play_page.specs.Outlets.{SameOutlet, write_failed, credit, SaysOrBreaks};
-ghost use Rattle.ncp_play_stream.specs.Pieces.{bytes_and_writes, lost_pieces};
-ghost use Rattle.ncp_play_stream.specs.Streams.{SaysTextOrBeginning};
+ghost use Rattle.ncp_play_stream.specs.Pieces.{lost_pieces};
 ghost use Rattle.ncp_play_notes.specs.NoteLines.{toward, call_line, in_line, out_line, nothing_line, first_line, lines_behind, note_lines};
 ghost use Rattle.ncp_play_notes.specs.Results.{error_line, error_lines};
 
@@ -158,16 +157,15 @@ fn say_behind<W: Sink>(out: &mut Outlet<'_, W>, note: &HostNote) -> Result<(), F
 ///
 /// After a failed write a beginning of what was said is written. It allocates nothing.
 pub fn say_note<W: Sink>(
-    page: &mut Page,
-    sink: &mut W,
+    out: &mut Outlet<'_, W>,
     heading: Heading,
     note: &HostNote,
 ) -> Result<(), Failed>
-    ensures told { SaysTextOrBeginning page.old (W.written sink.old) (note_lines heading note.now) result page.new (W.written sink.new) }
-    ensures writes { bytes_and_writes W.takes_all (W.writes sink.old) (W.written sink.old) ≤ bytes_and_writes W.takes_all (W.writes sink.new) (W.written sink.new) + lost_pieces (is_err result) }
-    ensures mark { W.has_failed sink.new ≡ (W.has_failed sink.old || is_err result) }
+    ensures told { SaysOrBreaks W.Sink out.old (note_lines heading note.now) result out.new }
+    ensures writes { credit W.Sink out.old ≤ credit W.Sink out.new + lost_pieces (is_err result) }
+    ensures mark { write_failed W.Sink out.new ≡ (write_failed W.Sink out.old || is_err result) }
+    ensures same_outlet { SameOutlet out.old out.new }
 {
-    let mut out = Outlet { page, sink };
-    say_first_line(&mut out, heading, note)?;
-    say_behind(&mut out, note)
+    say_first_line(out, heading, note)?;
+    say_behind(out, note)
 }

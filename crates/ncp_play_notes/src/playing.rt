@@ -1,6 +1,7 @@
 //! One input of a player: it is done to the host, and its note is said.
-ghost use Rattle.std.specs.Prelude.{◌≡◌, ◌+◌, ◌≤◌, ◌||◌, ℕ, List, is_err};
-ghost use Rattle.ncp_play_stream.specs.Pieces.{bytes_and_writes, lost_pieces};
+ghost use Rattle.std.specs.Prelude.{◌≡◌, ◌+◌, ◌≤◌, ◌||◌, ℕ, List};
+ghost use Rattle.ncp_play_page.specs.Outlets.{SameOutlet, written_by, write_failed, credit};
+ghost use Rattle.ncp_play_stream.specs.Pieces.{lost_pieces};
 ghost use Rattle.ncp_play_notes.specs.Faults.{is_write_failed};
 ghost use Rattle.ncp_play_notes.specs.Playing.{Does, Tells, TellsAs};
 ghost use Rattle.ncp_play_notes.specs.declared.heading.Heading.{Heading as Beginning};
@@ -9,7 +10,7 @@ use crate::fault::PlayFault;
 use crate::heading::Heading;
 use crate::note_lines::say_note;
 use ncp_bits::BitStore;
-use ncp_play_page::Page;
+use ncp_play_page::Outlet;
 use ncp_play_stream::Sink;
 use ncp_transcript::{Alone, Input};
 
@@ -22,19 +23,21 @@ pub fn play_input<S: BitStore, W: Sink>(
     alone: &mut Alone<S>,
     input: &Input,
     heading: &mut Heading,
-    page: &mut Page,
-    sink: &mut W,
+    out: &mut Outlet<'_, W>,
 ) -> Result<(), PlayFault>
     ensures events { Does input.now alone.old result alone.new }
-    ensures told { (was : List ℕ) (first : Beginning) → Tells was first alone.old.notes heading.old page.old (W.written sink.old) → TellsAs was first alone.new.notes result heading.new page.new (W.written sink.new) }
-    ensures writes { bytes_and_writes W.takes_all (W.writes sink.old) (W.written sink.old) ≤ bytes_and_writes W.takes_all (W.writes sink.new) (W.written sink.new) + lost_pieces (is_write_failed result) }
-    ensures mark { W.has_failed sink.new ≡ (W.has_failed sink.old || is_write_failed result) }
+    ensures told { (was : List ℕ) (first : Beginning)
+        → Tells was first alone.old.notes heading.old out.old.page.now (written_by W.Sink out.old)
+        → TellsAs was first alone.new.notes result heading.new out.new.page.now (written_by W.Sink out.new) }
+    ensures writes { credit W.Sink out.old ≤ credit W.Sink out.new + lost_pieces (is_write_failed result) }
+    ensures mark { write_failed W.Sink out.new ≡ (write_failed W.Sink out.old || is_write_failed result) }
+    ensures same_outlet { SameOutlet out.old out.new }
 {
     if alone.step(input).is_err() {
         return Err(PlayFault::OutOfMemory);
     }
     let notes = alone.transcript();
-    match say_note(page, sink, *heading, &notes[notes.len() - 1]) {
+    match say_note(out, *heading, &notes[notes.len() - 1]) {
         Ok(()) => {
             *heading = heading.next();
             Ok(())

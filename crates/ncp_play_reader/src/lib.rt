@@ -9,7 +9,9 @@
 mod letting_out;
 mod lines;
 mod reading;
+mod script;
 
 pub use letting_out::let_out;
 pub use lines::{Lines, NextLine, next_played};
 pub use reading::next_line;
+pub use script::Script;

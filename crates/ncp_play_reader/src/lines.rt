@@ -47,8 +47,10 @@ impl Lines {
 /// Reads the next line of a script that is not skipped, and keeps what it says in `lines.line`. Empty lines
 /// and remarks are skipped, and all lines are counted. Behind a last line without LF nothing is read.
 pub fn next_played<S: Source>(lines: &mut Lines, source: &mut S) -> Result<NextLine, Failed>
-    ensures told { (bytes : List ℕ) → Ahead lines.old.window (S.left source.old) bytes → ReadsNext lines.old.number bytes result lines.new (S.left source.new) }
-    ensures effort { IfOk result (λ next. goes_on next ≡ true → effort (S.reads source.new) lines.new.window < effort (S.reads source.old) lines.old.window) }
+    ensures told { (bytes : List ℕ) → Ahead lines.old.window (S.left source.old) bytes
+        → ReadsNext lines.old.number bytes result lines.new (S.left source.new) }
+    ensures effort { IfOk result (λ next. goes_on next ≡ true
+        → effort (S.reads source.new) lines.new.window < effort (S.reads source.old) lines.old.window) }
     ensures mark { S.has_failed source.new ≡ (S.has_failed source.old || is_err result) }
 {
     while let Some(ended) = next_line(&mut lines.window, source, &mut lines.line)? {

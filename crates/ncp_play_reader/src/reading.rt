@@ -15,8 +15,10 @@ pub fn next_line<S: Source>(
     source: &mut S,
     line: &mut LineBuffer,
 ) -> Result<Option<bool>, Failed>
-    ensures told { (bytes : List ℕ) → Ahead window.old (S.left source.old) bytes → ReadsLine bytes result line.new window.new (S.left source.new) }
-    ensures effort { IfOk result (λ found. found ≡ Some true → effort (S.reads source.new) window.new < effort (S.reads source.old) window.old) }
+    ensures told { (bytes : List ℕ) → Ahead window.old (S.left source.old) bytes
+        → ReadsLine bytes result line.new window.new (S.left source.new) }
+    ensures effort { IfOk result (λ found. found ≡ Some true
+        → effort (S.reads source.new) window.new < effort (S.reads source.old) window.old) }
     ensures mark { S.has_failed source.new ≡ (S.has_failed source.old || is_err result) }
 {
     line.clear();

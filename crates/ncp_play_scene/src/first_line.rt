@@ -11,7 +11,9 @@ use ncp_play_stream::Source;
 /// Reads the first line that is not skipped, and keeps what it says in `lines.line`; it answers whether an
 /// LF ended it. `BadHosts` is answered where there is no line.
 pub fn find_first<R: Source>(lines: &mut Lines, source: &mut R) -> Result<bool, PlayFault>
-    ensures told { (bytes : List ℕ) → Ahead lines.old.window (R.left source.old) bytes → FindsFirst lines.old.number bytes result lines.new (R.left source.new) }
+    ensures told { (bytes : List ℕ)
+        → Ahead lines.old.window (R.left source.old) bytes
+        → FindsFirst lines.old.number bytes result lines.new (R.left source.new) }
     ensures mark { R.has_failed source.new ≡ (R.has_failed source.old || is_read_failed result) }
     ensures unblamed { is_write_failed result ≡ false }
 {

@@ -1,13 +1,12 @@
 //! What the next line of a script asks for.
-ghost use Rattle.std.specs.Prelude.{◌≡◌, ◌<◌, ◌||◌, ℕ, List, true, false, IfOk};
-ghost use Rattle.ncp_play_stream.specs.Streams.{Ahead};
-ghost use Rattle.ncp_play_page.specs.Windows.{effort};
+ghost use Rattle.std.specs.Prelude.{◌≡◌, ◌||◌, ℕ, List, true, false, IfOk};
+ghost use Rattle.ncp_play_reader.specs.LentScripts.{SameScript, ScriptBrings, ReadsOn, script_left, is_cut_off};
 ghost use Rattle.ncp_play_notes.specs.Faults.{is_read_failed, is_write_failed};
 ghost use Rattle.ncp_play_scene.specs.NextEvents.{EventIn, AsksNext, may_go_on};
 
 use crate::scene::Scene;
 use ncp_play_notes::PlayFault;
-use ncp_play_reader::{Lines, NextLine, next_played};
+use ncp_play_reader::{NextLine, Script, next_played};
 use ncp_play_script::Words;
 use ncp_play_stream::Source;
 use std::alloc::Global;
@@ -33,17 +32,19 @@ fn event_in<C: Scene>(
 pub(crate) fn next_event<C: Scene, R: Source>(
     alloc: Global,
     first: &C::First,
-    lines: &mut Lines,
-    source: &mut R,
+    script: &mut Script<'_, R>,
 ) -> Result<Option<(C::Event, bool)>, PlayFault>
-    ensures told { (bytes : List ℕ) → Ahead lines.old.window (R.left source.old) bytes → AsksNext C.rules first.now lines.old.number bytes result lines.new (R.left source.new) }
-    ensures effort { IfOk result (λ next. may_go_on next ≡ true → effort (R.reads source.new) lines.new.window < effort (R.reads source.old) lines.old.window) }
-    ensures mark { R.has_failed source.new ≡ (R.has_failed source.old || is_read_failed result) }
+    ensures told { (bytes : List ℕ)
+        → ScriptBrings R.Source script.old bytes
+        → AsksNext C.rules first.now script.old.lines.now.number bytes result script.new.lines.now (script_left R.Source script.new) }
+    ensures effort { IfOk result (λ next. may_go_on next ≡ true → ReadsOn R.Source script.old script.new) }
+    ensures mark { is_cut_off R.Source script.new ≡ (is_cut_off R.Source script.old || is_read_failed result) }
     ensures unblamed { is_write_failed result ≡ false }
+    ensures same_script { SameScript script.old script.new }
 {
-    match next_played(lines, source) {
+    match next_played(script.lines, script.source) {
         Ok(NextLine::Played { number, ended }) => {
-            match event_in::<C>(alloc, first, number, lines.line.text(ended)) {
+            match event_in::<C>(alloc, first, number, script.lines.line.text(ended)) {
                 Ok(event) => Ok(Some((event, ended))),
                 Err(fault) => Err(fault),
             }

@@ -1,7 +1,7 @@
 //! `play_first`: a script, played line by line behind its first.
-ghost use Rattle.std.specs.Prelude.{◌≡◌, ◌<◌, ◌||◌, ◌⊎◌, ℕ, List, [], Some, true, false, Ok, Err, IfOk};
-ghost use Rattle.ncp_play_stream.specs.Streams.{Ahead};
-ghost use Rattle.ncp_play_page.specs.Windows.{effort};
+ghost use Rattle.std.specs.Prelude.{◌≡◌, ◌||◌, ◌⊎◌, ℕ, List, [], Some, true, false, Ok, Err, IfOk};
+ghost use Rattle.ncp_play_page.specs.Outlets.{SameOutlet, written_by, write_failed};
+ghost use Rattle.ncp_play_reader.specs.LentScripts.{SameScript, ScriptBrings, ReadsOn, script_left, is_cut_off};
 ghost use Rattle.ncp_play_notes.specs.Faults.{is_read_failed, is_write_failed};
 ghost use Rattle.ncp_play_scene.specs.Telling.{Tale};
 ghost use Rattle.ncp_play_scene.specs.NextEvents.{FindsFirst};
@@ -13,36 +13,39 @@ use crate::playing::play_on;
 use crate::scene::Scene;
 use crate::teller::Teller;
 use ncp_play_notes::PlayFault;
-use ncp_play_page::Page;
-use ncp_play_reader::{Lines, let_out};
+use ncp_play_page::{Outlet, Page};
+use ncp_play_reader::{Lines, Script, let_out};
 use ncp_play_script::Words;
 use ncp_play_stream::{Sink, Source};
 use std::alloc::Global;
 
-// Hosts that are played, and what is told of them.
+// Hosts that are played, and the number of the note that is told next.
 #[derive(Drop)]
 struct Player<C: Scene> {
     hosts: C::Hosts,
     number: u32,
-    page: Page,
 }
 
 // Plays the next line, and answers whether others may follow.
 fn play_next<C: Scene, T: Teller<C>, R: Source, W: Sink>(
     alloc: Global,
     first: &C::First,
-    lines: &mut Lines,
-    source: &mut R,
+    script: &mut Script<'_, R>,
     player: &mut Player<C>,
-    sink: &mut W,
+    out: &mut Outlet<'_, W>,
 ) -> Result<bool, PlayFault>
-    ensures events { (bytes : List ℕ) → Ahead lines.old.window (R.left source.old) bytes → PlaysNext C.rules first.now lines.old.number bytes player.old.hosts result player.new.hosts lines.new.number lines.new.window (R.left source.new) }
-    ensures told { (began : C.Hosts) (was : List ℕ) → Tells C.rules (T.tale first.now) began was player.old.hosts player.old.number player.old.page (W.written sink.old) → TellsAs C.rules (T.tale first.now) began was player.new.hosts result player.new.number player.new.page (W.written sink.new) }
-    ensures effort { IfOk result (λ more. more ≡ true → effort (R.reads source.new) lines.new.window < effort (R.reads source.old) lines.old.window) }
-    ensures source_mark { R.has_failed source.new ≡ (R.has_failed source.old || is_read_failed result) }
-    ensures sink_mark { W.has_failed sink.new ≡ (W.has_failed sink.old || is_write_failed result) }
+    ensures events { (bytes : List ℕ) → ScriptBrings R.Source script.old bytes
+        → PlaysNext C.rules first.now script.old.lines.now.number bytes player.old.hosts result player.new.hosts script.new.lines.now.number script.new.lines.now.window (script_left R.Source script.new) }
+    ensures told { (began : C.Hosts) (was : List ℕ)
+        → Tells C.rules (T.tale first.now) began was player.old.hosts player.old.number out.old.page.now (written_by W.Sink out.old)
+        → TellsAs C.rules (T.tale first.now) began was player.new.hosts result player.new.number out.new.page.now (written_by W.Sink out.new) }
+    ensures effort { IfOk result (λ more. more ≡ true → ReadsOn R.Source script.old script.new) }
+    ensures source_mark { is_cut_off R.Source script.new ≡ (is_cut_off R.Source script.old || is_read_failed result) }
+    ensures sink_mark { write_failed W.Sink out.new ≡ (write_failed W.Sink out.old || is_write_failed result) }
+    ensures same_script { SameScript script.old script.new }
+    ensures same_outlet { SameOutlet out.old out.new }
 {
-    let Some((event, ended)) = next_event::<C, R>(alloc, first, lines, source)? else {
+    let Some((event, ended)) = next_event::<C, R>(alloc, first, script)? else {
         return Ok(false);
     };
     play_on::<C, T, W>(
@@ -50,9 +53,8 @@ fn play_next<C: Scene, T: Teller<C>, R: Source, W: Sink>(
         &mut player.hosts,
         &event,
         &mut player.number,
-        lines,
-        &mut player.page,
-        sink,
+        script.lines,
+        out,
     )?;
     Ok(ended)
 }
@@ -61,17 +63,21 @@ fn play_next<C: Scene, T: Teller<C>, R: Source, W: Sink>(
 fn play_lines<C: Scene, T: Teller<C>, R: Source, W: Sink>(
     alloc: Global,
     first: &C::First,
-    lines: &mut Lines,
-    source: &mut R,
+    script: &mut Script<'_, R>,
     player: &mut Player<C>,
-    sink: &mut W,
+    out: &mut Outlet<'_, W>,
 ) -> Result<(), PlayFault>
-    ensures events { (bytes : List ℕ) → Ahead lines.old.window (R.left source.old) bytes → PlaysLines C.rules first.now lines.old.number bytes player.old.hosts result player.new.hosts (R.left source.new) }
-    ensures told { (began : C.Hosts) (was : List ℕ) → Tells C.rules (T.tale first.now) began was player.old.hosts player.old.number player.old.page (W.written sink.old) → TellsAs C.rules (T.tale first.now) began was player.new.hosts result player.new.number player.new.page (W.written sink.new) }
-    ensures source_mark { R.has_failed source.new ≡ (R.has_failed source.old || is_read_failed result) }
-    ensures sink_mark { W.has_failed sink.new ≡ (W.has_failed sink.old || is_write_failed result) }
+    ensures events { (bytes : List ℕ) → ScriptBrings R.Source script.old bytes
+        → PlaysLines C.rules first.now script.old.lines.now.number bytes player.old.hosts result player.new.hosts (script_left R.Source script.new) }
+    ensures told { (began : C.Hosts) (was : List ℕ)
+        → Tells C.rules (T.tale first.now) began was player.old.hosts player.old.number out.old.page.now (written_by W.Sink out.old)
+        → TellsAs C.rules (T.tale first.now) began was player.new.hosts result player.new.number out.new.page.now (written_by W.Sink out.new) }
+    ensures source_mark { is_cut_off R.Source script.new ≡ (is_cut_off R.Source script.old || is_read_failed result) }
+    ensures sink_mark { write_failed W.Sink out.new ≡ (write_failed W.Sink out.old || is_write_failed result) }
+    ensures same_script { SameScript script.old script.new }
+    ensures same_outlet { SameOutlet out.old out.new }
 {
-    while play_next::<C, T, R, W>(alloc, first, lines, source, player, sink)? {}
+    while play_next::<C, T, R, W>(alloc, first, script, player, out)? {}
     Ok(())
 }
 
@@ -81,22 +87,27 @@ fn play_rest<C: Scene, T: Teller<C>, R: Source, W: Sink>(
     alloc: Global,
     first: &C::First,
     ended: bool,
-    lines: &mut Lines,
-    source: &mut R,
+    script: &mut Script<'_, R>,
     player: &mut Player<C>,
-    sink: &mut W,
+    out: &mut Outlet<'_, W>,
 ) -> Result<(), PlayFault>
-    ensures events { (bytes : List ℕ) → Ahead lines.old.window (R.left source.old) bytes → (ended ≡ false → bytes ≡ []) → PlaysLines C.rules first.now lines.old.number bytes player.old.hosts result player.new.hosts (R.left source.new) }
-    ensures told { (began : C.Hosts) (was : List ℕ) → Tells C.rules (T.tale first.now) began was player.old.hosts player.old.number player.old.page (W.written sink.old) → TellsAs C.rules (T.tale first.now) began was player.new.hosts result player.new.number player.new.page (W.written sink.new) }
+    ensures events { (bytes : List ℕ) → ScriptBrings R.Source script.old bytes
+        → (ended ≡ false → bytes ≡ [])
+        → PlaysLines C.rules first.now script.old.lines.now.number bytes player.old.hosts result player.new.hosts (script_left R.Source script.new) }
+    ensures told { (began : C.Hosts) (was : List ℕ)
+        → Tells C.rules (T.tale first.now) began was player.old.hosts player.old.number out.old.page.now (written_by W.Sink out.old)
+        → TellsAs C.rules (T.tale first.now) began was player.new.hosts result player.new.number out.new.page.now (written_by W.Sink out.new) }
     ensures unread { ended ≡ false → is_read_failed result ≡ false }
-    ensures source_mark { R.has_failed source.new ≡ (R.has_failed source.old || is_read_failed result) }
-    ensures sink_mark { W.has_failed sink.new ≡ (W.has_failed sink.old || is_write_failed result) }
+    ensures source_mark { is_cut_off R.Source script.new ≡ (is_cut_off R.Source script.old || is_read_failed result) }
+    ensures sink_mark { write_failed W.Sink out.new ≡ (write_failed W.Sink out.old || is_write_failed result) }
+    ensures same_script { SameScript script.old script.new }
+    ensures same_outlet { SameOutlet out.old out.new }
 {
     if !ended {
         return Ok(());
     }
-    match let_out(lines, &mut player.page, sink) {
-        Ok(()) => play_lines::<C, T, R, W>(alloc, first, lines, source, player, sink),
+    match let_out(script.lines, out) {
+        Ok(()) => play_lines::<C, T, R, W>(alloc, first, script, player, out),
         Err(_) => Err(PlayFault::WriteFailed),
     }
 }
@@ -106,20 +117,25 @@ fn play_all<C: Scene, T: Teller<C>, R: Source, W: Sink>(
     alloc: Global,
     first: &C::First,
     ended: bool,
-    lines: &mut Lines,
-    source: &mut R,
+    script: &mut Script<'_, R>,
     player: &mut Player<C>,
-    sink: &mut W,
+    out: &mut Outlet<'_, W>,
 ) -> Result<bool, PlayFault>
-    ensures events { (bytes : List ℕ) → Ahead lines.old.window (R.left source.old) bytes → (ended ≡ false → bytes ≡ []) → PlaysLines C.rules first.now lines.old.number bytes player.old.hosts result player.new.hosts (R.left source.new) }
-    ensures told { (began : C.Hosts) (was : List ℕ) → Tells C.rules (T.tale first.now) began was player.old.hosts player.old.number player.old.page (W.written sink.old) → TellsAs C.rules (T.tale first.now) began was player.new.hosts result player.new.number player.new.page (W.written sink.new) }
+    ensures events { (bytes : List ℕ) → ScriptBrings R.Source script.old bytes
+        → (ended ≡ false → bytes ≡ [])
+        → PlaysLines C.rules first.now script.old.lines.now.number bytes player.old.hosts result player.new.hosts (script_left R.Source script.new) }
+    ensures told { (began : C.Hosts) (was : List ℕ)
+        → Tells C.rules (T.tale first.now) began was player.old.hosts player.old.number out.old.page.now (written_by W.Sink out.old)
+        → TellsAs C.rules (T.tale first.now) began was player.new.hosts result player.new.number out.new.page.now (written_by W.Sink out.new) }
     ensures run { C.rules.IsRun player.new.hosts }
     ensures good { AnswersGood C.rules result (C.rules.notes player.new.hosts) }
     ensures unread { ended ≡ false → is_read_failed result ≡ false }
-    ensures source_mark { R.has_failed source.new ≡ (R.has_failed source.old || is_read_failed result) }
-    ensures sink_mark { W.has_failed sink.new ≡ (W.has_failed sink.old || is_write_failed result) }
+    ensures source_mark { is_cut_off R.Source script.new ≡ (is_cut_off R.Source script.old || is_read_failed result) }
+    ensures sink_mark { write_failed W.Sink out.new ≡ (write_failed W.Sink out.old || is_write_failed result) }
+    ensures same_script { SameScript script.old script.new }
+    ensures same_outlet { SameOutlet out.old out.new }
 {
-    let played = play_rest::<C, T, R, W>(alloc, first, ended, lines, source, player, sink);
+    let played = play_rest::<C, T, R, W>(alloc, first, ended, script, player, out);
     let good = !C::any_refusal(&player.hosts);
     played?;
     Ok(good)
@@ -127,19 +143,21 @@ fn play_all<C: Scene, T: Teller<C>, R: Source, W: Sink>(
 
 // Writes what stands on the page, unless a write has failed.
 fn finish<C: Scene, W: Sink>(
-    page: &mut Page,
-    sink: &mut W,
+    out: &mut Outlet<'_, W>,
     played: Result<bool, PlayFault>,
 ) -> Result<bool, PlayFault>
-    requires { W.has_failed sink.old ≡ is_write_failed played }
+    requires { write_failed W.Sink out.old ≡ is_write_failed played }
     ensures same { (result ≡ played) ⊎ (result ≡ Err PlayFault.WriteFailed) }
-    ensures told { (tale : Tale C.Note C.Hosts) (began : C.Hosts) (was : List ℕ) (hosts : C.Hosts) (number : ℕ) → TellsAs C.rules tale began was hosts played number page.old (W.written sink.old) → WritesAs C.rules tale began was (C.rules.notes hosts) result (W.written sink.new) }
-    ensures mark { W.has_failed sink.new ≡ is_write_failed result }
+    ensures told { (tale : Tale C.Note C.Hosts) (began : C.Hosts) (was : List ℕ) (hosts : C.Hosts) (number : ℕ)
+        → TellsAs C.rules tale began was hosts played number out.old.page.now (written_by W.Sink out.old)
+        → WritesAs C.rules tale began was (C.rules.notes hosts) result (written_by W.Sink out.new) }
+    ensures mark { write_failed W.Sink out.new ≡ is_write_failed result }
+    ensures same_outlet { SameOutlet out.old out.new }
 {
-    if sink.failed() {
+    if out.sink.failed() {
         return played;
     }
-    match page.flush(sink) {
+    match out.flush() {
         Ok(()) => played,
         Err(_) => Err(PlayFault::WriteFailed),
     }
@@ -150,31 +168,34 @@ fn play_behind<C: Scene, T: Teller<C>, R: Source, W: Sink>(
     alloc: Global,
     first: &C::First,
     ended: bool,
-    lines: &mut Lines,
-    source: &mut R,
+    script: &mut Script<'_, R>,
     sink: &mut W,
 ) -> Result<bool, PlayFault>
     requires proper { C.IsProper first.now }
-    requires source_clean { R.has_failed source.old ≡ false }
+    requires source_clean { is_cut_off R.Source script.old ≡ false }
     requires sink_clean { W.has_failed sink.old ≡ false }
-    ensures told { (bytes : List ℕ) (was : List ℕ) → Ahead lines.old.window (R.left source.old) bytes → W.written sink.old ≡ Some was → (ended ≡ false → bytes ≡ []) → PlaysBehind C.rules (T.tale first.now) first.now lines.old.number bytes was result (R.left source.new) (W.written sink.new) }
+    ensures told { (bytes : List ℕ) (was : List ℕ)
+        → ScriptBrings R.Source script.old bytes → W.written sink.old ≡ Some was
+        → (ended ≡ false → bytes ≡ [])
+        → PlaysBehind C.rules (T.tale first.now) first.now script.old.lines.now.number bytes was result (script_left R.Source script.new) (W.written sink.new) }
     ensures unread { ended ≡ false → is_read_failed result ≡ false }
-    ensures read_failed { is_read_failed result ≡ true → R.has_failed source.new ≡ true }
+    ensures read_failed { is_read_failed result ≡ true → is_cut_off R.Source script.new ≡ true }
     ensures write_failed { W.has_failed sink.new ≡ is_write_failed result }
-    ensures blamed { R.has_failed source.new ≡ true → (is_read_failed result || is_write_failed result) ≡ true }
+    ensures blamed { is_cut_off R.Source script.new ≡ true → (is_read_failed result || is_write_failed result) ≡ true }
+    ensures same_script { SameScript script.old script.new }
 {
     let mut page = Page::new();
     T::begin(first, &mut page);
+    let mut out = Outlet {
+        page: &mut page,
+        sink,
+    };
     let Ok(hosts) = C::begin(alloc, first) else {
-        return finish::<C, W>(&mut page, sink, Err(PlayFault::OutOfMemory));
+        return finish::<C, W>(&mut out, Err(PlayFault::OutOfMemory));
     };
-    let mut player = Player::<C> {
-        hosts,
-        number: 1,
-        page,
-    };
-    let played = play_all::<C, T, R, W>(alloc, first, ended, lines, source, &mut player, sink);
-    finish::<C, W>(&mut player.page, sink, played)
+    let mut player = Player::<C> { hosts, number: 1 };
+    let played = play_all::<C, T, R, W>(alloc, first, ended, script, &mut player, &mut out);
+    finish::<C, W>(&mut out, played)
 }
 
 /// Plays a script whose first line was read, as [`crate::find_first`] does: each line behind it is an event of
@@ -196,7 +217,9 @@ pub fn play_first<C: Scene, T: Teller<C>, R: Source, W: Sink>(
 
     // Of bytes that are told, the events of the script happened in order, up to its first fault; their notes
     // are a transcript; and what is told of them is written, and nothing else.
-    ensures told { (bytes : List ℕ) (was : List ℕ) → FindsFirst 1 bytes (Ok ended) lines.old (R.left source.old) → W.written sink.old ≡ Some was → PlaysScript C.rules T.tale bytes was result (R.left source.new) (W.written sink.new) }
+    ensures told { (bytes : List ℕ) (was : List ℕ)
+        → FindsFirst 1 bytes (Ok ended) lines.old (R.left source.old) → W.written sink.old ≡ Some was
+        → PlaysScript C.rules T.tale bytes was result (R.left source.new) (W.written sink.new) }
 
     // Reading and writing are blamed only where they failed.
     ensures read_failed { is_read_failed result ≡ true → R.has_failed source.new ≡ true }
@@ -206,5 +229,6 @@ pub fn play_first<C: Scene, T: Teller<C>, R: Source, W: Sink>(
     let Some(first) = C::first_of(&mut Words::new(lines.line.text(ended))) else {
         return Err(PlayFault::BadHosts);
     };
-    play_behind::<C, T, R, W>(alloc, &first, ended, lines, source, sink)
+    let mut script = Script { lines, source };
+    play_behind::<C, T, R, W>(alloc, &first, ended, &mut script, sink)
 }

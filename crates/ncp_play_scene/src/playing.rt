@@ -1,13 +1,14 @@
 //! One event of a player: it happens to the hosts, and each note that it leaves is told.
 ghost use Rattle.std.specs.Prelude.{◌≡◌, ◌+◌, ◌≤◌, ◌<◌, ◌^◌, ◌||◌, ℕ, List, true, length, IfOk};
-ghost use Rattle.ncp_play_stream.specs.Pieces.{bytes_and_writes, lost_pieces};
+ghost use Rattle.ncp_play_page.specs.Outlets.{SameOutlet, written_by, write_failed, credit};
+ghost use Rattle.ncp_play_stream.specs.Pieces.{lost_pieces};
 ghost use Rattle.ncp_play_notes.specs.Faults.{is_write_failed};
 ghost use Rattle.ncp_play_scene.specs.Playing.{DoesPart, DoesEvent, Tells, TellsAs};
 
 use crate::scene::Scene;
 use crate::teller::Teller;
 use ncp_play_notes::PlayFault;
-use ncp_play_page::Page;
+use ncp_play_page::Outlet;
 use ncp_play_reader::{Lines, let_out};
 use ncp_play_stream::Sink;
 
@@ -19,19 +20,21 @@ fn play_part<C: Scene, T: Teller<C>, W: Sink>(
     event: &C::Event,
     left: usize,
     number: &mut u32,
-    page: &mut Page,
-    sink: &mut W,
+    out: &mut Outlet<'_, W>,
 ) -> Result<bool, PlayFault>
     ensures part { DoesPart C.rules event.now left hosts.old result hosts.new }
-    ensures told { (began : C.Hosts) (was : List ℕ) → Tells C.rules (T.tale first.now) began was hosts.old number.old page.old (W.written sink.old) → TellsAs C.rules (T.tale first.now) began was hosts.new result number.new page.new (W.written sink.new) }
+    ensures told { (began : C.Hosts) (was : List ℕ)
+        → Tells C.rules (T.tale first.now) began was hosts.old number.old out.old.page.now (written_by W.Sink out.old)
+        → TellsAs C.rules (T.tale first.now) began was hosts.new result number.new out.new.page.now (written_by W.Sink out.new) }
     ensures room { IfOk result (λ more. more ≡ true → length (C.rules.notes hosts.new) < 2 ^ 64) }
-    ensures writes { bytes_and_writes W.takes_all (W.writes sink.old) (W.written sink.old) ≤ bytes_and_writes W.takes_all (W.writes sink.new) (W.written sink.new) + lost_pieces (is_write_failed result) }
-    ensures mark { W.has_failed sink.new ≡ (W.has_failed sink.old || is_write_failed result) }
+    ensures writes { credit W.Sink out.old ≤ credit W.Sink out.new + lost_pieces (is_write_failed result) }
+    ensures mark { write_failed W.Sink out.new ≡ (write_failed W.Sink out.old || is_write_failed result) }
+    ensures same_outlet { SameOutlet out.old out.new }
 {
     let Ok(more) = C::step(hosts, event, left) else {
         return Err(PlayFault::OutOfMemory);
     };
-    match T::say(first, hosts, *number, page, sink) {
+    match T::say(first, hosts, *number, out) {
         Ok(()) => {
             *number = number.saturating_add(1);
             Ok(more)
@@ -50,16 +53,18 @@ pub fn play_event<C: Scene, T: Teller<C>, W: Sink>(
     hosts: &mut C::Hosts,
     event: &C::Event,
     number: &mut u32,
-    page: &mut Page,
-    sink: &mut W,
+    out: &mut Outlet<'_, W>,
 ) -> Result<(), PlayFault>
     ensures event { DoesEvent C.rules event.now hosts.old result hosts.new }
-    ensures told { (began : C.Hosts) (was : List ℕ) → Tells C.rules (T.tale first.now) began was hosts.old number.old page.old (W.written sink.old) → TellsAs C.rules (T.tale first.now) began was hosts.new result number.new page.new (W.written sink.new) }
-    ensures writes { bytes_and_writes W.takes_all (W.writes sink.old) (W.written sink.old) ≤ bytes_and_writes W.takes_all (W.writes sink.new) (W.written sink.new) + lost_pieces (is_write_failed result) }
-    ensures mark { W.has_failed sink.new ≡ (W.has_failed sink.old || is_write_failed result) }
+    ensures told { (began : C.Hosts) (was : List ℕ)
+        → Tells C.rules (T.tale first.now) began was hosts.old number.old out.old.page.now (written_by W.Sink out.old)
+        → TellsAs C.rules (T.tale first.now) began was hosts.new result number.new out.new.page.now (written_by W.Sink out.new) }
+    ensures writes { credit W.Sink out.old ≤ credit W.Sink out.new + lost_pieces (is_write_failed result) }
+    ensures mark { write_failed W.Sink out.new ≡ (write_failed W.Sink out.old || is_write_failed result) }
+    ensures same_outlet { SameOutlet out.old out.new }
 {
     let mut left = 0;
-    while play_part::<C, T, W>(first, hosts, event, left, number, page, sink)? {
+    while play_part::<C, T, W>(first, hosts, event, left, number, out)? {
         left += 1;
     }
     Ok(())
@@ -72,15 +77,17 @@ pub(crate) fn play_on<C: Scene, T: Teller<C>, W: Sink>(
     event: &C::Event,
     number: &mut u32,
     lines: &Lines,
-    page: &mut Page,
-    sink: &mut W,
+    out: &mut Outlet<'_, W>,
 ) -> Result<(), PlayFault>
     ensures event { DoesEvent C.rules event.now hosts.old result hosts.new }
-    ensures told { (began : C.Hosts) (was : List ℕ) → Tells C.rules (T.tale first.now) began was hosts.old number.old page.old (W.written sink.old) → TellsAs C.rules (T.tale first.now) began was hosts.new result number.new page.new (W.written sink.new) }
-    ensures mark { W.has_failed sink.new ≡ (W.has_failed sink.old || is_write_failed result) }
+    ensures told { (began : C.Hosts) (was : List ℕ)
+        → Tells C.rules (T.tale first.now) began was hosts.old number.old out.old.page.now (written_by W.Sink out.old)
+        → TellsAs C.rules (T.tale first.now) began was hosts.new result number.new out.new.page.now (written_by W.Sink out.new) }
+    ensures mark { write_failed W.Sink out.new ≡ (write_failed W.Sink out.old || is_write_failed result) }
+    ensures same_outlet { SameOutlet out.old out.new }
 {
-    match play_event::<C, T, W>(first, hosts, event, number, page, sink) {
-        Ok(()) => match let_out(lines, page, sink) {
+    match play_event::<C, T, W>(first, hosts, event, number, out) {
+        Ok(()) => match let_out(lines, out) {
             Ok(()) => Ok(()),
             Err(_) => Err(PlayFault::WriteFailed),
         },

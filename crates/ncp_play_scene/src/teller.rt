@@ -1,10 +1,10 @@
 //! `Teller`: what a player tells of the notes of hosts.
 ghost use Rattle.std.specs.Prelude.{◌≡◌, ◌+◌, ◌≤◌, ◌||◌, ◌++◌, ◌∷◌, [], List, is_err};
-ghost use Rattle.ncp_play_stream.specs.Pieces.{bytes_and_writes, lost_pieces};
-ghost use Rattle.ncp_play_stream.specs.Streams.{SaysTextOrBeginning};
+ghost use Rattle.ncp_play_page.specs.Outlets.{SameOutlet, write_failed, credit, SaysOrBreaks};
+ghost use Rattle.ncp_play_stream.specs.Pieces.{lost_pieces};
 
 use crate::scene::Scene;
-use ncp_play_page::Page;
+use ncp_play_page::{Outlet, Page};
 use ncp_play_stream::{Failed, Sink};
 
 /// What a player tells of the notes of hosts: their lines, or what stands in place of lines.
@@ -24,10 +24,11 @@ pub trait Teller<C: Scene> {
         first: &C::First,
         hosts: &C::Hosts,
         number: u32,
-        page: &mut Page,
-        sink: &mut W,
+        out: &mut Outlet<'_, W>,
     ) -> Result<(), Failed>
-        ensures told { (before : List C.Note) (note : C.Note) → C.rules.notes hosts.now ≡ before ++ note ∷ [] → SaysTextOrBeginning page.old (W.written sink.old) ((tale first.now).of_note number note hosts.now) result page.new (W.written sink.new) }
-        ensures writes { bytes_and_writes W.takes_all (W.writes sink.old) (W.written sink.old) ≤ bytes_and_writes W.takes_all (W.writes sink.new) (W.written sink.new) + lost_pieces (is_err result) }
-        ensures mark { W.has_failed sink.new ≡ (W.has_failed sink.old || is_err result) };
+        ensures told { (before : List C.Note) (note : C.Note) → C.rules.notes hosts.now ≡ before ++ note ∷ []
+            → SaysOrBreaks W.Sink out.old ((tale first.now).of_note number note hosts.now) result out.new }
+        ensures writes { credit W.Sink out.old ≤ credit W.Sink out.new + lost_pieces (is_err result) }
+        ensures mark { write_failed W.Sink out.new ≡ (write_failed W.Sink out.old || is_err result) }
+        ensures same_outlet { SameOutlet out.old out.new };
 }

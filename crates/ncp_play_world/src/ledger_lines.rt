@@ -1,12 +1,12 @@
 //! The line of a ledger that is watched.
-ghost use Rattle.std.specs.Prelude.{◌≡◌, ◌+◌, ◌≤◌, ◌||◌, ◌++◌, codes, length, is_err};
-ghost use Rattle.ncp_play_stream.specs.Pieces.{bytes_and_writes, lost_pieces};
-ghost use Rattle.ncp_play_stream.specs.Streams.{SaysTextOrBeginning};
+ghost use Rattle.std.specs.Prelude.{◌≡◌, ◌+◌, ◌≤◌, ◌||◌, ◌++◌, length, is_err};
+ghost use Rattle.ncp_play_page.specs.Outlets.{SameOutlet, write_failed, credit, SaysOrBreaks};
+ghost use Rattle.ncp_play_stream.specs.Pieces.{lost_pieces};
 ghost use Rattle.ncp_transcript_two.specs.Ledgers.{ledger_of};
 ghost use Rattle.ncp_play_world.specs.LedgerLines.{amount_words, ledger_words, watched_line, ledger_line};
 
 use ncp_bits::BitStore;
-use ncp_play_page::{LONGEST_LONG, PAGE_SIZE, Page};
+use ncp_play_page::{LONGEST_LONG, Outlet, PAGE_SIZE, Page};
 use ncp_play_stream::{Failed, Sink};
 use ncp_play_world_lines::Watch;
 use ncp_world::{Amount, Ledger, World};
@@ -65,33 +65,33 @@ fn push_watched<S: BitStore>(page: &mut Page, watch: Watch, world: &World<S>)
 
 // Says the line of the ledger that is watched.
 fn say_watched<S: BitStore, W: Sink>(
-    page: &mut Page,
-    sink: &mut W,
+    out: &mut Outlet<'_, W>,
     watch: Watch,
     world: &World<S>,
 ) -> Result<(), Failed>
-    ensures told { SaysTextOrBeginning page.old (W.written sink.old) (watched_line watch world.now.hosts) result page.new (W.written sink.new) }
-    ensures writes { bytes_and_writes W.takes_all (W.writes sink.old) (W.written sink.old) ≤ bytes_and_writes W.takes_all (W.writes sink.new) (W.written sink.new) + lost_pieces (is_err result) }
-    ensures mark { W.has_failed sink.new ≡ (W.has_failed sink.old || is_err result) }
+    ensures told { SaysOrBreaks W.Sink out.old (watched_line watch world.now.hosts) result out.new }
+    ensures writes { credit W.Sink out.old ≤ credit W.Sink out.new + lost_pieces (is_err result) }
+    ensures mark { write_failed W.Sink out.new ≡ (write_failed W.Sink out.old || is_err result) }
+    ensures same_outlet { SameOutlet out.old out.new }
 {
-    page.make_room(sink, LONGEST_LINE)?;
-    push_watched(page, watch, world);
+    out.make_room(LONGEST_LINE)?;
+    push_watched(out.page, watch, world);
     Ok(())
 }
 
 /// Says the line of the ledger that is watched, if one is.
 pub(crate) fn say_ledger<S: BitStore, W: Sink>(
-    page: &mut Page,
-    sink: &mut W,
+    out: &mut Outlet<'_, W>,
     watch: Option<Watch>,
     world: &World<S>,
 ) -> Result<(), Failed>
-    ensures told { SaysTextOrBeginning page.old (W.written sink.old) (ledger_line watch world.now.hosts) result page.new (W.written sink.new) }
-    ensures writes { bytes_and_writes W.takes_all (W.writes sink.old) (W.written sink.old) ≤ bytes_and_writes W.takes_all (W.writes sink.new) (W.written sink.new) + lost_pieces (is_err result) }
-    ensures mark { W.has_failed sink.new ≡ (W.has_failed sink.old || is_err result) }
+    ensures told { SaysOrBreaks W.Sink out.old (ledger_line watch world.now.hosts) result out.new }
+    ensures writes { credit W.Sink out.old ≤ credit W.Sink out.new + lost_pieces (is_err result) }
+    ensures mark { write_failed W.Sink out.new ≡ (write_failed W.Sink out.old || is_err result) }
+    ensures same_outlet { SameOutlet out.old out.new }
 {
     match watch {
-        Some(watch) => say_watched(page, sink, watch, world),
+        Some(watch) => say_watched(out, watch, world),
         None => Ok(()),
     }
 }

@@ -6,7 +6,7 @@ use crate::many_staged::ManyStaged;
 use crate::two::TwoPlayed;
 use crate::two_staged::TwoStaged;
 use ncp_bits::BitStore;
-use ncp_play_page::Page;
+use ncp_play_page::{Outlet, Page};
 use ncp_play_scene::Teller;
 use ncp_play_stream::{Failed, Sink};
 use ncp_play_world_lines::{FirstLine, Trace, say_many_note, say_settled, say_world_note};
@@ -26,15 +26,14 @@ impl<S: BitStore> Teller<TwoPlayed<S>> for NoteLines {
         first: &FirstLine,
         hosts: &TwoStaged<S>,
         number: u32,
-        page: &mut Page,
-        sink: &mut W,
+        out: &mut Outlet<'_, W>,
     ) -> Result<(), Failed> {
         match hosts.last() {
             Some(Trace::Noted(note)) => {
-                say_world_note(page, sink, number, note)?;
-                say_ledger(page, sink, first.watch, hosts.world())
+                say_world_note(out, number, note)?;
+                say_ledger(out, first.watch, hosts.world())
             }
-            Some(Trace::Settled(many)) => say_settled(page, sink, number, many),
+            Some(Trace::Settled(many)) => say_settled(out, number, many),
             None => Ok(()),
         }
     }
@@ -51,12 +50,11 @@ impl<S: BitStore> Teller<ManyPlayed<S>> for NoteLines {
         _first: &ManyHosts,
         hosts: &ManyStaged<S>,
         number: u32,
-        page: &mut Page,
-        sink: &mut W,
+        out: &mut Outlet<'_, W>,
     ) -> Result<(), Failed> {
         match hosts.last() {
-            Some(Trace::Noted(note)) => say_many_note(page, sink, number, note),
-            Some(Trace::Settled(many)) => say_settled(page, sink, number, many),
+            Some(Trace::Noted(note)) => say_many_note(out, number, note),
+            Some(Trace::Settled(many)) => say_settled(out, number, many),
             None => Ok(()),
         }
     }

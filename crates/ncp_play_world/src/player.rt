@@ -37,8 +37,12 @@ pub fn play_script<
 
     // Of bytes that are told, the events of the script happened in order, up to its first fault; their notes
     // are a transcript; and what is told of them is written, and nothing else.
-    ensures told { (bytes : List ℕ) (was : List ℕ) → R.left source.old ≡ Some bytes → W.written sink.old ≡ Some was → is_many_script bytes ≡ false → PlaysWorld T.tale bytes was result (R.left source.new) (W.written sink.new) }
-    ensures many { (bytes : List ℕ) (was : List ℕ) → R.left source.old ≡ Some bytes → W.written sink.old ≡ Some was → is_many_script bytes ≡ true → PlaysMany M.tale bytes was result (R.left source.new) (W.written sink.new) }
+    ensures told { (bytes : List ℕ) (was : List ℕ)
+        → R.left source.old ≡ Some bytes → W.written sink.old ≡ Some was → is_many_script bytes ≡ false
+        → PlaysWorld T.tale bytes was result (R.left source.new) (W.written sink.new) }
+    ensures many { (bytes : List ℕ) (was : List ℕ)
+        → R.left source.old ≡ Some bytes → W.written sink.old ≡ Some was → is_many_script bytes ≡ true
+        → PlaysMany M.tale bytes was result (R.left source.new) (W.written sink.new) }
 
     // Reading and writing are blamed only where they failed.
     ensures read_failed { is_read_failed result ≡ true → R.has_failed source.new ≡ true }
@@ -65,8 +69,12 @@ pub fn play_world<S: BitStore, R: Source, W: Sink>(
 
     // Of bytes that are told, the events of the script happened in order, up to its first fault; their notes
     // are a transcript; and their lines are written, and nothing else.
-    ensures told { (bytes : List ℕ) (was : List ℕ) → R.left source.old ≡ Some bytes → W.written sink.old ≡ Some was → is_many_script bytes ≡ false → PlaysWorld lines_of_script bytes was result (R.left source.new) (W.written sink.new) }
-    ensures many { (bytes : List ℕ) (was : List ℕ) → R.left source.old ≡ Some bytes → W.written sink.old ≡ Some was → is_many_script bytes ≡ true → PlaysMany lines_of_many bytes was result (R.left source.new) (W.written sink.new) }
+    ensures told { (bytes : List ℕ) (was : List ℕ)
+        → R.left source.old ≡ Some bytes → W.written sink.old ≡ Some was → is_many_script bytes ≡ false
+        → PlaysWorld lines_of_script bytes was result (R.left source.new) (W.written sink.new) }
+    ensures many { (bytes : List ℕ) (was : List ℕ)
+        → R.left source.old ≡ Some bytes → W.written sink.old ≡ Some was → is_many_script bytes ≡ true
+        → PlaysMany lines_of_many bytes was result (R.left source.new) (W.written sink.new) }
 
     // Reading and writing are blamed only where they failed.
     ensures read_failed { is_read_failed result ≡ true → R.has_failed source.new ≡ true }

@@ -14,7 +14,7 @@ use crate::two_staged::TwoStaged;
 use ncp_bits::BitStore;
 use ncp_play_files::{Version, push_header};
 use ncp_play_notes::PlayFault;
-use ncp_play_page::Page;
+use ncp_play_page::{Outlet, Page};
 use ncp_play_scene::Teller;
 use ncp_play_stream::{Failed, Sink, Source};
 use ncp_play_world_lines::{FirstLine, Trace, say_many_record, say_world_record};
@@ -36,11 +36,10 @@ impl<S: BitStore> Teller<TwoPlayed<S>> for Recorder {
         first: &FirstLine,
         hosts: &TwoStaged<S>,
         _number: u32,
-        page: &mut Page,
-        sink: &mut W,
+        out: &mut Outlet<'_, W>,
     ) -> Result<(), Failed> {
         match hosts.last() {
-            Some(Trace::Noted(note)) => say_world_record(page, sink, first.hosts, note),
+            Some(Trace::Noted(note)) => say_world_record(out, first.hosts, note),
             Some(Trace::Settled(_)) => Ok(()),
             None => Ok(()),
         }
@@ -60,11 +59,10 @@ impl<S: BitStore> Teller<ManyPlayed<S>> for Recorder {
         _first: &ManyHosts,
         hosts: &ManyStaged<S>,
         _number: u32,
-        page: &mut Page,
-        sink: &mut W,
+        out: &mut Outlet<'_, W>,
     ) -> Result<(), Failed> {
         match hosts.last() {
-            Some(Trace::Noted(note)) => say_many_record(page, sink, note),
+            Some(Trace::Noted(note)) => say_many_record(out, note),
             Some(Trace::Settled(_)) => Ok(()),
             None => Ok(()),
         }
@@ -89,8 +87,12 @@ pub fn record_world<S: BitStore, R: Source, W: Sink>(
 
     // Of bytes that are told, the events of the script happened in order, up to its first fault, and the
     // file of what is recorded of their notes is written, and nothing else.
-    ensures told { (bytes : List ℕ) (was : List ℕ) → R.left source.old ≡ Some bytes → W.written sink.old ≡ Some was → is_many_script bytes ≡ false → PlaysWorld recording_of bytes was result (R.left source.new) (W.written sink.new) }
-    ensures many { (bytes : List ℕ) (was : List ℕ) → R.left source.old ≡ Some bytes → W.written sink.old ≡ Some was → is_many_script bytes ≡ true → PlaysMany recording_of_many bytes was result (R.left source.new) (W.written sink.new) }
+    ensures told { (bytes : List ℕ) (was : List ℕ)
+        → R.left source.old ≡ Some bytes → W.written sink.old ≡ Some was → is_many_script bytes ≡ false
+        → PlaysWorld recording_of bytes was result (R.left source.new) (W.written sink.new) }
+    ensures many { (bytes : List ℕ) (was : List ℕ)
+        → R.left source.old ≡ Some bytes → W.written sink.old ≡ Some was → is_many_script bytes ≡ true
+        → PlaysMany recording_of_many bytes was result (R.left source.new) (W.written sink.new) }
 
     // Reading and writing are blamed only where they failed.
     ensures read_failed { is_read_failed result ≡ true → R.has_failed source.new ≡ true }

@@ -1,1 +1,2 @@
 mod Turned
+pub mod MoveLines

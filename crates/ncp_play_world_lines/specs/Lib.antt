@@ -1,6 +1,7 @@
 pub mod Moves
 pub mod WorldLines
 pub mod FirstLine
+pub mod MoveLines
 pub mod WorldNotes
 pub mod ManyLines
 pub mod ManyNotes

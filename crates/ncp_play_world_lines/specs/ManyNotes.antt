@@ -1,43 +1,41 @@
 -- The lines of a note of two to eight hosts, as functions of the note and its number (this profile).
-use Rattle.std.specs.Prelude.{ℕ, List, [], ◌++◌, codes}
-use Rattle.ncp_play_page.specs.Lines.{field}
+use Rattle.std.specs.Prelude.{ℕ, List, [], Some, codes}
 use Rattle.ncp_play_notes.specs.declared.heading.Heading.{Heading}
 use Rattle.ncp_play_notes.specs.declared.heading.Speaker.TheVariants as speakers
-use Rattle.ncp_play_notes.specs.NoteLines.{front, note_lines}
+use Rattle.ncp_play_notes.specs.NoteLines.{note_lines}
 use Rattle.ncp_transcript_two.specs.declared.note.Move.{Move}
 use Rattle.ncp_transcript_two.specs.declared.note.Move.TheVariants as moves
 use Rattle.ncp_transcript_many.specs.declared.many_event.ManyEvent.{ManyEvent}
 use Rattle.ncp_transcript_many.specs.declared.many_event.ManyEvent.TheVariants as events
 use Rattle.ncp_transcript_many.specs.declared.many_note.ManyNote.{ManyNote}
 use Rattle.ncp_transcript_many.specs.declared.many_note.ManyNote.TheVariants as many
-use Rattle.ncp_play_world_lines.specs.Moves.{word_of}
-use Rattle.ncp_play_world_lines.specs.WorldNotes.{came_words, answer_words}
+use Rattle.ncp_play_world_lines.specs.declared.move_line.Moved.{Moved}
+use Rattle.ncp_play_world_lines.specs.MoveLines.{came_words, answer_words, move_line}
 
 -- what a line of a host begins with
 abbrev pub heading_at : ℕ → ℕ → Heading
 heading_at number host = record { number = number; speaker = speakers.Number host }
 
--- the line of a move of a message on a link from a host to another, with what came of it
-abbrev pub many_move_line : ℕ → ℕ → ℕ → Move → ℕ → List ℕ → List ℕ
-many_move_line number from to wanted link outcome =
-    front (heading_at number from) ++ codes " " ++ word_of wanted ++ field (codes " ") to ++ field (codes " ") link ++ codes " " ++ outcome ++ codes "\n"
+-- a move of a message on a link from a host to another
+abbrev pub moved_among : ℕ → ℕ → ℕ → Move → ℕ → Moved
+moved_among number from to wanted link = record { heading = heading_at number from; to = Some to; wanted = wanted; link = link }
 
 -- the line of a move that was not possible; calls and messages of hosts that are not there have none, since no script
 -- asks for them
 abbrev pub vain_line : ℕ → ManyEvent → List ℕ
-vain_line number (events.Deliver from to link) = many_move_line number from to moves.Deliver link (codes "nothing")
-vain_line number (events.Lose from to link) = many_move_line number from to moves.Lose link (codes "nothing")
-vain_line number (events.Dead from to link) = many_move_line number from to moves.Dead link (codes "nothing")
-vain_line number (events.Answer from to link) = many_move_line number from to moves.Answer link (codes "nothing")
+vain_line number (events.Deliver from to link) = move_line (moved_among number from to moves.Deliver link) (codes "nothing")
+vain_line number (events.Lose from to link) = move_line (moved_among number from to moves.Lose link) (codes "nothing")
+vain_line number (events.Dead from to link) = move_line (moved_among number from to moves.Dead link) (codes "nothing")
+vain_line number (events.Answer from to link) = move_line (moved_among number from to moves.Answer link) (codes "nothing")
 vain_line number (events.Call host call) = []
 vain_line number (events.Out host) = []
 
 -- the line of what the subnet did
 abbrev pub many_subnet_line : ℕ → ManyNote → List ℕ
-many_subnet_line number (many.Came from to link note) = many_move_line number from to moves.Deliver link (came_words note)
-many_subnet_line number (many.Lost from to link) = many_move_line number from to moves.Lose link (codes "ok")
-many_subnet_line number (many.FoundDead from to link) = many_move_line number from to moves.Dead link (codes "ok")
-many_subnet_line number (many.Answered from to link note) = many_move_line number from to moves.Answer link (answer_words note)
+many_subnet_line number (many.Came from to link note) = move_line (moved_among number from to moves.Deliver link) (came_words note)
+many_subnet_line number (many.Lost from to link) = move_line (moved_among number from to moves.Lose link) (codes "ok")
+many_subnet_line number (many.FoundDead from to link) = move_line (moved_among number from to moves.Dead link) (codes "ok")
+many_subnet_line number (many.Answered from to link note) = move_line (moved_among number from to moves.Answer link) (answer_words note)
 many_subnet_line number (many.Nothing event) = vain_line number event
 many_subnet_line number (many.Called host note) = []
 many_subnet_line number (many.Out host note) = []

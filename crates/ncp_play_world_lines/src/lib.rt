@@ -13,6 +13,7 @@ mod first_line;
 pub mod laws;
 mod many_lines;
 mod many_notes;
+mod move_line;
 mod moves;
 mod recording;
 mod settling;

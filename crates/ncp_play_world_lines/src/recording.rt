@@ -1,16 +1,16 @@
 //! What is recorded of a note of two hosts, and of one of two to eight.
 ghost use Rattle.std.specs.Prelude.{◌≡◌, ◌+◌, ◌≤◌, ◌||◌, is_err};
+ghost use Rattle.ncp_play_page.specs.Outlets.{SameOutlet, write_failed, credit, SaysOrBreaks};
 ghost use Rattle.ncp_subnet.specs.Messages.{answer_bits};
 ghost use Rattle.ncp_transcript_two.specs.Between.{other};
-ghost use Rattle.ncp_play_stream.specs.Pieces.{bytes_and_writes, lost_pieces};
-ghost use Rattle.ncp_play_stream.specs.Streams.{SaysTextOrBeginning};
+ghost use Rattle.ncp_play_stream.specs.Pieces.{lost_pieces};
 ghost use Rattle.ncp_play_files.specs.Versions.{placed};
 ghost use Rattle.ncp_play_world_lines.specs.Recorded.{number_of, kind_of, sent_from, came_to, bytes_if, note_bytes, many_note_bytes};
 
 use ncp_bits::Bits;
 use ncp_leader::{DESTINATION_DEAD, INCOMPLETE, Leader, MAX_KIND, RFNM, put_leader};
 use ncp_play_files::{Direction, Passage, say_message};
-use ncp_play_page::Page;
+use ncp_play_page::Outlet;
 use ncp_play_script::TwoHosts;
 use ncp_play_stream::{Failed, Sink};
 use ncp_terms::Answer;
@@ -75,15 +75,15 @@ fn passage_at(direction: Direction, host: u8) -> Passage
 }
 
 // Says what went out from a host, if a message did.
-fn say_sent<W: Sink>(page: &mut Page, sink: &mut W, host: u8, note: &HostNote) -> Result<(), Failed>
-    ensures told { SaysTextOrBeginning page.old (W.written sink.old) (bytes_if (sent_from host note.now)) result page.new (W.written sink.new) }
-    ensures writes { bytes_and_writes W.takes_all (W.writes sink.old) (W.written sink.old) ≤ bytes_and_writes W.takes_all (W.writes sink.new) (W.written sink.new) + lost_pieces (is_err result) }
-    ensures mark { W.has_failed sink.new ≡ (W.has_failed sink.old || is_err result) }
+fn say_sent<W: Sink>(out: &mut Outlet<'_, W>, host: u8, note: &HostNote) -> Result<(), Failed>
+    ensures told { SaysOrBreaks W.Sink out.old (bytes_if (sent_from host note.now)) result out.new }
+    ensures writes { credit W.Sink out.old ≤ credit W.Sink out.new + lost_pieces (is_err result) }
+    ensures mark { write_failed W.Sink out.new ≡ (write_failed W.Sink out.old || is_err result) }
+    ensures same_outlet { SameOutlet out.old out.new }
 {
     match note {
         HostNote::Out { message } => say_message(
-            page,
-            sink,
+            out,
             passage_at(Direction::ToImp, host),
             &message.to_bits(),
         ),
@@ -92,10 +92,11 @@ fn say_sent<W: Sink>(page: &mut Page, sink: &mut W, host: u8, note: &HostNote) -
 }
 
 // Says what came to a host.
-fn say_came<W: Sink>(page: &mut Page, sink: &mut W, host: u8, note: &HostNote) -> Result<(), Failed>
-    ensures told { SaysTextOrBeginning page.old (W.written sink.old) (bytes_if (came_to host note.now)) result page.new (W.written sink.new) }
-    ensures writes { bytes_and_writes W.takes_all (W.writes sink.old) (W.written sink.old) ≤ bytes_and_writes W.takes_all (W.writes sink.new) (W.written sink.new) + lost_pieces (is_err result) }
-    ensures mark { W.has_failed sink.new ≡ (W.has_failed sink.old || is_err result) }
+fn say_came<W: Sink>(out: &mut Outlet<'_, W>, host: u8, note: &HostNote) -> Result<(), Failed>
+    ensures told { SaysOrBreaks W.Sink out.old (bytes_if (came_to host note.now)) result out.new }
+    ensures writes { credit W.Sink out.old ≤ credit W.Sink out.new + lost_pieces (is_err result) }
+    ensures mark { write_failed W.Sink out.new ≡ (write_failed W.Sink out.old || is_err result) }
+    ensures same_outlet { SameOutlet out.old out.new }
 {
     let message = match note {
         HostNote::In { message, .. } => message.to_bits(),
@@ -107,7 +108,7 @@ fn say_came<W: Sink>(page: &mut Page, sink: &mut W, host: u8, note: &HostNote) -
         } => answer_bits(*answer, *peer, *link),
         _ => return Ok(()),
     };
-    say_message(page, sink, passage_at(Direction::FromImp, host), &message)
+    say_message(out, passage_at(Direction::FromImp, host), &message)
 }
 
 /// Says what is recorded of a note of these hosts, if anything is: a message that went out, at its
@@ -116,37 +117,34 @@ fn say_came<W: Sink>(page: &mut Page, sink: &mut W, host: u8, note: &HostNote) -
 ///
 /// After a failed write a beginning of what was said is written. It allocates nothing.
 pub fn say_world_record<W: Sink>(
-    page: &mut Page,
-    sink: &mut W,
+    out: &mut Outlet<'_, W>,
     hosts: TwoHosts,
     note: &Note,
 ) -> Result<(), Failed>
-    ensures told { SaysTextOrBeginning page.old (W.written sink.old) (note_bytes hosts note.now) result page.new (W.written sink.new) }
-    ensures writes { bytes_and_writes W.takes_all (W.writes sink.old) (W.written sink.old) ≤ bytes_and_writes W.takes_all (W.writes sink.new) (W.written sink.new) + lost_pieces (is_err result) }
-    ensures mark { W.has_failed sink.new ≡ (W.has_failed sink.old || is_err result) }
+    ensures told { SaysOrBreaks W.Sink out.old (note_bytes hosts note.now) result out.new }
+    ensures writes { credit W.Sink out.old ≤ credit W.Sink out.new + lost_pieces (is_err result) }
+    ensures mark { write_failed W.Sink out.new ≡ (write_failed W.Sink out.old || is_err result) }
+    ensures same_outlet { SameOutlet out.old out.new }
 {
     match note {
-        Note::Out { side, note } => say_sent(page, sink, number_of(hosts, *side), note),
-        Note::Came { side, note, .. } => say_came(page, sink, number_of(hosts, other(*side)), note),
-        Note::Answered { side, note, .. } => say_came(page, sink, number_of(hosts, *side), note),
+        Note::Out { side, note } => say_sent(out, number_of(hosts, *side), note),
+        Note::Came { side, note, .. } => say_came(out, number_of(hosts, other(*side)), note),
+        Note::Answered { side, note, .. } => say_came(out, number_of(hosts, *side), note),
         _ => Ok(()),
     }
 }
 
 /// Says what is recorded of a note of two to eight hosts, if anything is, as [`say_world_record`] does of two.
-pub fn say_many_record<W: Sink>(
-    page: &mut Page,
-    sink: &mut W,
-    note: &ManyNote,
-) -> Result<(), Failed>
-    ensures told { SaysTextOrBeginning page.old (W.written sink.old) (many_note_bytes note.now) result page.new (W.written sink.new) }
-    ensures writes { bytes_and_writes W.takes_all (W.writes sink.old) (W.written sink.old) ≤ bytes_and_writes W.takes_all (W.writes sink.new) (W.written sink.new) + lost_pieces (is_err result) }
-    ensures mark { W.has_failed sink.new ≡ (W.has_failed sink.old || is_err result) }
+pub fn say_many_record<W: Sink>(out: &mut Outlet<'_, W>, note: &ManyNote) -> Result<(), Failed>
+    ensures told { SaysOrBreaks W.Sink out.old (many_note_bytes note.now) result out.new }
+    ensures writes { credit W.Sink out.old ≤ credit W.Sink out.new + lost_pieces (is_err result) }
+    ensures mark { write_failed W.Sink out.new ≡ (write_failed W.Sink out.old || is_err result) }
+    ensures same_outlet { SameOutlet out.old out.new }
 {
     match note {
-        ManyNote::Out { host, note } => say_sent(page, sink, *host, note),
-        ManyNote::Came { to, note, .. } => say_came(page, sink, *to, note),
-        ManyNote::Answered { from, note, .. } => say_came(page, sink, *from, note),
+        ManyNote::Out { host, note } => say_sent(out, *host, note),
+        ManyNote::Came { to, note, .. } => say_came(out, *to, note),
+        ManyNote::Answered { from, note, .. } => say_came(out, *from, note),
         _ => Ok(()),
     }
 }

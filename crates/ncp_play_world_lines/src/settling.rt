@@ -1,11 +1,11 @@
 //! The word `settle` of scripts of several hosts, and the line that is told of it.
 ghost use Rattle.std.specs.Prelude.{◌≡◌, ◌+◌, ◌≤◌, ◌||◌, ◌++◌, codes, length, is_err};
-ghost use Rattle.ncp_play_stream.specs.Pieces.{bytes_and_writes, lost_pieces};
-ghost use Rattle.ncp_play_stream.specs.Streams.{SaysTextOrBeginning};
+ghost use Rattle.ncp_play_page.specs.Outlets.{SameOutlet, write_failed, credit, SaysOrBreaks};
+ghost use Rattle.ncp_play_stream.specs.Pieces.{lost_pieces};
 ghost use Rattle.ncp_play_script.specs.Words.{is_only};
 ghost use Rattle.ncp_play_world_lines.specs.Settling.{settled_line};
 
-use ncp_play_page::{LONGEST_LONG, LONGEST_NUMBER, PAGE_SIZE, Page};
+use ncp_play_page::{LONGEST_LONG, LONGEST_NUMBER, Outlet, PAGE_SIZE, Page};
 use ncp_play_script::Words;
 use ncp_play_stream::{Failed, Sink};
 
@@ -52,17 +52,13 @@ fn push_settled(page: &mut Page, number: u32, many: usize)
 /// Says the line of this number that says how many events there were.
 ///
 /// After a failed write a beginning of what was said is written. It allocates nothing.
-pub fn say_settled<W: Sink>(
-    page: &mut Page,
-    sink: &mut W,
-    number: u32,
-    many: usize,
-) -> Result<(), Failed>
-    ensures told { SaysTextOrBeginning page.old (W.written sink.old) (settled_line number many) result page.new (W.written sink.new) }
-    ensures writes { bytes_and_writes W.takes_all (W.writes sink.old) (W.written sink.old) ≤ bytes_and_writes W.takes_all (W.writes sink.new) (W.written sink.new) + lost_pieces (is_err result) }
-    ensures mark { W.has_failed sink.new ≡ (W.has_failed sink.old || is_err result) }
+pub fn say_settled<W: Sink>(out: &mut Outlet<'_, W>, number: u32, many: usize) -> Result<(), Failed>
+    ensures told { SaysOrBreaks W.Sink out.old (settled_line number many) result out.new }
+    ensures writes { credit W.Sink out.old ≤ credit W.Sink out.new + lost_pieces (is_err result) }
+    ensures mark { write_failed W.Sink out.new ≡ (write_failed W.Sink out.old || is_err result) }
+    ensures same_outlet { SameOutlet out.old out.new }
 {
-    page.make_room(sink, LONGEST_LINE)?;
-    push_settled(page, number, many);
+    out.make_room(LONGEST_LINE)?;
+    push_settled(out.page, number, many);
     Ok(())
 }

@@ -6,7 +6,7 @@ mod lines;
 use ncp_bits::PackedStore;
 use ncp_play_feed::feed;
 use ncp_play_notes::{Heading, PlayFault, Speaker};
-use ncp_play_page::{Page, Window};
+use ncp_play_page::{Inlet, Outlet, Page, Window};
 use ncp_play_stream::{MemorySink, MemorySource, Sink, Source};
 use ncp_transcript::Alone;
 use std::alloc::Global;
@@ -37,14 +37,15 @@ fn fed_to_page<R: Source, W: Sink>(
     };
     let mut window = Window::new();
     let mut page = Page::new();
-    let answer = feed(
-        &mut alone,
-        &mut heading,
-        &mut window,
+    let mut input = Inlet {
+        window: &mut window,
         source,
-        &mut page,
+    };
+    let mut out = Outlet {
+        page: &mut page,
         sink,
-    );
+    };
+    let answer = feed(&mut alone, &mut heading, &mut input, &mut out);
     Ok((answer, page))
 }
 

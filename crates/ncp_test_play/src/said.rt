@@ -2,7 +2,7 @@
 //! test.
 use ncp_bits::{Bits, PackedStore};
 use ncp_play_notes::{Heading, PlayFault, Speaker, play_input, say_note};
-use ncp_play_page::Page;
+use ncp_play_page::{Outlet, Page};
 use ncp_play_script::{HostLine, Words, host_line};
 use ncp_play_stream::MemorySink;
 use ncp_transcript::{Alone, HostNote, Input, Message};
@@ -28,8 +28,12 @@ pub(crate) fn message(alloc: Global, bytes: &[u8]) -> Result<Message, Fail> {
 fn said(alloc: Global, heading: Heading, note: &HostNote) -> Option<MemorySink> {
     let mut page = Page::new();
     let mut sink = MemorySink::new(alloc, ROOM, None).ok()?;
-    say_note(&mut page, &mut sink, heading, note).ok()?;
-    page.flush(&mut sink).ok()?;
+    let mut out = Outlet {
+        page: &mut page,
+        sink: &mut sink,
+    };
+    say_note(&mut out, heading, note).ok()?;
+    out.flush().ok()?;
     Some(sink)
 }
 
@@ -70,15 +74,19 @@ pub(crate) fn expect_run(
     let mut alone = Alone::<PackedStore>::new(alloc, ME, &[PEER])?;
     let mut sink = MemorySink::new(alloc, ROOM, None)?;
     let mut page = Page::new();
+    let mut out = Outlet {
+        page: &mut page,
+        sink: &mut sink,
+    };
     let mut heading = Heading {
         number: 1,
         speaker: Speaker::Host,
     };
     for line in inputs {
         let input = input_in(alloc, line)?;
-        play_input(&mut alone, &input, &mut heading, &mut page, &mut sink)?;
+        play_input(&mut alone, &input, &mut heading, &mut out)?;
     }
-    page.flush(&mut sink)?;
+    out.flush()?;
     assert!(rt; sink.bytes() == lines);
     Ok(())
 }

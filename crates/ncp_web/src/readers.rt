@@ -21,7 +21,7 @@ use ncp_bits::Bits;
 use ncp_host::Pair;
 use ncp_many::{ManyEvent, ManyNote};
 use ncp_play_files::{LONGEST_LINE, push_item};
-use ncp_play_page::Page;
+use ncp_play_page::{Outlet, Page};
 use ncp_play_script::Words;
 use ncp_play_stream::{Failed, MemorySink};
 use ncp_play_world_lines::{many_line, say_many_note, say_world_note, world_line};
@@ -173,8 +173,12 @@ fn say_two(number: u32, note: &Note, sink: &mut MemorySink) -> Result<(), Failed
     ensures { IsSaid (world_note_lines number note.now) result sink.new.written }
 {
     let mut page = Page::new();
-    match say_world_note(&mut page, sink, number, note) {
-        Ok(()) => page.flush(sink),
+    let mut out = Outlet {
+        page: &mut page,
+        sink,
+    };
+    match say_world_note(&mut out, number, note) {
+        Ok(()) => out.flush(),
         Err(failed) => Err(failed),
     }
 }
@@ -185,8 +189,12 @@ fn say_many(number: u32, note: &ManyNote, sink: &mut MemorySink) -> Result<(), F
     ensures { IsSaid (many_note_lines number note.now) result sink.new.written }
 {
     let mut page = Page::new();
-    match say_many_note(&mut page, sink, number, note) {
-        Ok(()) => page.flush(sink),
+    let mut out = Outlet {
+        page: &mut page,
+        sink,
+    };
+    match say_many_note(&mut out, number, note) {
+        Ok(()) => out.flush(),
         Err(failed) => Err(failed),
     }
 }

@@ -1,10 +1,11 @@
 //! A line of a script, played note by note.
 ghost use Rattle.std.specs.Prelude.{◌≡◌, if◌then◌else◌, [], Some};
+ghost use Rattle.ncp_play_page.specs.Outlets.{SameOutlet};
 ghost use Rattle.ncp_web.specs.Sessions.{Notes, Reads, Steps, StepsStage, number_of};
 
 use crate::stage::{Refusal, Stage};
 use ncp_bits::PackedStore;
-use ncp_play_page::Page;
+use ncp_play_page::{Outlet, Page};
 use ncp_play_scene::{Scene, Teller};
 use ncp_play_script::Words;
 use ncp_play_stream::MemorySink;
@@ -32,10 +33,10 @@ fn noted<C: Scene, T: Teller<C>>(
     hosts: &mut C::Hosts,
     event: &C::Event,
     left: &mut usize,
-    page: &mut Page,
-    sink: &mut MemorySink,
+    out: &mut Outlet<'_, MemorySink>,
 ) -> Result<bool, Refusal>
-    ensures { Notes C.rules (T.tale first.now) event.now left.old hosts.old result left.new hosts.new page.old (Some sink.old.written) page.new (Some sink.new.written) }
+    ensures notes { Notes C.rules (T.tale first.now) event.now left.old hosts.old result left.new hosts.new out.old.page.now (Some out.old.sink.now.written) out.new.page.now (Some out.new.sink.now.written) }
+    ensures same_outlet { SameOutlet out.old out.new }
 {
     let Some(next) = left.checked_add(1) else {
         return Err(Refusal::NoMemory);
@@ -44,7 +45,7 @@ fn noted<C: Scene, T: Teller<C>>(
         return Err(Refusal::NoMemory);
     };
     *left = left_then(more, next);
-    match T::say(first, hosts, number_of(C::told(hosts)), page, sink) {
+    match T::say(first, hosts, number_of(C::told(hosts)), out) {
         Ok(()) => Ok(more),
         Err(_) => Err(Refusal::Full),
     }
@@ -75,8 +76,12 @@ fn stepped<C: Scene, T: Teller<C>>(
 {
     let event = event_in::<C>(alloc, first, line)?;
     let mut page = Page::new();
-    let more = noted::<C, T>(first, hosts, &event, left, &mut page, sink)?;
-    match page.flush(sink) {
+    let mut out = Outlet {
+        page: &mut page,
+        sink,
+    };
+    let more = noted::<C, T>(first, hosts, &event, left, &mut out)?;
+    match out.flush() {
         Ok(()) => Ok(more),
         Err(_) => Err(Refusal::Full),
     }

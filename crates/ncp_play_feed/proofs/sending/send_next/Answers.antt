@@ -15,7 +15,7 @@ pub returns-in_err-play_input-clause-told : goal.returns-in_err-play_input-claus
 returns-in_err-play_input-clause-told g c = λ was first told.
     let p = err_from_is_err_and c.from_residual.result c.from_residual.ensures.1 in
     rw (p.1, p.2) (
-    told_as (Unit {0}) Bool was first c.play_input.new.alone.notes c.in_err-play_input.field-0.0 c.play_input.new.heading c.play_input.new.page (g.W.Sink.written c.play_input.new.sink)
+    told_as (Unit {0}) Bool was first c.play_input.new.alone.notes c.in_err-play_input.field-0.0 c.play_input.new.heading c.play_input.new.out.page.now (g.W.Sink.written c.play_input.new.out.sink.now)
     (c.in_err-play_input.ensures.told was first told))
 
 pub returns-clause-events : goal.returns-clause-events

@@ -40,8 +40,8 @@ returns-in-Err-clause-told g c = λ bytes was a f.
     let page : c.push_header.new.page ≡ header_of turn.to = c.push_header.ensures.bytes ∙ ap (λ (page : List ℕ). page ++ header_of turn.to) c.requires in
     let head : SaidSoFar was c.push_header.new.page (g.W.Sink.written c.args.out.now.sink.now) (header_of turn.to) = ([], f ∙ ap Some (sym (append-nil was)), page) in
     let broken = c.in-Err.ensures.told in
-    turned_broken turn.to turn.given (next_at turn.from turn.wanted) (at_front turn.from turn.wanted) was bytes read.0 c.take_on.new.message read.1 broken.0 c.say_message.new.page
-    (g.S.Source.left c.take_on.new.input.source.now) (g.W.Sink.written c.say_message.new.sink) (broken.1 was (header_of turn.to) head)
+    turned_broken turn.to turn.given (next_at turn.from turn.wanted) (at_front turn.from turn.wanted) was bytes read.0 c.take_on.new.message read.1 broken.0 c.say_message.new.out.page.now
+    (g.S.Source.left c.take_on.new.input.source.now) (g.W.Sink.written c.say_message.new.out.sink.now) (broken.1 was (header_of turn.to) head)
 
 pub returns-in_err-found-clause-writes : goal.returns-in_err-found-clause-writes
 returns-in_err-found-clause-writes g c = omega (arith, c.in_err-found.ensures.lowers)

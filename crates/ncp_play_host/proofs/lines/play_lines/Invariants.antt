@@ -1,7 +1,7 @@
 use Rattle.std.proofs.Common.{◌≡◌, ℕ, List, Option, Result}
+use Rattle.ncp_play_page.specs.Outlets.{SameOutlet, written_by, write_failed}
 use Rattle.ncp_transcript.specs.Alone.{Alone}
-use Rattle.ncp_play_stream.specs.Streams.{Ahead}
-use Rattle.ncp_play_page.specs.Windows.{effort}
+use Rattle.ncp_play_reader.specs.LentScripts.{SameScript, ScriptBrings, is_cut_off, script_work}
 use Rattle.ncp_play_notes.specs.declared.fault.PlayFault.{PlayFault}
 use Rattle.ncp_play_notes.specs.declared.heading.Heading.{Heading}
 use Rattle.ncp_play_notes.specs.Playing.{Tells}
@@ -14,12 +14,14 @@ abbrev pub invariant-loop-end : goal.invariant-loop-end
 invariant-loop-end g l =
     let s = g.R.Source in let w = g.W.Sink in
     record {
-      events : (bytes : List ℕ) → Ahead l.initial.lines.window (s.left l.initial.source) bytes → (now : List ℕ) × Ahead l.lines.window (s.left l.source) now
-          × ((r : Result LinesEnd PlayFault) (alone : Alone) (window : List ℕ) (left : Option (List ℕ)) → LinesDo l.lines.number now l.alone r alone window left → LinesDo l.initial.lines.number bytes l.initial.alone r alone window left);
-      told : (was : List ℕ) (first : Heading) → Tells was first l.initial.alone.notes l.initial.heading l.initial.page (w.written l.initial.sink) → Tells was first l.alone.notes l.heading l.page (w.written l.sink);
-      source_mark : s.has_failed l.source ≡ s.has_failed l.initial.source;
-      sink_mark : w.has_failed l.sink ≡ w.has_failed l.initial.sink;
+      events : (bytes : List ℕ) → ScriptBrings s l.initial.script bytes → (now : List ℕ) × ScriptBrings s l.script now
+          × ((r : Result LinesEnd PlayFault) (alone : Alone) (window : List ℕ) (left : Option (List ℕ)) → LinesDo l.script.lines.now.number now l.alone r alone window left → LinesDo l.initial.script.lines.now.number bytes l.initial.alone r alone window left);
+      told : (was : List ℕ) (first : Heading) → Tells was first l.initial.alone.notes l.initial.heading l.initial.out.page.now (written_by w l.initial.out) → Tells was first l.alone.notes l.heading l.out.page.now (written_by w l.out);
+      source_mark : is_cut_off s l.script ≡ is_cut_off s l.initial.script;
+      sink_mark : write_failed w l.out ≡ write_failed w l.initial.out;
+      same_script : SameScript l.initial.script l.script;
+      same_outlet : SameOutlet l.initial.out l.out;
     }
 
 abbrev pub decreases-loop-end : goal.decreases-loop-end
-decreases-loop-end g l = effort (g.R.Source.reads l.source) l.lines.window
+decreases-loop-end g l = script_work g.R.Source l.script

@@ -14,12 +14,12 @@ returns-then-is_err-clause-events g c = on_error (c.step.new.self ≡ c.args.alo
 pub returns-then-is_err-clause-told : goal.returns-then-is_err-clause-told
 returns-then-is_err-clause-told g c = λ was first told.
     let same = on_error (c.step.new.self ≡ c.args.alone.now) c.step.result c.step.ensures.err (sym c.is_err.ensures.value ∙ c.if-is_err.true) in
-    subst (λ (alone : Alone). Tells was first alone.notes c.args.heading.now c.args.page.now (g.W.Sink.written c.args.sink.now)) (sym same) told
+    subst (λ (alone : Alone). Tells was first alone.notes c.args.heading.now c.args.out.now.page.now (g.W.Sink.written c.args.out.now.sink.now)) (sym same) told
 
 pub returns-in-Ok-clause-told : goal.returns-in-Ok-clause-told
 returns-in-Ok-clause-told g c = λ was first told.
-    let w = g.W.Sink in let before = c.args.alone.now.notes in let page = c.args.page.now in let heading = c.args.heading.now in
-    let old = w.written c.args.sink.now in let now = w.written c.say_note.new.sink in let last = c.say_note.new.page in
+    let w = g.W.Sink in let before = c.args.alone.now.notes in let page = c.args.out.now.page.now in let heading = c.args.heading.now in
+    let old = w.written c.args.out.now.sink.now in let now = w.written c.say_note.new.out.sink.now in let last = c.say_note.new.out.page.now in
     let step : IsStep c.args.input.now c.args.alone.now c.step.new.self = on_no_error (IsStep c.args.input.now c.args.alone.now c.step.new.self) c.step.result c.step.ensures.step (sym c.is_err.ensures.value ∙ c.if-is_err.false) in
     let same : c.index-notes-notes.result ≡ step.0 = last_note c.transcript-notes.result.now before step.0 c.index-notes-notes.result (c.transcript-notes.ensures.notes ∙ step.2) c.index-notes-notes.is in
     let says = subst (λ (note : HostNote). SaysText page old (note_lines heading note) last now) same c.in-Ok.ensures.told in
@@ -28,8 +28,8 @@ returns-in-Ok-clause-told g c = λ was first told.
 
 pub returns-in-Err-clause-told : goal.returns-in-Err-clause-told
 returns-in-Err-clause-told g c = λ was first told.
-    let w = g.W.Sink in let before = c.args.alone.now.notes in let page = c.args.page.now in let heading = c.args.heading.now in
-    let old = w.written c.args.sink.now in let now = w.written c.say_note.new.sink in
+    let w = g.W.Sink in let before = c.args.alone.now.notes in let page = c.args.out.now.page.now in let heading = c.args.heading.now in
+    let old = w.written c.args.out.now.sink.now in let now = w.written c.say_note.new.out.sink.now in
     let step : IsStep c.args.input.now c.args.alone.now c.step.new.self = on_no_error (IsStep c.args.input.now c.args.alone.now c.step.new.self) c.step.result c.step.ensures.step (sym c.is_err.ensures.value ∙ c.if-is_err.false) in
     let same : c.index-notes-notes.result ≡ step.0 = last_note c.transcript-notes.result.now before step.0 c.index-notes-notes.result (c.transcript-notes.ensures.notes ∙ step.2) c.index-notes-notes.is in
     let says = subst (λ (note : HostNote). SaysBeginning page old (note_lines heading note) now) same c.in-Err.ensures.told in

@@ -9,8 +9,8 @@ returns-then-has_line-clause-ok g c = λ was said told. told
 
 pub returns-in-Ok-clause-ok : goal.returns-in-Ok-clause-ok
 returns-in-Ok-clause-ok g c = λ was said told.
-    subst (λ (text : List ℕ). SaidSoFar was c.flush.new.self (g.W.Sink.written c.flush.new.sink) text) (append-nil said) (c.in-Ok.ensures.ok.1 was said told)
+    subst (λ (text : List ℕ). SaidSoFar was c.flush.new.self.page.now (g.W.Sink.written c.flush.new.self.sink.now) text) (append-nil said) (c.in-Ok.ensures.ok.1 was said told)
 
 pub returns-in-Err-clause-err : goal.returns-in-Err-clause-err
 returns-in-Err-clause-err g c =
-    (c.in-Err.ensures.err.0, λ was said told. subst (λ (text : List ℕ). SaidSoFar was c.in-Err.ensures.err.0 (g.W.Sink.written c.flush.new.sink) text) (append-nil said) (c.in-Err.ensures.err.1 was said told))
+    (c.in-Err.ensures.err.0, λ was said told. subst (λ (text : List ℕ). SaidSoFar was c.in-Err.ensures.err.0 (g.W.Sink.written c.flush.new.self.sink.now) text) (append-nil said) (c.in-Err.ensures.err.1 was said told))

@@ -5,24 +5,24 @@ use Rattle.ncp_play_scene.proofs.next_event.next_event.Goals as goal
 pub returns-in-Ok-clause-told : goal.returns-in-Ok-clause-told
 returns-in-Ok-clause-told g c = λ bytes ahead.
     let next = rw c.in-Ok-Played.field-0-is at (c.in-Ok-Played.ensures.told bytes ahead) in
-    asks_read g.C.Scene.rules c.args.first.now c.args.lines.now.number bytes c.in-Ok-Played.number next.0 c.next_played.new.lines (g.R.Source.left c.next_played.new.source) next.1 c.in-Ok.event c.in-Ok-Played.ended c.text.result.now c.in-Ok.ensures
+    asks_read g.C.Scene.rules c.args.first.now c.args.script.now.lines.now.number bytes c.in-Ok-Played.number next.0 c.next_played.new.lines (g.R.Source.left c.next_played.new.source) next.1 c.in-Ok.event c.in-Ok-Played.ended c.text.result.now c.in-Ok.ensures
     (c.text.ensures ∙ next.3) next.2
 
 pub returns-in-Err-event_in-clause-told : goal.returns-in-Err-event_in-clause-told
 returns-in-Err-event_in-clause-told g c = λ bytes ahead.
     let next = rw c.in-Ok-Played.field-0-is at (c.in-Ok-Played.ensures.told bytes ahead) in
-    asks_fault g.C.Scene.rules c.args.first.now c.args.lines.now.number bytes c.in-Ok-Played.number next.0 c.next_played.new.lines (g.R.Source.left c.next_played.new.source) next.1 c.in-Err-event_in.fault c.text.result.now (c.text.ensures ∙ next.3)
+    asks_fault g.C.Scene.rules c.args.first.now c.args.script.now.lines.now.number bytes c.in-Ok-Played.number next.0 c.next_played.new.lines (g.R.Source.left c.next_played.new.source) next.1 c.in-Err-event_in.fault c.text.result.now (c.text.ensures ∙ next.3)
     c.in-Err-event_in.ensures
 
 pub returns-in-Ok-TooLong-clause-told : goal.returns-in-Ok-TooLong-clause-told
 returns-in-Ok-TooLong-clause-told g c = λ bytes ahead.
     let next = rw c.in-Ok-TooLong.field-0-is at (c.in-Ok-TooLong.ensures.told bytes ahead) in
-    asks_long g.C.Scene.rules c.args.first.now c.args.lines.now.number bytes c.in-Ok-TooLong.number next.0 c.next_played.new.lines (g.R.Source.left c.next_played.new.source) next.1
+    asks_long g.C.Scene.rules c.args.first.now c.args.script.now.lines.now.number bytes c.in-Ok-TooLong.number next.0 c.next_played.new.lines (g.R.Source.left c.next_played.new.source) next.1
 
 pub returns-in-Ok-Over-clause-told : goal.returns-in-Ok-Over-clause-told
-returns-in-Ok-Over-clause-told g c = λ bytes ahead. asks_over g.C.Scene.rules c.args.first.now c.args.lines.now.number bytes (rw c.in-Ok-Over.field-0-is at (c.in-Ok-Over.ensures.told bytes ahead))
+returns-in-Ok-Over-clause-told g c = λ bytes ahead. asks_over g.C.Scene.rules c.args.first.now c.args.script.now.lines.now.number bytes (rw c.in-Ok-Over.field-0-is at (c.in-Ok-Over.ensures.told bytes ahead))
 
 pub returns-in-Err-clause-told : goal.returns-in-Err-clause-told
 returns-in-Err-clause-told g c = λ bytes ahead.
     let cut = c.in-Err.ensures.told bytes ahead in
-    (cut.0, cut.1, asks_cut g.C.Scene.rules c.args.first.now c.args.lines.now.number bytes cut.0 cut.2)
+    (cut.0, cut.1, asks_cut g.C.Scene.rules c.args.first.now c.args.script.now.lines.now.number bytes cut.0 cut.2)

@@ -8,13 +8,13 @@ pub returns-in_err-play_next-clause-events : goal.returns-in_err-play_next-claus
 returns-in_err-play_next-clause-events g c = λ bytes ahead.
     let p = err_from_is_err_and c.from_residual.result c.from_residual.ensures.1 in
     let before = c.loop.invariant.events bytes ahead in
-    rw (p.1, p.2) (before.2 (Err c.in_err-play_next.field-0.0) c.play_next.new.player.hosts (g.R.Source.left c.play_next.new.source) (c.in_err-play_next.ensures.events before.0 before.1))
+    rw (p.1, p.2) (before.2 (Err c.in_err-play_next.field-0.0) c.play_next.new.player.hosts (g.R.Source.left c.play_next.new.script.source.now) (c.in_err-play_next.ensures.events before.0 before.1))
 
 pub returns-in_err-play_next-clause-told : goal.returns-in_err-play_next-clause-told
 returns-in_err-play_next-clause-told g c = λ began was told.
     let p = err_from_is_err_and c.from_residual.result c.from_residual.ensures.1 in
     rw (p.1, p.2) (
-    tells_err g.C.Scene.rules (g.T.Teller.tale c.args.first.now) began was c.play_next.new.player.hosts Bool (Unit {0}) c.play_next.new.player.number c.play_next.new.player.page (g.W.Sink.written c.play_next.new.sink) c.in_err-play_next.field-0.0
+    tells_err g.C.Scene.rules (g.T.Teller.tale c.args.first.now) began was c.play_next.new.player.hosts Bool (Unit {0}) c.play_next.new.player.number c.play_next.new.out.page.now (g.W.Sink.written c.play_next.new.out.sink.now) c.in_err-play_next.field-0.0
     (c.in_err-play_next.ensures.told began was (c.loop.invariant.told began was told)))
 
 pub loop-preserved : goal.loop-preserved
@@ -27,12 +27,14 @@ loop-preserved g c =
       told = λ began was told. c.in_ok-play_next.ensures.told began was (c.loop.invariant.told began was told);
       source_mark = c.in_ok-play_next.ensures.source_mark ∙ or-false _ ∙ c.loop.invariant.source_mark;
       sink_mark = c.in_ok-play_next.ensures.sink_mark ∙ or-false _ ∙ c.loop.invariant.sink_mark;
+      same_script = (c.in_ok-play_next.ensures.same_script.0 ∙ c.loop.invariant.same_script.0, c.in_ok-play_next.ensures.same_script.1 ∙ c.loop.invariant.same_script.1);
+      same_outlet = (c.in_ok-play_next.ensures.same_outlet.0 ∙ c.loop.invariant.same_outlet.0, c.in_ok-play_next.ensures.same_outlet.1 ∙ c.loop.invariant.same_outlet.1);
     }
 
 pub returns-clause-events : goal.returns-clause-events
 returns-clause-events g c = λ bytes ahead.
     let before = c.loop.invariant.events bytes ahead in
-    before.2 (Ok tt) c.play_next.new.player.hosts (g.R.Source.left c.play_next.new.source) (rw c.if-branch.false at (c.in_ok-play_next.ensures.events before.0 before.1))
+    before.2 (Ok tt) c.play_next.new.player.hosts (g.R.Source.left c.play_next.new.script.source.now) (rw c.if-branch.false at (c.in_ok-play_next.ensures.events before.0 before.1))
 
 pub returns-clause-told : goal.returns-clause-told
 returns-clause-told g c = λ began was told. c.in_ok-play_next.ensures.told began was (c.loop.invariant.told began was told)

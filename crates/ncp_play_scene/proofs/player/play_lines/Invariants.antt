@@ -1,6 +1,6 @@
 use Rattle.std.proofs.Common.{◌≡◌, ℕ, List}
-use Rattle.ncp_play_stream.specs.Streams.{Ahead}
-use Rattle.ncp_play_page.specs.Windows.{effort}
+use Rattle.ncp_play_page.specs.Outlets.{SameOutlet, written_by, write_failed}
+use Rattle.ncp_play_reader.specs.LentScripts.{SameScript, ScriptBrings, is_cut_off, script_work}
 use Rattle.ncp_play_scene.specs.Playing.{Tells}
 use Rattle.ncp_play_scene.specs.Players.{GoesOn}
 use Rattle.ncp_play_scene.proofs.player.play_lines.Given as goal
@@ -9,13 +9,15 @@ abbrev pub invariant-loop : goal.invariant-loop
 invariant-loop g l =
     let s = g.R.Source in let w = g.W.Sink in
     record {
-      events : (bytes : List ℕ) → Ahead l.initial.lines.window (s.left l.initial.source) bytes
-          → (now : List ℕ) × Ahead l.lines.window (s.left l.source) now × GoesOn g.C.Scene.rules l.first l.initial.lines.number bytes l.initial.player.hosts l.lines.number now l.player.hosts;
-      told : (began : g.row.C-Hosts.Denot) (was : List ℕ) → Tells g.C.Scene.rules (g.T.Teller.tale l.first) began was l.initial.player.hosts l.initial.player.number l.initial.player.page (w.written l.initial.sink)
-          → Tells g.C.Scene.rules (g.T.Teller.tale l.first) began was l.player.hosts l.player.number l.player.page (w.written l.sink);
-      source_mark : s.has_failed l.source ≡ s.has_failed l.initial.source;
-      sink_mark : w.has_failed l.sink ≡ w.has_failed l.initial.sink;
+      events : (bytes : List ℕ) → ScriptBrings s l.initial.script bytes
+          → (now : List ℕ) × ScriptBrings s l.script now × GoesOn g.C.Scene.rules l.first l.initial.script.lines.now.number bytes l.initial.player.hosts l.script.lines.now.number now l.player.hosts;
+      told : (began : g.row.C-Hosts.Denot) (was : List ℕ) → Tells g.C.Scene.rules (g.T.Teller.tale l.first) began was l.initial.player.hosts l.initial.player.number l.initial.out.page.now (written_by w l.initial.out)
+          → Tells g.C.Scene.rules (g.T.Teller.tale l.first) began was l.player.hosts l.player.number l.out.page.now (written_by w l.out);
+      source_mark : is_cut_off s l.script ≡ is_cut_off s l.initial.script;
+      sink_mark : write_failed w l.out ≡ write_failed w l.initial.out;
+      same_script : SameScript l.initial.script l.script;
+      same_outlet : SameOutlet l.initial.out l.out;
     }
 
 abbrev pub decreases-loop : goal.decreases-loop
-decreases-loop g l = effort (g.R.Source.reads l.source) l.lines.window
+decreases-loop g l = script_work g.R.Source l.script

@@ -12,7 +12,7 @@ pub returns-in-Ok-clause-told : goal.returns-in-Ok-clause-told
 returns-in-Ok-clause-told g c = λ began was told. c.play_lines.ensures.told began was (told.0, told.1, c.in-Ok.ensures.ok was _ told.2)
 
 pub returns-in-Err-clause-events : goal.returns-in-Err-clause-events
-returns-in-Err-clause-events g c = λ bytes ahead none. none_first g.C.Scene.rules (course_of g.C.Scene.rules c.args.first.now c.args.lines.now.number bytes) c.args.player.now.hosts
+returns-in-Err-clause-events g c = λ bytes ahead none. none_first g.C.Scene.rules (course_of g.C.Scene.rules c.args.first.now c.args.script.now.lines.now.number bytes) c.args.player.now.hosts
 
 pub returns-in-Err-clause-told : goal.returns-in-Err-clause-told
 returns-in-Err-clause-told g c = λ began was told. (c.in-Err.ensures.err.0, c.in-Err.ensures.err.1 was _ told.2)

@@ -19,6 +19,7 @@ loop-left-preserved g c =
       few = omega (arith, few, longer);
       writes = omega (arith, before, behind);
       mark = c.in_ok-play_part.ensures.mark ∙ or-false _ ∙ c.loop-left.invariant.mark;
+      same_outlet = (c.in_ok-play_part.ensures.same_outlet.0 ∙ c.loop-left.invariant.same_outlet.0, c.in_ok-play_part.ensures.same_outlet.1 ∙ c.loop-left.invariant.same_outlet.1);
     }
 
 pub returns-in_err-play_part-clause-event : goal.returns-in_err-play_part-clause-event
@@ -30,7 +31,7 @@ pub returns-in_err-play_part-clause-told : goal.returns-in_err-play_part-clause-
 returns-in_err-play_part-clause-told g c = λ began was told.
     let p = err_from_is_err_and c.from_residual.result c.from_residual.ensures.1 in
     rw (p.1, p.2) (
-    tells_err g.C.Scene.rules (g.T.Teller.tale c.args.first.now) began was c.play_part.new.hosts Bool (Unit {0}) c.play_part.new.number c.play_part.new.page (g.W.Sink.written c.play_part.new.sink) c.in_err-play_part.field-0.0
+    tells_err g.C.Scene.rules (g.T.Teller.tale c.args.first.now) began was c.play_part.new.hosts Bool (Unit {0}) c.play_part.new.number c.play_part.new.out.page.now (g.W.Sink.written c.play_part.new.out.sink.now) c.in_err-play_part.field-0.0
     (c.in_err-play_part.ensures.told began was (c.loop-left.invariant.told began was told)))
 
 pub returns-clause-event : goal.returns-clause-event

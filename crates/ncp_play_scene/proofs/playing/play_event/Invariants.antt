@@ -1,5 +1,5 @@
 use Rattle.std.proofs.Common.{◌≡◌, ◌≤◌, ◌-◌, ◌^◌, ℕ, List, length}
-use Rattle.ncp_play_stream.specs.Pieces.{bytes_and_writes}
+use Rattle.ncp_play_page.specs.Outlets.{SameOutlet, written_by, write_failed, credit}
 use Rattle.ncp_play_scene.specs.Rules.{Begins}
 use Rattle.ncp_play_scene.specs.Playing.{Tells}
 use Rattle.ncp_play_scene.proofs.playing.play_event.Given as goal
@@ -10,11 +10,12 @@ invariant-loop-left g l =
     let w = g.W.Sink in let rules = g.C.Scene.rules in
     record {
       begun : Begins rules l.event 0 l.left l.initial.hosts l.hosts;
-      told : (began : g.row.C-Hosts.Denot) (was : List ℕ) → Tells rules (g.T.Teller.tale l.first) began was l.initial.hosts l.initial.number l.initial.page (w.written l.initial.sink)
-          → Tells rules (g.T.Teller.tale l.first) began was l.hosts l.number l.page (w.written l.sink);
+      told : (began : g.row.C-Hosts.Denot) (was : List ℕ) → Tells rules (g.T.Teller.tale l.first) began was l.initial.hosts l.initial.number l.initial.out.page.now (written_by w l.initial.out)
+          → Tells rules (g.T.Teller.tale l.first) began was l.hosts l.number l.out.page.now (written_by w l.out);
       few : l.left ≤ length (rules.notes l.hosts);
-      writes : bytes_and_writes w.takes_all (w.writes l.initial.sink) (w.written l.initial.sink) ≤ bytes_and_writes w.takes_all (w.writes l.sink) (w.written l.sink);
-      mark : w.has_failed l.sink ≡ w.has_failed l.initial.sink;
+      writes : credit w l.initial.out ≤ credit w l.out;
+      mark : write_failed w l.out ≡ write_failed w l.initial.out;
+      same_outlet : SameOutlet l.initial.out l.out;
     }
 
 -- there is room for so many notes yet

@@ -15,5 +15,5 @@ returns-clause-told g c =
       | in-In w ↦ ap (bytes_at (placed FromImp c.args.host)) (w.message-is ∙ w.to_bits-message.ensures) ∙ ap (λ (note : HostNote). bytes_if (came_to c.args.host note)) (sym w.in-In.is)
       | in-Answered w ↦ ap (bytes_at (placed FromImp c.args.host)) (w.message-is ∙ w.answer_bits-message.ensures) ∙ ap (λ (note : HostNote). bytes_if (came_to c.args.host note)) (sym w.in-Answered.is)
     ] in
-    subst (λ (bytes : List ℕ). SaysTextOrBeginning c.args.page.now (w.written c.args.sink.now) bytes c.say_message.result c.say_message.new.page (w.written c.say_message.new.sink))
+    subst (λ (bytes : List ℕ). SaysTextOrBeginning c.args.out.now.page.now (w.written c.args.out.now.sink.now) bytes c.say_message.result c.say_message.new.out.page.now (w.written c.say_message.new.out.sink.now))
     (ap (λ (passage : Passage). bytes_at passage c.match-note.message) c.passage_at.ensures ∙ came) c.say_message.ensures.told

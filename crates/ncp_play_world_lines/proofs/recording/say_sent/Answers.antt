@@ -10,5 +10,5 @@ use Rattle.ncp_play_world_lines.proofs.recording.say_sent.Goals as goal
 pub returns-in-Out-clause-told : goal.returns-in-Out-clause-told
 returns-in-Out-clause-told g c =
     let w = g.W.Sink in
-    subst (λ (bytes : List ℕ). SaysTextOrBeginning c.args.page.now (w.written c.args.sink.now) bytes c.say_message.result c.say_message.new.page (w.written c.say_message.new.sink))
+    subst (λ (bytes : List ℕ). SaysTextOrBeginning c.args.out.now.page.now (w.written c.args.out.now.sink.now) bytes c.say_message.result c.say_message.new.out.page.now (w.written c.say_message.new.out.sink.now))
     (ap (λ (passage : Passage). bytes_at passage c.to_bits.result) c.passage_at.ensures ∙ ap (bytes_at (placed ToImp c.args.host)) c.to_bits.ensures ∙ ap (λ (note : HostNote). bytes_if (sent_from c.args.host note)) (sym c.in-Out.is)) c.say_message.ensures.told

@@ -5,10 +5,10 @@ use Rattle.ncp_play_world_lines.proofs.settling.say_settled.Goals as goal
 pub returns-in_err-make_room-clause-told : goal.returns-in_err-make_room-clause-told
 returns-in_err-make_room-clause-told g c =
     let w = g.W.Sink in
-    answers_no_room c.args.page.now (settled_line c.args.number c.args.many) (w.written c.args.sink.now) (w.written c.make_room.new.sink) c.make_room.new.self c.from_residual.result c.from_residual.ensures.0
+    answers_no_room c.args.out.now.page.now (settled_line c.args.number c.args.many) (w.written c.args.out.now.sink.now) (w.written c.make_room.new.self.sink.now) c.make_room.new.self.page.now c.from_residual.result c.from_residual.ensures.0
     c.in_err-make_room.ensures.err
 
 pub returns-clause-told : goal.returns-clause-told
 returns-clause-told g c =
     let w = g.W.Sink in
-    says_line c.args.page.now c.make_room.new.self c.push_settled.new.page (settled_line c.args.number c.args.many) (w.written c.args.sink.now) (w.written c.make_room.new.sink) c.in_ok-make_room.ensures.ok c.push_settled.ensures
+    says_line c.args.out.now.page.now c.make_room.new.self.page.now c.push_settled.new.page (settled_line c.args.number c.args.many) (w.written c.args.out.now.sink.now) (w.written c.make_room.new.self.sink.now) c.in_ok-make_room.ensures.ok c.push_settled.ensures

@@ -8,12 +8,12 @@ use Rattle.ncp_play_world.proofs.recorder.RecorderTellerManyPlayed.say.Goals as 
 
 pub returns-in-Some-Noted-clause-told : goal.returns-in-Some-Noted-clause-told
 returns-in-Some-Noted-clause-told g c = λ before note e.
-    let w = g.W.Sink in let page = c.args.page.now in let old = w.written c.args.sink.now in let traces = c.args.hosts.now.traces in
-    told_last traces before note e (λ (trace : Trace ManyNote). (recording_of_many c.args._first.now).of_note c.args._number trace c.args.hosts.now) (Noted c.in-Some-Noted.note.now) page c.say_many_record.new.page old (w.written c.say_many_record.new.sink) c.say_many_record.result (rw c.in-Some-Noted.field-0-is at c.in-Some-Noted.ensures) c.say_many_record.ensures.told
+    let w = g.W.Sink in let page = c.args.out.now.page.now in let old = w.written c.args.out.now.sink.now in let traces = c.args.hosts.now.traces in
+    told_last traces before note e (λ (trace : Trace ManyNote). (recording_of_many c.args._first.now).of_note c.args._number trace c.args.hosts.now) (Noted c.in-Some-Noted.note.now) page c.say_many_record.new.out.page.now old (w.written c.say_many_record.new.out.sink.now) c.say_many_record.result (rw c.in-Some-Noted.field-0-is at c.in-Some-Noted.ensures) c.say_many_record.ensures.told
 
 pub returns-in-Some-Settled-clause-told : goal.returns-in-Some-Settled-clause-told
 returns-in-Some-Settled-clause-told g c = λ before note e.
-    let w = g.W.Sink in let page = c.args.page.now in let old = w.written c.args.sink.now in let traces = c.args.hosts.now.traces in
+    let w = g.W.Sink in let page = c.args.out.now.page.now in let old = w.written c.args.out.now.sink.now in let traces = c.args.hosts.now.traces in
     told_last traces before note e (λ (trace : Trace ManyNote). (recording_of_many c.args._first.now).of_note c.args._number trace c.args.hosts.now) (Settled c.in-Some-Settled.field-0-0) page page old old (Ok tt) (rw c.in-Some-Settled.field-0-is at c.in-Some-Settled.ensures) (nothing_said page old)
 
 pub returns-in-None-clause-told : goal.returns-in-None-clause-told

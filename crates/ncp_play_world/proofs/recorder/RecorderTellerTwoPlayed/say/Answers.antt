@@ -8,12 +8,12 @@ use Rattle.ncp_play_world.proofs.recorder.RecorderTellerTwoPlayed.say.Goals as g
 
 pub returns-in-Some-Noted-clause-told : goal.returns-in-Some-Noted-clause-told
 returns-in-Some-Noted-clause-told g c = λ before note e.
-    let w = g.W.Sink in let page = c.args.page.now in let old = w.written c.args.sink.now in let traces = c.args.hosts.now.traces in
-    told_last traces before note e (λ (trace : Trace Note). (recording_of c.args.first.now).of_note c.args._number trace c.args.hosts.now) (Noted c.in-Some-Noted.note.now) page c.say_world_record.new.page old (w.written c.say_world_record.new.sink) c.say_world_record.result (rw c.in-Some-Noted.field-0-is at c.in-Some-Noted.ensures) c.say_world_record.ensures.told
+    let w = g.W.Sink in let page = c.args.out.now.page.now in let old = w.written c.args.out.now.sink.now in let traces = c.args.hosts.now.traces in
+    told_last traces before note e (λ (trace : Trace Note). (recording_of c.args.first.now).of_note c.args._number trace c.args.hosts.now) (Noted c.in-Some-Noted.note.now) page c.say_world_record.new.out.page.now old (w.written c.say_world_record.new.out.sink.now) c.say_world_record.result (rw c.in-Some-Noted.field-0-is at c.in-Some-Noted.ensures) c.say_world_record.ensures.told
 
 pub returns-in-Some-Settled-clause-told : goal.returns-in-Some-Settled-clause-told
 returns-in-Some-Settled-clause-told g c = λ before note e.
-    let w = g.W.Sink in let page = c.args.page.now in let old = w.written c.args.sink.now in let traces = c.args.hosts.now.traces in
+    let w = g.W.Sink in let page = c.args.out.now.page.now in let old = w.written c.args.out.now.sink.now in let traces = c.args.hosts.now.traces in
     told_last traces before note e (λ (trace : Trace Note). (recording_of c.args.first.now).of_note c.args._number trace c.args.hosts.now) (Settled c.in-Some-Settled.field-0-0) page page old old (Ok tt) (rw c.in-Some-Settled.field-0-is at c.in-Some-Settled.ensures) (nothing_said page old)
 
 pub returns-in-None-clause-told : goal.returns-in-None-clause-told

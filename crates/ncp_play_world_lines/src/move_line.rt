@@ -1,0 +1,142 @@
+//! The line of what happened to a message that the subnet had.
+ghost use Rattle.std.specs.Prelude.{◌≡◌, ◌+◌, ◌≤◌, ◌++◌, codes, length};
+ghost use Rattle.ncp_play_world_lines.specs.Moves.{word_of};
+ghost use Rattle.ncp_play_world_lines.specs.MoveLines.{came_words, answer_word, answer_words, destination, move_front, move_line};
+
+use crate::moves::word_of;
+use ncp_play_notes::{Heading, LONGEST_FRONT, LONGEST_RECEIVED, push_front, push_received};
+use ncp_play_page::{LONGEST_NUMBER, PAGE_SIZE, Page, push_field};
+use ncp_terms::Answer;
+use ncp_transcript::HostNote;
+use ncp_transcript_two::Move;
+
+/// What happened to a message.
+#[derive(Clone, Copy, Debug, Drop)]
+pub(crate) struct Moved {
+    /// What its line begins with: the sender's.
+    pub(crate) heading: Heading,
+    /// The destination, if lines name it.
+    pub(crate) to: Option<u8>,
+    pub(crate) wanted: Move,
+    pub(crate) link: u8,
+}
+
+// How many letters the longest word has that names a move.
+const LONGEST_WORD: usize = 7;
+
+// How many bytes a destination has at most.
+const LONGEST_DESTINATION: usize = 1 + LONGEST_NUMBER;
+
+// How many bytes a line has at most before what came of a move.
+const LONGEST_MOVE: usize = LONGEST_FRONT
+    + 1
+    + LONGEST_WORD
+    + LONGEST_DESTINATION
+    + 1
+    + LONGEST_NUMBER
+    + 1;
+
+/// How many bytes the line of a move has at most.
+pub(crate) const LONGEST_LINE: usize = LONGEST_MOVE + LONGEST_RECEIVED + 1;
+
+// Appends the word of a move.
+fn push_word(page: &mut Page, wanted: Move)
+    requires { length page.old + LONGEST_WORD ≤ PAGE_SIZE }
+    ensures bytes { page.new ≡ page.old ++ word_of wanted }
+    ensures len { length page.new ≤ length page.old + LONGEST_WORD }
+{
+    page.push_text(word_of(wanted).as_bytes());
+}
+
+// Appends the destination, if lines name it.
+fn push_destination(page: &mut Page, to: Option<u8>)
+    requires { length page.old + LONGEST_DESTINATION ≤ PAGE_SIZE }
+    ensures bytes { page.new ≡ page.old ++ destination to }
+    ensures len { length page.new ≤ length page.old + LONGEST_DESTINATION }
+{
+    if let Some(to) = to {
+        push_field(page, b" ", u32::from(to));
+    }
+}
+
+// Appends what stands before what came of a move.
+fn push_move(page: &mut Page, moved: Moved)
+    requires { length page.old + LONGEST_MOVE ≤ PAGE_SIZE }
+    ensures bytes { page.new ≡ page.old ++ move_front moved }
+    ensures len { length page.new ≤ length page.old + LONGEST_MOVE }
+{
+    push_front(page, moved.heading);
+    page.push(b' ');
+    push_word(page, moved.wanted);
+    push_destination(page, moved.to);
+    push_field(page, b" ", u32::from(moved.link));
+    page.push(b' ');
+}
+
+// Appends what became of a message, as the host to which it came noted it.
+fn push_came(page: &mut Page, note: &HostNote)
+    requires { length page.old + LONGEST_RECEIVED ≤ PAGE_SIZE }
+    ensures bytes { page.new ≡ page.old ++ came_words note.now }
+    ensures len { length page.new ≤ length page.old + LONGEST_RECEIVED }
+{
+    match note {
+        HostNote::In { received, .. } => push_received(page, *received),
+        HostNote::Answered { received, .. } => push_received(page, *received),
+        _ => {}
+    }
+}
+
+// Appends the word of an answer.
+fn push_answer(page: &mut Page, answer: Answer)
+    requires { length page.old + LONGEST_RECEIVED ≤ PAGE_SIZE }
+    ensures bytes { page.new ≡ page.old ++ answer_word answer }
+    ensures len { length page.new ≤ length page.old + LONGEST_RECEIVED }
+{
+    match answer {
+        Answer::Rfnm => page.push_text(b"rfnm"),
+        Answer::Incomplete => page.push_text(b"incomplete"),
+        Answer::Dead => page.push_text(b"dead"),
+    }
+}
+
+// Appends which answer came, as the sender noted it.
+fn push_answered(page: &mut Page, note: &HostNote)
+    requires { length page.old + LONGEST_RECEIVED ≤ PAGE_SIZE }
+    ensures bytes { page.new ≡ page.old ++ answer_words note.now }
+    ensures len { length page.new ≤ length page.old + LONGEST_RECEIVED }
+{
+    if let HostNote::Answered { answer, .. } = note {
+        push_answer(page, *answer);
+    }
+}
+
+/// Appends the line of a move, of which these words say what came.
+pub(crate) fn push_move_line(page: &mut Page, moved: Moved, outcome: &[u8])
+    requires room { length page.old + LONGEST_LINE ≤ PAGE_SIZE }
+    requires short { length outcome.now ≤ LONGEST_RECEIVED }
+    ensures { page.new ≡ page.old ++ move_line moved outcome.now }
+{
+    push_move(page, moved);
+    page.push_text(outcome);
+    page.push(b'\n');
+}
+
+/// Appends the line of a message that came, with what became of it.
+pub(crate) fn push_came_line(page: &mut Page, moved: Moved, note: &HostNote)
+    requires { length page.old + LONGEST_LINE ≤ PAGE_SIZE }
+    ensures { page.new ≡ page.old ++ move_line moved (came_words note.now) }
+{
+    push_move(page, moved);
+    push_came(page, note);
+    page.push(b'\n');
+}
+
+/// Appends the line of an answer that came.
+pub(crate) fn push_answered_line(page: &mut Page, moved: Moved, note: &HostNote)
+    requires { length page.old + LONGEST_LINE ≤ PAGE_SIZE }
+    ensures { page.new ≡ page.old ++ move_line moved (answer_words note.now) }
+{
+    push_move(page, moved);
+    push_answered(page, note);
+    page.push(b'\n');
+}
