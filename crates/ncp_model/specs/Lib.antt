@@ -10,8 +10,10 @@ pub mod Ends
 pub mod Phase
 pub mod Rows
 pub mod Happenings
+pub mod RowFacts
 pub mod Leading
 pub mod Sending
 pub mod Echo
 pub mod Peers
 pub mod PeerRows
+pub mod OnlyEnds

@@ -1,61 +1,74 @@
 //! Laws of one host with one peer: what its phase lets through, and how a user's call is answered.
 ghost use Rattle.std.specs.Prelude.{◌≡◌, ℕ, Bool, true, false, ◌++◌, ◌<◌, ◌≤◌, List, [], ◌∷◌, length, replicate, Ok, Err};
 ghost use Rattle.ncp_terms.specs.declared.fault.CommandFault.{CommandFault};
+ghost use Rattle.ncp_terms.specs.declared.command.Command.TheVariants.{Nop, Rts, Cls, All, Erp, Rst, Rrp};
+ghost use Rattle.ncp_model.specs.declared.call_fault.CallFault.TheVariants.{BadSex, QueueFull, NoEntry, WrongEnd, NotWhole, Busy, NotUp};
 ghost use Rattle.ncp_model.specs.Echo.{echo_answer, eco_reply};
-ghost use Rattle.ncp_model.specs.Happenings as all;
+ghost use Rattle.ncp_model.specs.Happenings.{Accepted, Refused, Took_out};
 ghost use Rattle.ncp_model.specs.Peers.{Peer, Call, happened_at, calls, calls_up, comes_of, reply, reply_of_take, calls_echo, echo_called, accepted, reply_of_echo, hears_fault, hears_text, takes_text, frees, falls, hears, calls_reset};
 ghost use Rattle.ncp_model.specs.Peers as peers;
-ghost use Rattle.ncp_model.specs.PeerRows.{peer_in};
-ghost use Rattle.ncp_model.specs.Phase.{new_phase, up_phase, up, is_resetting, hears_rst, resets, makes_all};
+ghost use Rattle.ncp_model.specs.PeerRows.{WhileUp, WhileNotUp, peer_in, up_peer, with_waiting, answering_peer, owing_peer, awaiting_peer};
+ghost use Rattle.ncp_model.specs.Phase.{new_phase, up_phase, up, is_resetting, makes_all};
 ghost use Rattle.ncp_model.specs.Rows.{outward, inward, ones, err};
+ghost use Rattle.ncp_model.specs.RowFacts.{its_receiver};
 ghost use Rattle.ncp_model.specs.Sending.{is_full};
 
 use crate::call_fault::CallFault;
 use crate::limits::MAX_WAITING;
 use crate::pair::Pair;
-use ncp_terms::Command;
 
 /// While a host is not up with the peer, a call is refused for that before all that its end judges,
 /// and so is an echo; a text is dropped whatever its link and size, and the fault of a control text
 /// makes no ERR. An RFNM frees no sender, since there is none. Nothing changes.
 pub fn nothing_passes_while_not_up()
-    ensures call { (pair : Pair) (call : Call) (p : Peer) → up p.phase ≡ false → (comes_of pair call p ≡ all.Refused CallFault.NotUp) × (calls pair call p ≡ p) }
-    ensures echo { (byte : ℕ) (p : Peer) → up p.phase ≡ false → (reply_of_echo byte p ≡ Err CallFault.NotUp) × (calls_echo byte p ≡ p) }
-    ensures text { (on of_size : ℕ) (head text : List Bool) (p : Peer) → up p.phase ≡ false → hears_text on head of_size text p ≡ p }
-    ensures fault { (fault : CommandFault) (p : Peer) → up p.phase ≡ false → hears_fault fault p ≡ p }
-    ensures freed { (on : ℕ) (p : Peer) → up p.phase ≡ false → frees on p ≡ p }
+    ensures call { (pair : Pair) (call : Call) → WhileNotUp (λ p. comes_of pair call p ≡ Refused NotUp) }
+    ensures call_changes_nothing { (pair : Pair) (call : Call) → WhileNotUp (λ p. calls pair call p ≡ p) }
+    ensures echo { (byte : ℕ) → WhileNotUp (λ p. reply_of_echo byte p ≡ Err NotUp) }
+    ensures echo_changes_nothing { (byte : ℕ) → WhileNotUp (λ p. calls_echo byte p ≡ p) }
+    ensures text { (on of_size : ℕ) (head text : List Bool) → WhileNotUp (λ p. hears_text on head of_size text p ≡ p) }
+    ensures fault { (fault : CommandFault) → WhileNotUp (λ p. hears_fault fault p ≡ p) }
+    ensures freed { (on : ℕ) → WhileNotUp (λ p. frees on p ≡ p) }
 {}
 
 /// While it is up its end judges a call, and a text is taken as the end does; the phase stands in no
 /// way. The fault of a control text makes its ERR, and where 512 commands wait the host goes down.
 pub fn ends_judge_while_up()
-    ensures call { (pair : Pair) (call : Call) (p : Peer) → up p.phase ≡ true → (comes_of pair call p ≡ (happened_at pair call p).outcome) × (calls pair call p ≡ calls_up pair call p) }
-    ensures echo { (byte : ℕ) (p : Peer) → up p.phase ≡ true → (reply_of_echo byte p ≡ accepted (echo_answer byte (is_full p.phase) p.echoes)) × (calls_echo byte p ≡ echo_called byte p) }
+    ensures call { (pair : Pair) (call : Call) → WhileUp (λ p. comes_of pair call p ≡ (happened_at pair call p).outcome) }
+    ensures call_changes { (pair : Pair) (call : Call) → WhileUp (λ p. calls pair call p ≡ calls_up pair call p) }
+    ensures echo { (byte : ℕ) → WhileUp (λ p. reply_of_echo byte p ≡ accepted (echo_answer byte (is_full p.phase) p.echoes)) }
+    ensures echo_changes { (byte : ℕ) → WhileUp (λ p. calls_echo byte p ≡ echo_called byte p) }
     ensures text { (on of_size : ℕ) (head text : List Bool) (p : Peer) → up p.phase ≡ true → hears_text on head of_size text p ≡ takes_text on head of_size text p }
     ensures fault { (fault : CommandFault) (p : Peer) → up p.phase ≡ true → length p.phase.waiting < MAX_WAITING → hears_fault fault p ≡ record p { phase = record p.phase { waiting = p.phase.waiting ++ err fault.code fault.bytes ∷ [] } } }
-    ensures fault_too_many { (fault : CommandFault) (p : Peer) → up p.phase ≡ true → MAX_WAITING ≤ length p.phase.waiting → hears_fault fault p ≡ falls p }
+    ensures fault_too_many { (fault : CommandFault) → WhileUp (λ p. MAX_WAITING ≤ length p.phase.waiting → hears_fault fault p ≡ falls p) }
 {}
 
 /// What comes of a call is its reply: a refusal is told, and all else is good. A taking gives the bits.
 pub fn outcomes_are_replied()
-    ensures refused { (fault : CallFault) → (reply (all.Refused fault) ≡ Err fault) × (reply_of_take (all.Refused fault) ≡ Err fault) }
-    ensures accepted { (reply all.Accepted ≡ Ok tt) × (accepted (Ok Command.Nop) ≡ Ok tt) }
-    ensures taken { (text : List Bool) → (reply_of_take (all.Took_out text) ≡ Ok text) × (reply (all.Took_out text) ≡ Ok tt) }
+    ensures refused { (fault : CallFault) → reply (Refused fault) ≡ Err fault }
+    ensures refused_taking { (fault : CallFault) → reply_of_take (Refused fault) ≡ Err fault }
+    ensures accepted { (reply Accepted ≡ Ok tt) × (accepted (Ok Nop) ≡ Ok tt) }
+    ensures taken { (text : List Bool) → reply_of_take (Took_out text) ≡ Ok text }
+    ensures taken_is_good { (text : List Bool) → reply (Took_out text) ≡ Ok tt }
 {}
 
 /// The rows on what is not up: a call that would be refused for all else too, an echo before and
 /// after, a text that comes after an RST did, and an opcode that is not there.
 pub fn what_is_not_up_lets_nothing_through()
-    ensures call { (comes_of inward (peers.Ask_to_send 0 0) (peer_in new_phase) ≡ all.Refused CallFault.NotUp) × (comes_of inward (peers.Ask_to_send 0 0) (peer_in up_phase) ≡ all.Refused CallFault.BadSex) }
-    ensures interrupt { (comes_of inward peers.Interrupt (peer_in (record up_phase { want = true })) ≡ all.Refused CallFault.NotUp) × (comes_of inward peers.Interrupt (peer_in up_phase) ≡ all.Refused CallFault.NoEntry) × (comes_of outward peers.Interrupt (peer_in up_phase) ≡ all.Accepted) }
-    ensures echo { (reply_of_echo 65 (peer_in new_phase) ≡ Err CallFault.NotUp) × (reply_of_echo 65 (peer_in up_phase) ≡ Ok tt) × (reply_of_echo 65 (calls_echo 65 (peer_in up_phase)) ≡ Err CallFault.Busy) }
-    ensures text { hears_text 2 [] 8 (ones 16) (peer_in (hears_rst true up_phase)) ≡ takes_text 2 [] 8 (ones 16) (peer_in (hears_rst true up_phase)) }
-    ensures text_dropped { hears_text 2 [] 8 (ones 16) (peer_in (hears_rst false up_phase)) ≡ peer_in (hears_rst false up_phase) }
-    ensures text_awaiting { hears_text 2 [] 8 (ones 16) (peer_in (resets true up_phase)) ≡ peer_in (resets true up_phase) }
-    ensures fault { hears_fault (record { code = 1; bytes = 14 ∷ 0 ∷ replicate 8 0 }) (peer_in up_phase) ≡ peer_in (record up_phase { waiting = err 1 (14 ∷ 0 ∷ replicate 8 0) ∷ [] }) }
+    ensures call { comes_of inward (peers.Ask_to_send 0 0) (peer_in new_phase) ≡ Refused NotUp }
+    ensures call_when_up { comes_of inward (peers.Ask_to_send 0 0) up_peer ≡ Refused BadSex }
+    ensures interrupt { comes_of inward peers.Interrupt (peer_in (record up_phase { want = true })) ≡ Refused NotUp }
+    ensures interrupt_when_up { comes_of inward peers.Interrupt up_peer ≡ Refused NoEntry }
+    ensures interrupt_when_up_and_open { comes_of outward peers.Interrupt up_peer ≡ Accepted }
+    ensures echo { reply_of_echo 65 (peer_in new_phase) ≡ Err NotUp }
+    ensures echo_when_up { reply_of_echo 65 up_peer ≡ Ok tt }
+    ensures echo_twice { reply_of_echo 65 (calls_echo 65 up_peer) ≡ Err Busy }
+    ensures text { hears_text 2 [] 8 (ones 16) answering_peer ≡ takes_text 2 [] 8 (ones 16) answering_peer }
+    ensures text_dropped { hears_text 2 [] 8 (ones 16) owing_peer ≡ owing_peer }
+    ensures text_awaiting { hears_text 2 [] 8 (ones 16) awaiting_peer ≡ awaiting_peer }
+    ensures fault { hears_fault (record { code = 1; bytes = 14 ∷ 0 ∷ replicate 8 0 }) up_peer ≡ peer_in (record up_phase { waiting = err 1 (14 ∷ 0 ∷ replicate 8 0) ∷ [] }) }
     ensures fault_dropped { hears_fault (record { code = 2; bytes = 4 ∷ 2 ∷ 0 ∷ replicate 7 0 }) (peer_in new_phase) ≡ peer_in new_phase }
-    ensures fault_early { hears_fault (record { code = 2; bytes = 4 ∷ 2 ∷ 0 ∷ replicate 7 0 }) (peer_in up_phase) ≡ peer_in (record up_phase { waiting = err 2 (4 ∷ 2 ∷ 0 ∷ replicate 7 0) ∷ [] }) }
-    ensures fault_behind { hears_fault (record { code = 1; bytes = 14 ∷ replicate 9 0 }) (peer_in (makes_all (eco_reply 65 ∷ []) up_phase)) ≡ peer_in (record up_phase { waiting = Command.Erp 65 ∷ err 1 (14 ∷ replicate 9 0) ∷ [] }) }
+    ensures fault_early { hears_fault (record { code = 2; bytes = 4 ∷ 2 ∷ 0 ∷ replicate 7 0 }) up_peer ≡ peer_in (record up_phase { waiting = err 2 (4 ∷ 2 ∷ 0 ∷ replicate 7 0) ∷ [] }) }
+    ensures fault_behind { hears_fault (record { code = 1; bytes = 14 ∷ replicate 9 0 }) (peer_in (makes_all (eco_reply 65 ∷ []) up_phase)) ≡ peer_in (record up_phase { waiting = Erp 65 ∷ err 1 (14 ∷ replicate 9 0) ∷ [] }) }
 {}
 
 /// A clearing ends the echo, and leaves the byte of the last one and the errors: a reset that is
@@ -64,21 +77,27 @@ pub fn what_is_not_up_lets_nothing_through()
 pub fn clearings_end_the_echo_alone()
     ensures reset { (quiet : Bool) (p : Peer) → is_resetting p.phase ≡ false → (calls_reset quiet p).echoes ≡ record p.echoes { awaited = false } }
     ensures refused { (quiet : Bool) (p : Peer) → is_resetting p.phase ≡ true → calls_reset quiet p ≡ p }
-    ensures rst { (quiet : Bool) (p : Peer) → (hears quiet Command.Rst p).echoes ≡ record p.echoes { awaited = false } }
-    ensures rrp { (quiet : Bool) (p : Peer) → (hears quiet Command.Rrp p).echoes ≡ p.echoes }
+    ensures rst { (quiet : Bool) (p : Peer) → (hears quiet Rst p).echoes ≡ record p.echoes { awaited = false } }
+    ensures rrp { (quiet : Bool) (p : Peer) → (hears quiet Rrp p).echoes ≡ p.echoes }
     ensures down { (p : Peer) → (falls p).echoes ≡ record p.echoes { awaited = false } }
-    ensures again { reply_of_echo 66 (hears true Command.Rst (calls_echo 65 (peer_in up_phase))) ≡ Ok tt }
+    ensures again { reply_of_echo 66 (hears true Rst (calls_echo 65 up_peer)) ≡ Ok tt }
 {}
 
 /// What comes of calls at a host that is up, with a sender and a receiver open on link 2: what they ask
 /// of the other ends and of what waits is looked up.
 pub fn calls_at_a_host_that_is_up()
-    ensures asks { ((happened_at (record { local = 8; remote = 11 }) (peers.Ask_to_receive 64) (peer_in up_phase)).made ≡ Command.Rts 8 11 4 ∷ []) × (comes_of (record { local = 11; remote = 8 }) (peers.Ask_to_send 8 64) (peer_in up_phase) ≡ all.Accepted) }
-    ensures gives { (comes_of outward (peers.Give (ones 8)) (peer_in up_phase) ≡ all.Accepted) × (comes_of outward (peers.Give (ones 9)) (peer_in up_phase) ≡ all.Refused CallFault.NotWhole) }
-    ensures takes { (reply_of_take (comes_of (record { local = 4; remote = 7 }) (peers.Take 1) (peer_in up_phase)) ≡ Ok []) × (reply_of_take (comes_of outward (peers.Take 1) (peer_in up_phase)) ≡ Err CallFault.WrongEnd) }
-    ensures calls_back { reply (comes_of (record { local = 4; remote = 7 }) (peers.Call_back 1 1) (peer_in up_phase)) ≡ Err CallFault.Busy }
-    ensures allocates { (happened_at (record { local = 4; remote = 7 }) (peers.Allocate 1 40) (peer_in up_phase)).made ≡ Command.All 2 1 40 ∷ [] }
-    ensures full { (comes_of outward peers.Interrupt (peer_in (record up_phase { waiting = replicate 256 Command.Nop })) ≡ all.Refused CallFault.QueueFull) × (comes_of outward peers.Interrupt (peer_in (record up_phase { waiting = replicate 255 Command.Nop })) ≡ all.Accepted) }
-    ensures full_echo { (reply_of_echo 65 (peer_in (record up_phase { waiting = replicate 256 Command.Nop })) ≡ Err CallFault.QueueFull) × (reply_of_echo 65 (peer_in (record up_phase { waiting = replicate 255 Command.Nop })) ≡ Ok tt) }
-    ensures closes { (comes_of outward peers.Close (peer_in (record up_phase { waiting = replicate 256 Command.Nop })) ≡ all.Refused CallFault.QueueFull) × ((happened_at outward peers.Close (peer_in up_phase)).made ≡ Command.Cls 3 2 ∷ []) }
+    ensures asks { (happened_at (record { local = 8; remote = 11 }) (peers.Ask_to_receive 64) up_peer).made ≡ Rts 8 11 4 ∷ [] }
+    ensures asks_to_send { comes_of (record { local = 11; remote = 8 }) (peers.Ask_to_send 8 64) up_peer ≡ Accepted }
+    ensures gives { comes_of outward (peers.Give (ones 8)) up_peer ≡ Accepted }
+    ensures gives_in_part { comes_of outward (peers.Give (ones 9)) up_peer ≡ Refused NotWhole }
+    ensures takes { reply_of_take (comes_of its_receiver (peers.Take 1) up_peer) ≡ Ok [] }
+    ensures takes_from_sender { reply_of_take (comes_of outward (peers.Take 1) up_peer) ≡ Err WrongEnd }
+    ensures calls_back { reply (comes_of its_receiver (peers.Call_back 1 1) up_peer) ≡ Err Busy }
+    ensures allocates { (happened_at its_receiver (peers.Allocate 1 40) up_peer).made ≡ All 2 1 40 ∷ [] }
+    ensures full { comes_of outward peers.Interrupt (with_waiting 256) ≡ Refused QueueFull }
+    ensures not_full { comes_of outward peers.Interrupt (with_waiting 255) ≡ Accepted }
+    ensures full_echo { reply_of_echo 65 (with_waiting 256) ≡ Err QueueFull }
+    ensures not_full_echo { reply_of_echo 65 (with_waiting 255) ≡ Ok tt }
+    ensures closes_when_full { comes_of outward peers.Close (with_waiting 256) ≡ Refused QueueFull }
+    ensures closes { (happened_at outward peers.Close up_peer).made ≡ Cls 3 2 ∷ [] }
 {}

@@ -2,7 +2,9 @@
 ghost use Rattle.std.specs.Prelude.{◌≡◌, ℕ, Bool, true, false, ◌+◌, ◌++◌, ◌<◌, ◌≤◌, List, [], ◌∷◌, length, take, replicate, None, Some, Result, Ok, Err, Option};
 ghost use Rattle.std.specs.List.{filter, list_any};
 ghost use Rattle.ncp_terms.specs.declared.command.Command.{Command};
+ghost use Rattle.ncp_terms.specs.declared.command.Command.TheVariants.{Nop, Rts, All, Inr, Rst, Rrp};
 ghost use Rattle.ncp_model.specs.Phase.{Phase, Reaction, new_phase, up_phase, up, is_rst, is_rrp, is_reset, is_other, purge, settles, is_resetting, reset_answer, wants_reset, resets, owes_answer, hears_rst, hears_rrp, is_stray_rrp, goes_down, makes, makes_all, is_dropped, hears};
+ghost use Rattle.ncp_model.specs.PeerRows.{flagged};
 ghost use Rattle.ncp_terms.specs.Spelling.{IsCommand, spelling, spellings};
 ghost use Rattle.ncp_model.specs.Sending.{is_full, next_commands};
 ghost use Rattle.ncp_model.specs.declared.pair.Pair.{Pair};
@@ -19,10 +21,10 @@ pub fn resets_wait_for_quiet()
     ensures unquiet_reset { (p : Phase) → is_resetting p ≡ false → resets false p ≡ wants_reset p }
     ensures unquiet_rst { (p : Phase) → hears_rst false p ≡ owes_answer p }
     ensures neither { (p : Phase) → p.owe ≡ false → p.want ≡ false → settles true p ≡ p }
-    ensures answer { (p : Phase) → p.owe ≡ true → p.want ≡ false → list_any is_rrp p.waiting ≡ false → settles true p ≡ record p { down = false; owe = false; waiting = p.waiting ++ Command.Rrp ∷ [] } }
-    ensures reset { (p : Phase) → p.owe ≡ false → p.want ≡ true → list_any is_rst p.waiting ≡ false → settles true p ≡ record p { down = false; want = false; wait = true; waiting = p.waiting ++ Command.Rst ∷ [] } }
-    ensures both { (p : Phase) → p.owe ≡ true → p.want ≡ true → list_any is_rrp p.waiting ≡ false → list_any is_rst p.waiting ≡ false → settles true p ≡ record { down = false; want = false; owe = false; wait = true; waiting = p.waiting ++ (Command.Rrp ∷ Command.Rst ∷ []) } }
-    ensures not_twice { (p : Phase) → p.owe ≡ true → p.want ≡ true → list_any is_rrp p.waiting ≡ true → list_any is_rst p.waiting ≡ true → settles true p ≡ record { down = false; want = false; owe = false; wait = true; waiting = p.waiting } }
+    ensures answer { (p : Phase) → p.owe ≡ true → p.want ≡ false → list_any is_rrp p.waiting ≡ false → settles true p ≡ record p { down = false; owe = false; waiting = p.waiting ++ Rrp ∷ [] } }
+    ensures reset { (p : Phase) → p.owe ≡ false → p.want ≡ true → list_any is_rst p.waiting ≡ false → settles true p ≡ record p { down = false; want = false; wait = true; waiting = p.waiting ++ Rst ∷ [] } }
+    ensures both { (p : Phase) → p.owe ≡ true → p.want ≡ true → list_any is_rrp p.waiting ≡ false → list_any is_rst p.waiting ≡ false → settles true p ≡ flagged false false false true (p.waiting ++ (Rrp ∷ Rst ∷ [])) }
+    ensures not_twice { (p : Phase) → p.owe ≡ true → p.want ≡ true → list_any is_rrp p.waiting ≡ true → list_any is_rst p.waiting ≡ true → settles true p ≡ flagged false false false true p.waiting }
 {}
 
 /// While a host is not up it makes nothing but RST and RRP, and every other command that comes
@@ -31,9 +33,11 @@ pub fn only_resets_while_not_up()
     ensures makes { (c : Command) (p : Phase) → up p ≡ false → makes c p ≡ p }
     ensures drops { (c : Command) (r : Reaction) (p : Phase) → is_other c ≡ true → up p ≡ false → hears c r p ≡ p }
     ensures dropped { (c : Command) (r : Reaction) (p : Phase) → is_dropped c p ≡ true → hears c r p ≡ p }
-    ensures not_dropped { (p : Phase) → (is_dropped Command.Rst p ≡ false) × (is_dropped Command.Rrp p ≡ false) × (up p ≡ true → is_dropped Command.Nop p ≡ false) }
-    ensures rst { (p : Phase) → makes Command.Rst p ≡ p }
-    ensures rrp { (p : Phase) → makes Command.Rrp p ≡ p }
+    ensures rst_not_dropped { (p : Phase) → is_dropped Rst p ≡ false }
+    ensures rrp_not_dropped { (p : Phase) → is_dropped Rrp p ≡ false }
+    ensures nop_not_dropped_when_up { (p : Phase) → up p ≡ true → is_dropped Nop p ≡ false }
+    ensures rst { (p : Phase) → makes Rst p ≡ p }
+    ensures rrp { (p : Phase) → makes Rrp p ≡ p }
     ensures counted { (c : Command) (p : Phase) → is_other c ≡ true → up p ≡ false → is_dropped c p ≡ true }
 {}
 
@@ -51,17 +55,21 @@ pub fn purges_keep_resets()
 /// wanted or awaited; an RRP ends the awaiting, and is stray where there is none.
 pub fn flags_tell_the_phase()
     ensures start { new_phase ≡ record { down = true; want = false; owe = false; wait = false; waiting = [] } }
-    ensures down { (want owe wait : Bool) (cs : List Command) → up (record { down = true; want = want; owe = owe; wait = wait; waiting = cs }) ≡ false }
-    ensures want { (down owe wait : Bool) (cs : List Command) → up (record { down = down; want = true; owe = owe; wait = wait; waiting = cs }) ≡ false }
-    ensures owe { (down want wait : Bool) (cs : List Command) → up (record { down = down; want = want; owe = true; wait = wait; waiting = cs }) ≡ false }
-    ensures wait { (down want owe : Bool) (cs : List Command) → up (record { down = down; want = want; owe = owe; wait = true; waiting = cs }) ≡ false }
-    ensures none { (cs : List Command) → up (record { down = false; want = false; owe = false; wait = false; waiting = cs }) ≡ true }
-    ensures wanted { (quiet : Bool) (p : Phase) → p.want ≡ true → (reset_answer p ≡ Err CallFault.Busy) × (resets quiet p ≡ p) }
-    ensures awaited { (quiet : Bool) (p : Phase) → p.wait ≡ true → (reset_answer p ≡ Err CallFault.Busy) × (resets quiet p ≡ p) }
-    ensures accepted { (quiet : Bool) (p : Phase) → p.want ≡ false → p.wait ≡ false → (reset_answer p ≡ Ok tt) × (resets quiet p ≡ settles quiet (wants_reset p)) }
+    ensures down { (want owe wait : Bool) (cs : List Command) → up (flagged true want owe wait cs) ≡ false }
+    ensures want { (down owe wait : Bool) (cs : List Command) → up (flagged down true owe wait cs) ≡ false }
+    ensures owe { (down want wait : Bool) (cs : List Command) → up (flagged down want true wait cs) ≡ false }
+    ensures wait { (down want owe : Bool) (cs : List Command) → up (flagged down want owe true cs) ≡ false }
+    ensures none { (cs : List Command) → up (flagged false false false false cs) ≡ true }
+    ensures wanted { (quiet : Bool) (p : Phase) → p.want ≡ true → reset_answer p ≡ Err CallFault.Busy }
+    ensures wanted_stays { (quiet : Bool) (p : Phase) → p.want ≡ true → resets quiet p ≡ p }
+    ensures awaited { (quiet : Bool) (p : Phase) → p.wait ≡ true → reset_answer p ≡ Err CallFault.Busy }
+    ensures awaited_stays { (quiet : Bool) (p : Phase) → p.wait ≡ true → resets quiet p ≡ p }
+    ensures accepted { (quiet : Bool) (p : Phase) → p.want ≡ false → p.wait ≡ false → reset_answer p ≡ Ok tt }
+    ensures accepted_settles { (quiet : Bool) (p : Phase) → p.want ≡ false → p.wait ≡ false → resets quiet p ≡ settles quiet (wants_reset p) }
     ensures rst { (quiet : Bool) (p : Phase) → hears_rst quiet p ≡ settles quiet (owes_answer p) }
     ensures rrp { (p : Phase) → hears_rrp p ≡ record p { wait = false } }
-    ensures stray { (p : Phase) → p.wait ≡ false → (is_stray_rrp p ≡ true) × (hears_rrp p ≡ p) }
+    ensures stray { (p : Phase) → p.wait ≡ false → is_stray_rrp p ≡ true }
+    ensures stray_stays { (p : Phase) → p.wait ≡ false → hears_rrp p ≡ p }
     ensures awaits { (p : Phase) → p.wait ≡ true → is_stray_rrp p ≡ false }
 {}
 
@@ -71,9 +79,10 @@ pub fn goes_down_at_the_513th()
     ensures place { (c : Command) (p : Phase) → is_other c ≡ true → up p ≡ true → length p.waiting < MAX_WAITING → makes c p ≡ record p { waiting = p.waiting ++ c ∷ [] } }
     ensures none { (c : Command) (p : Phase) → is_other c ≡ true → up p ≡ true → MAX_WAITING ≤ length p.waiting → makes c p ≡ goes_down p }
     ensures limit { MAX_WAITING ≡ 512 }
-    ensures full { (link : ℕ) (cs : List Command) (quiet : Bool) (p : Phase) → up p ≡ true → hears (Command.Inr link) (record { quiet = quiet; full = true; replies = cs }) p ≡ goes_down p }
-    ensures replies { (c d : Command) (cs : List Command) (p : Phase) → (makes_all [] p ≡ p) × (makes_all (c ∷ d ∷ cs) p ≡ makes_all cs (makes d (makes c p))) }
-    ensures reply { (link : ℕ) (quiet : Bool) (c : Command) (p : Phase) → up p ≡ true → hears (Command.Inr link) (record { quiet = quiet; full = false; replies = c ∷ [] }) p ≡ makes c p }
+    ensures full { (link : ℕ) (cs : List Command) (quiet : Bool) (p : Phase) → up p ≡ true → hears (Inr link) (record { quiet = quiet; full = true; replies = cs }) p ≡ goes_down p }
+    ensures no_reply { (c d : Command) (cs : List Command) (p : Phase) → makes_all [] p ≡ p }
+    ensures replies { (c d : Command) (cs : List Command) (p : Phase) → makes_all (c ∷ d ∷ cs) p ≡ makes_all cs (makes d (makes c p)) }
+    ensures reply { (link : ℕ) (quiet : Bool) (c : Command) (p : Phase) → up p ≡ true → hears (Inr link) (record { quiet = quiet; full = false; replies = c ∷ [] }) p ≡ makes c p }
 {}
 
 /// A control message takes whole commands from the front, at most 120 bytes of them: fifteen of 8
@@ -84,9 +93,9 @@ pub fn control_messages_are_filled()
     ensures no_more_fits { (cs rest : List Command) (c : Command) → next_commands cs ++ c ∷ rest ≡ cs → MAX_CONTROL < length (spellings (next_commands cs ++ c ∷ [])) }
     ensures at_least_one { (c : Command) (cs : List Command) → length (spelling c) ≤ MAX_CONTROL → (n : ℕ) × (next_commands (c ∷ cs) ≡ take (n + 1) (c ∷ cs)) }
     ensures every_one { (c : Command) → IsCommand c → length (spelling c) ≤ MAX_CONTROL }
-    ensures fifteen { next_commands (replicate 16 (Command.All 2 1 0)) ≡ replicate 15 (Command.All 2 1 0) }
+    ensures fifteen { next_commands (replicate 16 (All 2 1 0)) ≡ replicate 15 (All 2 1 0) }
     ensures ten { next_commands (replicate 11 (Command.Err 3 (replicate 10 0))) ≡ replicate 10 (Command.Err 3 (replicate 10 0)) }
-    ensures order { next_commands (Command.Rrp ∷ Command.Rst ∷ Command.Rts 2 3 2 ∷ []) ≡ Command.Rrp ∷ Command.Rst ∷ Command.Rts 2 3 2 ∷ [] }
+    ensures order { next_commands (Rrp ∷ Rst ∷ Rts 2 3 2 ∷ []) ≡ Rrp ∷ Rst ∷ Rts 2 3 2 ∷ [] }
     ensures none { next_commands [] ≡ [] }
     ensures full { (p : Phase) → 256 ≤ length p.waiting → is_full p ≡ true }
     ensures not_full { (p : Phase) → length p.waiting ≤ 255 → is_full p ≡ false }

@@ -3,3 +3,4 @@ pub mod HostsWork
 pub mod WorkRuns
 pub mod Idle
 pub mod Finished
+pub mod WorkRows

@@ -1,12 +1,12 @@
 //! The measure of known ends and commands, and that each weight is met: of each kind one thing that happens
 //! adds as much as it may.
 ghost use Rattle.std.specs.Prelude.{◌≡◌, ◌+◌, true, false, [], ◌∷◌, None, Some};
-ghost use Rattle.ncp_model.specs.Happenings.{happens};
-ghost use Rattle.ncp_model.specs.Happenings as all;
+ghost use Rattle.ncp_model.specs.Happenings.{happens, Asks_to_send, Asks_to_receive, Closes, Gives, Takes, Allocates, Calls_back, Interrupts, Rts_comes, Str_comes, Cls_comes, All_comes, Gvb_comes, Ret_comes, Inr_comes, Ins_comes, Text_comes, Text_goes_out};
 ghost use Rattle.ncp_model.specs.Peers.{Ask_to_send, Ask_to_receive, Close, Give, Take, Allocate, Call_back, Interrupt};
 ghost use Rattle.ncp_model.specs.Phase.{up_phase};
 ghost use Rattle.ncp_model.specs.Rows.{outward, inward, ones, opened_end, counting, storing, due, gone};
-ghost use Rattle.ncp_proof_progress.specs.Work.{causes_all, queue_work, end_work, end_work_at, happened_work, phase_work, adds, takes_away, credit};
+ghost use Rattle.ncp_proof_progress.specs.WorkRows.{work_by, loaded_end};
+ghost use Rattle.ncp_proof_progress.specs.Work.{causes_all, queue_work, end_work, end_work_at, phase_work, adds, takes_away, credit};
 
 use ncp_terms::Command;
 
@@ -14,7 +14,8 @@ use ncp_terms::Command;
 /// six more, and what a receiver holds is none. An end that left has nothing to say.
 pub fn work_of_ends()
     ensures open { (end_work outward opened_end ≡ 2) × (end_work inward opened_end ≡ 2) }
-    ensures waiting { (end_work outward (storing (ones 24)) ≡ 8) × (end_work outward (record (storing (ones 24)) { size = 12 }) ≡ 6) }
+    ensures waiting { end_work outward (storing (ones 24)) ≡ 8 }
+    ensures waiting_in_large_bytes { end_work outward (record (storing (ones 24)) { size = 12 }) ≡ 6 }
     ensures held { end_work inward (storing (ones 24)) ≡ 2 }
     ensures leaving { (end_work inward (due (storing (ones 24))) ≡ 2) × (end_work outward (due opened_end) ≡ 2) }
     ensures left { (end_work outward (gone opened_end) ≡ 0) × (end_work_at outward None ≡ 0) }
@@ -33,27 +34,37 @@ pub fn work_of_what_waits()
 
 /// Each call may add what its credit says, and one that is accepted does.
 pub fn credits_are_met()
-    ensures ask_to_send { (credit (Ask_to_send 8 64) None ≡ 5) × (happened_work outward (happens outward (all.Asks_to_send 8 64 0 false) None) ≡ 5) }
-    ensures ask_to_receive { (credit (Ask_to_receive 64) None ≡ 5) × (happened_work inward (happens inward (all.Asks_to_receive 64 2 0 false) None) ≡ 5) }
-    ensures give { (credit (Give (ones 24)) (Some opened_end) ≡ 6) × (happened_work outward (happens outward (all.Gives (ones 24)) (Some opened_end)) ≡ end_work outward opened_end + 6) }
-    ensures allocate { (credit (Allocate 2 16) (Some opened_end) ≡ 2) × (happened_work inward (happens inward (all.Allocates 2 16 false) (Some opened_end)) ≡ end_work inward opened_end + 2) }
-    ensures call_back { (credit (Call_back 128 0) (Some opened_end) ≡ 3) × (happened_work inward (happens inward (all.Calls_back 128 0 false) (Some opened_end)) ≡ end_work inward opened_end + 3) }
-    ensures interrupt { (credit Interrupt (Some opened_end) ≡ 2) × (happened_work outward (happens outward (all.Interrupts false) (Some opened_end)) ≡ end_work outward opened_end + 2) }
-    ensures close { (credit Close (Some opened_end) ≡ 0) × (happened_work outward (happens outward (all.Closes false) (Some opened_end)) ≡ end_work outward opened_end) }
-    ensures take { (credit (Take 3) (Some opened_end) ≡ 0) × (happened_work inward (happens inward (all.Takes 3) (Some (due (storing (ones 24))))) ≡ end_work inward (due (storing (ones 24)))) }
+    ensures ask_to_send { credit (Ask_to_send 8 64) None ≡ 5 }
+    ensures ask_to_send_adds { work_by outward (Asks_to_send 8 64 0 false) None ≡ 5 }
+    ensures ask_to_receive { credit (Ask_to_receive 64) None ≡ 5 }
+    ensures ask_to_receive_adds { work_by inward (Asks_to_receive 64 2 0 false) None ≡ 5 }
+    ensures give { credit (Give (ones 24)) (Some opened_end) ≡ 6 }
+    ensures give_adds { work_by outward (Gives (ones 24)) (Some opened_end) ≡ end_work outward opened_end + 6 }
+    ensures allocate { credit (Allocate 2 16) (Some opened_end) ≡ 2 }
+    ensures allocate_adds { work_by inward (Allocates 2 16 false) (Some opened_end) ≡ end_work inward opened_end + 2 }
+    ensures call_back { credit (Call_back 128 0) (Some opened_end) ≡ 3 }
+    ensures call_back_adds { work_by inward (Calls_back 128 0 false) (Some opened_end) ≡ end_work inward opened_end + 3 }
+    ensures interrupt { credit Interrupt (Some opened_end) ≡ 2 }
+    ensures interrupt_adds { work_by outward (Interrupts false) (Some opened_end) ≡ end_work outward opened_end + 2 }
+    ensures close { credit Close (Some opened_end) ≡ 0 }
+    ensures close_adds { work_by outward (Closes false) (Some opened_end) ≡ end_work outward opened_end }
+    ensures take { credit (Take 3) (Some opened_end) ≡ 0 }
+    ensures take_adds { work_by inward (Takes 3) (Some (due (storing (ones 24)))) ≡ end_work inward (due (storing (ones 24))) }
 {}
 
 /// Each command that comes may add what it causes, and one that makes an end, or is answered, does; so does
 /// a text that no end admits. A text that goes out takes two away where it has one byte.
 pub fn causes_are_met()
-    ensures rts { happened_work outward (happens outward (all.Rts_comes 2 false 0) None) ≡ adds outward (all.Rts_comes 2 false 0) None }
-    ensures str { happened_work inward (happens inward (all.Str_comes 8 0) None) ≡ adds inward (all.Str_comes 8 0) None }
-    ensures cls { happened_work outward (happens outward all.Cls_comes None) ≡ adds outward all.Cls_comes None }
-    ensures all { happened_work outward (happens outward (all.All_comes 2 1 8) None) ≡ adds outward (all.All_comes 2 1 8) None }
-    ensures gvb { happened_work outward (happens outward (all.Gvb_comes 2 128 128) (Some (counting 2 16))) ≡ end_work outward (counting 2 16) + adds outward (all.Gvb_comes 2 128 128) (Some (counting 2 16)) }
-    ensures ret { happened_work inward (happens inward (all.Ret_comes 2 1 8) None) ≡ adds inward (all.Ret_comes 2 1 8) None }
-    ensures inr { happened_work outward (happens outward (all.Inr_comes 2) None) ≡ adds outward (all.Inr_comes 2) None }
-    ensures ins { happened_work inward (happens inward (all.Ins_comes 2) None) ≡ adds inward (all.Ins_comes 2) None }
-    ensures text { happened_work inward (happens inward (all.Text_comes [] 8 (ones 8)) None) ≡ adds inward (all.Text_comes [] 8 (ones 8)) None }
-    ensures text_out { let e = record (counting 1 8) { stored = ones 8 } in (happened_work outward (happens outward all.Text_goes_out (Some e)) ≡ 2) × (takes_away (happens outward all.Text_goes_out (Some e)).outcome ≡ 2) × (end_work outward e ≡ 4) }
+    ensures rts { work_by outward (Rts_comes 2 false 0) None ≡ adds outward (Rts_comes 2 false 0) None }
+    ensures str { work_by inward (Str_comes 8 0) None ≡ adds inward (Str_comes 8 0) None }
+    ensures cls { work_by outward Cls_comes None ≡ adds outward Cls_comes None }
+    ensures all { work_by outward (All_comes 2 1 8) None ≡ adds outward (All_comes 2 1 8) None }
+    ensures gvb { work_by outward (Gvb_comes 2 128 128) (Some (counting 2 16)) ≡ end_work outward (counting 2 16) + adds outward (Gvb_comes 2 128 128) (Some (counting 2 16)) }
+    ensures ret { work_by inward (Ret_comes 2 1 8) None ≡ adds inward (Ret_comes 2 1 8) None }
+    ensures inr { work_by outward (Inr_comes 2) None ≡ adds outward (Inr_comes 2) None }
+    ensures ins { work_by inward (Ins_comes 2) None ≡ adds inward (Ins_comes 2) None }
+    ensures text { work_by inward (Text_comes [] 8 (ones 8)) None ≡ adds inward (Text_comes [] 8 (ones 8)) None }
+    ensures text_out { work_by outward Text_goes_out (Some loaded_end) ≡ 2 }
+    ensures text_out_takes_away { takes_away (happens outward Text_goes_out (Some loaded_end)).outcome ≡ 2 }
+    ensures text_out_before { end_work outward loaded_end ≡ 4 }
 {}

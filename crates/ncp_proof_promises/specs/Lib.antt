@@ -8,3 +8,4 @@ pub mod Examples
 pub mod Errless
 pub mod Promised
 pub mod Taking
+pub mod AtEachHost

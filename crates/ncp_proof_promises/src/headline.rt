@@ -20,6 +20,7 @@ ghost use Rattle.ncp_transcript_two.specs.Between.{Hosts, other, number_of, host
 ghost use Rattle.ncp_transcript_two.specs.Sides.{notes_at};
 ghost use Rattle.ncp_transcript_two.specs.Transcript.{began, IsTranscript};
 ghost use Rattle.ncp_transcript_two.specs.Seen.{had_for};
+ghost use Rattle.ncp_proof_promises.specs.AtEachHost.{AtEachHost};
 ghost use Rattle.ncp_proof_promises.specs.Since.{watch_at, none_watched, watched_from};
 ghost use Rattle.ncp_proof_promises.specs.Promised.{SubnetHonest, GotBegins, EachByteOnce, WithinAllocation, LedgersBalanced, CameInOrder, CommandsInOrder, EachActedOnce, NoErrMade};
 
@@ -37,17 +38,17 @@ use ncp_transcript_two::transcripts::{
 /// counted, or the greatest number that a count has.
 pub fn each_host_is_what_its_notes_say()
     ensures commands { (notes : List Note) (w : Hosts) (side : sides.Side) → IsTranscript notes w → let n = number_of (other side) w in let own = notes_of n (notes_at side notes) in (css : List (List Command)) × (fresh_on control_link own ≡ map (message_of n) css) × ((made_of own).all ≡ joined css ++ (had_for n (host_of side w)).peer.phase.waiting) }
-    ensures up { (notes : List Note) (w : Hosts) (side : sides.Side) → IsTranscript notes w → let n = number_of (other side) w in up (had_for n (host_of side w)).peer.phase ≡ is_up_told (made_of (notes_of n (notes_at side notes))) }
-    ensures down { (notes : List Note) (w : Hosts) (side : sides.Side) → IsTranscript notes w → let n = number_of (other side) w in (had_for n (host_of side w)).peer.phase.down ≡ not (made_of (notes_of n (notes_at side notes))).began }
-    ensures want { (notes : List Note) (w : Hosts) (side : sides.Side) → IsTranscript notes w → let n = number_of (other side) w in (had_for n (host_of side w)).peer.phase.want ≡ not (made_of (notes_of n (notes_at side notes))).did_reset }
-    ensures owe { (notes : List Note) (w : Hosts) (side : sides.Side) → IsTranscript notes w → let n = number_of (other side) w in (had_for n (host_of side w)).peer.phase.owe ≡ not (made_of (notes_of n (notes_at side notes))).gave_answer }
-    ensures waits { (notes : List Note) (w : Hosts) (side : sides.Side) → IsTranscript notes w → let n = number_of (other side) w in (had_for n (host_of side w)).peer.phase.wait ≡ not (made_of (notes_of n (notes_at side notes))).got_answer }
-    ensures records { (notes : List Note) (w : Hosts) (side : sides.Side) (pair : Pair) → IsTranscript notes w → let n = number_of (other side) w in record_in pair (had_for n (host_of side w)).peer.ends ≡ record_marked pair (marks_of pair (notes_of n (notes_at side notes))) }
-    ensures slots { (notes : List Note) (w : Hosts) (side : sides.Side) (on : ℕ) → IsTranscript notes w → let n = number_of (other side) w in slot_at (had_for n (host_of side w)).slots on ≡ slot_told (told_on on (notes_of n (notes_at side notes))) }
-    ensures echo { (notes : List Note) (w : Hosts) (side : sides.Side) → IsTranscript notes w → let n = number_of (other side) w in (had_for n (host_of side w)).peer.echoes.awaited ≡ (echo_of (notes_of n (notes_at side notes))).asked }
-    ensures echoed { (notes : List Note) (w : Hosts) (side : sides.Side) → IsTranscript notes w → let n = number_of (other side) w in (had_for n (host_of side w)).peer.echoes.echoed ≡ (echo_of (notes_of n (notes_at side notes))).byte }
-    ensures errors { (notes : List Note) (w : Hosts) (side : sides.Side) → IsTranscript notes w → let n = number_of (other side) w in (had_for n (host_of side w)).peer.echoes.errors ≡ last_of MAX_ERRORS (echo_of (notes_of n (notes_at side notes))).errors }
-    ensures counts { (notes : List Note) (w : Hosts) (side : sides.Side) → IsTranscript notes w → let n = number_of (other side) w in (had_for n (host_of side w)).counts ≡ counts_told (counted_of (notes_of n (notes_at side notes))) }
+    ensures up { AtEachHost (λ own had. up had.peer.phase ≡ is_up_told (made_of own)) }
+    ensures down { AtEachHost (λ own had. had.peer.phase.down ≡ not (made_of own).began) }
+    ensures want { AtEachHost (λ own had. had.peer.phase.want ≡ not (made_of own).did_reset) }
+    ensures owe { AtEachHost (λ own had. had.peer.phase.owe ≡ not (made_of own).gave_answer) }
+    ensures waits { AtEachHost (λ own had. had.peer.phase.wait ≡ not (made_of own).got_answer) }
+    ensures records { AtEachHost (λ own had. (pair : Pair) → record_in pair had.peer.ends ≡ record_marked pair (marks_of pair own)) }
+    ensures slots { AtEachHost (λ own had. (on : ℕ) → slot_at had.slots on ≡ slot_told (told_on on own)) }
+    ensures echo { AtEachHost (λ own had. had.peer.echoes.awaited ≡ (echo_of own).asked) }
+    ensures echoed { AtEachHost (λ own had. had.peer.echoes.echoed ≡ (echo_of own).byte) }
+    ensures errors { AtEachHost (λ own had. had.peer.echoes.errors ≡ last_of MAX_ERRORS (echo_of own).errors) }
+    ensures counts { AtEachHost (λ own had. had.counts ≡ counts_told (counted_of own)) }
 {
     each_host_is_by_itself();
 }

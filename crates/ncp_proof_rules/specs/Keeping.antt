@@ -1,11 +1,70 @@
 -- Which happenings move which of an end's marks and numbers, and which commands tell of it.
-use Rattle.std.specs.Prelude.{Bool, true, false, Option, None, Some}
+use Rattle.std.specs.Prelude.{◌≡◌, Bool, true, false, Option, None, Some}
 use Rattle.ncp_terms.specs.declared.command.Command.{Command}
 use Rattle.ncp_terms.specs.declared.command.Command.TheVariants.{Cls}
-use Rattle.ncp_model.specs.End.{End}
+use Rattle.ncp_model.specs.declared.pair.Pair.{Pair}
+use Rattle.ncp_model.specs.End.{End, or_new}
 use Rattle.ncp_model.specs.Texts.{Rfnm}
-use Rattle.ncp_model.specs.Happenings.{Happening}
+use Rattle.ncp_model.specs.Happenings.{Happening, happens}
 use Rattle.ncp_model.specs.Happenings as all
+
+-- Whatever happens at an end: where one is there afterwards, this holds of what happened, of the end as it
+-- was, and as it is. An end that was not there counts as a new one.
+abbrev pub Always : (Happening → End → End → Type 0) → Type 0
+Always holds =
+    (pair : Pair) (what : Happening) (before : Option End) (e : End) → (happens pair what before).after ≡ Some e → holds what (or_new before) e
+
+-- the same of one thing that happens: the end is as it was, but for what is named
+abbrev pub MovesOnly : Happening → (End → End → End) → Type 0
+MovesOnly what named =
+    (pair : Pair) (before : Option End) (e : End) → (happens pair what before).after ≡ Some e → e ≡ named e (or_new before)
+
+-- What each may change: the fields of the first end, put into the second.
+
+abbrev pub own_size : End → End → End
+own_size now was = record was { asked = now.asked; opened = now.opened; size = now.size; stored = now.stored; room = now.room }
+
+abbrev pub own_link : End → End → End
+own_link now was = record was { asked = now.asked; opened = now.opened; link = now.link; stored = now.stored; room = now.room }
+
+abbrev pub its_leaving : End → End → End
+its_leaving now was = record was { leaving = now.leaving; left = now.left; stored = now.stored }
+
+abbrev pub store_alone : End → End → End
+store_alone now was = record was { stored = now.stored }
+
+abbrev pub both_numbers : End → End → End
+both_numbers now was = record was { messages = now.messages; bits = now.bits }
+
+abbrev pub recall_alone : End → End → End
+recall_alone now was = record was { recall = now.recall }
+
+abbrev pub no_field : End → End → End
+no_field now was = was
+
+abbrev pub request_and_link : End → End → End
+request_and_link now was = record was { heard = now.heard; opened = now.opened; link = now.link }
+
+abbrev pub request_and_size : End → End → End
+request_and_size now was = record was { heard = now.heard; opened = now.opened; size = now.size }
+
+abbrev pub closing_marks : End → End → End
+closing_marks now was = record was { leaving = now.leaving; left = now.left; cls = now.cls; stored = now.stored }
+
+abbrev pub numbers_and_recall : End → End → End
+numbers_and_recall now was = record was { messages = now.messages; bits = now.bits; recall = now.recall }
+
+abbrev pub interrupts_alone : End → End → End
+interrupts_alone now was = record was { interrupts = now.interrupts }
+
+abbrev pub numbers_and_store : End → End → End
+numbers_and_store now was = record was { messages = now.messages; bits = now.bits; stored = now.stored }
+
+abbrev pub text_out : End → End → End
+text_out now was = record was { messages = now.messages; bits = now.bits; stored = now.stored; busy = now.busy }
+
+abbrev pub text_back : End → End → End
+text_back now was = record was { leaving = now.leaving; left = now.left; stored = now.stored; busy = now.busy }
 
 -- a GVB is called for; a RET answers it (NIC 8246, GVB and RET)
 abbrev pub calls_back : Happening → Bool

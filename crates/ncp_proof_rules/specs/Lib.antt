@@ -1,2 +1,4 @@
 pub mod Refusals
 pub mod Keeping
+pub mod ByteSizes
+pub mod Conserved

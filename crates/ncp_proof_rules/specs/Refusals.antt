@@ -1,7 +1,7 @@
 -- The refusals as tables, from another side than the rules: for each thing that can happen to an end
 -- its cases in the order in which they are judged, each with whether it holds. The first that holds
 -- is answered. Which there are, and their order, is this profile's rule.
-use Rattle.std.specs.Prelude.{ℕ, ◌+◌, ◌%◌, ◌==◌, Bool, true, false, not, ◌&&◌, ◌||◌, nat_lt, nat_le, if◌then◌else◌, List, [], ◌∷◌, length, Option, None, Some, is_none}
+use Rattle.std.specs.Prelude.{◌≡◌, ℕ, ◌+◌, ◌%◌, ◌==◌, Bool, true, false, not, ◌&&◌, ◌||◌, nat_lt, nat_le, if◌then◌else◌, List, [], ◌∷◌, map, length, Option, None, Some, is_none}
 use Rattle.ncp_terms.specs.declared.command.Command.TheVariants.{Rts, Str, Cls, All, Gvb, Ret, Inr, Ins}
 use Rattle.ncp_terms.specs.declared.fault.TheConstants.{ERRONEOUS_PARAMETERS, NONEXISTENT_SOCKET, SOCKET_NOT_CONNECTED}
 use Rattle.ncp_terms.specs.Spelling.{error_of}
@@ -13,7 +13,8 @@ use Rattle.ncp_model.specs.declared.limits.TheConstants.{FIRST_LINK, LAST_LINK, 
 use Rattle.ncp_model.specs.Pairs.{is_receive, is_send}
 use Rattle.ncp_model.specs.End.{End, or_new}
 use Rattle.ncp_model.specs.Act.{text_error}
-use Rattle.ncp_model.specs.Happenings.{Happening, Outcome}
+use Rattle.ncp_model.specs.Faults.{fault_number}
+use Rattle.ncp_model.specs.Happenings.{Happening, Outcome, Happened, happens}
 use Rattle.ncp_model.specs.Happenings as all
 
 -- The words of the tables. An end that is not there counts as a new one.
@@ -122,10 +123,19 @@ abbrev pub refusal_of : Outcome → Option CallFault
 refusal_of (all.Refused fault) = Some fault
 refusal_of outcome = None
 
+-- a call is refused for the first of its reasons that holds, and accepted where none does
+abbrev pub IsRefusedFirst : Happening → Type 0
+IsRefusedFirst call = (pair : Pair) (before : Option End) → refusal_of (happens pair call before).outcome ≡ first_of (reasons pair call before)
+
 -- whether the numbers of the refusals rise
 abbrev pub rises : ℕ → List ℕ → Bool
 rises from [] = true
 rises from (number ∷ more) = nat_le from number && rises number more
+
+-- the reasons of a call stand in the order of their numbers
+abbrev pub StandInOrder : Happening → Type 0
+StandInOrder call =
+    (pair : Pair) (before : Option End) → rises 0 (map (λ reason. fault_number reason.0) (reasons pair call before)) ≡ true
 
 -- What comes: the first case that holds is the outcome, else it has its effect.
 
@@ -206,3 +216,13 @@ abbrev pub made_by_refusal : Happening → Outcome → List Command
 made_by_refusal what (all.Erred error) = error ∷ []
 made_by_refusal (all.Text_comes head of_size text) all.NotOpen = text_error head text ∷ []
 made_by_refusal what outcome = []
+
+-- what comes meets the first of its cases that holds, and else has the effect that is named
+abbrev pub MeetsFirst : Happening → Outcome → Type 0
+MeetsFirst what otherwise =
+    (pair : Pair) (before : Option End) → (happens pair what before).outcome ≡ first_that (cases pair what before) otherwise
+
+-- whatever is refused: this holds of it, of the end before it, or that there is none, and of what it comes to
+abbrev pub WheneverRefused : (Happening → Option End → Happened → Type 0) → Type 0
+WheneverRefused holds =
+    (pair : Pair) (what : Happening) (before : Option End) → is_refusal (happens pair what before).outcome ≡ true → holds what before (happens pair what before)

@@ -7,3 +7,4 @@ pub mod Marks
 pub mod Echoing
 pub mod Counted
 pub mod Examples
+pub mod Reconstructed

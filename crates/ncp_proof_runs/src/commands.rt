@@ -1,6 +1,7 @@
 //! The commands that are made for a peer, and the order in which they go out.
-ghost use Rattle.std.specs.Prelude.{◌≡◌, ℕ, Bool, true, false, not, List, [], ◌∷◌, ◌++◌, map, length, Some};
+ghost use Rattle.std.specs.Prelude.{◌≡◌, ℕ, true, false, not, List, [], ◌∷◌, ◌++◌, map, length, Some};
 ghost use Rattle.std.specs.List.{list_all};
+ghost use Rattle.ncp_terms.specs.declared.command.Command.TheVariants.{Nop, Eco, Erp, Rst, Rrp};
 ghost use Rattle.ncp_terms.specs.declared.command.Command.{Command as Order};
 ghost use Rattle.ncp_slot.specs.Slots.{data_links};
 ghost use Rattle.ncp_model.specs.Phase.{up, up_phase};
@@ -10,12 +11,12 @@ ghost use Rattle.ncp_host.specs.declared.flags.Flags.{Flags as Told};
 ghost use Rattle.ncp_host.specs.Host.{state_of, is_one_of, new_host};
 ghost use Rattle.ncp_transcript.specs.declared.note.HostNote.{HostNote as Note};
 ghost use Rattle.ncp_transcript.specs.After.{after_notes};
+ghost use Rattle.ncp_proof_runs.specs.Reconstructed.{FromNotes};
 ghost use Rattle.ncp_proof_runs.specs.Peers.{FromBeginning, notes_of};
 ghost use Rattle.ncp_proof_runs.specs.Links.{is_quiet_told, told_on, fresh_on};
 ghost use Rattle.ncp_proof_runs.specs.Making.{is_up_told, made_in, struck, made_since, by_other, sent, settling_made, nothing_made, made_of, message_of, joined};
 ghost use Rattle.ncp_proof_runs.specs.Examples.{message_on_0, message_on_2, lost, held, stray, woken, taken};
 
-use ncp_terms::Command;
 use ncp_transcript::HostNote;
 
 /// The commands that were made for a peer in any run, less those that clearings struck, are those in the
@@ -30,11 +31,11 @@ pub fn commands_go_out_as_they_were_made()
 /// and since the last RST that it made an RRP came. Each flag says that one of these is not so;
 /// and a note that reads them says the same.
 pub fn flags_are_what_was_made_and_came()
-    ensures down { (me : ℕ) (ns : List ℕ) (all : List Note) (n : ℕ) (s : PeerState) → FromBeginning me ns all → state_of (after_notes all (new_host me ns)) n ≡ Some s → s.peer.phase.down ≡ not (made_of (notes_of n all)).began }
-    ensures want { (me : ℕ) (ns : List ℕ) (all : List Note) (n : ℕ) (s : PeerState) → FromBeginning me ns all → state_of (after_notes all (new_host me ns)) n ≡ Some s → s.peer.phase.want ≡ not (made_of (notes_of n all)).did_reset }
-    ensures owe { (me : ℕ) (ns : List ℕ) (all : List Note) (n : ℕ) (s : PeerState) → FromBeginning me ns all → state_of (after_notes all (new_host me ns)) n ≡ Some s → s.peer.phase.owe ≡ not (made_of (notes_of n all)).gave_answer }
-    ensures wait { (me : ℕ) (ns : List ℕ) (all : List Note) (n : ℕ) (s : PeerState) → FromBeginning me ns all → state_of (after_notes all (new_host me ns)) n ≡ Some s → s.peer.phase.wait ≡ not (made_of (notes_of n all)).got_answer }
-    ensures up { (me : ℕ) (ns : List ℕ) (all : List Note) (n : ℕ) (s : PeerState) → FromBeginning me ns all → state_of (after_notes all (new_host me ns)) n ≡ Some s → up s.peer.phase ≡ is_up_told (made_of (notes_of n all)) }
+    ensures down { FromNotes (λ told s. s.peer.phase.down ≡ not (made_of told).began) }
+    ensures want { FromNotes (λ told s. s.peer.phase.want ≡ not (made_of told).did_reset) }
+    ensures owe { FromNotes (λ told s. s.peer.phase.owe ≡ not (made_of told).gave_answer) }
+    ensures wait { FromNotes (λ told s. s.peer.phase.wait ≡ not (made_of told).got_answer) }
+    ensures up { FromNotes (λ told s. up s.peer.phase ≡ is_up_told (made_of told)) }
     ensures noted { (me : ℕ) (ns : List ℕ) (before after : List Note) (n : ℕ) (flags : Told) → FromBeginning me ns (before ++ HostNote.Phase n flags ∷ after) → (flags.down ≡ not (made_of (notes_of n before)).began) × (flags.want ≡ not (made_of (notes_of n before)).did_reset) × (flags.owe ≡ not (made_of (notes_of n before)).gave_answer) × (flags.wait ≡ not (made_of (notes_of n before)).got_answer) }
 {}
 
@@ -50,12 +51,15 @@ pub fn what_is_owed_waits_for_quiet()
 /// that is wanted. What was made and came before a clearing counts no more, and what comes while the host is not up
 /// does not count.
 pub fn commands_are_made_struck_and_sent()
-    ensures made { made_in (Command.Eco 2) up_phase (record nothing_made { all = Command.Eco 1 ∷ []; gone = 1 }) ≡ record nothing_made { all = Command.Eco 1 ∷ Command.Eco 2 ∷ []; gone = 1 } }
-    ensures struck { struck (record nothing_made { all = Command.Eco 1 ∷ Command.Eco 2 ∷ Command.Rrp ∷ []; gone = 1 }) ≡ record nothing_made { all = Command.Eco 1 ∷ Command.Rrp ∷ []; gone = 1; cleared = 2 } }
-    ensures anew { (made_since (record nothing_made { all = Command.Eco 1 ∷ Command.Rrp ∷ Command.Rst ∷ Command.Eco 2 ∷ []; gone = 1; cleared = 2 }) ≡ Command.Eco 2 ∷ []) × (made_since (struck (record nothing_made { all = Command.Eco 1 ∷ Command.Eco 2 ∷ []; gone = 1; came = Command.Eco 3 ∷ [] })) ≡ []) × ((struck (record nothing_made { came = Command.Eco 3 ∷ [] })).came ≡ []) }
-    ensures heard { (by_other (Command.Eco 3) (record new_peer { phase = up_phase }) (record nothing_made { came = Command.Nop ∷ [] }) ≡ record nothing_made { all = Command.Erp 3 ∷ []; came = Command.Nop ∷ Command.Eco 3 ∷ [] }) × (by_other (Command.Eco 3) new_peer nothing_made ≡ nothing_made) }
-    ensures sent { sent (record nothing_made { all = Command.Eco 1 ∷ Command.Eco 2 ∷ Command.Rrp ∷ []; gone = 1 }) ≡ record nothing_made { all = Command.Eco 1 ∷ Command.Eco 2 ∷ Command.Rrp ∷ []; gone = 3 } }
-    ensures settled { settling_made true (record up_phase { owe = true; want = true }) nothing_made ≡ record nothing_made { all = Command.Rrp ∷ Command.Rst ∷ []; began = true; got_answer = false } }
+    ensures made { made_in (Eco 2) up_phase (record nothing_made { all = Eco 1 ∷ []; gone = 1 }) ≡ record nothing_made { all = Eco 1 ∷ Eco 2 ∷ []; gone = 1 } }
+    ensures struck { struck (record nothing_made { all = Eco 1 ∷ Eco 2 ∷ Rrp ∷ []; gone = 1 }) ≡ record nothing_made { all = Eco 1 ∷ Rrp ∷ []; gone = 1; cleared = 2 } }
+    ensures anew { made_since (record nothing_made { all = Eco 1 ∷ Rrp ∷ Rst ∷ Eco 2 ∷ []; gone = 1; cleared = 2 }) ≡ Eco 2 ∷ [] }
+    ensures anew_after_clearing { made_since (struck (record nothing_made { all = Eco 1 ∷ Eco 2 ∷ []; gone = 1; came = Eco 3 ∷ [] })) ≡ [] }
+    ensures came_is_struck { (struck (record nothing_made { came = Eco 3 ∷ [] })).came ≡ [] }
+    ensures heard { by_other (Eco 3) (record new_peer { phase = up_phase }) (record nothing_made { came = Nop ∷ [] }) ≡ record nothing_made { all = Erp 3 ∷ []; came = Nop ∷ Eco 3 ∷ [] } }
+    ensures heard_not_up { by_other (Eco 3) new_peer nothing_made ≡ nothing_made }
+    ensures sent { sent (record nothing_made { all = Eco 1 ∷ Eco 2 ∷ Rrp ∷ []; gone = 1 }) ≡ record nothing_made { all = Eco 1 ∷ Eco 2 ∷ Rrp ∷ []; gone = 3 } }
+    ensures settled { settling_made true (record up_phase { owe = true; want = true }) nothing_made ≡ record nothing_made { all = Rrp ∷ Rst ∷ []; began = true; got_answer = false } }
     ensures waits { settling_made false (record up_phase { owe = true; want = true }) nothing_made ≡ nothing_made }
 {}
 

@@ -1,21 +1,17 @@
 //! Pairs of sockets: what was got there since the connection opened is taken or held, and what is
 //! outstanding was granted, and neither returned nor used.
-ghost use Rattle.std.specs.Prelude.{◌≡◌, ℕ, ◌+◌, Bool, true, false, List, [], ◌∷◌, ◌++◌, length, Some, Ok};
-ghost use Rattle.std.specs.FinMap.{get};
+ghost use Rattle.std.specs.Prelude.{◌≡◌, ℕ, ◌+◌, Bool, false, List, [], ◌∷◌, ◌++◌, length, Some, Ok};
 ghost use Rattle.ncp_leader.specs.declared.leader.Leader.{Leader as Front};
 ghost use Rattle.ncp_leader.specs.Leader.{leader_in};
 ghost use Rattle.ncp_leader.specs.Message.{Message, message_in};
-ghost use Rattle.ncp_model.specs.Pairs.{receives};
-ghost use Rattle.ncp_model.specs.End.{End};
 ghost use Rattle.ncp_model.specs.Rows.{inward, outward, ones, asked_receive, counting, storing};
 ghost use Rattle.ncp_model.specs.Ends.{Ends, pair_of, receiver_on};
 ghost use Rattle.ncp_model.specs.Happenings.{happens};
 ghost use Rattle.ncp_model.specs.Happenings as all;
 ghost use Rattle.ncp_proof_watch.specs.Histories.{no_past};
-ghost use Rattle.ncp_host.specs.PeerState.{PeerState, new_state};
-ghost use Rattle.ncp_host.specs.Host.{state_of, new_host};
+ghost use Rattle.ncp_host.specs.PeerState.{new_state};
 ghost use Rattle.ncp_transcript.specs.declared.note.HostNote.{HostNote as Note};
-ghost use Rattle.ncp_transcript.specs.After.{after_notes};
+ghost use Rattle.ncp_proof_runs.specs.Reconstructed.{OfOpenedReceivers, OfUnopenedEnds};
 ghost use Rattle.ncp_proof_runs.specs.Peers.{FromBeginning, notes_of, notes_for};
 ghost use Rattle.ncp_proof_runs.specs.Histories.{past_then, past_at, past_of};
 
@@ -27,10 +23,13 @@ use ncp_transcript::{Call, HostNote};
 /// messages and of bits. Each is since its connection opened; at an end that has not opened, of a receiver
 /// or a sender, the two numbers and the interrupts are zero, and nothing is stored.
 pub fn what_is_got_is_taken_or_held()
-    ensures held { (me : ℕ) (ns : List ℕ) (all : List Note) (n : ℕ) (s : PeerState) (pair : Pair) (e : End) → FromBeginning me ns all → state_of (after_notes all (new_host me ns)) n ≡ Some s → receives pair ≡ true → get s.peer.ends pair ≡ Some e → e.opened ≡ true → e.left ≡ false → (past_of pair (notes_of n all)).got ≡ (past_of pair (notes_of n all)).taken ++ e.stored }
-    ensures messages { (me : ℕ) (ns : List ℕ) (all : List Note) (n : ℕ) (s : PeerState) (pair : Pair) (e : End) → FromBeginning me ns all → state_of (after_notes all (new_host me ns)) n ≡ Some s → receives pair ≡ true → get s.peer.ends pair ≡ Some e → e.opened ≡ true → e.messages + (past_of pair (notes_of n all)).returned_messages + (past_of pair (notes_of n all)).used_messages ≡ (past_of pair (notes_of n all)).granted_messages }
-    ensures bits { (me : ℕ) (ns : List ℕ) (all : List Note) (n : ℕ) (s : PeerState) (pair : Pair) (e : End) → FromBeginning me ns all → state_of (after_notes all (new_host me ns)) n ≡ Some s → receives pair ≡ true → get s.peer.ends pair ≡ Some e → e.opened ≡ true → e.bits + (past_of pair (notes_of n all)).returned_bits + length (past_of pair (notes_of n all)).got ≡ (past_of pair (notes_of n all)).granted_bits }
-    ensures unopened { (me : ℕ) (ns : List ℕ) (all : List Note) (n : ℕ) (s : PeerState) (pair : Pair) (e : End) → FromBeginning me ns all → state_of (after_notes all (new_host me ns)) n ≡ Some s → get s.peer.ends pair ≡ Some e → e.opened ≡ false → (e.messages ≡ 0) × (e.bits ≡ 0) × (e.interrupts ≡ 0) × (e.stored ≡ []) }
+    ensures held { OfOpenedReceivers (λ past e. e.left ≡ false → past.got ≡ past.taken ++ e.stored) }
+    ensures messages { OfOpenedReceivers (λ past e. e.messages + past.returned_messages + past.used_messages ≡ past.granted_messages) }
+    ensures bits { OfOpenedReceivers (λ past e. e.bits + past.returned_bits + length past.got ≡ past.granted_bits) }
+    ensures unopened_messages { OfUnopenedEnds (λ e. e.messages ≡ 0) }
+    ensures unopened_bits { OfUnopenedEnds (λ e. e.bits ≡ 0) }
+    ensures unopened_interrupts { OfUnopenedEnds (λ e. e.interrupts ≡ 0) }
+    ensures unopened_stored { OfUnopenedEnds (λ e. e.stored ≡ []) }
 {}
 
 /// What a note says was taken joins what was taken of its pair.

@@ -1,33 +1,34 @@
 //! The links to a peer: what the notes on a link say is what is kept for it, and what goes out on it.
-ghost use Rattle.std.specs.Prelude.{◌≡◌, ℕ, Bool, true, false, List, [], ◌∷◌, ◌++◌, Option, Some, None, Ok};
+ghost use Rattle.std.specs.Prelude.{◌≡◌, ℕ, Bool, true, false, List, [], ◌∷◌, ◌++◌, Some, None, Ok};
 ghost use Rattle.std.specs.List.{list_all};
 ghost use Rattle.ncp_leader.specs.Leader.{leader_in};
 ghost use Rattle.ncp_slot.specs.declared.slot.Slot.TheVariants.{Empty, Ready, Travelling, Held};
 ghost use Rattle.ncp_slot.specs.Slots.{slot_at, data_links, is_quiet};
-ghost use Rattle.ncp_host.specs.PeerState.{PeerState, new_state};
+ghost use Rattle.ncp_host.specs.PeerState.{new_state};
 ghost use Rattle.ncp_host.specs.Output.{leader_to, links};
-ghost use Rattle.ncp_host.specs.Host.{state_of, is_one_of, new_host};
+ghost use Rattle.ncp_host.specs.Host.{is_one_of, new_host};
 ghost use Rattle.ncp_host.specs.Readiness.{IsNext};
 ghost use Rattle.ncp_host.specs.declared.received.Received.{Received as What};
 ghost use Rattle.ncp_terms.specs.declared.answer.Answer.{Answer as How};
+ghost use Rattle.ncp_terms.specs.declared.answer.Answer.TheVariants.{Dead};
 ghost use Rattle.ncp_transcript.specs.declared.note.HostNote.{HostNote as Note};
 ghost use Rattle.ncp_transcript.specs.After.{after_notes};
+ghost use Rattle.ncp_proof_runs.specs.Reconstructed.{FromNotes, WhenOut};
 ghost use Rattle.ncp_proof_runs.specs.Peers.{FromBeginning, notes_of, notes_for};
 ghost use Rattle.ncp_proof_runs.specs.Links.{is_fresh, told_on, came_on, is_quiet_told, slot_told, received_told, ready_told};
 ghost use Rattle.ncp_proof_runs.specs.Examples.{message_on_0, message_on_2, lost, held, stray, woken, taken};
 
 use ncp_host::Received;
-use ncp_terms::Answer;
 use ncp_transcript::HostNote;
 
 /// What a host keeps for a link to a peer after any run is what the notes of that link say.
 pub fn links_are_what_their_notes_say()
-    ensures { (me : ℕ) (ns : List ℕ) (all : List Note) (n on : ℕ) (s : PeerState) → FromBeginning me ns all → state_of (after_notes all (new_host me ns)) n ≡ Some s → slot_at s.slots on ≡ slot_told (told_on on (notes_of n all)) }
+    ensures { FromNotes (λ told s. (on : ℕ) → slot_at s.slots on ≡ slot_told (told_on on told)) }
 {}
 
 /// The data links to a peer are quiet after any run exactly where the notes of each of them say so.
 pub fn links_are_quiet_as_their_notes_say()
-    ensures { (me : ℕ) (ns : List ℕ) (all : List Note) (n : ℕ) (s : PeerState) → FromBeginning me ns all → state_of (after_notes all (new_host me ns)) n ≡ Some s → is_quiet s.slots ≡ list_all (λ on. is_quiet_told (told_on on (notes_of n all))) data_links }
+    ensures { FromNotes (λ told s. is_quiet s.slots ≡ list_all (λ on. is_quiet_told (told_on on told)) data_links) }
 {}
 
 /// A message that goes out names a peer and a link of it, and no message on that link is unanswered. It is
@@ -35,10 +36,10 @@ pub fn links_are_quiet_as_their_notes_say()
 /// Dead only if a wake was accepted since.
 pub fn messages_go_out_one_by_one()
     ensures addressed { (me : ℕ) (ns : List ℕ) (before after : List Note) (message : List Bool) → FromBeginning me ns (before ++ HostNote.Out message ∷ after) → (n : ℕ) × (on : ℕ) × (is_one_of n ns ≡ true) × (is_one_of on links ≡ true) × (leader_in message ≡ Ok (leader_to n on)) }
-    ensures ready { (me : ℕ) (ns : List ℕ) (before after : List Note) (message : List Bool) (n on : ℕ) → FromBeginning me ns (before ++ HostNote.Out message ∷ after) → leader_in message ≡ Ok (leader_to n on) → ready_told n on (told_on on (notes_of n before)) (notes_for (notes_of n before) new_state).peer ≡ Some message }
-    ensures alone { (me : ℕ) (ns : List ℕ) (before after : List Note) (message : List Bool) (n on : ℕ) → FromBeginning me ns (before ++ HostNote.Out message ∷ after) → leader_in message ≡ Ok (leader_to n on) → (told_on on (notes_of n before)).unanswered ≡ false }
-    ensures again { (me : ℕ) (ns : List ℕ) (before after : List Note) (message : List Bool) (n on : ℕ) → FromBeginning me ns (before ++ HostNote.Out message ∷ after) → leader_in message ≡ Ok (leader_to n on) → is_fresh (told_on on (notes_of n before)) ≡ false → message ≡ (told_on on (notes_of n before)).fresh }
-    ensures woken { (me : ℕ) (ns : List ℕ) (before after : List Note) (message : List Bool) (n on : ℕ) → FromBeginning me ns (before ++ HostNote.Out message ∷ after) → leader_in message ≡ Ok (leader_to n on) → (told_on on (notes_of n before)).answer ≡ Some Answer.Dead → (told_on on (notes_of n before)).woken ≡ true }
+    ensures ready { WhenOut (λ n on out own. ready_told n on (told_on on own) (notes_for own new_state).peer ≡ Some out) }
+    ensures alone { WhenOut (λ n on out own. (told_on on own).unanswered ≡ false) }
+    ensures again { WhenOut (λ n on out own. is_fresh (told_on on own) ≡ false → out ≡ (told_on on own).fresh) }
+    ensures woken { WhenOut (λ n on out own. (told_on on own).answer ≡ Some Dead → (told_on on own).woken ≡ true) }
 {}
 
 /// What goes out is the message on the first link that is ready, to the first of the peers that has one; and
@@ -64,8 +65,12 @@ pub fn nothing_goes_out_where_none_is_ready()
 pub fn one_message_on_its_link()
     ensures lost { slot_told (told_on 0 lost) ≡ Ready message_on_0 }
     ensures held { slot_told (told_on 0 held) ≡ Held message_on_0 }
-    ensures stray { (told_on 0 (held ++ stray) ≡ told_on 0 held) × ((told_on 0 held).unanswered ≡ false) × (slot_told (told_on 2 (held ++ stray)) ≡ Travelling message_on_2) }
-    ensures woken { (slot_told (told_on 0 (held ++ stray ++ woken)) ≡ Ready message_on_0) × (is_fresh (told_on 0 (held ++ stray ++ woken)) ≡ false) }
-    ensures taken { (slot_told (told_on 0 (held ++ stray ++ woken ++ taken)) ≡ Empty) × (is_fresh (told_on 0 (held ++ stray ++ woken ++ taken)) ≡ true) }
+    ensures stray { told_on 0 (held ++ stray) ≡ told_on 0 held }
+    ensures stray_unanswered { (told_on 0 held).unanswered ≡ false }
+    ensures stray_elsewhere { slot_told (told_on 2 (held ++ stray)) ≡ Travelling message_on_2 }
+    ensures woken { slot_told (told_on 0 (held ++ stray ++ woken)) ≡ Ready message_on_0 }
+    ensures woken_not_fresh { is_fresh (told_on 0 (held ++ stray ++ woken)) ≡ false }
+    ensures taken { slot_told (told_on 0 (held ++ stray ++ woken ++ taken)) ≡ Empty }
+    ensures taken_fresh { is_fresh (told_on 0 (held ++ stray ++ woken ++ taken)) ≡ true }
     ensures came { came_on 2 (held ++ HostNote.In message_on_2 Received.NotUp ∷ stray) ≡ message_on_2 ∷ [] }
 {}

@@ -2,7 +2,6 @@
 ghost use Rattle.std.specs.Prelude.{◌≡◌, ℕ, ◌+◌, true, false, List, [], ◌∷◌, ◌++◌, None, Some};
 ghost use Rattle.std.specs.FinMap.{get};
 ghost use Rattle.ncp_model.specs.Pairs.{sends, receives};
-ghost use Rattle.ncp_model.specs.End.{End as Held};
 ghost use Rattle.ncp_model.specs.End.{is_open as is_open_end};
 ghost use Rattle.ncp_model.specs.Ends.{pair_of, sender_on, receiver_on};
 ghost use Rattle.ncp_model.specs.Rows.{inward};
@@ -13,6 +12,7 @@ ghost use Rattle.ncp_host.specs.PeerState.{PeerState};
 ghost use Rattle.ncp_host.specs.Host.{state_of, new_host};
 ghost use Rattle.ncp_transcript.specs.declared.note.HostNote.{HostNote as Note};
 ghost use Rattle.ncp_transcript.specs.After.{after_notes};
+ghost use Rattle.ncp_proof_runs.specs.Reconstructed.{OfEachPair, OfEachEnd};
 ghost use Rattle.ncp_proof_runs.specs.Peers.{FromBeginning, notes_of};
 ghost use Rattle.ncp_proof_runs.specs.Acts.{AreActs, was_cleared, acts_of};
 ghost use Rattle.ncp_proof_runs.specs.Marks.{no_marks, is_open, is_leaving, is_dropped, end_marked, record_marked, marks_from, marks_of};
@@ -25,7 +25,7 @@ use ncp_transcript::{Call, HostNote};
 /// as they answer it at the end before it and makes the commands that they make, and together they lead to
 /// the end that is there, from none.
 pub fn acts_are_those_of_the_rules()
-    ensures { (me : ℕ) (ns : List ℕ) (all : List Note) (n : ℕ) (s : PeerState) (pair : Pair) → FromBeginning me ns all → state_of (after_notes all (new_host me ns)) n ≡ Some s → AreActs pair None (acts_of pair (notes_of n all)) (get s.peer.ends pair) }
+    ensures { OfEachPair (λ pair told s. AreActs pair None (acts_of pair told) (get s.peer.ends pair)) }
 {}
 
 /// The end that a host keeps of a pair, and whether it keeps one, are what the marks and sums of the notes
@@ -37,12 +37,13 @@ pub fn acts_are_those_of_the_rules()
 /// The record that a user is told says the same, and so does a note that reads it,
 /// or that finds none.
 pub fn records_are_what_marks_and_sums_say()
-    ensures end { (me : ℕ) (ns : List ℕ) (all : List Note) (n : ℕ) (s : PeerState) (pair : Pair) → FromBeginning me ns all → state_of (after_notes all (new_host me ns)) n ≡ Some s → get s.peer.ends pair ≡ end_marked pair (marks_of pair (notes_of n all)) }
-    ensures record { (me : ℕ) (ns : List ℕ) (all : List Note) (n : ℕ) (s : PeerState) (pair : Pair) → FromBeginning me ns all → state_of (after_notes all (new_host me ns)) n ≡ Some s → record_in pair s.peer.ends ≡ record_marked pair (marks_of pair (notes_of n all)) }
-    ensures stored { (me : ℕ) (ns : List ℕ) (all : List Note) (n : ℕ) (s : PeerState) (pair : Pair) (e : Held) → FromBeginning me ns all → state_of (after_notes all (new_host me ns)) n ≡ Some s → get s.peer.ends pair ≡ Some e → is_dropped pair (marks_of pair (notes_of n all)) ≡ false → (marks_of pair (notes_of n all)).entered ≡ (marks_of pair (notes_of n all)).drawn ++ e.stored }
-    ensures open { (me : ℕ) (ns : List ℕ) (all : List Note) (n : ℕ) (s : PeerState) (pair : Pair) (e : Held) → FromBeginning me ns all → state_of (after_notes all (new_host me ns)) n ≡ Some s → get s.peer.ends pair ≡ Some e → is_open_end e ≡ is_open (marks_of pair (notes_of n all)) }
-    ensures live { (me : ℕ) (ns : List ℕ) (all : List Note) (n : ℕ) (s : PeerState) (pair : Pair) (e : Held) → FromBeginning me ns all → state_of (after_notes all (new_host me ns)) n ≡ Some s → get s.peer.ends pair ≡ Some e → e.opened ≡ (marks_of pair (notes_of n all)).opened }
-    ensures sums { (me : ℕ) (ns : List ℕ) (all : List Note) (n : ℕ) (s : PeerState) (pair : Pair) (e : Held) → FromBeginning me ns all → state_of (after_notes all (new_host me ns)) n ≡ Some s → get s.peer.ends pair ≡ Some e → (e.messages + (marks_of pair (notes_of n all)).returned_messages + (marks_of pair (notes_of n all)).used_messages ≡ (marks_of pair (notes_of n all)).granted_messages) × (e.bits + (marks_of pair (notes_of n all)).returned_bits + (marks_of pair (notes_of n all)).used_bits ≡ (marks_of pair (notes_of n all)).granted_bits) }
+    ensures end { OfEachPair (λ pair told s. get s.peer.ends pair ≡ end_marked pair (marks_of pair told)) }
+    ensures record { OfEachPair (λ pair told s. record_in pair s.peer.ends ≡ record_marked pair (marks_of pair told)) }
+    ensures stored { OfEachEnd (λ pair own e. is_dropped pair own ≡ false → own.entered ≡ own.drawn ++ e.stored) }
+    ensures open { OfEachEnd (λ pair marks e. is_open_end e ≡ is_open marks) }
+    ensures live { OfEachEnd (λ pair marks e. e.opened ≡ marks.opened) }
+    ensures messages { OfEachEnd (λ pair marks e. e.messages + marks.returned_messages + marks.used_messages ≡ marks.granted_messages) }
+    ensures bits { OfEachEnd (λ pair marks e. e.bits + marks.returned_bits + marks.used_bits ≡ marks.granted_bits) }
     ensures noted { (me : ℕ) (ns : List ℕ) (before after : List Note) (n : ℕ) (pair : Pair) (r : Known) → FromBeginning me ns (before ++ HostNote.State n pair r ∷ after) → record_marked pair (marks_of pair (notes_of n before)) ≡ Some r }
     ensures none_noted { (me : ℕ) (ns : List ℕ) (before after : List Note) (n : ℕ) (pair : Pair) → FromBeginning me ns (before ++ HostNote.Refused (Call.State n pair) CallFault.NoEntry ∷ after) → record_marked pair (marks_of pair (notes_of n before)) ≡ None }
 {}
@@ -73,7 +74,8 @@ pub fn a_connection_is_marked()
     ensures refused { marks_from (asks ∷ asked_wrongly ∷ []) no_marks ≡ record no_marks { asked = true; link = 2; room = 64 } }
     ensures left { marks_from (asks ∷ closes ∷ is_asked ∷ []) no_marks ≡ record no_marks { asked = true; heard = true; left = true; link = 2; size = 8; room = 64 } }
     ensures got { record_marked inward (marks_from (asks ∷ is_asked ∷ allocates ∷ gets ∷ []) no_marks) ≡ Some (record { end = Receive; asked = true; heard = true; opened = true; leaving = false; left = false; cls = false; link = 2; size = 8; messages = 2; bits = 16; stored = 16; busy = false; recall = false; interrupts = 0 }) }
-    ensures leaving { (is_leaving (marks_from (asks ∷ is_asked ∷ allocates ∷ gets ∷ cls_comes ∷ []) no_marks) ≡ true) × (is_open (marks_from (asks ∷ is_asked ∷ allocates ∷ gets ∷ cls_comes ∷ []) no_marks) ≡ false) }
+    ensures leaving { is_leaving (marks_from (asks ∷ is_asked ∷ allocates ∷ gets ∷ cls_comes ∷ []) no_marks) ≡ true }
+    ensures not_open { is_open (marks_from (asks ∷ is_asked ∷ allocates ∷ gets ∷ cls_comes ∷ []) no_marks) ≡ false }
     ensures over { marks_from (asks ∷ is_asked ∷ allocates ∷ gets ∷ cls_comes ∷ takes ∷ []) no_marks ≡ no_marks }
     ensures back { marks_from (gives_back ∷ []) (record no_marks { granted_messages = 2; granted_bits = 16 }) ≡ record no_marks { granted_messages = 2; granted_bits = 16; returned_messages = 1; returned_bits = 16 } }
     ensures cleared { marks_from (was_cleared ∷ []) (record no_marks { asked = true; link = 2 }) ≡ no_marks }

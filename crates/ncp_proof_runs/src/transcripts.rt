@@ -14,6 +14,7 @@ ghost use Rattle.ncp_host.specs.Counting.{none_ignored};
 ghost use Rattle.ncp_host.specs.Readiness.{IsNext};
 ghost use Rattle.ncp_transcript.specs.declared.note.HostNote.{HostNote as Note};
 ghost use Rattle.ncp_transcript.specs.After.{after_notes};
+ghost use Rattle.ncp_proof_runs.specs.Reconstructed.{EachPeer};
 ghost use Rattle.ncp_proof_runs.specs.Peers.{FromBeginning, notes_of, notes_for, ignored_by};
 ghost use Rattle.ncp_proof_runs.specs.Links.{is_fresh, told_on, fresh_on, ready_told};
 ghost use Rattle.ncp_proof_runs.specs.Histories.{past_of};
@@ -35,14 +36,14 @@ pub fn a_host_is_what_its_notes_say<S: BitStore>(alone: &Alone<S>)
     ensures run { FromBeginning alone.now.host.me (numbers_of alone.now.host.peers) alone.now.notes }
     ensures host { alone.now.host ≡ after_notes alone.now.notes (new_host alone.now.host.me (numbers_of alone.now.host.peers)) }
     ensures peer { (n : ℕ) → is_one_of n (numbers_of alone.now.host.peers) ≡ true → state_of alone.now.host n ≡ Some (notes_for (notes_of n alone.now.notes) new_state) }
-    ensures down { (n : ℕ) (s : PeerState) → state_of alone.now.host n ≡ Some s → s.peer.phase.down ≡ not (made_of (notes_of n alone.now.notes)).began }
-    ensures want { (n : ℕ) (s : PeerState) → state_of alone.now.host n ≡ Some s → s.peer.phase.want ≡ not (made_of (notes_of n alone.now.notes)).did_reset }
-    ensures owe { (n : ℕ) (s : PeerState) → state_of alone.now.host n ≡ Some s → s.peer.phase.owe ≡ not (made_of (notes_of n alone.now.notes)).gave_answer }
-    ensures wait { (n : ℕ) (s : PeerState) → state_of alone.now.host n ≡ Some s → s.peer.phase.wait ≡ not (made_of (notes_of n alone.now.notes)).got_answer }
-    ensures up { (n : ℕ) (s : PeerState) → state_of alone.now.host n ≡ Some s → up s.peer.phase ≡ is_up_told (made_of (notes_of n alone.now.notes)) }
+    ensures down { EachPeer alone.now.host alone.now.notes (λ own s. s.peer.phase.down ≡ not (made_of own).began) }
+    ensures want { EachPeer alone.now.host alone.now.notes (λ own s. s.peer.phase.want ≡ not (made_of own).did_reset) }
+    ensures owe { EachPeer alone.now.host alone.now.notes (λ own s. s.peer.phase.owe ≡ not (made_of own).gave_answer) }
+    ensures wait { EachPeer alone.now.host alone.now.notes (λ own s. s.peer.phase.wait ≡ not (made_of own).got_answer) }
+    ensures up { EachPeer alone.now.host alone.now.notes (λ own s. up s.peer.phase ≡ is_up_told (made_of own)) }
     ensures records { (n : ℕ) (s : PeerState) (pair : Pair) → state_of alone.now.host n ≡ Some s → record_in pair s.peer.ends ≡ record_marked pair (marks_of pair (notes_of n alone.now.notes)) }
-    ensures echo { (n : ℕ) (s : PeerState) → state_of alone.now.host n ≡ Some s → s.peer.echoes ≡ echoes_told (echo_of (notes_of n alone.now.notes)) }
-    ensures counts { (n : ℕ) (s : PeerState) → state_of alone.now.host n ≡ Some s → s.counts ≡ counts_told (counted_of (notes_of n alone.now.notes)) }
+    ensures echo { EachPeer alone.now.host alone.now.notes (λ own s. s.peer.echoes ≡ echoes_told (echo_of own)) }
+    ensures counts { EachPeer alone.now.host alone.now.notes (λ own s. s.counts ≡ counts_told (counted_of own)) }
     ensures ignored { alone.now.host.ignored ≡ ignored_by alone.now.notes none_ignored }
 {
     let _notes = alone.transcript();

@@ -6,3 +6,4 @@ pub mod ManyVain
 pub mod Pairs
 pub mod Examples
 pub mod NotesOfTwo
+pub mod OfCrowds

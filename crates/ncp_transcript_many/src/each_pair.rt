@@ -1,14 +1,11 @@
 //! Each pair of two to eight hosts is a world of two. Each law is the contract of a function that does nothing.
-ghost use Rattle.std.specs.Prelude.{List};
 ghost use Rattle.ncp_transcript_two.specs.Transcript.{IsTranscript};
 ghost use Rattle.ncp_transcript_two.specs.OfRules.{IsOfModelsHosts};
 ghost use Rattle.ncp_proof_promises.specs.Judged.{ActsOnce, MakesNoErr};
 ghost use Rattle.ncp_proof_promises.specs.Resetting.{OnlyResetsAct};
 ghost use Rattle.ncp_proof_promises.specs.Openings.{OpensUnderNoText};
 ghost use Rattle.ncp_proof_promises.specs.Promised.{SubnetHonest, GotBegins, EachByteOnce, WithinAllocation, LedgersBalanced, CameInOrder, CommandsInOrder, EachActedOnce, NoErrMade, NoErrUnderway, OnlyResetsActed, WaitsAlone, OpenedUnderNoText};
-ghost use Rattle.ncp_transcript_many.specs.declared.many_note.ManyNote.{ManyNote as Noted};
-ghost use Rattle.ncp_transcript_many.specs.Crowd.{Crowd};
-ghost use Rattle.ncp_transcript_many.specs.ManyTranscript.{IsManyTranscript};
+ghost use Rattle.ncp_transcript_many.specs.OfCrowds.{OfEachCrowd};
 ghost use Rattle.ncp_transcript_many.specs.Pairs.{SeenOfEachPair, ForEachPair, ForEachTwo};
 ghost use Rattle.ncp_transcript_many.specs.NotesOfTwo.{ForEachNoteOfTwo};
 
@@ -22,8 +19,8 @@ use ncp_transcript_two::transcripts::transcripts_are_of_the_model;
 /// at and between the others; and what the two have for each other, and what is in transit between them, is
 /// what these notes leave of two new hosts. So what is proved of every transcript of two holds of each pair.
 pub fn each_pair_is_a_world_of_two()
-    ensures run { (notes : List Noted) (m : Crowd) → IsManyTranscript notes m → ForEachPair IsTranscript notes m }
-    ensures seen { (notes : List Noted) (m : Crowd) → IsManyTranscript notes m → SeenOfEachPair notes m }
+    ensures run { OfEachCrowd (ForEachPair IsTranscript) }
+    ensures seen { OfEachCrowd SeenOfEachPair }
 {}
 
 /// Over every list of calls, deliveries, losses, answers and orders of two to eight hosts, each pair of them has
@@ -32,20 +29,20 @@ pub fn each_pair_is_a_world_of_two()
 /// and `openings` of the world of two that their notes leave ([`each_note_of_each_pair`] has these among all).
 /// `model`: these notes are a run of the model's two hosts, and what is seen of the two stands for them.
 pub fn the_headline_of_each_pair()
-    ensures subnet { (notes : List Noted) (m : Crowd) → IsManyTranscript notes m → ForEachTwo SubnetHonest notes m }
-    ensures beginning { (notes : List Noted) (m : Crowd) → IsManyTranscript notes m → ForEachTwo GotBegins notes m }
-    ensures once { (notes : List Noted) (m : Crowd) → IsManyTranscript notes m → ForEachTwo EachByteOnce notes m }
-    ensures allocation { (notes : List Noted) (m : Crowd) → IsManyTranscript notes m → ForEachTwo WithinAllocation notes m }
-    ensures ledger { (notes : List Noted) (m : Crowd) → IsManyTranscript notes m → ForEachTwo LedgersBalanced notes m }
-    ensures order { (notes : List Noted) (m : Crowd) → IsManyTranscript notes m → ForEachTwo CameInOrder notes m }
-    ensures commands { (notes : List Noted) (m : Crowd) → IsManyTranscript notes m → ForEachTwo CommandsInOrder notes m }
-    ensures acts { (notes : List Noted) (m : Crowd) → IsManyTranscript notes m → ForEachTwo EachActedOnce notes m }
-    ensures errs { (notes : List Noted) (m : Crowd) → IsManyTranscript notes m → ForEachTwo NoErrMade notes m }
-    ensures no_err { (notes : List Noted) (m : Crowd) → IsManyTranscript notes m → ForEachTwo NoErrUnderway notes m }
-    ensures resets { (notes : List Noted) (m : Crowd) → IsManyTranscript notes m → ForEachTwo OnlyResetsActed notes m }
-    ensures waits { (notes : List Noted) (m : Crowd) → IsManyTranscript notes m → ForEachTwo WaitsAlone notes m }
-    ensures openings { (notes : List Noted) (m : Crowd) → IsManyTranscript notes m → ForEachTwo OpenedUnderNoText notes m }
-    ensures model { (notes : List Noted) (m : Crowd) → IsManyTranscript notes m → ForEachTwo IsOfModelsHosts notes m }
+    ensures subnet { OfEachCrowd (ForEachTwo SubnetHonest) }
+    ensures beginning { OfEachCrowd (ForEachTwo GotBegins) }
+    ensures once { OfEachCrowd (ForEachTwo EachByteOnce) }
+    ensures allocation { OfEachCrowd (ForEachTwo WithinAllocation) }
+    ensures ledger { OfEachCrowd (ForEachTwo LedgersBalanced) }
+    ensures order { OfEachCrowd (ForEachTwo CameInOrder) }
+    ensures commands { OfEachCrowd (ForEachTwo CommandsInOrder) }
+    ensures acts { OfEachCrowd (ForEachTwo EachActedOnce) }
+    ensures errs { OfEachCrowd (ForEachTwo NoErrMade) }
+    ensures no_err { OfEachCrowd (ForEachTwo NoErrUnderway) }
+    ensures resets { OfEachCrowd (ForEachTwo OnlyResetsActed) }
+    ensures waits { OfEachCrowd (ForEachTwo WaitsAlone) }
+    ensures openings { OfEachCrowd (ForEachTwo OpenedUnderNoText) }
+    ensures model { OfEachCrowd (ForEachTwo IsOfModelsHosts) }
 {
     the_headline();
     no_err_is_ever_underway();
@@ -57,10 +54,10 @@ pub fn the_headline_of_each_pair()
 /// Each note of two of the hosts is what the headline and its parts say of it, of what is seen of the two as they
 /// are among all, before the note and after it; and a note of others changes nothing of that.
 pub fn each_note_of_each_pair()
-    ensures acts { (notes : List Noted) (m : Crowd) → IsManyTranscript notes m → ForEachNoteOfTwo ActsOnce notes m }
-    ensures errs { (notes : List Noted) (m : Crowd) → IsManyTranscript notes m → ForEachNoteOfTwo MakesNoErr notes m }
-    ensures resets { (notes : List Noted) (m : Crowd) → IsManyTranscript notes m → ForEachNoteOfTwo OnlyResetsAct notes m }
-    ensures openings { (notes : List Noted) (m : Crowd) → IsManyTranscript notes m → ForEachNoteOfTwo OpensUnderNoText notes m }
+    ensures acts { OfEachCrowd (ForEachNoteOfTwo ActsOnce) }
+    ensures errs { OfEachCrowd (ForEachNoteOfTwo MakesNoErr) }
+    ensures resets { OfEachCrowd (ForEachNoteOfTwo OnlyResetsAct) }
+    ensures openings { OfEachCrowd (ForEachNoteOfTwo OpensUnderNoText) }
 {
     the_headline();
     only_resets_act_until_the_answer();

@@ -15,6 +15,7 @@ ghost use Rattle.ncp_transcript_many.specs.declared.many_note.ManyNote.TheVarian
 ghost use Rattle.ncp_transcript_many.specs.Crowd.{Crowd, numbers_in, are_hosts, others, new_crowd, is_there, host_at, between, crowd_of, after_many, after_many_notes};
 ghost use Rattle.ncp_transcript_many.specs.ManyHappening.{are_there, by_numbers};
 ghost use Rattle.ncp_transcript_many.specs.ManyTranscript.{IsManyRun, AreManyNotes, began, IsManyTranscript};
+ghost use Rattle.ncp_transcript_many.specs.OfCrowds.{OfEachHost, NoCrowdNotes};
 ghost use Rattle.ncp_transcript_many.specs.ManyVain.{CannotHappen};
 ghost use Rattle.ncp_transcript_many.specs.Pairs.{note_between, notes_at_host, EachOfManyByItself};
 
@@ -46,7 +47,7 @@ pub fn each_host_of_many_is_by_itself()
 /// The notes of each host are a run from its beginning, with the others as its peers in their order, and it is
 /// what they leave: what the laws of runs of one host ask for.
 pub fn each_host_of_many_is_from_its_beginning()
-    ensures run { (notes : List Noted) (m : Crowd) (host : ℕ) → IsManyTranscript notes m → is_there host m ≡ true → FromBeginning host (others host (numbers_in m)) (notes_at_host host notes) }
+    ensures run { OfEachHost (λ notes m host. FromBeginning host (others host (numbers_in m)) (notes_at_host host notes)) }
     ensures host { (notes : List Noted) (m : Crowd) (host : ℕ) → IsManyTranscript notes m → is_there host m ≡ true → host_at host m ≡ after_host_notes (notes_at_host host notes) (new_host host (others host (numbers_in m))) }
 {}
 
@@ -75,7 +76,7 @@ pub fn a_note_is_of_one_pair()
 pub fn nothing_of_many_is_noted_only_where_nothing_can_be()
     ensures nothing { (before after : List Noted) (m : Crowd) (event : Event) → IsManyTranscript (before ++ many.Nothing event ∷ after) m → (are_there event m ≡ false) ⊎ CannotHappen event (after_many_notes before (began m)) }
     ensures out { (before after : List Noted) (m : Crowd) (host : ℕ) → IsManyTranscript (before ++ many.Out host of_host.Nothing ∷ after) m → next_output (host_at host (after_many_notes before (began m))) ≡ None }
-    ensures called { (before after : List Noted) (m : Crowd) (host : ℕ) → IsManyTranscript (before ++ many.Called host of_host.Nothing ∷ after) m → ⊥ }
-    ensures came { (before after : List Noted) (m : Crowd) (from to link : ℕ) → IsManyTranscript (before ++ many.Came from to link of_host.Nothing ∷ after) m → ⊥ }
-    ensures answered { (before after : List Noted) (m : Crowd) (from to link : ℕ) → IsManyTranscript (before ++ many.Answered from to link of_host.Nothing ∷ after) m → ⊥ }
+    ensures called { (host : ℕ) → NoCrowdNotes (many.Called host of_host.Nothing) }
+    ensures came { (from to link : ℕ) → NoCrowdNotes (many.Came from to link of_host.Nothing) }
+    ensures answered { (from to link : ℕ) → NoCrowdNotes (many.Answered from to link of_host.Nothing) }
 {}

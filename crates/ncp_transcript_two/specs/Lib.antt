@@ -16,3 +16,5 @@ pub mod Sides
 pub mod Vain
 pub mod Ledgers
 pub mod Naming
+pub mod Throughout
+pub mod ExampleNotes

@@ -11,6 +11,7 @@ ghost use Rattle.ncp_host.specs.declared.received.Received.TheVariants as receiv
 ghost use Rattle.ncp_subnet.specs.Messages.{host_in, link_in};
 ghost use Rattle.ncp_transcript.specs.declared.note.HostNote.TheVariants as of_host;
 ghost use Rattle.ncp_transcript_two.specs.Subnet as subnets;
+ghost use Rattle.ncp_transcript_two.specs.ExampleNotes.{noted_at};
 ghost use Rattle.ncp_transcript_two.specs.World.{In, Answered};
 ghost use Rattle.ncp_transcript_two.specs.Naming.{IsMessageFrom, IsAnswerAbout};
 ghost use Rattle.ncp_transcript_two.specs.Refused.{is_refused, any_refused};
@@ -31,9 +32,9 @@ pub fn each_refusal_is_seen()
     ensures control { (count : ℕ) → is_refused (received.Control count) ≡ false }
     ensures admitted { is_refused (received.Text took.Admitted) ≡ false }
     ensures answered { is_refused received.Answered ≡ false }
-    ensures message { (m n : List Bool) → any_refused (record { side = This; told = In 0 m (received.Control 1) } ∷ record { side = That; told = In 2 n received.Short } ∷ []) ≡ true }
-    ensures answer { (how : Answer) → any_refused (record { side = That; told = Answered 2 how received.Stray } ∷ []) ≡ true }
-    ensures none { (how : Answer) (m : List Bool) → any_refused (record { side = That; told = Answered 2 how received.Answered } ∷ record { side = This; told = In 2 m (received.Text took.Late) } ∷ []) ≡ false }
+    ensures message { (m n : List Bool) → any_refused (noted_at This (In 0 m (received.Control 1)) ∷ noted_at That (In 2 n received.Short) ∷ []) ≡ true }
+    ensures answer { (how : Answer) → any_refused (noted_at That (Answered 2 how received.Stray) ∷ []) ≡ true }
+    ensures none { (how : Answer) (m : List Bool) → any_refused (noted_at That (Answered 2 how received.Answered) ∷ noted_at This (In 2 m (received.Text took.Late)) ∷ []) ≡ false }
 {}
 
 /// What came from the subnet is named by its host and its link: a message from another host or on another link, an

@@ -9,6 +9,7 @@ ghost use Rattle.ncp_host.specs.declared.received.Received.{Received};
 ghost use Rattle.ncp_host.specs.declared.received.Received.TheVariants as received;
 ghost use Rattle.ncp_transcript_two.specs.Subnet.{from_host};
 ghost use Rattle.ncp_transcript_two.specs.Subnet as subnets;
+ghost use Rattle.ncp_transcript_two.specs.ExampleNotes.{amounts, noted_at};
 ghost use Rattle.ncp_transcript_two.specs.World.{In, Answered};
 ghost use Rattle.ncp_transcript_two.specs.Honest.{Sent, Comes, Taken, Refused, Other, Clear, HonestFrom, sent_from, RepeatsFrom, IsBeginning, deeds};
 ghost use Rattle.ncp_transcript_two.specs.Underway.{not_come};
@@ -42,11 +43,11 @@ pub fn what_goes_out_again_is_not_sent_anew()
 
 /// What a note tells is of the messages of its own side on its own link alone.
 pub fn notes_are_of_one_side_and_one_link()
-    ensures came { (m : List Bool) (r : Received) → deeds This 2 (record { side = This; told = In 2 m r } ∷ []) ≡ Comes m ∷ [] }
-    ensures elsewhere { (m : List Bool) (r : Received) → deeds This 3 (record { side = This; told = In 2 m r } ∷ []) ≡ Other ∷ [] }
-    ensures of_that { (m : List Bool) (r : Received) → deeds That 2 (record { side = This; told = In 2 m r } ∷ []) ≡ Other ∷ [] }
-    ensures taken { (r : Received) → deeds That 2 (record { side = That; told = Answered 2 Rfnm r } ∷ []) ≡ Taken ∷ [] }
-    ensures refused { (r : Received) → deeds That 2 (record { side = That; told = Answered 2 Dead r } ∷ []) ≡ Refused ∷ [] }
+    ensures came { (m : List Bool) (r : Received) → deeds This 2 (noted_at This (In 2 m r) ∷ []) ≡ Comes m ∷ [] }
+    ensures elsewhere { (m : List Bool) (r : Received) → deeds This 3 (noted_at This (In 2 m r) ∷ []) ≡ Other ∷ [] }
+    ensures of_that { (m : List Bool) (r : Received) → deeds That 2 (noted_at This (In 2 m r) ∷ []) ≡ Other ∷ [] }
+    ensures taken { (r : Received) → deeds That 2 (noted_at That (Answered 2 Rfnm r) ∷ []) ≡ Taken ∷ [] }
+    ensures refused { (r : Received) → deeds That 2 (noted_at That (Answered 2 Dead r) ∷ []) ≡ Refused ∷ [] }
 {}
 
 /// A message is underway from the moment it is ready until it came: also while it is held, and where it was lost
@@ -61,9 +62,9 @@ pub fn messages_are_underway_until_they_come()
 
 /// A ledger that does not add up is refused, for messages and for bits; one in which every amount counts is good.
 pub fn wrong_ledgers_are_seen()
-    ensures messages { IsBalanced (record { outstanding = amount 2 0; counters = amount 1 0; all = amount 0 0; text = amount 0 0; ret = amount 0 0 }) → ⊥ }
-    ensures bits { IsBalanced (record { outstanding = amount 0 9; counters = amount 0 8; all = amount 0 0; text = amount 0 0; ret = amount 0 0 }) → ⊥ }
-    ensures good { IsBalanced (record { outstanding = amount 8 80; counters = amount 1 10; all = amount 2 20; text = amount 1 16; ret = amount 4 34 }) }
+    ensures messages { IsBalanced (amounts (amount 2 0) (amount 1 0) (amount 0 0) (amount 0 0) (amount 0 0)) → ⊥ }
+    ensures bits { IsBalanced (amounts (amount 0 9) (amount 0 8) (amount 0 0) (amount 0 0) (amount 0 0)) → ⊥ }
+    ensures good { IsBalanced (amounts (amount 8 80) (amount 1 10) (amount 2 20) (amount 1 16) (amount 4 34)) }
 {}
 
 /// What may come, be lost or find its destination dead can be, and so can the answer to what came. A text beyond

@@ -1,12 +1,9 @@
 //! Laws of transcripts of a world, each the contract of a function that does nothing.
-ghost use Rattle.std.specs.Prelude.{◌≡◌, ℕ, true, false, List, ◌∷◌, ◌++◌, length, None};
-ghost use Rattle.ncp_model.specs.declared.pair.Pair.{Pair};
-ghost use Rattle.ncp_model.specs.Pairs.{sends};
-ghost use Rattle.ncp_proof_resets.specs.Resets.{Side};
+ghost use Rattle.std.specs.Prelude.{◌≡◌, ℕ, false, List, ◌∷◌, ◌++◌, length, None};
+ghost use Rattle.ncp_transcript_two.specs.Throughout.{OfEachTranscript, ToldInEachTranscript, ComesAsSent, GoesAgainAsSent, IsNeverNoted};
 ghost use Rattle.ncp_transcript_two.specs.World.{swap};
-ghost use Rattle.ncp_transcript_two.specs.Honest.{IsHonest, IsBeginning, Repeats, number_of_side, sent, came};
+ghost use Rattle.ncp_transcript_two.specs.Honest.{IsHonest, came};
 ghost use Rattle.ncp_transcript_two.specs.Refused.{any_refused};
-ghost use Rattle.ncp_transcript_two.specs.Watch.{turn};
 ghost use Rattle.ncp_transcript_two.specs.Streams.{GotIsBeginning, GotIsTakenOrHeld, NeverBeyondAllocation};
 ghost use Rattle.ncp_transcript_two.specs.Underway.{MessagesAgree, BitsAgree, Parted, NoResetUnderway};
 ghost use Rattle.ncp_transcript_two.specs.declared.event.Event.{Event};
@@ -21,7 +18,7 @@ ghost use Rattle.ncp_transcript_two.specs.Transcript.{IsRun, AreNotes, began, Is
 ghost use Rattle.ncp_transcript_two.specs.Vain.{CannotBe};
 ghost use Rattle.ncp_transcript_two.specs.Naming.{IsMessageFrom, IsAnswerAbout};
 ghost use Rattle.ncp_transcript_two.specs.Seen.{seen, told};
-ghost use Rattle.ncp_transcript_two.specs.OfRules.{histories_of, IsOfRules, IsOfModelsHosts};
+ghost use Rattle.ncp_transcript_two.specs.OfRules.{IsOfRules, IsOfModelsHosts};
 ghost use Rattle.ncp_transcript_two.specs.declared.side.Side as sides;
 ghost use Rattle.ncp_transcript_two.specs.Sides.{notes_at};
 ghost use Rattle.ncp_transcript.specs.Runs as runs;
@@ -59,12 +56,12 @@ pub fn each_host_is_by_itself()
 /// or RRP is underway, and no text is answered as not connected, of the wrong size or beyond the allocation,
 /// no message is faulty, and no answer stray. Of what commands do, and of ERRs, it says nothing.
 pub fn transcripts_keep_the_headline()
-    ensures beginning { (notes : List Note) (w : Hosts) (pair : Pair) → IsTranscript notes w → sends pair ≡ true → let p = histories_of notes w in GotIsBeginning pair (seen w) p × GotIsBeginning pair (swap (seen w)) (turn p) }
-    ensures held { (notes : List Note) (w : Hosts) (pair : Pair) → IsTranscript notes w → sends pair ≡ true → let p = histories_of notes w in GotIsTakenOrHeld pair (seen w) p × GotIsTakenOrHeld pair (swap (seen w)) (turn p) }
-    ensures allocation { (notes : List Note) (w : Hosts) (pair : Pair) → IsTranscript notes w → sends pair ≡ true → let p = histories_of notes w in NeverBeyondAllocation pair (seen w) p × NeverBeyondAllocation pair (swap (seen w)) (turn p) }
-    ensures messages { (notes : List Note) (w : Hosts) (pair : Pair) → IsTranscript notes w → sends pair ≡ true → MessagesAgree pair (seen w) × MessagesAgree pair (swap (seen w)) }
-    ensures bits { (notes : List Note) (w : Hosts) (pair : Pair) → IsTranscript notes w → sends pair ≡ true → BitsAgree pair (seen w) × BitsAgree pair (swap (seen w)) }
-    ensures parted { (notes : List Note) (w : Hosts) (pair : Pair) → IsTranscript notes w → sends pair ≡ true → let p = histories_of notes w in Parted pair (seen w) p × Parted pair (swap (seen w)) (turn p) }
+    ensures beginning { OfEachTranscript GotIsBeginning }
+    ensures held { OfEachTranscript GotIsTakenOrHeld }
+    ensures allocation { OfEachTranscript NeverBeyondAllocation }
+    ensures messages { OfEachTranscript (λ pair v p. MessagesAgree pair v) }
+    ensures bits { OfEachTranscript (λ pair v p. BitsAgree pair v) }
+    ensures parted { OfEachTranscript Parted }
     ensures resets { (notes : List Note) (w : Hosts) → IsTranscript notes w → NoResetUnderway (seen w) × NoResetUnderway (swap (seen w)) }
     ensures refused { (notes : List Note) (w : Hosts) → IsTranscript notes w → any_refused (told notes) ≡ false }
 {}
@@ -72,9 +69,9 @@ pub fn transcripts_keep_the_headline()
 /// The subnet of a transcript is honest. On each link, what came is a beginning of what was sent, shorter by
 /// at most one message; and a message that goes out again is the one before.
 pub fn transcripts_are_honest()
-    ensures honest { (notes : List Note) (w : Hosts) → IsTranscript notes w → IsHonest w.number_a w.number_b (told notes) }
-    ensures came { (notes : List Note) (w : Hosts) → IsTranscript notes w → (side : Side) (on : ℕ) → IsBeginning 1 (came side on (told notes)) (sent (number_of_side w.number_a w.number_b side) side on (told notes)) }
-    ensures again { (notes : List Note) (w : Hosts) → IsTranscript notes w → (side : Side) (on : ℕ) → Repeats side on (told notes) }
+    ensures honest { ToldInEachTranscript (λ w notes. IsHonest w.number_a w.number_b notes) }
+    ensures came { ToldInEachTranscript (λ w notes. ComesAsSent w.number_a w.number_b notes) }
+    ensures again { ToldInEachTranscript (λ w notes. GoesAgainAsSent notes) }
 {}
 
 /// Nothing is noted only where nothing can be: of a message, where the subnet has none to which this may
@@ -83,9 +80,9 @@ pub fn transcripts_are_honest()
 pub fn nothing_is_noted_only_where_nothing_can_be()
     ensures moves { (before after : List Note) (w : Hosts) (side : sides.Side) (link : ℕ) (wanted : Move) → IsTranscript (before ++ of_world.Nothing side link wanted ∷ after) w → CannotBe wanted (transit_of side link (after_notes before (began w))) }
     ensures out { (before after : List Note) (w : Hosts) (side : sides.Side) → IsTranscript (before ++ of_world.Out side of_host.Nothing ∷ after) w → next_output (host_of side (after_notes before (began w))) ≡ None }
-    ensures called { (before after : List Note) (w : Hosts) (side : sides.Side) → IsTranscript (before ++ of_world.Called side of_host.Nothing ∷ after) w → ⊥ }
-    ensures came { (before after : List Note) (w : Hosts) (side : sides.Side) (link : ℕ) → IsTranscript (before ++ of_world.Came side link of_host.Nothing ∷ after) w → ⊥ }
-    ensures answered { (before after : List Note) (w : Hosts) (side : sides.Side) (link : ℕ) → IsTranscript (before ++ of_world.Answered side link of_host.Nothing ∷ after) w → ⊥ }
+    ensures called { (side : sides.Side) → IsNeverNoted (of_world.Called side of_host.Nothing) }
+    ensures came { (side : sides.Side) (link : ℕ) → IsNeverNoted (of_world.Came side link of_host.Nothing) }
+    ensures answered { (side : sides.Side) (link : ℕ) → IsNeverNoted (of_world.Answered side link of_host.Nothing) }
 {}
 
 /// What came from the subnet is noted with the host and the link of the note: a message as one from the host

@@ -5,7 +5,8 @@ use Rattle.ncp_model.specs.declared.pair.Pair.{Pair}
 use Rattle.ncp_model.specs.Pairs.{pair_cmp}
 use Rattle.ncp_model.specs.End.{End}
 use Rattle.ncp_model.specs.Ends.{lowest}
-use Rattle.ncp_model.specs.Rows.{outward, inward, ones, asked_receive, opened_end, counting, sent_one, due, ends_both_ways, both_ways}
+use Rattle.ncp_model.specs.Rows.{outward, inward, asked_receive, opened_end, due, ends_both_ways, both_ways}
+use Rattle.ncp_model.specs.RowFacts.{new_outward, new_inward, loaded, one_granted, busy_end}
 use Rattle.ncp_model.proofs.links.texts_lead_to_ends.Goals as goal
 
 entries-are : entries both_ways ≡ ends_both_ways
@@ -21,27 +22,37 @@ pub returns-clause-comes_nowhere : goal.returns-clause-comes_nowhere
 returns-clause-comes_nowhere c = rw entries-are refl
 
 pub returns-clause-goes_out : goal.returns-clause-goes_out
-returns-clause-goes_out c = rw (entries-from_sorted pair_cmp ((outward, record (counting 1 8) { stored = ones 8 }) ∷ []) tt) refl
+returns-clause-goes_out c = rw (entries-from_sorted pair_cmp ((outward, loaded one_granted) ∷ []) tt) refl
 
 pub returns-clause-goes_nowhere : goal.returns-clause-goes_nowhere
-returns-clause-goes_nowhere c = rw (entries-are, entries-from_sorted pair_cmp ((inward, record (counting 1 8) { stored = ones 8 }) ∷ []) tt) (refl, refl)
+returns-clause-goes_nowhere c = rw entries-are refl
+
+pub returns-clause-goes_not_from_receiver : goal.returns-clause-goes_not_from_receiver
+returns-clause-goes_not_from_receiver c = rw (entries-from_sorted pair_cmp ((inward, loaded one_granted) ∷ []) tt) refl
 
 pub returns-clause-answered : goal.returns-clause-answered
-returns-clause-answered c = rw (entries-from_sorted pair_cmp ((outward, due (sent_one opened_end)) ∷ []) tt) refl
+returns-clause-answered c = rw (entries-from_sorted pair_cmp ((outward, due busy_end) ∷ []) tt) refl
 
 pub returns-clause-answered_nowhere : goal.returns-clause-answered_nowhere
-returns-clause-answered_nowhere c = rw (entries-are, entries-from_sorted pair_cmp ((inward, due opened_end) ∷ []) tt) (refl, refl)
+returns-clause-answered_nowhere c = rw entries-are refl
+
+pub returns-clause-answered_not_at_receiver : goal.returns-clause-answered_not_at_receiver
+returns-clause-answered_not_at_receiver c = rw (entries-from_sorted pair_cmp ((inward, due opened_end) ∷ []) tt) refl
 
 pub returns-clause-asks : goal.returns-clause-asks
 unfolding lowest
-returns-clause-asks c = rw (get-entries both_ways (record { local = 8; remote = 9 }), entries-are) refl
+returns-clause-asks c = rw (get-entries both_ways new_inward, entries-are) refl
 
 pub returns-clause-asks_to_send : goal.returns-clause-asks_to_send
-returns-clause-asks_to_send c = rw (get-entries both_ways (record { local = 9; remote = 8 }), entries-are) refl
+returns-clause-asks_to_send c = rw (get-entries both_ways new_outward, entries-are) refl
 
 pub returns-clause-leads_by_head : goal.returns-clause-leads_by_head
 unfolding number_of
-returns-clause-leads_by_head c = (refl, refl)
+returns-clause-leads_by_head c = refl
+
+pub returns-clause-leads_not_by_another_head : goal.returns-clause-leads_not_by_another_head
+unfolding number_of
+returns-clause-leads_not_by_another_head c = refl
 
 pub returns-clause-leads_by_link : goal.returns-clause-leads_by_link
 unfolding number_of

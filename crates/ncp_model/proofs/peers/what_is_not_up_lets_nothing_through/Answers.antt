@@ -8,4 +8,10 @@ entries-are : entries both_ways ≡ ends_both_ways
 entries-are = entries-from_sorted pair_cmp ends_both_ways tt
 
 pub returns-clause-interrupt : goal.returns-clause-interrupt
-returns-clause-interrupt c = rw (get-entries both_ways inward, get-entries both_ways outward, entries-are) (refl, refl, refl)
+returns-clause-interrupt c = refl
+
+pub returns-clause-interrupt_when_up : goal.returns-clause-interrupt_when_up
+returns-clause-interrupt_when_up c = rw (get-entries both_ways inward, entries-are) refl
+
+pub returns-clause-interrupt_when_up_and_open : goal.returns-clause-interrupt_when_up_and_open
+returns-clause-interrupt_when_up_and_open c = rw (get-entries both_ways outward, entries-are) refl

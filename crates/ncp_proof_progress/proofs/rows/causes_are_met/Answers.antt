@@ -40,4 +40,12 @@ returns-clause-text c = refl
 
 pub returns-clause-text_out : goal.returns-clause-text_out
 unfolding queue_work causes_all
-returns-clause-text_out c = (refl, refl, refl)
+returns-clause-text_out c = refl
+
+pub returns-clause-text_out_takes_away : goal.returns-clause-text_out_takes_away
+unfolding queue_work causes_all
+returns-clause-text_out_takes_away c = refl
+
+pub returns-clause-text_out_before : goal.returns-clause-text_out_before
+unfolding queue_work causes_all
+returns-clause-text_out_before c = refl

@@ -8,7 +8,11 @@ returns-clause-open c = (refl, refl)
 
 pub returns-clause-waiting : goal.returns-clause-waiting
 unfolding queue_work causes_all
-returns-clause-waiting c = (refl, refl)
+returns-clause-waiting c = refl
+
+pub returns-clause-waiting_in_large_bytes : goal.returns-clause-waiting_in_large_bytes
+unfolding queue_work causes_all
+returns-clause-waiting_in_large_bytes c = refl
 
 pub returns-clause-held : goal.returns-clause-held
 unfolding queue_work causes_all

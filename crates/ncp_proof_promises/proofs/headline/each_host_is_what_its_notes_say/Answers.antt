@@ -71,7 +71,7 @@ returns-clause-waits c ns w side is =
     (flags-noted h.me (numbers_of h.peers) all n s (is_run all h t) (is_kept all h n (Some s) t (kept-for ns w side is))).2
 
 pub returns-clause-slots : goal.returns-clause-slots
-returns-clause-slots c ns w side on is =
+returns-clause-slots c ns w side is on =
     let all : List HostNote = notes_at side ns in
     let h : Host = host_of side w in
     let n : ℕ = number_of (other side) w in
@@ -80,7 +80,7 @@ returns-clause-slots c ns w side on is =
     slot_as_noted h.me (numbers_of h.peers) all n on s (is_run all h t) (is_kept all h n (Some s) t (kept-for ns w side is))
 
 pub returns-clause-records : goal.returns-clause-records
-returns-clause-records c ns w side pair is =
+returns-clause-records c ns w side is pair =
     let all : List HostNote = notes_at side ns in
     let h : Host = host_of side w in
     let n : ℕ = number_of (other side) w in

@@ -6,4 +6,4 @@ pub returns-clause-counts : goal.returns-clause-counts
 returns-clause-counts c = counts-noted
 
 pub returns-clause-noted : goal.returns-clause-noted
-returns-clause-noted c = counts-said
+returns-clause-noted c = λ n counts me ns before after from. counts-said me ns before after n counts from

@@ -14,13 +14,13 @@ pub returns-clause-errors : goal.returns-clause-errors
 returns-clause-errors c me ns all n s from there = ap (λ (x : Echoes). x.errors) (echoes-noted me ns all n s from there)
 
 pub returns-clause-accepted : goal.returns-clause-accepted
-returns-clause-accepted c = echo-accepted
+returns-clause-accepted c = λ n byte me ns before after from. echo-accepted me ns before after n byte from
 
 pub returns-clause-busy : goal.returns-clause-busy
-returns-clause-busy c = echo-busy
+returns-clause-busy c = λ n byte me ns before after from. echo-busy me ns before after n byte from
 
 pub returns-clause-byte_noted : goal.returns-clause-byte_noted
-returns-clause-byte_noted c = byte-noted
+returns-clause-byte_noted c = λ n byte me ns before after from. byte-noted me ns before after n byte from
 
 pub returns-clause-errors_noted : goal.returns-clause-errors_noted
 returns-clause-errors_noted c = errors-noted

@@ -10,6 +10,14 @@ returns-clause-messages c me ns all n s pair e from there r is = (books-agree me
 pub returns-clause-bits : goal.returns-clause-bits
 returns-clause-bits c me ns all n s pair e from there r is = (books-agree me ns all n s pair e from there r is).bits
 
-pub returns-clause-unopened : goal.returns-clause-unopened
-returns-clause-unopened c me ns all n s pair e from there is not_open =
-    let k = sound-there me ns all n s pair e from there is in (k.messages not_open, k.bits not_open, k.interrupts not_open, k.stored not_open)
+pub returns-clause-unopened_messages : goal.returns-clause-unopened_messages
+returns-clause-unopened_messages c me ns all n s pair e from there is not_open = (sound-there me ns all n s pair e from there is).messages not_open
+
+pub returns-clause-unopened_bits : goal.returns-clause-unopened_bits
+returns-clause-unopened_bits c me ns all n s pair e from there is not_open = (sound-there me ns all n s pair e from there is).bits not_open
+
+pub returns-clause-unopened_interrupts : goal.returns-clause-unopened_interrupts
+returns-clause-unopened_interrupts c me ns all n s pair e from there is not_open = (sound-there me ns all n s pair e from there is).interrupts not_open
+
+pub returns-clause-unopened_stored : goal.returns-clause-unopened_stored
+returns-clause-unopened_stored c me ns all n s pair e from there is not_open = (sound-there me ns all n s pair e from there is).stored not_open

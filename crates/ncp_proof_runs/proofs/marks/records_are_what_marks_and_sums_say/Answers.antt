@@ -16,8 +16,11 @@ returns-clause-open c me ns all n s pair e from there is = (open-there me ns all
 pub returns-clause-live : goal.returns-clause-live
 returns-clause-live c me ns all n s pair e from there is = (open-there me ns all n s pair e from there is).1
 
-pub returns-clause-sums : goal.returns-clause-sums
-returns-clause-sums c me ns all n s pair e from there is = let k = stored-there me ns all n s pair e from there is in (k.messages, k.bits)
+pub returns-clause-messages : goal.returns-clause-messages
+returns-clause-messages c me ns all n s pair e from there is = (stored-there me ns all n s pair e from there is).messages
+
+pub returns-clause-bits : goal.returns-clause-bits
+returns-clause-bits c me ns all n s pair e from there is = (stored-there me ns all n s pair e from there is).bits
 
 pub returns-clause-noted : goal.returns-clause-noted
 returns-clause-noted c = record-noted

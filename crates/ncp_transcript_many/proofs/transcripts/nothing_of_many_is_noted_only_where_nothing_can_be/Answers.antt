@@ -8,10 +8,10 @@ pub returns-clause-out : goal.returns-clause-out
 returns-clause-out c = out-vain
 
 pub returns-clause-called : goal.returns-clause-called
-returns-clause-called c = called-vain
+returns-clause-called c = λ host before after m is. called-vain before after m host is
 
 pub returns-clause-came : goal.returns-clause-came
-returns-clause-came c = came-vain
+returns-clause-came c = λ from to link before after m is. came-vain before after m from to link is
 
 pub returns-clause-answered : goal.returns-clause-answered
-returns-clause-answered c = answered-vain
+returns-clause-answered c = λ from to link before after m is. answered-vain before after m from to link is

@@ -8,10 +8,10 @@ pub returns-clause-out : goal.returns-clause-out
 returns-clause-out c = out-vain
 
 pub returns-clause-called : goal.returns-clause-called
-returns-clause-called c = called-vain
+returns-clause-called c = λ side before after w h. called-vain before after w side h
 
 pub returns-clause-came : goal.returns-clause-came
-returns-clause-came c = came-vain
+returns-clause-came c = λ side link before after w h. came-vain before after w side link h
 
 pub returns-clause-answered : goal.returns-clause-answered
-returns-clause-answered c = answered-vain
+returns-clause-answered c = λ side link before after w h. answered-vain before after w side link h
