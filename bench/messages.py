@@ -1,4 +1,4 @@
-"""Messages through `receive` and `next_output` of a host with one peer and with eight."""
+"""Messages through `receive` and `send_next` of a host with one peer and with eight."""
 from measuring import Row, built, instructions, least
 
 NAMES = ("ncp_bits", "ncp_host", "anyhow")

@@ -110,11 +110,11 @@ impl BitStore for PackedStore {
         Ok(())
     }
 
-    fn take(&mut self, count: usize) -> Bits {
-        let bits = Part::of_bytes(self.bytes.as_slice(), self.from, count).to_bits();
+    fn move_to(&mut self, count: usize, bits: &mut Bits) {
+        bits.append(Part::of_bytes(self.bytes.as_slice(), self.from, count))
+            .unwrap();
         self.from += count;
         self.len -= count;
-        bits
     }
 
     fn clear(&mut self) {

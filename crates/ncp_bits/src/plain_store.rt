@@ -37,16 +37,14 @@ fn write_part(cells: &mut [bool], at: usize, part: &Part<'_>)
     }
 }
 
-// The bits of cells.
-fn bits_of_cells(cells: &[bool]) -> Bits
-    requires { length cells.now ≤ MAX_BITS }
-    ensures { result ≡ cells.now }
+// Appends the bits of cells.
+fn push_cells(bits: &mut Bits, cells: &[bool])
+    requires { length bits.old + length cells.now ≤ MAX_BITS }
+    ensures { bits.new ≡ bits.old ++ cells.now }
 {
-    let mut bits = Bits::new();
     for cell in cells {
         bits.push_number(u64::from(*cell), 1).unwrap();
     }
-    bits
 }
 
 impl BitStore for PlainStore {
@@ -85,11 +83,10 @@ impl BitStore for PlainStore {
         Ok(())
     }
 
-    fn take(&mut self, count: usize) -> Bits {
-        let bits = bits_of_cells(&self.cells[..count]);
+    fn move_to(&mut self, count: usize, bits: &mut Bits) {
+        push_cells(bits, &self.cells[..count]);
         self.cells.as_mut_slice().rotate_left(count);
         self.len -= count;
-        bits
     }
 
     fn clear(&mut self) {

@@ -45,13 +45,26 @@ pub trait BitStore: Drop + Sized {
         ensures err { OnErr result (held self.new ≡ held self.old) }
         ensures capacity { capacity self.new ≡ capacity self.old };
 
+    /// Moves the first `count` bits behind others.
+    fn move_to(&mut self, count: usize, bits: &mut Bits)
+        requires held { count ≤ length (held self.old) }
+        requires fits { length bits.old + count ≤ MAX_BITS }
+        ensures bits { bits.new ≡ bits.old ++ take count (held self.old) }
+        ensures held { held self.new ≡ drop count (held self.old) }
+        ensures capacity { capacity self.new ≡ capacity self.old };
+
     /// Takes the first `count` bits out.
     fn take(&mut self, count: usize) -> Bits
         requires held { count ≤ length (held self.old) }
         requires fits { count ≤ MAX_BITS }
         ensures bits { result ≡ take count (held self.old) }
         ensures held { held self.new ≡ drop count (held self.old) }
-        ensures capacity { capacity self.new ≡ capacity self.old };
+        ensures capacity { capacity self.new ≡ capacity self.old }
+    {
+        let mut bits = Bits::new();
+        self.move_to(count, &mut bits);
+        bits
+    }
 
     /// Takes all bits out.
     fn clear(&mut self)

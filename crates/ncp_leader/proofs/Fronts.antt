@@ -1,15 +1,17 @@
 -- Leader and prefix of a message, as bytes.
-use Rattle.std.proofs.Common.{◌≡◌, ℕ, ◌+◌, ◌*◌, ◌/◌, ◌%◌, ◌^◌, ◌≤◌, bit_or, List, Bool, [], ◌∷◌, ◌++◌, take, drop, Ok, refl, sym, ap, ◌∙◌, arith}
-use Rattle.std.proofs.lemmas.List.{take-append-drop}
+use Rattle.std.proofs.Common.{◌≡◌, ℕ, ◌+◌, ◌*◌, ◌/◌, ◌%◌, ◌^◌, ◌≤◌, bit_or, List, Bool, [], ◌∷◌, ◌++◌, take, drop, length, Result, Ok, Err, IsOk, IfErr, refl, sym, ap, ◌∙◌, arith}
+use Rattle.std.proofs.lemmas.List.{append-nil, take-append-drop}
 use Rattle.std.proofs.lemmas.Nat.{or_shifted, shl_whole}
 use Rattle.ncp_numbers.specs.Numbers.{bits_of}
 use Rattle.ncp_numbers.specs.Bytes.{bits_of_bytes, byte_bits}
 use Rattle.ncp_numbers.proofs.Shifts.{drop-bits_of, take-bits_of, bits_of-mod}
+use Rattle.ncp_bits.specs.declared.bits.BitsFault.{BitsFault}
 use Rattle.ncp_bits.specs.Bits.{read_bytes}
 use Rattle.ncp_leader.specs.declared.leader.Leader.{Leader}
 use Rattle.ncp_leader.specs.Leader.{leader_bits}
 use Rattle.ncp_leader.specs.Bytes.{leader_bytes}
-use Rattle.ncp_leader.specs.Message.{eight_zeros}
+use Rattle.ncp_leader.specs.Message.{eight_zeros, message_bits, message_with}
+use Rattle.ncp_leader.specs.Front.{front_bits}
 
 -- two numbers of four bits in one byte
 pub first_byte : (flags kind : ℕ) → flags ≤ 15 → kind ≤ 15 → bit_or (flags * 2 ^ 4 % 2 ^ 8) kind ≡ flags * 2 ^ 4 + kind
@@ -75,3 +77,22 @@ front_spelled leader size count text k =
     nine_apart (leader.flags * 2 ^ 4 + leader.kind) leader.host leader.link leader.low size (count / 256 % 256) (count % 256) text
     ∙ ap (λ (xs : List Bool). xs ++ eight_zeros ++ bits_of 8 size ++ (bits_of 8 (count / 256 % 256) ++ bits_of 8 (count % 256)) ++ eight_zeros ++ text) (leader_spelled leader k)
     ∙ ap (λ (xs : List Bool). leader_bits leader ++ eight_zeros ++ bits_of 8 size ++ xs ++ eight_zeros ++ text) (two_bytes count)
+
+pub front_is : (leader : Leader) (size count : ℕ) → leader.kind ≤ 15 → bits_of_bytes (front leader size count) ≡ front_bits leader size count
+front_is leader size count k = sym (append-nil (bits_of_bytes (front leader size count))) ∙ front_spelled leader size count [] k ∙ append-nil (front_bits leader size count)
+
+-- bits that cannot be refused are copied
+pub not_refused : (result : Result (Unit {0}) BitsFault) (read : Result (List Bool) BitsFault) (bits : List Bool) → read ≡ Ok bits → IfErr result (λ fault. read ≡ Err fault) → IsOk result
+not_refused (Ok done) read bits is err = refl
+not_refused (Err fault) read bits is err = absurd (cc)
+
+front_joined : (leader : Leader) (size count : ℕ) (text : List Bool)
+    → front_bits leader size count ++ text ≡ leader_bits leader ++ eight_zeros ++ bits_of 8 size ++ bits_of 16 count ++ eight_zeros ++ text
+unfolding bits_of
+front_joined leader size count text = refl
+
+-- what stands before a text, and the text, are a message
+pub front_text : (leader : Leader) (size count : ℕ) (text : List Bool) → count ≡ length text / size → front_bits leader size count ++ text ≡ message_bits (message_with leader size text)
+front_text leader size count text counted =
+    front_joined leader size count text
+    ∙ ap (λ (k : ℕ). leader_bits leader ++ eight_zeros ++ bits_of 8 size ++ bits_of 16 k ++ eight_zeros ++ text) counted

@@ -3,3 +3,4 @@ pub mod Bytes
 pub mod Fault
 pub mod Message
 pub mod Same
+pub mod Front

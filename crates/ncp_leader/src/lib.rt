@@ -29,5 +29,6 @@ pub use leader::{
     LEADER_BITS, Leader, MAX_FLAGS, MAX_KIND, Short, put_leader, read_leader, read_leader_in,
 };
 pub use regular::{
-    FRONT_BITS, MAX_MADE_BITS, MAX_TEXT_BITS, Regular, put_regular, read_regular, read_regular_in,
+    FRONT_BITS, MAX_MADE_BITS, MAX_TEXT_BITS, Regular, put_front, put_regular, read_regular,
+    read_regular_in,
 };

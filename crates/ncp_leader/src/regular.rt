@@ -3,6 +3,7 @@ ghost use Rattle.std.specs.Prelude.{◌≡◌, ◌<◌, ◌≤◌, ◌+◌, ◌*
 ghost use Rattle.ncp_leader.specs.Leader.{IsLeader};
 ghost use Rattle.ncp_leader.specs.declared.leader.TheConstants.{MAX_FLAGS, MAX_KIND};
 ghost use Rattle.ncp_leader.specs.Message.{Message, StandsFor, message_bits, message_in, byte_at, message_with, written};
+ghost use Rattle.ncp_leader.specs.Front.{front_bits};
 
 use crate::fault::MessageFault;
 use crate::leader::{Leader, leader_bytes, leader_of};
@@ -185,12 +186,26 @@ fn put_message(leader: &Leader, size: u8, text: Part<'_>) -> Bits
     ensures fits { IsLeader leader.now }
 {
     let count = (text.len() / usize::from(size)) as u16;
+    let mut bits = Bits::new();
+    put_front(leader, size, count, &mut bits);
+    bits.append(text).unwrap();
+    bits
+}
+
+/// Becomes what stands before the text of a regular message: leader and prefix, [`FRONT_BITS`] bits, of so
+/// many bytes of a size. They are copied over what was there.
+#[inline(always)]
+pub fn put_front(leader: &Leader, size: u8, count: u16, bits: &mut Bits)
+    requires flags { leader.now.flags ≤ MAX_FLAGS }
+    requires kind { leader.now.kind ≤ MAX_KIND }
+    ensures bits { bits.new ≡ front_bits leader.now size count }
+    ensures len { length bits.new ≡ FRONT_BITS }
+    ensures fits { IsLeader leader.now }
+{
     let [first, host, link, last] = leader_bytes(*leader);
     let [high, low] = count.to_be_bytes();
     let front = [first, host, link, last, 0, size, high, low, 0];
-    let mut bits = Bits::from_bytes(&front, FRONT_BITS).unwrap();
-    bits.append(text).unwrap();
-    bits
+    bits.copy_from_bytes(&front, FRONT_BITS).unwrap();
 }
 
 /// The bits of a regular message, without padding.

@@ -63,11 +63,11 @@ slice_get-set_other (first ∷ slots) zero (suc other) slot h = refl
 slice_get-set_other (first ∷ slots) (suc place) zero slot h = refl
 slice_get-set_other (first ∷ slots) (suc place) (suc other) slot h = slice_get-set_other slots place other slot (λ e. h (ap suc e))
 
-get-slots_in : (slots : List LinkSlot) (link : ℕ) → link ≢ 1 → get (slots_in slots) link ≡ slice_get slots (link - 1)
+pub get-slots_in : (slots : List LinkSlot) (link : ℕ) → link ≢ 1 → get (slots_in slots) link ≡ slice_get slots (link - 1)
 unfolding slots_in
 get-slots_in slots link has = get-from_entries nat_cmp_total (with_links 0 slots) link ∙ find-with_links slots 0 link has (omega arith) ∙ ap (slice_get slots) (omega arith)
 
-get-slots_in-none : (slots : List LinkSlot) → get (slots_in slots) 1 ≡ None
+pub get-slots_in-none : (slots : List LinkSlot) → get (slots_in slots) 1 ≡ None
 unfolding slots_in
 get-slots_in-none slots = get-from_entries nat_cmp_total (with_links 0 slots) 1 ∙ find-with_links-none slots 0
 

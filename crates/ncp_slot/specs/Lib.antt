@@ -4,3 +4,6 @@ pub mod Places
 pub mod Deeds
 pub mod Laws
 pub mod Steps
+pub mod Links
+pub mod Lends
+pub mod PlaceLends

@@ -6,6 +6,7 @@ ghost use Rattle.ncp_terms.specs.declared.answer.Answer.{Answer};
 ghost use Rattle.ncp_slot.specs.declared.slot.Busy.{Busy};
 ghost use Rattle.ncp_slot.specs.declared.slot.Stray.{Stray};
 ghost use Rattle.ncp_slot.specs.Slot.{put_in, handed_out, answered, woken, ready_message, kept_message, is_empty, is_ready, is_travelling, is_held};
+ghost use Rattle.ncp_slot.specs.Links.{HasItsLinks};
 ghost use Rattle.ncp_slot.specs.Slots.{HasSlot, all_woken, LinkSlot, LinkSlots, no_slots, slot_at, with_slot, OthersStay, OthersStayEmpty, IsQuiet, is_quiet};
 ghost use Rattle.ncp_slot.specs.Deeds.{history_of, deeds_of};
 ghost use Rattle.ncp_slot.specs.Laws.{AreNotesOf, OneAnswerBetween, SameAfterFailure, OthersInOrder, PutsTold, AnswersTold, HandsTold, slot_told};
@@ -158,4 +159,9 @@ pub fn slots_are_compared<M: PartialEq>()
 /// The test for quiet data links passes exactly where each of their slots is empty.
 pub fn quiet_links_are_empty()
     ensures { (slots : LinkSlots) → (IsTrue (is_quiet slots) ↔ IsQuiet slots) }
+{}
+
+/// Slots of just the links that have one are the same where each of these has the same slot.
+pub fn slots_are_those_of_their_links()
+    ensures { (one other : LinkSlots) → HasItsLinks one → HasItsLinks other → ((link : ℕ) → HasSlot link → slot_at one link ≡ slot_at other link) → one ≡ other }
 {}

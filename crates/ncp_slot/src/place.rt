@@ -3,6 +3,8 @@ ghost use Rattle.std.specs.Prelude.{◌≡◌, ◌↔◌, IsTrue, IfSome, OnOk, 
 ghost use Rattle.std.specs.Option.{option_copied};
 ghost use Rattle.ncp_slot.specs.Slot.{put_in, handed_out, answered, woken, ready_message, kept_message, is_empty, is_ready, is_travelling, is_held};
 ghost use Rattle.ncp_slot.specs.Places.{filled};
+ghost use Rattle.ncp_slot.specs.PlaceLends.{LendsTravelling};
+ghost use Rattle.std.specs.Borrow.{sem};
 
 use crate::slot::{Busy, Slot, Stray};
 use ncp_bits::{Bits, Part};
@@ -10,8 +12,8 @@ use ncp_terms::Answer;
 use std::fmt;
 use std::marker::Model;
 
-// Writes bits over others. It costs a copy of those that come.
-fn write_over(bits: &mut Bits, part: Part<'_>)
+/// Writes bits over others. It costs a copy of those that come.
+pub(crate) fn write_over(bits: &mut Bits, part: Part<'_>)
     ensures { bits.new ≡ part.entry }
 {
     // A part is short enough.
@@ -62,14 +64,6 @@ impl Place {
         place
     }
 
-    // Keeps a copy of a message, in a slot that stands so.
-    fn fill(&mut self, slot: Slot<()>, bits: &Bits)
-        ensures { self.new ≡ filled bits.now slot }
-    {
-        write_over(&mut self.message, bits.whole());
-        self.slot = slot;
-    }
-
     /// Keeps a copy of a message, to go out. Busy where there is a message.
     pub(crate) fn put(&mut self, bits: &Bits) -> Result<(), Busy>
         ensures variant { IsOk result ↔ (self.old ≡ Slot.Empty) }
@@ -79,15 +73,17 @@ impl Place {
         if !self.is_empty() {
             return Err(Busy);
         }
-        self.fill(Slot::Ready(()), bits);
+        write_over(&mut self.message, bits.whole());
+        self.slot = Slot::Ready(());
         Ok(())
     }
 
-    /// Keeps a copy of a message that goes out at once. What was there is gone.
-    pub(crate) fn send(&mut self, bits: &Bits)
-        ensures { self.new ≡ Slot.Travelling bits.now }
+    /// A message goes out at once: what the caller leaves there. What was there is gone.
+    pub(crate) fn begin(&mut self) -> &mut Bits
+        ensures* { sem 𝓛 (LendsTravelling self.entry result) }
     {
-        self.fill(Slot::Travelling(()), bits);
+        self.slot = Slot::Travelling(());
+        &mut self.message
     }
 
     /// The message that is to go out goes out. Whether there is one.

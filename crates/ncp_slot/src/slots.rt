@@ -2,10 +2,13 @@
 ghost use Rattle.std.specs.Prelude.{◌≡◌, ◌≢◌, ℕ, ◌-◌, ◌+◌, ◌<◌, ◌≤◌, ◌↔◌, true, false, map, length, slice_get, IsTrue, Some, IfOk, IfSome, IfNone, OnOk, OnErr, IsNone, IsOk, IsErr};
 ghost use Rattle.std.specs.List.{list_all};
 ghost use Rattle.std.specs.Option.{option_copied};
+ghost use Rattle.std.specs.Borrow.{sem};
 ghost use Rattle.ncp_slot.specs.Slot.{put_in, handed_out, answered, woken, ready_message, kept_message, is_empty, is_ready, is_travelling, is_held};
+ghost use Rattle.ncp_slot.specs.Links.{HasItsLinks};
+ghost use Rattle.ncp_slot.specs.Lends.{LendsMessage};
 ghost use Rattle.ncp_slot.specs.Slots.{HasSlot, no_slots, slot_at, with_slot, all_woken, OthersStay, IsReady, IsHeld, IsFirstReady, IsQuiet, is_quiet, link_at};
 
-use crate::place::Place;
+use crate::place::{Place, write_over};
 use crate::slot::{Busy, Slot, Stray};
 use ncp_bits::Bits;
 use ncp_terms::Answer;
@@ -159,6 +162,16 @@ impl Slots {
         self.slots[place_of(link)].depart()
     }
 
+    /// A message goes out at once on a link whose slot is empty: what the caller writes over what stands
+    /// there. It is kept until it is taken.
+    pub fn begin(&mut self, link: u8) -> &mut Bits
+        requires link { HasSlot link }
+        requires empty { slot_at self.old link ≡ Slot.Empty }
+        ensures* { sem 𝓛 (LendsMessage self.entry link result) }
+    {
+        self.slots[place_of(link)].begin()
+    }
+
     /// Keeps a copy of a message that goes out at once on a link whose slot is empty: [`Slots::put`] and
     /// then [`Slots::hand`], without a second copy. It is kept until it is taken.
     pub fn send(&mut self, link: u8, bits: &Bits)
@@ -166,7 +179,7 @@ impl Slots {
         requires empty { slot_at self.old link ≡ Slot.Empty }
         ensures { self.new ≡ with_slot self.old link (Slot.Travelling bits.now) }
     {
-        self.slots[place_of(link)].send(bits);
+        write_over(self.begin(link), bits.whole());
     }
 
     /// Takes the subnet's answer to the message that went out on a link. After Ready For Next
@@ -230,6 +243,24 @@ impl Slots {
             return false;
         }
         slots[place_of(link)].is_held()
+    }
+
+    /// Whether the message of a link is to go out. None is on a link without a slot.
+    pub fn is_ready(&self, link: u8) -> bool
+        ensures { result ≡ is_ready (slot_at self.now link) }
+    {
+        let slots = &self.slots;
+        if !has_slot(link) {
+            return false;
+        }
+        slots[place_of(link)].is_ready()
+    }
+
+    /// There is a slot for each link that has one, and for no other.
+    pub fn has_its_links(&self)
+        ensures { HasItsLinks self.now }
+    {
+        let _slots = &self.slots;
     }
 
     /// The lowest link with a message that is to go out.

@@ -1,5 +1,5 @@
 //! Bits that come to a host, and their note.
-ghost use Rattle.std.specs.Prelude.{◌≡◌, IfOk, OnErr};
+ghost use Rattle.std.specs.Prelude.{◌≡◌, None, IfOk, IfSome, IfNone, OnErr};
 ghost use Rattle.ncp_host.specs.Hearing.{answer_of};
 ghost use Rattle.ncp_transcript.specs.After.{after_note};
 ghost use Rattle.ncp_transcript.specs.Noting.{is_answer, answer_in, note_of_bits};
@@ -46,28 +46,48 @@ fn answer_in<S: BitStore>(host: &Host<S>, bits: &Bits) -> Option<Leader>
     }
 }
 
+// The answer of a peer comes: its note, which takes no memory. None, and nothing has happened, where bits are none.
+fn take_answer<S: BitStore>(host: &mut Host<S>, bits: &Bits) -> Option<HostNote>
+    ensures note { IfSome result (λ note. note ≡ note_of_bits bits.now host.old) }
+    ensures host { IfSome result (λ note. host.new ≡ after_note note host.old) }
+    ensures none { IfNone result (answer_in bits.now host.old ≡ None) }
+    ensures stays { IfNone result (host.new ≡ host.old) }
+{
+    let leader = answer_in(host, bits)?;
+    let received = host.receive(bits);
+    Some(HostNote::Answered {
+        peer: leader.host,
+        link: leader.link,
+        answer: answer_of(leader.kind),
+        received,
+    })
+}
+
+// Bits come that are no answer of a peer, and their note has the memory of the room.
+fn take_other<S: BitStore>(room: Room, host: &mut Host<S>, bits: &Bits) -> HostNote
+    requires { answer_in bits.now host.old ≡ None }
+    ensures note { result ≡ note_of_bits bits.now host.old }
+    ensures host { host.new ≡ after_note result host.old }
+{
+    let message = pack_in_room(room, bits);
+    let received = host.receive(bits);
+    HostNote::In { message, received }
+}
+
 /// Hands bits to a host, and gives their note. The note has the memory of the room, and what it does
 /// not need is given back.
 pub fn hear_in_room<S: BitStore>(room: Room, host: &mut Host<S>, bits: &Bits) -> HostNote
     ensures note { result ≡ note_of_bits bits.now host.old }
     ensures host { host.new ≡ after_note result host.old }
 {
-    if let Some(leader) = answer_in(host, bits) {
-        let received = host.receive(bits);
-        return HostNote::Answered {
-            peer: leader.host,
-            link: leader.link,
-            answer: answer_of(leader.kind),
-            received,
-        };
+    match take_answer(host, bits) {
+        Some(note) => note,
+        None => take_other(room, host, bits),
     }
-    let message = pack_in_room(room, bits);
-    let received = host.receive(bits);
-    HostNote::In { message, received }
 }
 
 /// Hands bits to a host, and gives their note. All memory that the note takes is taken first: an
-/// `AllocError` leaves the host as it was.
+/// `AllocError` leaves the host as it was. The answer of a peer takes none.
 pub fn hear<S: BitStore>(
     alloc: Global,
     host: &mut Host<S>,
@@ -77,6 +97,9 @@ pub fn hear<S: BitStore>(
     ensures host { IfOk result (λ note. host.new ≡ after_note note host.old) }
     ensures err { OnErr result (host.new ≡ host.old) }
 {
+    if let Some(note) = take_answer(host, bits) {
+        return Ok(note);
+    }
     let room = Room::new(alloc)?;
-    Ok(hear_in_room(room, host, bits))
+    Ok(take_other(room, host, bits))
 }

@@ -12,15 +12,19 @@ use std::alloc::{AllocError, Global};
 
 /// Asks a host for its next message, and gives the note of it. All memory that the note takes is
 /// taken first: an `AllocError` leaves the host as it was.
+#[tactic(auto, using(crate::proofs::Quiet::output_stays))]
 pub fn send<S: BitStore>(alloc: Global, host: &mut Host<S>) -> Result<HostNote, AllocError>
     ensures note { IfOk result (λ note. note ≡ note_of_output host.old) }
     ensures host { IfOk result (λ note. host.new ≡ after_note note host.old) }
     ensures err { OnErr result (host.new ≡ host.old) }
 {
     let room = Room::new(alloc)?;
-    match host.next_output() {
+    let Some(sent) = host.send_next() else {
+        return Ok(HostNote::Nothing);
+    };
+    match host.kept(sent.peer, sent.link) {
         Some(bits) => Ok(HostNote::Out {
-            message: pack_in_room(room, &bits),
+            message: pack_in_room(room, bits),
         }),
         None => Ok(HostNote::Nothing),
     }

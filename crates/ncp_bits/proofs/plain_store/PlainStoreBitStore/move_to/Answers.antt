@@ -2,7 +2,7 @@ use Rattle.std.specs.Box.{boxed_slice_items, boxed_slice_len}
 use Rattle.std.proofs.Common.{◌≡◌, ◌+◌, ◌-◌, ◌++◌, sym, ap, ◌∙◌, length, take, drop, List, Bool, ℕ, arith}
 use Rattle.std.proofs.lemmas.List.{take-take, take-append-le, drop-take, length-take-le, length-drop}
 use Rattle.ncp_bits.specs.Store.{Stored}
-use Rattle.ncp_bits.proofs.plain_store.PlainStoreBitStore.take.Goals as goal
+use Rattle.ncp_bits.proofs.plain_store.PlainStoreBitStore.move_to.Goals as goal
 
 pub returns-clause-held : goal.returns-clause-held
 returns-clause-held c =

@@ -9,17 +9,17 @@ use Rattle.ncp_host.specs.declared.received.Received.{Received}
 use Rattle.ncp_transcript.specs.declared.note.HostNote.TheVariants.{Answered}
 use Rattle.ncp_transcript.specs.Noting.{note_as}
 use Rattle.ncp_transcript.proofs.Arriving.{after_answer}
-use Rattle.ncp_transcript.proofs.arrivals.hear_in_room.Goals as goal
+use Rattle.ncp_transcript.proofs.arrivals.take_answer.Goals as goal
 
-pub returns-in-Some-clause-note : goal.returns-in-Some-clause-note
-returns-in-Some-clause-note g c =
-    let leader = c.in-Some.leader in
+pub returns-clause-note : goal.returns-clause-note
+returns-clause-note g c =
+    let leader = c.in_ok-leader.leader in
     ap (λ (answer : Answer). Answered leader.host leader.link answer c.receive-received.result) c.answer_of.ensures
     ∙ ap (λ (received : Received). Answered leader.host leader.link (answer_of leader.kind) received) c.receive-received.ensures.received
-    ∙ ap (λ (o : Option Leader). note_as o c.args.bits.now (received_in c.args.bits.now c.args.host.now)) c.in-Some.ensures
+    ∙ ap (λ (o : Option Leader). note_as o c.args.bits.now (received_in c.args.bits.now c.args.host.now)) c.in_ok-leader.ensures
 
-pub returns-in-Some-clause-host : goal.returns-in-Some-clause-host
-returns-in-Some-clause-host g c =
+pub returns-clause-host : goal.returns-clause-host
+returns-clause-host g c =
     c.receive-received.ensures.host
-    ∙ after_answer c.args.bits.now c.args.host.now c.in-Some.leader (sym c.in-Some.ensures)
-    ∙ ap (λ a. changed c.in-Some.leader.host (answer_comes c.in-Some.leader.link a) c.args.host.now) (sym c.answer_of.ensures)
+    ∙ after_answer c.args.bits.now c.args.host.now c.in_ok-leader.leader (sym c.in_ok-leader.ensures)
+    ∙ ap (λ a. changed c.in_ok-leader.leader.host (answer_comes c.in_ok-leader.leader.link a) c.args.host.now) (sym c.answer_of.ensures)

@@ -1,9 +1,9 @@
-use Rattle.std.proofs.Common.{◌≡◌, ◌++◌, [], ◌∷◌, List, Bool, true, false, ℕ, get_or, refl, sym, ap, ◌∙◌, arith}
+use Rattle.std.proofs.Common.{◌≡◌, ◌++◌, [], ◌∷◌, List, Bool, true, false, ℕ, take, get_or, refl, sym, ap, ◌∙◌, arith}
 use Rattle.std.specs.Int.{from_bool}
-use Rattle.std.proofs.lemmas.List.{take_more}
+use Rattle.std.proofs.lemmas.List.{append_assoc, take_more}
 use Rattle.std.proofs.lemmas.Result.{IfOk-at_ok}
 use Rattle.ncp_numbers.specs.Numbers.{bits_of}
-use Rattle.ncp_bits.proofs.plain_store.bits_of_cells.Goals as goal
+use Rattle.ncp_bits.proofs.plain_store.push_cells.Goals as goal
 
 -- a bit as a number of one bit
 one_bit : (bit : Bool) → bits_of 1 (from_bool bit) ≡ bit ∷ []
@@ -17,4 +17,5 @@ loop-cell-preserved c =
     ∙ ap (λ (n : ℕ). c.loop-cell.bits ++ bits_of 1 n) c.from.ensures
     ∙ ap (λ bits. c.loop-cell.bits ++ bits) (one_bit (get_or c.args.cells.now c.loop-cell.cell-index false))
     ∙ ap (λ (bits : List Bool). bits ++ get_or c.args.cells.now c.loop-cell.cell-index false ∷ []) c.loop-cell.invariant
-    ∙ sym (take_more c.args.cells.now c.loop-cell.cell-index false (omega arith))
+    ∙ append_assoc c.args.bits.now (take c.loop-cell.cell-index c.args.cells.now) (get_or c.args.cells.now c.loop-cell.cell-index false ∷ [])
+    ∙ ap (λ (bits : List Bool). c.args.bits.now ++ bits) (sym (take_more c.args.cells.now c.loop-cell.cell-index false (omega arith)))
