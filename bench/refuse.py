@@ -21,6 +21,8 @@ CALLS = [
     ("order", "ncp_test_files", ["refused::reading_an_order"]),
     ("Host::new", "ncp_test_host", ["refused::host_new"]),
     ("Host::copy", "ncp_test_host", ["refused::host_copy"]),
+    ("Host::save", "ncp_test_host", ["refused::host_save"]),
+    ("Host::load", "ncp_test_host", ["refused::host_load"]),
     ("ask_send", "ncp_test_host", ["refused::ask_send"]),
     ("ask_receive", "ncp_test_host", ["refused::ask_receive"]),
     ("Alone::step", "ncp_test_host", ["alone::examples_are_noted"]),

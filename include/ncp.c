@@ -7,6 +7,8 @@
  * NCP_NO_SUBNET. */
 uint32_t ncp_embed_new(struct ncp_host *handle, uint8_t me, const uint8_t *peers, size_t peers_len);
 uint32_t ncp_embed_copy(struct ncp_host *handle, struct ncp_host *copy);
+uint32_t ncp_embed_save(struct ncp_host *handle, uint8_t *out, size_t out_len, size_t *size);
+uint32_t ncp_embed_load(struct ncp_host *handle, const uint8_t *bytes, size_t bytes_len);
 void ncp_embed_free(struct ncp_host *handle);
 uint32_t ncp_embed_receive(struct ncp_host *handle, const uint8_t *bytes, size_t bytes_len, size_t bits, struct ncp_arrived *arrived);
 uint32_t ncp_embed_next_output(struct ncp_host *handle, uint8_t *out, size_t out_len, size_t *bits);
@@ -64,6 +66,21 @@ uint32_t ncp_copy(struct ncp_host *host, struct ncp_host *copy)
     if (!ncp_is_made(host)) return NCP_NO_HOST;
     if (copy == NULL) return NCP_NO_POINTER;
     return host == copy ? NCP_DONE : ncp_embed_copy(host, copy);
+}
+
+uint32_t ncp_save(struct ncp_host *host, uint8_t *out, size_t len, size_t *size)
+{
+    uint8_t none[1];
+    if (!ncp_is_made(host)) return NCP_NO_HOST;
+    if (size == NULL || (out == NULL && len > 0)) return NCP_NO_POINTER;
+    return ncp_embed_save(host, out == NULL ? none : out, len, size);
+}
+
+uint32_t ncp_load(struct ncp_host *host, const uint8_t *bytes, size_t len)
+{
+    if (host == NULL) return NCP_NO_HOST;
+    if (bytes == NULL) return NCP_NO_POINTER;
+    return ncp_embed_load(host, bytes, len);
 }
 
 void ncp_free(struct ncp_host *host)
@@ -354,6 +371,9 @@ const char *ncp_word(uint32_t code)
     case NCP_SUBNET_NOT_REGULAR: return "NotRegular";
     case NCP_SUBNET_NO_HOST: return "NoHost";
     case NCP_SUBNET_OCCUPIED: return "Occupied";
+    case NCP_LOAD_NOT_A_HOST: return "NotAHost";
+    case NCP_LOAD_OTHER_VERSION: return "OtherVersion";
+    case NCP_LOAD_OUT_OF_MEMORY: return "OutOfMemory";
     default: return "";
     }
 }

@@ -4,8 +4,8 @@
  * include/install. docs/EMBEDDING.md says how a host is driven, examples/embed has whole programs.
  *
  * Every function whose result is a `uint32_t` answers a number: 0 where it was done, else why not.
- * What is refused changes nothing, neither the host nor a buffer. Refusals are judged in the order
- * in which they are listed, and first of all: NCP_NO_HOST (`host` is null, or has no host) or
+ * What is refused changes nothing, neither the host nor a buffer; of ncp_save alone a refusal may tell a size. Refusals
+ * are judged in the order in which they are listed, and first of all: NCP_NO_HOST (`host` is null, or has no host) or
  * NCP_NO_SUBNET (`subnet` is null, or has no subnet), NCP_NO_POINTER (another pointer is null, also one to
  * no bytes), then what is said of buffers and bits. No function keeps a pointer that it was given: what is
  * kept is copied.
@@ -80,7 +80,12 @@ enum {
     /* By ncp_subnet_accept: 72 and the number of the refusal. */
     NCP_SUBNET_NOT_REGULAR = 73,
     NCP_SUBNET_NO_HOST = 74,
-    NCP_SUBNET_OCCUPIED = 75
+    NCP_SUBNET_OCCUPIED = 75,
+
+    /* By ncp_load: 80 and the number of the refusal. */
+    NCP_LOAD_NOT_A_HOST = 81,
+    NCP_LOAD_OTHER_VERSION = 82,
+    NCP_LOAD_OUT_OF_MEMORY = 83
 };
 
 /* Lengths in bytes: of the longest message or text, command, and name. */
@@ -229,6 +234,21 @@ uint32_t ncp_new(struct ncp_host *host, uint8_t me, const uint8_t *peers, size_t
  * where NCP_DONE is answered. `copy` need not have one, and the copy is freed on its own.
  * Refused: NCP_NEW_OUT_OF_MEMORY; then `copy` stays what it was. */
 uint32_t ncp_copy(struct ncp_host *host, struct ncp_host *copy);
+
+/* Writes the host as bytes over the front of `out`, which has `len` bytes: `*size` of them, all that it keeps. Where there is
+ * no room for them `*size` tells how many they are, with NCP_SHORT_BUFFER. So a first call with `len` 0, for which alone `out`
+ * may be null, asks for the size. The bytes begin with "NCP host" and the number of the layout, 1, and are the same on
+ * each machine. They take memory until the call ends.
+ * Refused, in this order: NCP_OUT_OF_MEMORY, NCP_SHORT_BUFFER (fewer than the bytes are). */
+uint32_t ncp_save(struct ncp_host *host, uint8_t *out, size_t len, size_t *size);
+
+/* Makes the host that is saved as these `len` bytes, on this machine or another. A host that was there before is freed
+ * where NCP_DONE is answered. `host` need not have one, but may not be null. The bytes may come from anywhere: what no
+ * host is saved as is refused.
+ * Refused, in this order: NCP_LOAD_NOT_A_HOST (they do not begin with the name and the number of a layout),
+ * NCP_LOAD_OTHER_VERSION (another layout), and then NCP_LOAD_NOT_A_HOST (no host is saved as these) or
+ * NCP_LOAD_OUT_OF_MEMORY, whichever is seen first. */
+uint32_t ncp_load(struct ncp_host *host, const uint8_t *bytes, size_t len);
 
 /* Frees the host, if there is one. `host` is then NCP_EMPTY. */
 void ncp_free(struct ncp_host *host);

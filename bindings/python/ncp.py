@@ -21,7 +21,7 @@ from pathlib import Path
 from typing import NamedTuple
 
 LONGEST_MESSAGE, LONGEST_COMMAND, LINKS = 1024, 12, 72
-DONE, NOTHING, NO_ENTRY = 0, 35, 6
+DONE, UNKNOWN_PEER, NO_ENTRY, SHORT_BUFFER, NOTHING = 0, 1, 6, 34, 35
 # Types of messages from an IMP that say what no host is told otherwise (BBN 1822, section 3).
 ERROR_IN_LEADER, ERROR_IN_MESSAGE, INTERFACE_RESET = 1, 8, 10
 # Directions of a capture.
@@ -131,7 +131,8 @@ _HANDLE, _BYTES, _SIZE, _BUFFER = POINTER(_Handle), c_char_p, c_size_t, POINTER(
 _PEER, _AT, _WAY = (c_uint8,), (c_uint8, c_uint32, c_uint32), (c_uint8, c_uint8, c_uint8)
 # The functions by their parameters behind the host, or the subnet.
 _CALLS = {
-    "new": (c_uint8, _BYTES, _SIZE), "copy": (_HANDLE,), "receive": (_BYTES, _SIZE, _SIZE, POINTER(_Arrived)), "next_output": (_BUFFER, _SIZE, POINTER(_SIZE)),
+    "new": (c_uint8, _BYTES, _SIZE), "copy": (_HANDLE,), "save": (_BUFFER, _SIZE, POINTER(_SIZE)), "load": (_BYTES, _SIZE),
+    "receive": (_BYTES, _SIZE, _SIZE, POINTER(_Arrived)), "next_output": (_BUFFER, _SIZE, POINTER(_SIZE)),
     "reset": _PEER, "ask_send": (*_AT, c_uint8, c_uint32), "ask_receive": (*_AT, c_uint32), "give": (*_AT, _BYTES, _SIZE, _SIZE),
     "take": (*_AT, c_uint32, _BUFFER, _SIZE, POINTER(_SIZE)), "allocate": (*_AT, c_uint16, c_uint32), "call_back": (*_AT, c_uint8, c_uint8),
     "interrupt": _AT, "close": _AT, "echo": (*_PEER, c_uint8), "wake": _PEER, "restart": _PEER, "state": (*_AT, POINTER(Connection)),
@@ -274,6 +275,28 @@ class Host(_Handled):
         copy._known = {key: Connection.from_buffer_copy(seen) for key, seen in self._known.items()}
         self._do("copy", byref(copy._handle))
         return copy
+
+    def save(self):
+        """The host as bytes, for `load`: so it is pickled too. They say nothing of what was seen for `events`."""
+        size = c_size_t()
+        number = self._answer("save", None, 0, byref(size))
+        if number != SHORT_BUFFER:
+            _judge(number)
+        return self._bytes("save", room=size.value)[0]
+
+    @classmethod
+    def load(cls, data):
+        """The host that is saved as these bytes, which may come from anywhere: NotAHost, OtherVersion. Its peers are in the order of
+        their numbers, and its first `events` tell all that there is."""
+        host = cls.__new__(cls)
+        _Handled.__init__(host)
+        host._do("load", bytes(data), len(data))
+        host.me, host._seen, host._known = data[9], {}, {}
+        host.peers = tuple(peer for peer in range(256) if host._answer("phase", peer, byref(Flags())) != UNKNOWN_PEER)
+        return host
+
+    def __reduce__(self):
+        return Host.load, (self.save(),)
 
     # Messages.
 

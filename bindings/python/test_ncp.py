@@ -3,6 +3,7 @@ of README.md are as they print."""
 import contextlib
 import doctest
 import io
+import pickle
 import unittest
 from pathlib import Path
 
@@ -71,6 +72,18 @@ class Binding(unittest.TestCase):
                          ["000200000008001300" "01" "00000002" "00000003" "02" "03" "00000002" "00000003"])  # an RTS and a CLS
         with self.assertRaises(ncp.NoHost):
             host.copy()
+
+    def test_a_host_is_saved_and_loaded(self):
+        host = up_with(2)
+        host.ask_receive(2, 2, 3, room=64)
+        saved = host.save()
+        self.assertEqual(saved[:10], b"NCP host\1\1")
+        for again in (ncp.Host.load(saved), pickle.loads(pickle.dumps(host))):
+            self.assertEqual((again.me, again.peers, again.save()), (1, (2,), saved))
+            self.assertEqual((again.connections(2), again.waiting(2)), (host.connections(2), host.waiting(2)))
+        for name, data in (("NotAHost", b""), ("NotAHost", saved[:-1]), ("NotAHost", saved + b"\0"), ("OtherVersion", b"NCP host\2")):
+            with self.assertRaises(getattr(ncp, name)):
+                ncp.Host.load(data)
 
     def test_what_arrived(self):
         host = ncp.Host(1, [2])

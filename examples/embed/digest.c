@@ -1,6 +1,7 @@
 /* Random calls and messages, valid and not, at two hosts and the network between them: `digest COUNT` makes so
  * many steps and prints a digest of all that was answered, where there was a step. The program of crates/ncp_test_digest
- * does the same through the library itself, and prints the same: there a host lives on, and here its copies go on for it. */
+ * does the same through the library itself, and prints the same: there a host lives on, and here its copies and what is loaded of its
+ * bytes go on for it. */
 #include "ncp.h"
 #include <stdio.h>
 #include <stdlib.h>
@@ -257,6 +258,18 @@ static bool give_way(struct ncp_host *host)
     return true;
 }
 
+/* So does the host that is loaded of what it was saved as. */
+static bool come_back(struct ncp_host *host)
+{
+    size_t size = 0;
+    uint8_t *bytes;
+    bool is_back;
+    if (ncp_save(host, NULL, 0, &size) != NCP_SHORT_BUFFER || (bytes = (uint8_t *)malloc(size)) == NULL) return false;
+    is_back = ncp_save(host, bytes, size, &size) == NCP_DONE && ncp_load(host, bytes, size) == NCP_DONE;
+    free(bytes);
+    return is_back;
+}
+
 int main(int argc, char **argv)
 {
     static const uint8_t peers_of_a[] = {B, C, 4, 5, 6, 7, 8, 9}, peers_of_b[] = {A}; /* as many as can be, and one */
@@ -264,7 +277,8 @@ int main(int argc, char **argv)
     if (ncp_new(&hosts[0], A, peers_of_a, sizeof peers_of_a) != NCP_DONE || ncp_new(&hosts[1], B, peers_of_b, 1) != NCP_DONE) return 1;
     for (unsigned long made = 1; made <= count; made++) {
         step();
-        if (made % 100 == 0 && !give_way(&hosts[made / 100 % 2])) return 1;
+        if (made % 200 == 0 && !give_way(&hosts[made / 200 % 2])) return 1;
+        if (made % 200 == 100 && !come_back(&hosts[made / 200 % 2])) return 1;
     }
     if (count > 0) printf("%016llx\n", (unsigned long long)digest);
     ncp_free(&hosts[0]);

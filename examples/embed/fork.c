@@ -1,4 +1,5 @@
-/* What if: a copy of a host is asked what would happen, and the host is as it was. What it prints stands in fork.txt. */
+/* What if: a copy of a host is asked what would happen, and the host is as it was. And a host is saved as bytes, and loaded. What it
+ * prints stands in fork.txt. */
 #include "imp.h"
 
 enum { A = 1, B = 2, ODD = 3, EVEN = 2 };
@@ -22,7 +23,8 @@ int main(void)
     struct ncp_host host = NCP_EMPTY, copy = NCP_EMPTY;
     const uint8_t peer[] = {B};
     uint8_t out[NCP_LONGEST_MESSAGE];
-    size_t bits = 0;
+    uint8_t *bytes;
+    size_t bits = 0, size = 0;
     want(NCP_DONE, ncp_new(&host, A, peer, 1), "new");
     hand(&host, rst, sizeof rst, 8 * sizeof rst);
     want(NCP_DONE, ncp_next_output(&host, out, sizeof out, &bits), "next_output"); /* the RRP */
@@ -41,6 +43,17 @@ int main(void)
     ncp_free(&host);
     say_state("without the host", &host);
     say_state("the copy stays", &copy);
+
+    want(NCP_SHORT_BUFFER, ncp_save(&copy, NULL, 0, &size), "save into nothing"); /* how many bytes it takes */
+    bytes = (uint8_t *)malloc(size);
+    if (bytes == NULL) return 1;
+    want(NCP_DONE, ncp_save(&copy, bytes, size, &size), "save");
     ncp_free(&copy);
+    want(NCP_DONE, ncp_load(&host, bytes, size), "load");
+    say_state("it is loaded", &host);
+    bytes[0] = 0;
+    printf("no host: %s\n", ncp_word(ncp_load(&host, bytes, size)));
+    free(bytes);
+    ncp_free(&host);
     return 0;
 }

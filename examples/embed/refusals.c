@@ -57,6 +57,8 @@ static void no_host(struct ncp_host *host)
     uint32_t local, remote;
     ncp_free(host);
     IS(NCP_NO_HOST, ncp_copy(host, &copy));
+    IS(NCP_NO_HOST, ncp_save(host, out, sizeof out, &size));
+    IS(NCP_NO_HOST, ncp_load(NULL, out, sizeof out));
     IS(NCP_NO_HOST, ncp_receive(host, out, sizeof out, 32, &arrived));
     IS(NCP_NO_HOST, ncp_next_output(host, out, sizeof out, &size));
     IS(NCP_NO_HOST, ncp_reset(host, PEER));
@@ -172,6 +174,9 @@ static void no_pointer(struct ncp_host *host)
     char *text = (char *)out;
     IS(NCP_NO_POINTER, ncp_new(host, ME, NULL, 1));
     IS(NCP_NO_POINTER, ncp_copy(host, NULL));
+    IS(NCP_NO_POINTER, ncp_save(host, NULL, 1, &size));
+    IS(NCP_NO_POINTER, ncp_save(host, out, sizeof out, NULL));
+    IS(NCP_NO_POINTER, ncp_load(host, NULL, 0));
     IS(NCP_NO_POINTER, ncp_receive(host, NULL, 4, 32, &arrived));
     IS(NCP_NO_POINTER, ncp_receive(host, out, sizeof out, 32, NULL));
     IS(NCP_NO_POINTER, ncp_next_output(host, NULL, sizeof out, &size));
@@ -351,6 +356,56 @@ static void no_copy(struct ncp_host *host)
     IS(0, 1);
 }
 
+/* A host is saved, by a first call for the size. A buffer that is one byte too short is left as it is, and so is the host where bytes
+ * are none, where they are in another layout, or where memory is refused. */
+static void saved_and_loaded(struct ncp_host *host)
+{
+    static uint8_t bytes[8192], again[8192];
+    struct ncp_host other = NCP_EMPTY;
+    size_t size = 0, more = 0;
+    long had;
+    uint32_t answered = NCP_OUT_OF_MEMORY;
+    IS(NCP_SHORT_BUFFER, ncp_save(host, NULL, 0, &size));
+    IS(1, size > 9 && size < sizeof bytes);
+    bytes[0] = 77;
+    IS(NCP_SHORT_BUFFER, ncp_save(host, bytes, size - 1, &more));
+    IS(size, more);
+    IS(77, bytes[0]);
+    for (had = 0; had < 64 && answered == NCP_OUT_OF_MEMORY; had++) {
+        left = had;
+        answered = ncp_save(host, bytes, size, &more);
+        left = -1;
+    }
+    IS(NCP_DONE, answered);
+    IS(1, had > 1);
+    IS(0, memcmp(bytes, "NCP host\1", 9));
+
+    answered = NCP_LOAD_OUT_OF_MEMORY;
+    for (had = 0; had < 64 && answered == NCP_LOAD_OUT_OF_MEMORY; had++) {
+        IS(0, ncp_is_made(&other));
+        left = had;
+        answered = ncp_load(&other, bytes, size);
+        left = -1;
+    }
+    IS(NCP_DONE, answered);
+    IS(1, had > 1);
+    IS(NCP_DONE, ncp_save(&other, again, sizeof again, &more));
+    IS(size, more);
+    IS(0, memcmp(bytes, again, size));
+
+    IS(NCP_LOAD_NOT_A_HOST, ncp_load(&other, bytes, 0));
+    IS(NCP_LOAD_NOT_A_HOST, ncp_load(&other, bytes, 8));
+    IS(NCP_LOAD_NOT_A_HOST, ncp_load(&other, bytes, size - 1));
+    IS(NCP_LOAD_NOT_A_HOST, ncp_load(&other, bytes, size + 1));
+    bytes[8] = 2;
+    IS(NCP_LOAD_OTHER_VERSION, ncp_load(&other, bytes, size));
+    IS(NCP_LOAD_OTHER_VERSION, ncp_load(&other, bytes, 9));
+    bytes[0] = 'n';
+    IS(NCP_LOAD_NOT_A_HOST, ncp_load(&other, bytes, size));
+    IS(NCP_DONE, ncp_reset(&other, PEER));
+    ncp_free(&other);
+}
+
 /* A host that has sent its RST comes up, and asks where there is no memory for the room. */
 static void no_room_for_text(struct ncp_host *host)
 {
@@ -480,6 +535,7 @@ int main(void)
     no_host(&host);
     IS(NCP_DONE, ncp_new(&host, ME, peers, 1));
     no_copy(&host);
+    saved_and_loaded(&host);
     IS(NCP_DONE, ncp_reset(&host, PEER));
     no_pointer(&host);
     short_buffers(&host);

@@ -4,10 +4,12 @@ pub mod Counts
 pub mod Indexes
 pub mod Asking
 pub mod Cutting
+pub mod Sizes
 pub mod Links
 pub mod Sending
 pub mod Tables
 pub mod Requests
+pub mod Restoring
 pub mod Same
 pub mod Listing
 pub mod Copying

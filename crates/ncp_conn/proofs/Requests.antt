@@ -38,7 +38,7 @@ no_hearing : {A : Type 0} → (on : ℕ) (p : Pair × End) → receives p.0 ≡ 
 no_hearing on p s h = never (sends p.0) (hears_sends on p h) (not_sends p.0 s)
 
 -- the link that an entry is on
-its_link : (a : Bool) (here on : ℕ) → (a && here == on) ≡ true → here ≡ on
+pub its_link : (a : Bool) (here on : ℕ) → (a && here == on) ≡ true → here ≡ on
 its_link a here on h = eqb-true here on (last_of a (here == on) h)
 
 -- The table after a request, in turn the own one of a sender and of a receiver, and the peer's.

@@ -10,3 +10,4 @@ pub mod Links
 pub mod Sending
 pub mod Walking
 pub mod Listing
+pub mod Restoring

@@ -1,5 +1,5 @@
 //! What a table keeps of one connection.
-ghost use Rattle.std.specs.Prelude.{◌≡◌, ◌/◌, ◌≤◌, [], length, take, drop};
+ghost use Rattle.std.specs.Prelude.{◌≡◌, ◌+◌, ◌/◌, ◌≤◌, [], ◌++◌, length, take, drop};
 ghost use Rattle.ncp_model.specs.Pairs.{same};
 ghost use Rattle.ncp_model.specs.End.{new_end, is_going, is_over, is_open};
 ghost use Rattle.ncp_model.specs.Act.{met};
@@ -13,6 +13,7 @@ mod closing;
 mod copying;
 mod interrupts;
 mod requests;
+mod restoring;
 mod texts;
 
 use crate::record::{End, Record};
@@ -230,6 +231,18 @@ impl<S: BitStore> Entry<S> {
         match &mut self.store {
             Some(store) => store.take(count),
             None => Bits::new(),
+        }
+    }
+
+    // Moves the first `count` stored bits behind others.
+    fn move_stored(&mut self, count: usize, bits: &mut Bits)
+        requires held { count ≤ length self.old.1.stored }
+        requires fits { length bits.old + count ≤ MAX_BITS }
+        ensures bits { bits.new ≡ bits.old ++ take count self.old.1.stored }
+        ensures entry { self.new ≡ with_end self.old (record self.old.1 { stored = drop count self.old.1.stored }) }
+    {
+        if let Some(store) = &mut self.store {
+            store.move_to(count, bits);
         }
     }
 

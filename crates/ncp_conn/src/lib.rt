@@ -56,4 +56,4 @@ pub use ncp_model::{
 };
 pub use pairs::Pairs;
 pub use record::{End, Record};
-pub use table::Table;
+pub use table::{Table, Unfit};

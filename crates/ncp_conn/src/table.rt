@@ -11,6 +11,7 @@ ghost use Rattle.ncp_conn.specs.Walking.{AreItsPairs};
 mod asking;
 mod hearing;
 mod readers;
+mod restoring;
 mod texts;
 
 use crate::entries::Entries;
@@ -21,6 +22,7 @@ use asking::Stores;
 use ncp_bits::BitStore;
 use ncp_model::{CallFault, MAX_BY_PEER, MAX_OWN, Pair};
 use ncp_terms::Command;
+pub use restoring::Unfit;
 use std::alloc::{AllocError, Global};
 use std::marker::Model;
 

@@ -4,11 +4,13 @@ use Rattle.ncp_bits.specs.declared.bits.BitsFault.{BitsFault}
 use Rattle.ncp_bits.specs.declared.bits.BitsFault.TheVariants.{TooLong, ShortBytes, SpareNotZero}
 use Rattle.ncp_host.specs.declared.fault.HostFault.{HostFault}
 use Rattle.ncp_host.specs.declared.fault.HostFault.TheVariants.{BadPeers, OutOfMemory}
+use Rattle.ncp_host.specs.declared.fault.LoadFault.{LoadFault}
+use Rattle.ncp_host.specs.declared.fault.LoadFault.TheVariants as load
 use Rattle.ncp_model.specs.declared.call_fault.CallFault.{CallFault}
 use Rattle.ncp_subnet.specs.declared.fault.SubnetFault.{SubnetFault}
 use Rattle.ncp_subnet.specs.declared.fault.SubnetFault.TheVariants.{NotRegular, NoHost, Occupied}
 use Rattle.ncp_model.specs.Faults.{fault_number}
-use Rattle.ncp_embed.specs.declared.codes.TheConstants.{DONE, BITS, NEW, SUBNET}
+use Rattle.ncp_embed.specs.declared.codes.TheConstants.{DONE, BITS, NEW, SUBNET, LOAD}
 
 -- of a call
 abbrev pub fault_code : CallFault → ℕ
@@ -22,6 +24,12 @@ code_of (Err fault) = fault_code fault
 abbrev pub host_code : HostFault → ℕ
 host_code BadPeers = NEW + 1
 host_code OutOfMemory = NEW + 2
+
+-- of bytes that are no host
+abbrev pub load_code : LoadFault → ℕ
+load_code load.NotAHost = LOAD + 1
+load_code load.OtherVersion = LOAD + 2
+load_code load.OutOfMemory = LOAD + 3
 
 -- of a message that the subnet does not accept
 abbrev pub subnet_code : SubnetFault → ℕ

@@ -1,6 +1,6 @@
 -- What the functions for C do to the host of a handle, if it has one. `NO_HOST` is answered where it has none,
 -- and then nothing changes.
-use Rattle.std.specs.Prelude.{ℕ, ◌≡◌, ◌⊎◌, ◌++◌, Bool, false, nat_lt, if◌then◌else◌, List, length, drop, slice_get, Option, None, Some, Result, Ok, Err}
+use Rattle.std.specs.Prelude.{ℕ, ◌≡◌, ◌⊎◌, ◌++◌, Bool, false, nat_lt, if◌then◌else◌, List, [], length, drop, slice_get, Option, None, Some, Result, Ok, Err}
 use Rattle.ncp_bits.specs.declared.bits.BitsFault.{BitsFault}
 use Rattle.ncp_numbers.specs.Bytes.{bytes_for, bytes_of}
 use Rattle.ncp_leader.specs.declared.leader.Leader.{Leader}
@@ -13,15 +13,18 @@ use Rattle.ncp_model.specs.declared.call_fault.CallFault.{CallFault}
 use Rattle.ncp_model.specs.declared.outcomes.Error.{Error}
 use Rattle.ncp_host.specs.Host.{Host}
 use Rattle.ncp_host.specs.declared.counts.Ignored.{Ignored}
+use Rattle.ncp_host.specs.Saved.{saved}
+use Rattle.ncp_host.specs.declared.fault.LoadFault.TheVariants as load
+use Rattle.ncp_model.specs.declared.call_fault.CallFault.TheVariants as call
 use Rattle.ncp_host.specs.Calls.{errors_told}
 use Rattle.ncp_host.specs.Arrivals.{received_in, after_received, OnlyNamedPeerChanges}
 use Rattle.ncp_host.specs.Listing.{pair_told}
 use Rattle.ncp_conn.specs.declared.record.End.TheVariants.{Receive}
 use Rattle.ncp_embed.specs.declared.handle.held.Held.{Held}
 use Rattle.ncp_embed.specs.declared.told.Arrived.{Arrived}
-use Rattle.ncp_embed.specs.declared.codes.TheConstants.{DONE, NO_HOST, NOTHING}
+use Rattle.ncp_embed.specs.declared.codes.TheConstants.{DONE, NO_HOST, NOTHING, SHORT_BUFFER}
 use Rattle.ncp_host.specs.declared.fault.HostFault.TheVariants.{OutOfMemory}
-use Rattle.ncp_embed.specs.Codes.{code_of, fault_code, host_code, bits_code}
+use Rattle.ncp_embed.specs.Codes.{code_of, fault_code, host_code, load_code, bits_code}
 use Rattle.ncp_embed.specs.Told.{arrived_of}
 
 abbrev pub held : Host → Held
@@ -31,6 +34,26 @@ held h = record { host = h }
 abbrev pub IsCopyCode : Option Held → ℕ → Type 0
 IsCopyCode None code = code ≡ NO_HOST
 IsCopyCode (Some at) code = (code ≡ DONE) ⊎ (code ≡ host_code OutOfMemory)
+
+-- A host as bytes. A buffer that has no room for them is refused, and told how many they are.
+
+abbrev pub bytes_saved : Option Held → List ℕ
+bytes_saved None = []
+bytes_saved (Some at) = saved at.host
+
+abbrev pub IsSaveCode : ℕ → Option Held → ℕ → Type 0
+IsSaveCode room None code = code ≡ NO_HOST
+IsSaveCode room (Some at) code =
+    (code ≡ (if nat_lt room (length (saved at.host)) then SHORT_BUFFER else DONE)) ⊎ (code ≡ fault_code call.OutOfMemory)
+
+-- there is a host, which is what bytes say
+abbrev pub IsSavedAs : List ℕ → Option Held → Type 0
+IsSavedAs bytes None = ⊥
+IsSavedAs bytes (Some at) = saved at.host ≡ bytes
+
+abbrev pub IsLoadCode : ℕ → Type 0
+IsLoadCode code =
+    (code ≡ DONE) ⊎ (code ≡ load_code load.NotAHost) ⊎ (code ≡ load_code load.OtherVersion) ⊎ (code ≡ load_code load.OutOfMemory)
 
 abbrev pub pair_of : ℕ → ℕ → Pair
 pair_of here there = record { local = here; remote = there }

@@ -4,14 +4,16 @@ use Rattle.ncp_bits.specs.declared.bits.BitsFault.{BitsFault}
 use Rattle.ncp_bits.specs.declared.bits.BitsFault.TheVariants.{TooLong, ShortBytes, SpareNotZero}
 use Rattle.ncp_host.specs.declared.fault.HostFault.{HostFault}
 use Rattle.ncp_host.specs.declared.fault.HostFault.TheVariants as new
+use Rattle.ncp_host.specs.declared.fault.LoadFault.{LoadFault}
+use Rattle.ncp_host.specs.declared.fault.LoadFault.TheVariants as load
 use Rattle.ncp_subnet.specs.declared.fault.SubnetFault.{SubnetFault}
 use Rattle.ncp_subnet.specs.declared.fault.SubnetFault.TheVariants as subnet
 use Rattle.ncp_model.specs.declared.call_fault.CallFault.TheVariants as call
 use Rattle.ncp_model.specs.Faults as call_names
 use Rattle.ncp_embed.specs.declared.codes.TheConstants.{DONE, NO_HOST, NO_POINTER, NO_SUBNET, NOTHING, SHORT_BUFFER}
 use Rattle.ncp_embed.specs.declared.names.Answer.{Answer}
-use Rattle.ncp_embed.specs.declared.names.Answer.TheVariants.{Done, Call, New, NoHost, NoPointer, ShortBuffer, Nothing, NoSubnet, Bits, Subnet}
-use Rattle.ncp_embed.specs.Codes.{fault_code, host_code, subnet_code, bits_code}
+use Rattle.ncp_embed.specs.declared.names.Answer.TheVariants.{Done, Call, New, NoHost, NoPointer, ShortBuffer, Nothing, NoSubnet, Bits, Subnet, Load}
+use Rattle.ncp_embed.specs.Codes.{fault_code, host_code, load_code, subnet_code, bits_code}
 use Rattle.ncp_embed.specs.Exports.{over, with_room}
 
 abbrev pub name_of_new : HostFault → List ℕ
@@ -22,6 +24,11 @@ abbrev pub name_of_subnet : SubnetFault → List ℕ
 name_of_subnet subnet.NotRegular = codes "NotRegular"
 name_of_subnet subnet.NoHost = codes "NoHost"
 name_of_subnet subnet.Occupied = codes "Occupied"
+
+abbrev pub name_of_load : LoadFault → List ℕ
+name_of_load load.NotAHost = codes "NotAHost"
+name_of_load load.OtherVersion = codes "OtherVersion"
+name_of_load load.OutOfMemory = codes "OutOfMemory"
 
 abbrev pub name_of_bits : BitsFault → List ℕ
 name_of_bits TooLong = codes "TooLong"
@@ -39,6 +46,7 @@ number_of Nothing = NOTHING
 number_of NoSubnet = NO_SUBNET
 number_of (Bits fault) = bits_code fault
 number_of (Subnet fault) = subnet_code fault
+number_of (Load fault) = load_code fault
 
 abbrev pub name_of : Answer → List ℕ
 name_of Done = codes "Done"
@@ -51,6 +59,7 @@ name_of Nothing = codes "Nothing"
 name_of NoSubnet = codes "NoSubnet"
 name_of (Bits fault) = name_of_bits fault
 name_of (Subnet fault) = name_of_subnet fault
+name_of (Load fault) = name_of_load fault
 
 -- all that is answered
 abbrev pub answers : List Answer
@@ -59,7 +68,8 @@ answers =
     ∷ Call call.NotOpen ∷ Call call.WrongEnd ∷ Call call.NotWhole ∷ Call call.Busy ∷ Call call.NoRoom ∷ Call call.TooMuch ∷ Call call.TableFull ∷ Call call.QueueFull
     ∷ Call call.OutOfMemory ∷ NoHost ∷ NoPointer ∷ ShortBuffer ∷ Nothing ∷ NoSubnet ∷ Bits TooLong ∷ Bits ShortBytes ∷ Bits SpareNotZero
     ∷ New new.BadPeers ∷ New new.OutOfMemory
-    ∷ Subnet subnet.NotRegular ∷ Subnet subnet.NoHost ∷ Subnet subnet.Occupied ∷ []
+    ∷ Subnet subnet.NotRegular ∷ Subnet subnet.NoHost ∷ Subnet subnet.Occupied
+    ∷ Load load.NotAHost ∷ Load load.OtherVersion ∷ Load load.OutOfMemory ∷ []
 
 -- the one of a number
 abbrev pub answer_among : List Answer → ℕ → Option Answer

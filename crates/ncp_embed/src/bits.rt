@@ -8,12 +8,12 @@ ghost use Rattle.ncp_host.specs.Host.{Host};
 ghost use Rattle.ncp_host.specs.Readiness.{IsNext};
 ghost use Rattle.std.specs.declared.option.Option.TheVariants.{Some};
 ghost use Rattle.ncp_host.specs.Turns.{next_output, after_next_output};
-ghost use Rattle.ncp_embed.specs.Exports.{TouchesOnePeer, held, pair_of, code_in, host_in, any_code_in, any_in, told_in, with_room, message_over, size_of_message, code_of_bits, after_bits, receive_code, arrived_in, told_over};
+ghost use Rattle.ncp_embed.specs.Exports.{TouchesOnePeer, held, pair_of, code_in, host_in, any_code_in, any_in, any_of, code_if_any, told_in, with_room, message_over, size_of_message, code_of_bits, after_bits, receive_code, arrived_in, told_over};
 
 use crate::codes::{
     DONE, LONGEST_MESSAGE, NO_HOST, NOTHING, SHORT_BUFFER, bits_code, code_of, fault_code,
 };
-use crate::handle::{Handle, put, take};
+use crate::handle::{Handle, Held, put, take};
 use crate::placing::pair_named;
 use crate::told::{Arrived, arrived_of};
 use crate::writing::write_message;
@@ -54,12 +54,34 @@ pub extern "C" fn ncp_embed_receive(
     DONE
 }
 
+// The next message goes out, and is written over the front of a buffer from where the host keeps it.
+#[tactic(auto, using(crate::proofs::Quiet::output_stays))]
+fn write_next(held: &mut Held, out: &mut [u8], bits: &mut usize) -> u32
+    requires { LONGEST_MESSAGE ≤ length out.old }
+    ensures code { result ≡ code_if_any (next_output held.old.host) }
+    ensures host { held.new.host ≡ after_next_output held.old.host }
+    ensures err { result ≢ DONE → held.new.host ≡ held.old.host }
+    ensures first_ready { IsNext (next_output held.old.host) held.old.host.peers }
+    ensures message { out.new ≡ any_of message_over (next_output held.old.host) out.old }
+    ensures bits { bits.new ≡ any_of size_of_message (next_output held.old.host) bits.old }
+{
+    let Some(sent) = held.host.send_next() else {
+        return NOTHING;
+    };
+    match held.host.kept(sent.peer, sent.link) {
+        Some(message) => {
+            *bits = write_message(message, out);
+            DONE
+        }
+        None => NOTHING,
+    }
+}
+
 /// `Host::next_output`, into the front of a buffer, with its length in bits.
 ///
 /// Refused, in this order: `SHORT_BUFFER` (fewer than `LONGEST_MESSAGE` bytes), `NO_HOST`, `NOTHING`
 /// (none is ready).
 #[unsafe(no_mangle)]
-#[tactic(auto, using(crate::proofs::Quiet::output_stays))]
 pub extern "C" fn ncp_embed_next_output(
     alloc: Global,
     handle: &mut Handle,
@@ -79,15 +101,9 @@ pub extern "C" fn ncp_embed_next_output(
     let Some(mut held) = take(alloc, handle) else {
         return NO_HOST;
     };
-    let next = held.host.next_output();
+    let code = write_next(&mut held, out, bits);
     put(handle, held);
-    match next {
-        Some(message) => {
-            *bits = write_message(&message, out);
-            DONE
-        }
-        None => NOTHING,
-    }
+    code
 }
 
 /// `Host::give`, of the first `bits` bits of a buffer.

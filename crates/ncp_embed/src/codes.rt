@@ -1,9 +1,9 @@
 //! The numbers that C is answered.
 ghost use Rattle.std.specs.Prelude.{◌≡◌, ◌<◌, ◌≤◌};
-ghost use Rattle.ncp_embed.specs.Codes.{code_of, fault_code, host_code, subnet_code, bits_code};
+ghost use Rattle.ncp_embed.specs.Codes.{code_of, fault_code, host_code, load_code, subnet_code, bits_code};
 
 use ncp_bits::{BitsFault, MAX_BITS};
-use ncp_host::HostFault;
+use ncp_host::{HostFault, LoadFault};
 use ncp_model::CallFault;
 use ncp_subnet::SubnetFault;
 
@@ -25,6 +25,8 @@ pub const BITS: u32 = 40;
 pub const NEW: u32 = 64;
 /// To this the number of why the subnet accepts no message is added.
 pub const SUBNET: u32 = 72;
+/// To this the number of why bytes are no host is added.
+pub const LOAD: u32 = 80;
 
 /// How many bytes the longest message takes.
 pub const LONGEST_MESSAGE: usize = MAX_BITS / 8;
@@ -50,6 +52,16 @@ pub(crate) fn host_code(fault: HostFault) -> u32
     match fault {
         HostFault::BadPeers => NEW + 1,
         HostFault::OutOfMemory => NEW + 2,
+    }
+}
+
+pub(crate) fn load_code(fault: LoadFault) -> u32
+    ensures { result ≡ load_code fault }
+{
+    match fault {
+        LoadFault::NotAHost => LOAD + 1,
+        LoadFault::OtherVersion => LOAD + 2,
+        LoadFault::OutOfMemory => LOAD + 3,
     }
 }
 

@@ -11,6 +11,7 @@ ghost use Rattle.ncp_model.specs.declared.call_fault.CallFault.{CallFault};
 ghost use Rattle.ncp_model.specs.declared.outcomes.Took.{Took};
 ghost use Rattle.ncp_model.specs.declared.pair.Pair.{Pair};
 ghost use Rattle.ncp_host.specs.declared.fault.HostFault.{HostFault};
+ghost use Rattle.ncp_host.specs.declared.fault.LoadFault.{LoadFault};
 ghost use Rattle.ncp_host.specs.declared.flags.Flags.{Flags};
 ghost use Rattle.ncp_host.specs.declared.received.Received.{Received};
 ghost use Rattle.ncp_subnet.specs.declared.fault.SubnetFault.{SubnetFault};
@@ -19,7 +20,7 @@ ghost use Rattle.ncp_embed.specs.declared.told.Arrived.{Arrived};
 ghost use Rattle.ncp_embed.specs.Changes.{no_connection, no_changes, changes_between, seen_of};
 ghost use Rattle.ncp_terms.specs.declared.command.Command.TheVariants.{Nop, Err as Error, Rst};
 ghost use Rattle.ncp_embed.specs.Commands.{tally_of, tally_from, no_tally};
-ghost use Rattle.ncp_embed.specs.Codes.{code_of, host_code, subnet_code, bits_code};
+ghost use Rattle.ncp_embed.specs.Codes.{code_of, host_code, load_code, subnet_code, bits_code};
 ghost use Rattle.ncp_embed.specs.Names.{number_of, answers, answer_among};
 ghost use Rattle.ncp_embed.specs.Told.{is_up, is_open, arrived_of, arrival, led_to, with_tally, phase_of, counted_of, discarded_of, noted_of, connection_of};
 
@@ -41,6 +42,7 @@ pub fn codes_are_these()
     ensures last { code_of {A = ℕ} (Err CallFault.OutOfMemory) ≡ 17 }
     ensures made { (host_code HostFault.BadPeers ≡ 65) × (host_code HostFault.OutOfMemory ≡ 66) }
     ensures of_the_subnet { (subnet_code SubnetFault.NotRegular ≡ 73) × (subnet_code SubnetFault.NoHost ≡ 74) × (subnet_code SubnetFault.Occupied ≡ 75) }
+    ensures of_saved { (load_code LoadFault.NotAHost ≡ 81) × (load_code LoadFault.OtherVersion ≡ 82) × (load_code LoadFault.OutOfMemory ≡ 83) }
     ensures of_bits { (bits_code BitsFault.TooLong ≡ 41) × (bits_code BitsFault.ShortBytes ≡ 42) × (bits_code BitsFault.SpareNotZero ≡ 43) }
 {}
 

@@ -29,13 +29,15 @@ mod net;
 mod parts;
 mod placing;
 mod readers;
+mod saving;
 mod subnet;
 mod told;
 mod writing;
 
 pub use changes::Changes;
 pub use codes::{
-    BITS, DONE, LONGEST_MESSAGE, NEW, NO_HOST, NO_POINTER, NO_SUBNET, NOTHING, SHORT_BUFFER, SUBNET,
+    BITS, DONE, LOAD, LONGEST_MESSAGE, NEW, NO_HOST, NO_POINTER, NO_SUBNET, NOTHING, SHORT_BUFFER,
+    SUBNET,
 };
 pub use connection::Connection;
 pub use handle::Handle;

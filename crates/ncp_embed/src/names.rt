@@ -1,12 +1,13 @@
 //! The names of what the functions answer.
 ghost use Rattle.std.specs.Prelude.{◌≡◌, length};
-ghost use Rattle.ncp_embed.specs.Names.{number_of, name_of, name_of_new, name_of_subnet, name_of_bits, answer_among, answers, name_code, name_over, size_of_name};
+ghost use Rattle.ncp_embed.specs.Names.{number_of, name_of, name_of_new, name_of_load, name_of_subnet, name_of_bits, answer_among, answers, name_code, name_over, size_of_name};
 
 use crate::codes::{
-    DONE, NO_HOST, NO_POINTER, NO_SUBNET, NOTHING, SHORT_BUFFER, bits_code, host_code, subnet_code,
+    DONE, NO_HOST, NO_POINTER, NO_SUBNET, NOTHING, SHORT_BUFFER, bits_code, host_code, load_code,
+    subnet_code,
 };
 use ncp_bits::BitsFault;
-use ncp_host::HostFault;
+use ncp_host::{HostFault, LoadFault};
 use ncp_model::CallFault;
 use ncp_subnet::SubnetFault;
 
@@ -23,10 +24,11 @@ pub enum Answer {
     NoSubnet,
     Bits(BitsFault),
     Subnet(SubnetFault),
+    Load(LoadFault),
 }
 
 // All that is answered.
-const ANSWERS: [Answer; 31] = [
+const ANSWERS: [Answer; 34] = [
     Answer::Done,
     Answer::Call(CallFault::UnknownPeer),
     Answer::Call(CallFault::NotUp),
@@ -58,6 +60,9 @@ const ANSWERS: [Answer; 31] = [
     Answer::Subnet(SubnetFault::NotRegular),
     Answer::Subnet(SubnetFault::NoHost),
     Answer::Subnet(SubnetFault::Occupied),
+    Answer::Load(LoadFault::NotAHost),
+    Answer::Load(LoadFault::OtherVersion),
+    Answer::Load(LoadFault::OutOfMemory),
 ];
 
 fn name_of_new(fault: HostFault) -> &'static str
@@ -76,6 +81,16 @@ fn name_of_subnet(fault: SubnetFault) -> &'static str
         SubnetFault::NotRegular => "NotRegular",
         SubnetFault::NoHost => "NoHost",
         SubnetFault::Occupied => "Occupied",
+    }
+}
+
+fn name_of_load(fault: LoadFault) -> &'static str
+    ensures { result.now ≡ name_of_load fault }
+{
+    match fault {
+        LoadFault::NotAHost => "NotAHost",
+        LoadFault::OtherVersion => "OtherVersion",
+        LoadFault::OutOfMemory => "OutOfMemory",
     }
 }
 
@@ -104,6 +119,7 @@ impl Answer {
             Answer::NoSubnet => NO_SUBNET,
             Answer::Bits(fault) => bits_code(fault),
             Answer::Subnet(fault) => subnet_code(fault),
+            Answer::Load(fault) => load_code(fault),
         }
     }
 
@@ -121,6 +137,7 @@ impl Answer {
             Answer::NoSubnet => "NoSubnet",
             Answer::Bits(fault) => name_of_bits(fault),
             Answer::Subnet(fault) => name_of_subnet(fault),
+            Answer::Load(fault) => name_of_load(fault),
         }
     }
 }

@@ -245,7 +245,7 @@ in_range (suc n) a on low high = elim (eqb_tells on a) [
   | inr other ↦ ap (λ (b : Bool). b || list_any (λ k. on == k) (range_with_len (a + 1) n)) other.0 ∙ in_range n (a + 1) on (let d = other.1 in omega (arith, d)) (omega arith)
 ]
 
-in_links : (on : ℕ) → HasSlot on → list_any (λ k. on == k) links ≡ true
+pub in_links : (on : ℕ) → HasSlot on → list_any (λ k. on == k) links ≡ true
 in_links on has = elim (eqb_tells on 0) [
   | inl y ↦ ap (λ (b : Bool). b || list_any (λ k. on == k) data_links) y.0
   | inr other ↦ ap (λ (b : Bool). b || list_any (λ k. on == k) data_links) other.0 ∙ in_range 70 2 on (let d = other.1 in let e = has.0 in omega (arith, d, e)) (let l = has.1 in omega (arith, l))

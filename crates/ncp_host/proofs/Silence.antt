@@ -130,3 +130,22 @@ marked_again kept again now before after on how marked there others inserted = r
     | inr d ↦ inserted link ∙ ap (λ (b : Bool). if b then true else is_in again link) d.0 ∙ marked.has_ready link high (sym (ap is_ready (others link d.1)) ∙ ready)
   ];
 }
+
+not_ready : (slot : LinkSlot) → is_empty slot ≡ true → is_ready slot ≡ true → ⊥
+not_ready Empty e r = absurd (cc r)
+not_ready (Ready m) e r = absurd (cc e)
+not_ready (Travelling m) e r = absurd (cc e)
+not_ready (Held m) e r = absurd (cc e)
+
+-- a link without a message need not be in the sets
+pub marked_over : (kept again kept_now again_now : ℕ) (slots : LinkSlots) (on : ℕ) → AreMarked kept again slots → is_empty (slot_at slots on) ≡ true → ((link : ℕ) → is_in kept_now link ≡ (if link == on then false else is_in kept link)) → ((link : ℕ) → is_in again_now link ≡ (if link == on then false else is_in again link)) → AreMarked kept_now again_now slots
+marked_over kept again kept_now again_now slots on marked none k a = record {
+  has_kept = λ link low high full. elim (eqb_tells link on) [
+    | inl e ↦ (let both : true ≡ false = sym (ap (λ (n : ℕ). is_empty (slot_at slots n)) e.1 ∙ none) ∙ full in absurd (cc))
+    | inr d ↦ k link ∙ ap (λ (b : Bool). if b then false else is_in kept link) d.0 ∙ marked.has_kept link low high full
+  ];
+  has_ready = λ link high ready. elim (eqb_tells link on) [
+    | inl e ↦ absurd (not_ready (slot_at slots link) (ap (λ (n : ℕ). is_empty (slot_at slots n)) e.1 ∙ none) ready)
+    | inr d ↦ a link ∙ ap (λ (b : Bool). if b then false else is_in again link) d.0 ∙ marked.has_ready link high ready
+  ];
+}

@@ -1,25 +1,26 @@
 //! What a host and one peer have between them, but for the messages on the links: the rules of one
 //! peer.
-ghost use Rattle.std.specs.Prelude.{◌≡◌, ◌∷◌, [], ◌≤◌, length, true, IfOk, OnErr, IfNone};
+ghost use Rattle.std.specs.Prelude.{◌≡◌, ◌∷◌, [], ◌+◌, ◌≤◌, ◌++◌, length, true, IfOk, OnErr};
 ghost use Rattle.ncp_model.specs.Phase.{up, reset_answer};
 ghost use Rattle.ncp_model.specs.Act.{answer, made_if_any};
 ghost use Rattle.ncp_model.specs.Ends.{cut_in};
 ghost use Rattle.ncp_model.specs.Sending.{next_commands};
 ghost use Rattle.ncp_terms.specs.Spelling.{spellings};
 ghost use Rattle.ncp_model.specs.Peers.{new_peer, falls, makes, calls_reset, settles, frees, sends, cuts};
-ghost use Rattle.ncp_conn.specs.Cutting.{next_cut};
-ghost use Rattle.ncp_host.specs.Steps.{IsWholeIfAny};
+ghost use Rattle.ncp_conn.specs.Cutting.{next_cut, sizes, text_of};
 
 mod calls;
 mod hearing;
 mod readers;
+mod restoring;
+mod saving;
 
 use crate::echoes::Echoes;
 use crate::phase::Phase;
 use crate::queue::ControlText;
-use ncp_bits::{BitStore, Bits};
+use ncp_bits::{BitStore, Bits, MAX_BITS};
 use ncp_conn::Table;
-use ncp_model::{CallFault, MAX_CONTROL};
+use ncp_model::{CallFault, MAX_CONTROL, MAX_TEXT};
 use ncp_terms::Command;
 use std::alloc::{AllocError, Global};
 use std::marker::Model;
@@ -140,14 +141,20 @@ impl<S: BitStore> Association<S> {
         self.table.next_cut(from)
     }
 
-    /// The byte size and the text that goes out next on a link, if any.
-    pub(crate) fn cut(&mut self, link: u8) -> Option<(u8, Bits)>
-        ensures text { result ≡ answer (cut_in link self.old.ends) }
-        ensures whole { IsWholeIfAny result }
-        ensures peer { self.new ≡ cuts link self.old }
-        ensures none { IfNone result (self.new ≡ self.old) }
+    /// The byte size of the text that goes out next on a link, if any, and how many bytes it has.
+    pub(crate) fn next_size(&self, link: u8) -> Option<(u8, u16)>
+        ensures { result ≡ sizes (answer (cut_in link self.now.ends)) }
     {
-        self.table.cut(link)
+        self.table.next_size(link)
+    }
+
+    /// Moves the text that goes out next on a link, if any, behind other bits.
+    pub(crate) fn cut_onto(&mut self, link: u8, bits: &mut Bits)
+        requires { length bits.old + MAX_TEXT ≤ MAX_BITS }
+        ensures bits { bits.new ≡ bits.old ++ text_of (answer (cut_in link self.old.ends)) }
+        ensures peer { self.new ≡ cuts link self.old }
+    {
+        self.table.cut_onto(link, bits);
     }
 
     /// A text that went out was taken (RFNM).

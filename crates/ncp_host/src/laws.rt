@@ -20,6 +20,7 @@ ghost use Rattle.ncp_host.specs.Calls.{record_told};
 ghost use Rattle.ncp_host.specs.Listing.{connection_told};
 ghost use Rattle.ncp_host.specs.Arrivals.{OnlyNamedPeerChanges, OthersStay};
 ghost use Rattle.ncp_host.specs.Restarting.{after_restart, IsGivenUp};
+ghost use Rattle.ncp_host.specs.Saved.{saved, AreAlikeHosts, HaveTheirLinks};
 ghost use Rattle.ncp_host.specs.Readiness.{is_ready_by, is_ready, NoLinkReady, IsFirstLink, IsNext};
 
 /// What is to go out again is ready. What is out or is held is not, whatever is new; with nothing out,
@@ -79,4 +80,12 @@ pub fn what_has_room()
     ensures not_given { (pair : Pair) (text : List Bool) (e : End) → answer (give_end pair text e) ≡ Err CallFault.NoRoom → e.room < length e.stored + length text }
     ensures allowed { (pair : Pair) (messages bits : ℕ) (full : Bool) (e : End) (c : Command) → answer (allocate_end pair messages bits full e) ≡ Ok c → (e.bits + length e.stored + bits ≤ e.room) × (e.messages + messages ≤ MAX_MESSAGES) }
     ensures not_allowed { (pair : Pair) (messages bits : ℕ) (full : Bool) (e : End) → answer (allocate_end pair messages bits full e) ≡ Err CallFault.TooMuch → (e.room < e.bits + length e.stored + bits) ⊎ (MAX_MESSAGES < e.messages + messages) }
+{}
+
+/// What is saved of two hosts is the same only where the hosts are alike in all that is said of them: in their
+/// numbers, what was counted, all that they keep of each peer, and the slot of each link that has one. Where the
+/// slots are of just these links, as those of every host are (`Host::has_its_links`), the hosts are the same.
+pub fn saved_tells_apart()
+    ensures alike { (one other : Host) → saved one ≡ saved other → AreAlikeHosts one other }
+    ensures same { (one other : Host) → HaveTheirLinks one.peers → HaveTheirLinks other.peers → saved one ≡ saved other → one ≡ other }
 {}

@@ -22,6 +22,8 @@ mod model;
 #[cfg(test)]
 mod refused;
 #[cfg(test)]
+mod saved;
+#[cfg(test)]
 mod slot;
 #[cfg(test)]
 mod subnet;

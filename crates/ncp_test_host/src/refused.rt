@@ -3,7 +3,7 @@
 use crate::host::{CONTROL, INWARD, REGULAR, RFNM, ROOM};
 use crate::known::{LINK, ME, OUTWARD, PEER, UP, bits_of};
 use ncp_bits::{BitStore, PackedStore, PlainStore};
-use ncp_host::{CallFault, Host, HostFault, Pair};
+use ncp_host::{CallFault, Host, HostFault, LoadFault, Pair};
 use ncp_slot::Slots;
 use ncp_slot::laws::{LinkEvent, LinkNote, run_link};
 use ncp_terms::Answer;
@@ -70,10 +70,7 @@ fn asks_to_receive<S: BitStore>(rt: &impl Abort, alloc: Global) -> Result<bool, 
 
 /// Whether a copy was refused: the host is then as it was. What happens to a copy leaves the host as it is.
 fn copies<S: BitStore>(rt: &impl Abort, alloc: Global) -> Result<bool, Fail> {
-    let mut host = up::<S>(rt, alloc)?;
-    if asks(&mut host).is_err() {
-        asks(&mut host)?;
-    }
+    let host = asking::<S>(rt, alloc)?;
     let known = host.state(PEER, INWARD);
     let Ok(mut copy) = host.copy(alloc) else {
         assert!(rt; known.is_ok() && host.state(PEER, INWARD) == known);
@@ -84,6 +81,64 @@ fn copies<S: BitStore>(rt: &impl Abort, alloc: Global) -> Result<bool, Fail> {
     assert!(rt; copy.state(PEER, INWARD) == Err(CallFault::NoEntry));
     assert!(rt; host.state(PEER, INWARD) == known && host.phase(PEER) == Ok(UP));
     Ok(false)
+}
+
+/// A host that is up with its peer and has asked to receive.
+fn asking<S: BitStore>(rt: &impl Abort, alloc: Global) -> Result<Host<S>, Fail> {
+    let mut host = up::<S>(rt, alloc)?;
+    if asks(&mut host).is_err() {
+        asks(&mut host)?;
+    }
+    Ok(host)
+}
+
+/// Whether it was refused to save: the host is then as it was, and can be saved.
+fn saves<S: BitStore>(rt: &impl Abort, alloc: Global) -> Result<bool, Fail> {
+    let host = asking::<S>(rt, alloc)?;
+    let known = host.state(PEER, INWARD);
+    let Err(_) = host.save(alloc) else {
+        return Ok(false);
+    };
+    assert!(rt; known.is_ok() && host.state(PEER, INWARD) == known && host.save(alloc).is_ok());
+    Ok(true)
+}
+
+/// Whether it was refused to load: there is no host then, and the same bytes can be loaded.
+fn loads<S: BitStore>(rt: &impl Abort, alloc: Global) -> Result<bool, Fail> {
+    let host = asking::<S>(rt, alloc)?;
+    let bytes = match host.save(alloc) {
+        Ok(bytes) => bytes,
+        Err(_) => host.save(alloc)?,
+    };
+    let (again, is_refused) = match Host::<S>::load(alloc, &bytes) {
+        Err(LoadFault::OutOfMemory) => (Host::<S>::load(alloc, &bytes), true),
+        loaded => (loaded, false),
+    };
+    let is_same = again.is_ok_and(|again| {
+        again.state(PEER, INWARD) == host.state(PEER, INWARD) && again.phase(PEER) == Ok(UP)
+    });
+    assert!(rt; is_same);
+    Ok(is_refused)
+}
+
+#[test]
+fn host_save(rt: HostRuntime) -> Result<(), Fail> {
+    let one = saves::<PlainStore>(&rt, rt.alloc())?;
+    let other = saves::<PackedStore>(&rt, rt.alloc())?;
+    if one || other {
+        println!(rt; "refused: OutOfMemory, no bytes, and the host is as it was")?;
+    }
+    Ok(())
+}
+
+#[test]
+fn host_load(rt: HostRuntime) -> Result<(), Fail> {
+    let one = loads::<PlainStore>(&rt, rt.alloc())?;
+    let other = loads::<PackedStore>(&rt, rt.alloc())?;
+    if one || other {
+        println!(rt; "refused: OutOfMemory, no host")?;
+    }
+    Ok(())
 }
 
 /// Socket 2 is to receive from socket 3.

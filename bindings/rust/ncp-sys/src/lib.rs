@@ -5,6 +5,7 @@
 use core::ffi::{c_char, c_void};
 
 pub const NCP_DONE: u32 = 0;
+pub const NCP_SHORT_BUFFER: u32 = 34;
 pub const NCP_NOTHING: u32 = 35;
 pub const NCP_LONGEST_MESSAGE: usize = 1024;
 pub const NCP_LONGEST_COMMAND: usize = 12;
@@ -110,6 +111,8 @@ extern "C" {
     pub fn ncp_is_made(host: *const ncp_host) -> bool;
     pub fn ncp_new(host: *mut ncp_host, me: u8, peers: *const u8, count: usize) -> u32;
     pub fn ncp_copy(host: *mut ncp_host, copy: *mut ncp_host) -> u32;
+    pub fn ncp_save(host: *mut ncp_host, out: *mut u8, len: usize, size: *mut usize) -> u32;
+    pub fn ncp_load(host: *mut ncp_host, bytes: *const u8, len: usize) -> u32;
     pub fn ncp_free(host: *mut ncp_host);
     pub fn ncp_receive(host: *mut ncp_host, bytes: *const u8, len: usize, bits: usize, arrived: *mut ncp_arrived) -> u32;
     pub fn ncp_next_output(host: *mut ncp_host, out: *mut u8, len: usize, bits: *mut usize) -> u32;

@@ -188,6 +188,29 @@ impl Host {
         Ok(copy)
     }
 
+    /// How many bytes [`Host::save`] writes. Refused: `OutOfMemory`.
+    pub fn saved_len(&self) -> Result<usize, Refusal> {
+        let mut size = 0;
+        match unsafe { sys::ncp_save(self.handle.get(), core::ptr::null_mut(), 0, &mut size) } {
+            sys::NCP_SHORT_BUFFER => Ok(size),
+            answer => done(answer).map(|()| size),
+        }
+    }
+
+    /// The host as bytes, at the front of the buffer. Refused: `OutOfMemory`, `ShortBuffer` (fewer than [`Host::saved_len`]).
+    pub fn save<'a>(&self, buffer: &'a mut [u8]) -> Result<&'a [u8], Refusal> {
+        let mut size = 0;
+        done(unsafe { sys::ncp_save(self.handle.get(), buffer.as_mut_ptr(), buffer.len(), &mut size) })?;
+        Ok(&buffer[..size])
+    }
+
+    /// The host that is saved as these bytes, which may come from anywhere. Refused: `NotAHost`, `OtherVersion`, `OutOfMemory`.
+    pub fn load(bytes: &[u8]) -> Result<Host, Refusal> {
+        let host = Host::none();
+        done(unsafe { sys::ncp_load(host.handle.get(), bytes.as_ptr(), bytes.len()) })?;
+        Ok(host)
+    }
+
     /// A message that came from the IMP, with its leader. Refused: `TooLong`, `ShortBytes`, `SpareNotZero`.
     pub fn receive<'a>(&mut self, message: impl Into<Bits<'a>>) -> Result<Arrived, Refusal> {
         let (message, mut told) = (message.into(), sys::ncp_arrived::default());

@@ -23,6 +23,7 @@ pub enum Refusal {
     TableFull,
     QueueFull,
     OutOfMemory,
+    ShortBuffer,
     TooLong,
     ShortBytes,
     SpareNotZero,
@@ -30,6 +31,8 @@ pub enum Refusal {
     NotRegular,
     NoHost,
     Occupied,
+    NotAHost,
+    OtherVersion,
     /// A number that the header does not name.
     Unnamed(u32),
 }
@@ -53,7 +56,8 @@ impl Refusal {
             14 => Refusal::TooMuch,
             15 => Refusal::TableFull,
             16 => Refusal::QueueFull,
-            17 | 66 => Refusal::OutOfMemory,
+            17 | 66 | 83 => Refusal::OutOfMemory,
+            34 => Refusal::ShortBuffer,
             41 => Refusal::TooLong,
             42 => Refusal::ShortBytes,
             43 => Refusal::SpareNotZero,
@@ -61,6 +65,8 @@ impl Refusal {
             73 => Refusal::NotRegular,
             74 => Refusal::NoHost,
             75 => Refusal::Occupied,
+            81 => Refusal::NotAHost,
+            82 => Refusal::OtherVersion,
             _ => Refusal::Unnamed(number),
         }
     }
@@ -100,7 +106,7 @@ mod tests {
     use std::string::ToString;
 
     // What a safe caller is never answered.
-    const OF_C: [&str; 5] = ["NoHost", "NoPointer", "ShortBuffer", "Nothing", "NoSubnet"];
+    const OF_C: [&str; 4] = ["NoHost", "NoPointer", "Nothing", "NoSubnet"];
 
     #[test]
     fn each_number_has_the_name_of_the_library() {

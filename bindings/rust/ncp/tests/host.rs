@@ -48,6 +48,24 @@ fn a_copy_is_another_host() {
 }
 
 #[test]
+fn a_host_is_saved_and_loaded() {
+    let mut host = up();
+    host.ask_receive(At { local: 2, remote: 3, ..AT }, 64).unwrap();
+    let mut buffer = vec![0; host.saved_len().unwrap() + 1];
+    let len = buffer.len() - 1;
+    assert_eq!(host.save(&mut buffer[1..len]), Err(Refusal::ShortBuffer));
+    assert_eq!(buffer, vec![0; len + 1]);
+    let saved = host.save(&mut buffer).unwrap();
+    assert_eq!(saved.len(), len);
+    let again = Host::load(saved).unwrap();
+    assert_eq!(again.save(&mut vec![0; len]), Ok(saved));
+    assert_eq!(again.connection_at(2, 0), host.connection_at(2, 0));
+    assert_eq!(Host::load(&[]).err(), Some(Refusal::NotAHost));
+    assert_eq!(Host::load(&saved[1..]).err(), Some(Refusal::NotAHost));
+    assert_eq!(Host::load(b"NCP host\x02").err(), Some(Refusal::OtherVersion));
+}
+
+#[test]
 fn what_arrived_and_what_is_told() {
     let mut host = Host::new(1, &[2]).unwrap();
     let mut buffer = BUFFER;

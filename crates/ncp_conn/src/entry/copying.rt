@@ -7,8 +7,8 @@ use ncp_bits::BitStore;
 use std::alloc::{AllocError, Global};
 
 impl<S: BitStore> Entry<S> {
-    // A copy of the store, if there is one.
-    fn copied_store(&self, alloc: Global) -> Result<Option<S>, AllocError>
+    /// A copy of the store, if there is one.
+    pub(crate) fn copied_store(&self, alloc: Global) -> Result<Option<S>, AllocError>
         ensures stored { IfOk result (λ store. stored_in S.held store ≡ self.now.1.stored) }
         ensures room { IfOk result (λ store. room_in S.capacity store ≡ self.now.1.room) }
     {

@@ -1,13 +1,14 @@
 //! Text: given, sent, admitted and taken.
-ghost use Rattle.std.specs.Prelude.{◌≡◌, OnErr, true, false, Some, ◌+◌, ◌≤◌, ◌%◌, ◌==◌, length};
+ghost use Rattle.std.specs.Prelude.{◌≡◌, OnErr, true, false, Some, ◌+◌, ◌≤◌, ◌%◌, ◌==◌, ◌++◌, length};
 ghost use Rattle.ncp_model.specs.Pairs.{sends};
 ghost use Rattle.ncp_model.specs.Act.{answer};
 ghost use Rattle.ncp_model.specs.Calls.{bits_to_take, give_end, take_end};
 ghost use Rattle.ncp_model.specs.Texts.{Rfnm, hear_text, bytes_to_send, may_send, cut, answered};
 ghost use Rattle.ncp_conn.specs.Changes.{after, with_end, putting, with_text, marks};
+ghost use Rattle.ncp_conn.specs.Cutting.{sizes, text_of};
 
 use crate::entry::{Entry, whole_bytes};
-use ncp_bits::{BitStore, Bits, Part};
+use ncp_bits::{BitStore, Bits, MAX_BITS, Part};
 use ncp_model::{CallFault, MAX_TEXT, Took};
 use ncp_terms::Command;
 
@@ -128,20 +129,31 @@ impl<S: BitStore> Entry<S> {
             && self.messages >= 1
     }
 
-    /// The text that goes out next, if any, with its byte size.
-    pub(crate) fn cut(&mut self) -> Option<(u8, Bits)>
-        ensures answer { result ≡ answer (cut self.old.0 (Some self.old.1)) }
+    /// The byte size of the text that goes out next, if any, and how many bytes it has.
+    pub(crate) fn next_size(&self) -> Option<(u8, u16)>
+        ensures { result ≡ sizes (answer (cut self.now.0 (Some self.now.1))) }
+    {
+        if !self.may_send() {
+            return None;
+        }
+        Some((self.size, self.bytes_to_send() as u16))
+    }
+
+    /// Moves the text that goes out next, if any, behind other bits.
+    pub(crate) fn cut_onto(&mut self, bits: &mut Bits)
+        requires { length bits.old + MAX_TEXT ≤ MAX_BITS }
+        ensures bits { bits.new ≡ bits.old ++ text_of (answer (cut self.old.0 (Some self.old.1))) }
         ensures entry { self.new ≡ after self.old (cut self.old.0 (Some self.old.1)) }
         ensures marks { marks self.new ≡ marks self.old }
     {
         if !self.may_send() {
-            return None;
+            return;
         }
         let count = self.bytes_to_send() * usize::from(self.size);
         self.messages -= 1;
         self.bits -= count as u32;
         self.busy = true;
-        Some((self.size, self.take_stored(count)))
+        self.move_stored(count, bits);
     }
 
     /// The text that went out was taken.

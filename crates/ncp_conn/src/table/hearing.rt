@@ -30,15 +30,15 @@ impl<S: BitStore> Table<S> {
         self.entries.slab[key].is_heard()
     }
 
-    // Whether a sending end heard a link.
-    fn is_taken(&self, link: u8) -> bool
+    /// Whether a sending end heard a link.
+    pub(super) fn is_taken(&self, link: u8) -> bool
         ensures { result ≡ any (hears_link link) self.now }
     {
         self.entries.senders.key(link).is_some()
     }
 
-    // Whether there is no place for another request of the peer alone.
-    fn is_full(&self) -> bool
+    /// Whether there is no place for another request of the peer alone.
+    pub(super) fn is_full(&self) -> bool
         ensures { result ≡ nat_le MAX_BY_PEER (count is_by_peer self.now) }
     {
         self.entries.slab.len() - self.entries.own_requests() >= MAX_BY_PEER

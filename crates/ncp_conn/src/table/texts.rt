@@ -1,15 +1,15 @@
 //! Text, and its allocation.
-ghost use Rattle.std.specs.Prelude.{◌≡◌, OnErr};
+ghost use Rattle.std.specs.Prelude.{◌≡◌, ◌+◌, ◌≤◌, ◌++◌, length, OnErr};
 ghost use Rattle.std.specs.FinMap.{get};
 ghost use Rattle.ncp_model.specs.Act.{answer};
 ghost use Rattle.ncp_model.specs.Calls.{give, take_held, allocate, call_back, interrupt};
 ghost use Rattle.ncp_model.specs.Texts.{Rfnm};
 ghost use Rattle.ncp_model.specs.Ends.{sender_on, receiver_on, pair_of, text_in, cut_in, answered_in, map_after, map_after_at};
-ghost use Rattle.ncp_conn.specs.Cutting.{may_cut, next_cut};
+ghost use Rattle.ncp_conn.specs.Cutting.{may_cut, next_cut, sizes, text_of};
 
 use crate::table::Table;
-use ncp_bits::{BitStore, Bits, Part};
-use ncp_model::{CallFault, Pair, Took};
+use ncp_bits::{BitStore, Bits, MAX_BITS, Part};
+use ncp_model::{CallFault, MAX_TEXT, Pair, Took};
 use ncp_terms::Command;
 
 impl<S: BitStore> Table<S> {
@@ -141,12 +141,35 @@ impl<S: BitStore> Table<S> {
         ensures answer { result ≡ answer (cut_in link self.old) }
         ensures table { self.new ≡ map_after_at self.old (pair_of (sender_on link self.old)) (cut_in link self.old) }
     {
+        let (size, _bytes) = self.next_size(link)?;
+        let mut text = Bits::new();
+        self.cut_onto(link, &mut text);
+        Some((size, text))
+    }
+
+    /// The byte size of the text that [`Table::cut`] would answer on a link, if any, and how many bytes it
+    /// has.
+    pub fn next_size(&self, link: u8) -> Option<(u8, u16)>
+        ensures { result ≡ sizes (answer (cut_in link self.now)) }
+    {
+        match self.entries.senders.key(link) {
+            Some(key) => self.entries.slab[key].next_size(),
+            None => None,
+        }
+    }
+
+    /// Moves the text that goes out next on a link behind other bits, as [`Table::cut`] answers it. Where it
+    /// would answer none, nothing changes.
+    pub fn cut_onto(&mut self, link: u8, bits: &mut Bits)
+        requires { length bits.old + MAX_TEXT ≤ MAX_BITS }
+        ensures bits { bits.new ≡ bits.old ++ text_of (answer (cut_in link self.old)) }
+        ensures table { self.new ≡ map_after_at self.old (pair_of (sender_on link self.old)) (cut_in link self.old) }
+    {
         let Some(key) = self.entries.senders.key(link) else {
-            return None;
+            return;
         };
-        let answer = self.entries.slab[key].cut();
+        self.entries.slab[key].cut_onto(bits);
         self.entries.settle(key);
-        answer
     }
 
     /// Whether [`Table::cut`] would answer a text on a link. It makes no text, and looks at one entry

@@ -2,27 +2,17 @@
 ghost use Rattle.std.specs.Prelude.{◌≡◌, ◌≢◌, ◌<◌, false, is_some, IfNone};
 ghost use Rattle.ncp_host.specs.PeerState.{control_link};
 ghost use Rattle.ncp_slot.specs.declared.slot.Slot.{Slot};
-ghost use Rattle.ncp_slot.specs.Slots.{HasSlot, slot_at, with_slot};
+ghost use Rattle.ncp_slot.specs.Slots.{HasSlot, slot_at};
 ghost use Rattle.ncp_host.specs.Output.{output_on, after_output_on, next_of, after_next};
 ghost use Rattle.ncp_host.specs.Sending.{link_on};
 ghost use Rattle.ncp_host.specs.Silence.{IsSilent, SilentFrom, lower_of};
 
-use crate::peer::{CONTROL_LINK, CONTROL_SIZE, Peer};
-use crate::sending::{bits_of_text, message_to};
-use ncp_bits::{BitStore, Bits};
+use crate::peer::{CONTROL_LINK, Peer};
+use crate::sending::{write_control, write_text};
+use ncp_bits::BitStore;
 use ncp_slot::FIRST_DATA_LINK;
 
 impl<S: BitStore> Peer<S> {
-    // A message goes out on a link whose slot is empty.
-    fn send(&mut self, link: u8, message: &Bits)
-        requires link { HasSlot link }
-        requires empty { slot_at self.old.slots link ≡ Slot.Empty }
-        ensures { self.new ≡ record self.old { slots = with_slot self.old.slots link (Slot.Travelling message.now) } }
-    {
-        self.slots.send(link, message);
-        self.kept.insert(link);
-    }
-
     // The commands that wait go out on the control link, whose slot is empty. Whether there are some.
     fn send_control(&mut self, number: u8) -> bool
         requires { slot_at self.old.slots control_link ≡ Slot.Empty }
@@ -33,11 +23,9 @@ impl<S: BitStore> Peer<S> {
         if text.is_empty() {
             return false;
         }
-        let bits = bits_of_text(text.as_slice());
-        self.send(
-            CONTROL_LINK,
-            &message_to(number, CONTROL_LINK, CONTROL_SIZE, bits),
-        );
+        let message = self.slots.begin(CONTROL_LINK);
+        write_control(number, text.as_slice(), message);
+        self.kept.insert(CONTROL_LINK);
         true
     }
 
@@ -49,10 +37,12 @@ impl<S: BitStore> Peer<S> {
         ensures sent { result ≡ is_some (output_on number link self.old) }
         ensures state { self.new ≡ after_output_on link (output_on number link self.old) self.old }
     {
-        let Some((size, text)) = self.association.cut(link) else {
+        let Some((size, count)) = self.association.next_size(link) else {
             return false;
         };
-        self.send(link, &message_to(number, link, size, text.whole()));
+        let message = self.slots.begin(link);
+        write_text(number, link, size, count, &mut self.association, message);
+        self.kept.insert(link);
         true
     }
 

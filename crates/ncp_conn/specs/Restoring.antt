@@ -1,0 +1,67 @@
+-- A connection that is put back as a record tells it, with the bits that it stored.
+use Rattle.std.specs.Prelude.{ℕ, ◌+◌, ◌==◌, ◌≡◌, Bool, true, false, not, ◌&&◌, ◌||◌, nat_le, nat_lt, if◌then◌else◌, is_none, List, length, refl}
+use Rattle.std.specs.FinMap.{get}
+use Rattle.ncp_model.specs.declared.pair.Pair.{Pair}
+use Rattle.ncp_model.specs.declared.limits.TheConstants.{LAST_LINK, MAX_ROOM, MAX_OWN, MAX_BY_PEER}
+use Rattle.ncp_model.specs.Pairs.{sends}
+use Rattle.ncp_model.specs.End.{End, is_over, new_end}
+use Rattle.ncp_model.specs.Ends.{Ends, count, any, has_asked, is_by_peer, hears_link, uses_link}
+use Rattle.ncp_conn.specs.declared.record.Record.{Record}
+use Rattle.ncp_conn.specs.Records.{record_of}
+
+-- the end of which a record tells, with these bits stored in so much room
+abbrev pub end_told : Record → List Bool → ℕ → End
+end_told r stored room = record {
+  asked = r.asked;
+  heard = r.heard;
+  opened = r.opened;
+  leaving = r.leaving;
+  left = r.left;
+  cls = r.cls;
+  link = r.link;
+  size = r.size;
+  messages = r.messages;
+  bits = r.bits;
+  stored = stored;
+  room = room;
+  busy = r.busy;
+  recall = r.recall;
+  interrupts = r.interrupts;
+}
+
+-- the end of an entry: it is not over, before the own request it has no room, and never more than a store may have, what
+-- is outstanding at a receiver fits behind what it holds, and its link is one that carries connections, or 0
+abbrev pub can_be : Pair → End → Bool
+can_be pair e =
+    not (is_over e) && (e.asked || e.room == 0) && nat_le e.room MAX_ROOM
+    && (sends pair || nat_le (e.bits + length e.stored) e.room) && nat_le e.link LAST_LINK
+
+-- its kind is not full
+abbrev pub has_room_for : End → Ends → Bool
+has_room_for e m = if e.asked then nat_lt (count has_asked m) MAX_OWN else nat_lt (count is_by_peer m) MAX_BY_PEER
+
+-- nobody else has its link
+abbrev pub is_alone_on : Pair → End → Ends → Bool
+is_alone_on pair e m = not (hears_link e.link (pair, e) && any (hears_link e.link) m) && not (uses_link e.link (pair, e) && any (uses_link e.link) m)
+
+-- there is a place for it among the ends: its pair has none
+abbrev pub has_place : Pair → End → Ends → Bool
+has_place pair e m = is_none (get m pair) && has_room_for e m && is_alone_on pair e m
+
+abbrev pub may_stand : Pair → End → Ends → Bool
+may_stand pair e m = can_be pair e && has_place pair e m
+
+-- what a record tells of an end is that end again
+pub it_is_told : (pair : Pair) (e : End) → end_told (record_of pair e) e.stored e.room ≡ e
+it_is_told pair e = refl
+
+-- an end without its own request has no room
+pub unasked_has_no_room : can_be (record { local = 3; remote = 2 }) (record new_end { room = 1 }) ≡ false
+unasked_has_no_room = refl
+
+-- a receiver that allocated nine bits, and has room for eight
+pub no_more_is_outstanding_than_fits : can_be (record { local = 2; remote = 3 }) (record new_end { asked = true; link = 2; room = 8; bits = 9 }) ≡ false
+no_more_is_outstanding_than_fits = refl
+
+pub eight_fit : can_be (record { local = 2; remote = 3 }) (record new_end { asked = true; link = 2; room = 8; bits = 8 }) ≡ true
+eight_fit = refl

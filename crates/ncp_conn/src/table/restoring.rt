@@ -1,0 +1,106 @@
+//! Connections that are copied out, and put back.
+ghost use Rattle.std.specs.Prelude.{◌≡◌, ◌↔◌, ◌&&◌, true, is_none, IfOk, OnOk, OnErr, IsOk};
+ghost use Rattle.std.specs.FinMap.{get, insert};
+ghost use Rattle.ncp_model.specs.End.{or_new};
+ghost use Rattle.ncp_model.specs.Ends.{any, hears_link, uses_link};
+ghost use Rattle.ncp_conn.specs.Stores.{stored_in, room_in};
+ghost use Rattle.ncp_conn.specs.Restoring.{end_told, has_room_for, has_place, may_stand};
+
+use crate::entry::Entry;
+use crate::record::Record;
+use crate::table::Table;
+use ncp_bits::BitStore;
+use ncp_model::{MAX_OWN, Pair};
+use std::alloc::{AllocError, Global};
+
+/// No connection can be so, or there is no place for it.
+#[derive(Clone, Copy, Debug, Drop, PartialEq, Eq)]
+pub struct Unfit;
+
+impl<S: BitStore> Table<S> {
+    /// A copy of what a connection stores: none before its own request, or where there is no connection.
+    pub fn stored(&self, alloc: Global, pair: Pair) -> Result<Option<S>, AllocError>
+        ensures stored { IfOk result (λ store. stored_in S.held store ≡ (or_new (get self.now pair)).stored) }
+        ensures room { IfOk result (λ store. room_in S.capacity store ≡ (or_new (get self.now pair)).room) }
+    {
+        let Some(key) = self.entries.find(pair) else {
+            return Ok(None);
+        };
+        self.entries.slab[key].copied_store(alloc)
+    }
+
+    // Whether a receiving end asked with a link.
+    fn is_used(&self, link: u8) -> bool
+        ensures { result ≡ any (uses_link link) self.now }
+    {
+        self.entries.receivers.key(link).is_some()
+    }
+
+    // Whether a pair has no connection.
+    fn is_vacant(&self, pair: Pair) -> bool
+        ensures { result ≡ is_none (get self.now pair) }
+    {
+        let Some(_key) = self.entries.find(pair) else {
+            return true;
+        };
+        false
+    }
+
+    // Whether an own request more, or one of the peer's alone, has a place.
+    fn has_room_for(&self, entry: &Entry<S>) -> bool
+        ensures { result ≡ has_room_for entry.now.1 self.now }
+    {
+        if entry.is_asked() {
+            return self.entries.own_requests() < MAX_OWN;
+        }
+        !self.is_full()
+    }
+
+    // Whether a sending entry heard a link that another heard.
+    fn is_heard_elsewhere(&self, entry: &Entry<S>) -> bool
+        ensures { result ≡ (hears_link entry.now.1.link entry.now && any (hears_link entry.now.1.link) self.now) }
+    {
+        let link = entry.link();
+        entry.hears(link) && self.is_taken(link)
+    }
+
+    // Whether a receiving entry asked with a link that another uses.
+    fn is_used_elsewhere(&self, entry: &Entry<S>) -> bool
+        ensures { result ≡ (uses_link entry.now.1.link entry.now && any (uses_link entry.now.1.link) self.now) }
+    {
+        let link = entry.link();
+        entry.uses(link) && self.is_used(link)
+    }
+
+    // Whether there is a place for an entry.
+    fn has_place(&self, entry: &Entry<S>) -> bool
+        ensures { result ≡ has_place entry.now.0 entry.now.1 self.now }
+    {
+        self.is_vacant(entry.pair())
+            && self.has_room_for(entry)
+            && !self.is_heard_elsewhere(entry)
+            && !self.is_used_elsewhere(entry)
+    }
+
+    /// Puts a connection back as a record tells it, with its store. It takes no memory. The record's `end` and
+    /// `stored` say again what the pair and the store say, and are not looked at.
+    ///
+    /// Refused: [`Unfit`], where no connection can be so (it is over, it has room before its own request, or more
+    /// than [`MAX_ROOM`](crate::MAX_ROOM), more is outstanding than fits, or its link is over
+    /// [`LAST_LINK`](crate::LAST_LINK)), or where there is no place for it (the pair has a connection, its kind is
+    /// full, or another connection has its link).
+    pub fn restore(&mut self, pair: Pair, told: &Record, store: Option<S>) -> Result<(), Unfit>
+        ensures fits { IsOk result ↔ (may_stand pair (end_told told.now (stored_in S.held store) (room_in S.capacity store)) self.old ≡ true) }
+        ensures ok { OnOk result (self.new ≡ insert self.old pair (end_told told.now (stored_in S.held store) (room_in S.capacity store))) }
+        ensures err { OnErr result (self.new ≡ self.old) }
+    {
+        let Some(entry) = Entry::restored(pair, told, store) else {
+            return Err(Unfit);
+        };
+        if !self.has_place(&entry) {
+            return Err(Unfit);
+        }
+        self.enter(entry);
+        Ok(())
+    }
+}

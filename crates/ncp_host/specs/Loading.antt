@@ -1,0 +1,37 @@
+-- What is judged of a host that is read from bytes.
+use Rattle.std.specs.Prelude.{◌≡◌, ℕ, ◌==◌, Bool, true, false, not, if◌then◌else◌, List, [], ◌∷◌, take, drop, slice_get, Option, None, Some, refl}
+use Rattle.std.specs.Str.{bytes_eq}
+use Rattle.std.specs.FinMap.{get}
+use Rattle.ncp_slot.specs.Slots.{LinkSlots}
+use Rattle.ncp_model.specs.declared.pair.Pair.{Pair}
+use Rattle.ncp_model.specs.Ends.{Ends, pair_of, sender_on}
+use Rattle.ncp_host.specs.Saved.{file_name, file_version}
+use Rattle.ncp_host.specs.Soundness.{is_busy, hears, IsOut}
+
+-- to the end of a pair alone the link leads that it heard, and its text is in its slot while it is out
+pub record IsPlaced (m : Ends) (slots : LinkSlots) (p : Pair) : Type 0 where
+  pub alone : (on : ℕ) → hears on p m ≡ true → pair_of (sender_on on m) ≡ Some p
+  pub out : is_busy (get m p) ≡ true → IsOut m slots p
+
+-- the version of the bytes in which a host is saved, where they begin with the name
+abbrev pub version_in : List ℕ → Option ℕ
+version_in bytes = if bytes_eq (take 8 bytes) file_name then slice_get (drop 8 bytes) 0 else None
+
+-- the bytes are of another version
+abbrev pub is_other : Option ℕ → Bool
+is_other None = false
+is_other (Some version) = not (version == file_version)
+
+abbrev pub is_of_other_version : List ℕ → Bool
+is_of_other_version bytes = is_other (version_in bytes)
+
+-- By hand: the name and this version, the name and another, and the name alone.
+
+pub this_by_hand : is_of_other_version (78 ∷ 67 ∷ 80 ∷ 32 ∷ 104 ∷ 111 ∷ 115 ∷ 116 ∷ 1 ∷ []) ≡ false
+this_by_hand = refl
+
+pub other_by_hand : is_of_other_version (78 ∷ 67 ∷ 80 ∷ 32 ∷ 104 ∷ 111 ∷ 115 ∷ 116 ∷ 2 ∷ []) ≡ true
+other_by_hand = refl
+
+pub name_by_hand : version_in (78 ∷ 67 ∷ 80 ∷ 32 ∷ 104 ∷ 111 ∷ 115 ∷ 116 ∷ []) ≡ None
+name_by_hand = refl

@@ -1,0 +1,115 @@
+//! A host that is read from the bytes in which one was saved.
+ghost use Rattle.std.specs.Prelude.{◌≡◌, ◌↔◌, Err, IfOk, true, length};
+ghost use Rattle.std.specs.Box.{boxed_slice_items};
+ghost use Rattle.std.specs.List.{zip};
+ghost use Rattle.ncp_host.specs.Loading.{version_in, is_of_other_version};
+ghost use Rattle.ncp_host.specs.Saved.{saved};
+ghost use Rattle.ncp_host.specs.Soundness.{AreWell};
+
+use crate::counts::Ignored;
+use crate::fault::LoadFault;
+use crate::host::saving::{FILE_NAME, FILE_VERSION};
+use crate::host::{Host, are_peers};
+use crate::limits::MAX_PEERS;
+use crate::peer::Peer;
+use crate::reader::{Reader, Unread};
+use crate::reading::{read_ignored, read_peer};
+use arrayvec::ArrayVec;
+use ncp_bits::BitStore;
+use std::alloc::Global;
+use std::boxed::BoxedSlice;
+
+// The numbers of the peers, and what is read of each.
+type Peers<S> = (ArrayVec<u8, MAX_PEERS>, BoxedSlice<Peer<S>, Global>);
+
+// The version of the bytes in which a host is saved.
+#[tactic(auto, using(crate::proofs::Version::version_unnamed, crate::proofs::Version::version_named))]
+fn version_in(bytes: &[u8]) -> Option<u8>
+    ensures { result ≡ version_in bytes.now }
+{
+    bytes.strip_prefix(FILE_NAME)?.first().copied()
+}
+
+fn read_peers<S: BitStore>(alloc: Global, reader: &mut Reader<'_>) -> Result<Peers<S>, Unread>
+    ensures beside { IfOk result (λ r. length (boxed_slice_items r.1) ≡ length r.0.items) }
+    ensures well { IfOk result (λ r. AreWell (zip r.0.items (boxed_slice_items r.1))) }
+{
+    let mut numbers = ArrayVec::new();
+    let mut peers = Vec::new(alloc);
+    for _place in 0..MAX_PEERS + 1 {
+        if !reader.mark()? {
+            return Ok((numbers, peers.into_boxed_slice()));
+        }
+        let number = reader.byte()?;
+        let peer = read_peer(alloc, reader)?;
+        let Ok(()) = numbers.try_push(number) else {
+            return Err(Unread::NotAHost);
+        };
+        let Ok(()) = peers.push(peer) else {
+            return Err(Unread::OutOfMemory);
+        };
+    }
+    Err(Unread::NotAHost)
+}
+
+// A host with these peers, where it can have them.
+fn host_with<S: BitStore>(me: u8, ignored: Ignored, peers: Peers<S>) -> Option<Host<S>>
+    requires beside { length (boxed_slice_items peers.1) ≡ length peers.0.items }
+    requires well { AreWell (zip peers.0.items (boxed_slice_items peers.1)) }
+{
+    let (numbers, peers) = peers;
+    if !are_peers(me, numbers.as_slice()) {
+        return None;
+    }
+    Some(Host {
+        me,
+        numbers,
+        peers,
+        ignored,
+    })
+}
+
+fn read_host<S: BitStore>(alloc: Global, reader: &mut Reader<'_>) -> Result<Host<S>, Unread> {
+    let me = reader.byte()?;
+    let ignored = read_ignored(reader)?;
+    let peers = read_peers(alloc, reader)?;
+    host_with(me, ignored, peers).ok_or(Unread::NotAHost)
+}
+
+// The host that is saved as these bytes, which are of this version.
+fn host_saved_as<S: BitStore>(alloc: Global, bytes: &[u8]) -> Result<Host<S>, Unread>
+    ensures { IfOk result (λ host. saved host ≡ bytes.now) }
+{
+    let mut reader = Reader::new(bytes);
+    let _name_and_version = reader.take(FILE_NAME.len() + 1)?;
+    let host = read_host(alloc, &mut reader)?;
+    let again = host.save(alloc)?;
+    if again.as_slice() != bytes {
+        return Err(Unread::NotAHost);
+    }
+    Ok(host)
+}
+
+impl<S: BitStore> Host<S> {
+    /// The host that [`Host::save`] makes these bytes of, in the same state. It takes the memory of [`Host::copy`],
+    /// and for a while that of the bytes.
+    ///
+    /// Refused, in this order: `NotAHost` (the bytes do not begin with `NCP host` and a version), `OtherVersion` (it
+    /// is not 1), and then `NotAHost` (no host is saved as these bytes) or `OutOfMemory`, whichever is seen first.
+    pub fn load(alloc: Global, bytes: &[u8]) -> Result<Self, LoadFault>
+        ensures ok { IfOk result (λ host. saved host ≡ bytes.now) }
+        ensures other { (result ≡ Err LoadFault.OtherVersion) ↔ (is_of_other_version bytes.now ≡ true) }
+    {
+        let Some(version) = version_in(bytes) else {
+            return Err(LoadFault::NotAHost);
+        };
+        if version != FILE_VERSION {
+            return Err(LoadFault::OtherVersion);
+        }
+        match host_saved_as(alloc, bytes) {
+            Ok(host) => Ok(host),
+            Err(Unread::NotAHost) => Err(LoadFault::NotAHost),
+            Err(Unread::OutOfMemory) => Err(LoadFault::OutOfMemory),
+        }
+    }
+}

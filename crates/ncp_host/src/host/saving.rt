@@ -1,0 +1,82 @@
+//! `Host::save`.
+ghost use Rattle.std.specs.Prelude.{◌≡◌, ◌++◌, ◌∷◌, length, OnOk, IfOk};
+ghost use Rattle.std.specs.List.{All, zip};
+ghost use Rattle.ncp_slot.specs.Links.{HasItsLinks};
+ghost use Rattle.ncp_host.specs.Saved.{listed, peer_saved, saved, HaveTheirLinks};
+
+use crate::host::Host;
+use crate::peer::Peer;
+use crate::writing::{put_byte, put_bytes, put_ignored};
+use ncp_bits::BitStore;
+use std::alloc::{AllocError, Global};
+
+/// What the bytes of a saved host begin with.
+pub(crate) const FILE_NAME: &[u8] = b"NCP host";
+
+/// The version of their layout, which stands behind that.
+pub(crate) const FILE_VERSION: u8 = 1;
+
+// A peer, behind a 1.
+#[tactic(auto, unfolding(crate::specs::Saved::peer_saved))]
+fn put_peer<S: BitStore>(
+    out: &mut Vec<u8>,
+    alloc: Global,
+    number: u8,
+    peer: &Peer<S>,
+) -> Result<(), AllocError>
+    ensures { OnOk result (out.new.items ≡ out.old.items ++ 1 ∷ peer_saved (number, peer.now)) }
+{
+    put_bytes(out, &[1, number])?;
+    peer.save(alloc, out)
+}
+
+// The peers in their order, each behind a 1, and a 0 behind the last.
+fn put_peers<S: BitStore>(
+    out: &mut Vec<u8>,
+    alloc: Global,
+    numbers: &[u8],
+    peers: &[Peer<S>],
+) -> Result<(), AllocError>
+    requires { length peers.now ≡ length numbers.now }
+    ensures { OnOk result (out.new.items ≡ out.old.items ++ listed peer_saved (zip numbers.now peers.now)) }
+{
+    for place in 0..numbers.len() {
+        put_peer(out, alloc, numbers[place], &peers[place])?;
+    }
+    put_byte(out, 0)
+}
+
+// What holds of every peer, of each of these.
+fn have_their_links<S: BitStore>(peers: &[Peer<S>])
+    ensures { All (λ s. HasItsLinks s.slots) peers.now }
+{
+    for place in 0..peers.len() {
+        peers[place].has_its_links();
+    }
+}
+
+impl<S: BitStore> Host<S> {
+    /// The bytes of the host: all that it keeps, in the layout of `specs/Saved.antt`. They begin with the eight
+    /// bytes `NCP host` and the version, 1. Two hosts have the same bytes only where they are the same
+    /// (`laws::saved_tells_apart`). It takes memory for the bytes, and for a copy of what each connection stores,
+    /// one after the other.
+    #[tactic(auto, unfolding(crate::specs::Saved::saved))]
+    pub fn save(&self, alloc: Global) -> Result<Vec<u8>, AllocError>
+        ensures saved { IfOk result (λ bytes. bytes.items ≡ saved self.now) }
+    {
+        let mut out = Vec::new(alloc);
+        put_bytes(&mut out, FILE_NAME)?;
+        put_bytes(&mut out, &[FILE_VERSION, self.me])?;
+        put_ignored(&mut out, &self.ignored)?;
+        put_peers(&mut out, alloc, self.numbers.as_slice(), &self.peers)?;
+        Ok(out)
+    }
+
+    /// What holds of every host: the slots of each peer are of just the links that have one. It looks at each
+    /// peer, and does nothing.
+    pub fn has_its_links(&self)
+        ensures { HaveTheirLinks self.now.peers }
+    {
+        have_their_links(&self.peers);
+    }
+}

@@ -1,0 +1,69 @@
+//! What is saved of what a host has for a peer.
+ghost use Rattle.std.specs.Prelude.{◌≡◌, ◌++◌, ◌∷◌, List, Bool, Some, OnOk};
+ghost use Rattle.ncp_slot.specs.Slot.{kept_message};
+ghost use Rattle.ncp_slot.specs.Links.{HasItsLinks};
+ghost use Rattle.ncp_slot.specs.Slots.{slot_at};
+ghost use Rattle.ncp_host.specs.Saved.{bits_saved, slot_saved, slots_saved, state_saved};
+
+use crate::peer::{CONTROL_LINK, Peer};
+use crate::writing::{put_bits, put_byte, put_counts};
+use ncp_bits::BitStore;
+use ncp_slot::{FIRST_DATA_LINK, LAST_LINK, Slots};
+use std::alloc::{AllocError, Global};
+
+// What becomes of the message of a link that has one.
+fn kind_of(slots: &Slots, link: u8) -> u8
+    ensures { (message : List Bool) → kept_message (slot_at slots.now link) ≡ Some message → slot_saved (slot_at slots.now link) ≡ result ∷ bits_saved message }
+{
+    if slots.is_ready(link) {
+        1
+    } else if slots.is_held(link) {
+        3
+    } else {
+        2
+    }
+}
+
+// The slot of a link.
+fn put_slot(out: &mut Vec<u8>, slots: &Slots, link: u8) -> Result<(), AllocError>
+    ensures { OnOk result (out.new.items ≡ out.old.items ++ slot_saved (slot_at slots.now link)) }
+{
+    match slots.kept(link) {
+        Some(message) => {
+            put_byte(out, kind_of(slots, link))?;
+            put_bits(out, message)
+        }
+        None => put_byte(out, 0),
+    }
+}
+
+// The slots in the order of their links.
+fn put_slots(out: &mut Vec<u8>, slots: &Slots) -> Result<(), AllocError>
+    ensures { OnOk result (out.new.items ≡ out.old.items ++ slots_saved slots.now) }
+{
+    put_slot(out, slots, CONTROL_LINK)?;
+    for link in FIRST_DATA_LINK..LAST_LINK + 1 {
+        put_slot(out, slots, link)?;
+    }
+    Ok(())
+}
+
+impl<S: BitStore> Peer<S> {
+    /// All that the host has for the peer. The memory that it takes beside the bytes, for copies of stores, is
+    /// given back.
+    #[tactic(auto, unfolding(crate::specs::Saved::state_saved))]
+    pub(crate) fn save(&self, alloc: Global, out: &mut Vec<u8>) -> Result<(), AllocError>
+        ensures { OnOk result (out.new.items ≡ out.old.items ++ state_saved self.now) }
+    {
+        self.association.save(alloc, out)?;
+        put_slots(out, &self.slots)?;
+        put_counts(out, &self.counts)
+    }
+
+    /// The slots are of just the links that have one. It does nothing.
+    pub(crate) fn has_its_links(&self)
+        ensures { HasItsLinks self.now.slots }
+    {
+        self.slots.has_its_links();
+    }
+}
